@@ -4,6 +4,7 @@ use Rattle.std.specs.List.{IsDistinct}
 use Rattle.std.specs.List.Sorted.{IsStrictlySortedBy}
 use Rattle.sieve_base.specs.declared.place.Place.TheVariants.{Personal, Global}
 use Rattle.sieve_base.specs.declared.name.ScriptName.{ScriptName}
+use Rattle.sieve_profile.specs.Profile.{Profile}
 use Rattle.bench.specs.Content.{Content, new_content, put_script, put_message, set_main, set_envelope, set_mailbox, set_expected}
 use Rattle.bench.specs.Edits.{AreDistinct, AreOrdered, rebuild}
 
@@ -17,8 +18,9 @@ abbrev shared : ScriptName
 shared = record { place = Global; name = codes "a" }
 
 -- two scripts, two messages, of one of which a text is expected, a sender and a main script
-abbrev held : Content
-held = record {
+abbrev held : Profile → Content
+held profile = record {
+  profile = profile;
   main = Some shared;
   envelope = record { from = codes "x@y"; to = []; mailbox = codes "INBOX" };
   scripts = (b, codes "keep;") ∷ (shared, codes "stop;") ∷ [];
@@ -26,15 +28,15 @@ held = record {
 }
 
 -- the edits that make the content above anew, in their order
-rebuild_row : rebuild held ≡ put_script b (codes "keep;") ∷ put_script shared (codes "stop;") ∷ put_message (codes "2") (codes "two") ∷ set_expected (codes "2") (codes "discard\n")
+rebuild_row : (profile : Profile) → rebuild (held profile) ≡ put_script b (codes "keep;") ∷ put_script shared (codes "stop;") ∷ put_message (codes "2") (codes "two") ∷ set_expected (codes "2") (codes "discard\n")
     ∷ put_message (codes "1") (codes "one") ∷ set_envelope (codes "x@y") [] ∷ set_mailbox (codes "INBOX") ∷ set_main shared ∷ []
 unfolding rebuild
-rebuild_row = refl
+rebuild_row profile = refl
 
 -- no edit names a main script where there is none
-no_main_row : rebuild new_content ≡ set_envelope [] [] ∷ set_mailbox (codes "INBOX") ∷ []
+no_main_row : (profile : Profile) → rebuild (new_content profile) ≡ set_envelope [] [] ∷ set_mailbox (codes "INBOX") ∷ []
 unfolding rebuild
-no_main_row = refl
+no_main_row profile = refl
 
 -- a personal script comes before a shared one, and no name stands twice
 turned_row : AreOrdered ((shared, []) ∷ (b, []) ∷ []) → ⊥

@@ -4,43 +4,39 @@ use Rattle.std.proofs.lemmas.Grind.{flat_map-append}
 use Rattle.std.proofs.lemmas.List.Sums.{sum_by-cons}
 use Rattle.std.specs.List.{flat_map, list_any}
 use Rattle.sieve_run.specs.Verdict.{Verdict}
-use Rattle.sieve_effects.specs.declared.envelope.Envelope.{Envelope}
-use Rattle.sieve_base.specs.declared.name.ScriptName.{ScriptName}
 use Rattle.bench.specs.Content.{Content}
-use Rattle.bench.specs.Report.{Judged, error_count, is_unlike, report_text, report_with, unexpected_count, verdict_by, verdicts}
+use Rattle.bench.specs.Report.{Judged, Site, error_count, is_unlike, report_text, report_with, site_of, unexpected_count, verdict_by, verdicts}
 use Rattle.bench.specs.Test.{is_clean, is_clean_with}
 use Rattle.bench.specs.declared.entry.Entry.{Entry}
 use Rattle.bench.specs.view.Entry.{disagrees, has_error, judged_before, judged_of, messages_of, stale_of, KeepsDue}
 
 -- where no message is stale, the verdicts that are kept are the verdicts on all messages
-pub all_judged : (main : Option ScriptName) (envelope : Envelope) (scripts : List (ScriptName × List ℕ)) (es : List (List ℕ × Entry)) → KeepsDue (verdict_by main envelope scripts) es → stale_of es ≡ []
-    → judged_of es ≡ verdicts main envelope scripts (messages_of es)
+pub all_judged : (site : Site) (es : List (List ℕ × Entry)) → KeepsDue (verdict_by site) es → stale_of es ≡ [] → judged_of es ≡ verdicts site (messages_of es)
 unfolding KeepsDue stale_of judged_of messages_of verdicts
-all_judged main envelope scripts [] kept none = refl
-all_judged main envelope scripts (e ∷ es) kept none = by e.1.kept kept.0 none (λ h. all_judged main envelope scripts es kept.1 h)
+all_judged site [] kept none = refl
+all_judged site (e ∷ es) kept none = by e.1.kept kept.0 none (λ h. all_judged site es kept.1 h)
   where
     judged_now : Verdict → Judged
     judged_now verdict = record { id = e.0; verdict = verdict; expected = e.1.expected }
 
-    by : (found : Option Verdict) → IfSome found (λ verdict. verdict ≡ verdict_by main envelope scripts e.1.message) → cond (is_none found) (e.0 ∷ stale_of es) (stale_of es) ≡ []
-        → (stale_of es ≡ [] → judged_of es ≡ verdicts main envelope scripts (messages_of es))
-        → judged_before e.0 e.1.expected found (judged_of es) ≡ judged_now (verdict_by main envelope scripts e.1.message) ∷ verdicts main envelope scripts (messages_of es)
+    by : (found : Option Verdict) → IfSome found (λ verdict. verdict ≡ verdict_by site e.1.message) → cond (is_none found) (e.0 ∷ stale_of es) (stale_of es) ≡ []
+        → (stale_of es ≡ [] → judged_of es ≡ verdicts site (messages_of es))
+        → judged_before e.0 e.1.expected found (judged_of es) ≡ judged_now (verdict_by site e.1.message) ∷ verdicts site (messages_of es)
     by None is none more = absurd cc
-    by (Some verdict) is none more = ap (λ v. judged_now v ∷ judged_of es) is ∙ ap (λ l. judged_now (verdict_by main envelope scripts e.1.message) ∷ l) (more none)
+    by (Some verdict) is none more = ap (λ v. judged_now v ∷ judged_of es) is ∙ ap (λ l. judged_now (verdict_by site e.1.message) ∷ l) (more none)
 
 -- where no message is stale, the report of the kept verdicts is the report of the content
-pub report_is : (content : Content) (main : Option ScriptName) (es : List (List ℕ × Entry)) → main ≡ content.main → messages_of es ≡ content.messages → KeepsDue (verdict_by main content.envelope content.scripts) es → stale_of es ≡ []
-    → report_with main content.envelope content.scripts (judged_of es) ≡ report_text content
-report_is content main es m same kept none =
-    ap (report_with main content.envelope content.scripts) (all_judged main content.envelope content.scripts es kept none ∙ ap (verdicts main content.envelope content.scripts) same)
-    ∙ ap (λ x. report_with x content.envelope content.scripts (verdicts x content.envelope content.scripts content.messages)) m
+pub report_is : (content : Content) (site : Site) (es : List (List ℕ × Entry)) → site ≡ site_of content → messages_of es ≡ content.messages → KeepsDue (verdict_by site) es → stale_of es ≡ []
+    → report_with site (judged_of es) ≡ report_text content
+report_is content site es s same kept none =
+    ap (report_with site) (all_judged site es kept none ∙ ap (verdicts site) same) ∙ ap (λ (x : Site). report_with x (verdicts x content.messages)) s
 
 -- where no message is stale, the kept verdicts are clean where the content is
-pub clean_is : (content : Content) (es : List (List ℕ × Entry)) → messages_of es ≡ content.messages → KeepsDue (verdict_by content.main content.envelope content.scripts) es → stale_of es ≡ []
-    → is_clean_with content.scripts (judged_of es) ≡ is_clean content
+pub clean_is : (content : Content) (site : Site) (es : List (List ℕ × Entry)) → site ≡ site_of content → messages_of es ≡ content.messages → KeepsDue (verdict_by site) es → stale_of es ≡ []
+    → is_clean_with site (judged_of es) ≡ is_clean content
 unfolding is_clean
-clean_is content es same kept none =
-    ap (is_clean_with content.scripts) (all_judged content.main content.envelope content.scripts es kept none ∙ ap (verdicts content.main content.envelope content.scripts) same)
+clean_is content site es s same kept none =
+    ap (is_clean_with site) (all_judged site es kept none ∙ ap (verdicts site) same) ∙ ap (λ (x : Site). is_clean_with x (verdicts x content.messages)) s
 
 -- where no message is stale, all are judged; as many are judged with an error as entries keep a verdict with an error
 pub judged-all : (es : List (List ℕ × Entry)) → stale_of es ≡ [] → length (judged_of es) ≡ length es

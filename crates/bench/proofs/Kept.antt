@@ -17,6 +17,7 @@ use Rattle.sieve_base.specs.Name.{name_cmp, place_cmp}
 use Rattle.sieve_base.specs.declared.name.ScriptName.{ScriptName}
 use Rattle.bench.specs.Content.{Content, Edit, Sample, after, new_content, put_script, put_message, set_main, rename_script, remove_script, remove_message, clear_main, set_envelope, set_mailbox, set_expected, clear_expected, unless, text_at, message_at, expected_at, with_script, with_expected, with_renamed}
 use Rattle.bench.specs.Edits.{IsInOrder, AreOrdered, AreDistinct, behind, content_after}
+use Rattle.sieve_profile.specs.Profile.{Profile}
 use Rattle.bench.specs.declared.fault.EditFault.{EditFault}
 
 -- THE ORDER OF NAMES
@@ -288,8 +289,36 @@ unfolding content_after
 stays_in_order content [] order = order
 stays_in_order content (edit ∷ edits) order = stays_in_order (behind content (after content edit)) edits (order_behind content edit order)
 
+-- THE PROFILE
+
+-- an edit keeps the profile
+pub profile_kept : (content : Content) (edit : Edit) (new : Content) → after content edit ≡ Ok new → new.profile ≡ content.profile
+profile_kept content (put_script name text) new made = sym (ap (λ (c : Content). c.profile) (accepted _ _ new made).1)
+profile_kept content (put_message id bytes) new made = sym (ap (λ (c : Content). c.profile) (accepted _ _ new made).1)
+profile_kept content (set_main name) new made = sym (ap (λ (c : Content). c.profile) (accepted _ _ new made).1)
+profile_kept content (rename_script from to) new made = sym (ap (λ (c : Content). c.profile) (accepted _ _ new made).1)
+profile_kept content (remove_script name) new made = sym (ap (λ (c : Content). c.profile) (accepted _ _ new made).1)
+profile_kept content (remove_message id) new made = sym (ap (λ (c : Content). c.profile) (accepted _ _ new made).1)
+profile_kept content clear_main new made = sym (ap (λ (c : Content). c.profile) (accepted None _ new made).1)
+profile_kept content (set_envelope from to) new made = sym (ap (λ (c : Content). c.profile) (accepted _ _ new made).1)
+profile_kept content (set_mailbox mailbox) new made = sym (ap (λ (c : Content). c.profile) (accepted _ _ new made).1)
+profile_kept content (set_expected id text) new made = sym (ap (λ (c : Content). c.profile) (accepted _ _ new made).1)
+profile_kept content (clear_expected id) new made = sym (ap (λ (c : Content). c.profile) (accepted _ _ new made).1)
+
+profile_behind : (content : Content) (edit : Edit) → (behind content (after content edit)).profile ≡ content.profile
+profile_behind content edit = by (after content edit) refl
+  where
+    by : (made : Result Content EditFault) → after content edit ≡ made → (behind content made).profile ≡ content.profile
+    by (Ok new) is = profile_kept content edit new is
+    by (Err fault) is = refl
+
+pub profile_stays : (content : Content) (edits : List Edit) → (content_after content edits).profile ≡ content.profile
+unfolding content_after
+profile_stays content [] = refl
+profile_stays content (edit ∷ edits) = profile_stays (behind content (after content edit)) edits ∙ profile_behind content edit
+
 -- A NEW BENCH
 
-pub new_in_order : IsInOrder new_content
+pub new_in_order : (profile : Profile) → IsInOrder (new_content profile)
 unfolding IsStrictlySortedBy IsDistinct
-new_in_order = record { scripts = tt; ids = tt }
+new_in_order profile = record { scripts = tt; ids = tt }

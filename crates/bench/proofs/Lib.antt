@@ -10,5 +10,6 @@ pub mod Names
 pub mod Rebuilt
 pub mod Refreshing
 pub mod Stales
+pub mod Texts
 pub mod Within
 pub mod Writing

@@ -1,16 +1,19 @@
 -- How the lines of a report are put together from their pieces.
-use Rattle.std.proofs.Common.{◌≡◌, ℕ, List, [], ◌∷◌, ◌++◌, map, refl, sym, ap, ◌∙◌, append_assoc, append-nil, Option, None, Some, codes, decimal}
+use Rattle.std.proofs.Common.{◌≡◌, ℕ, ◌+◌, ◌<◌, length, get_or, drop, List, [], ◌∷◌, ◌++◌, map, filter, Bool, true, false, ◌||◌, cond, refl, sym, ap, ◌∙◌, append_assoc, append-nil, Option, None, Some, codes, decimal}
 use Rattle.std.proofs.lemmas.Grind.{flat_map-append}
-use Rattle.std.specs.List.{flat_map}
+use Rattle.std.proofs.lemmas.List.{at_drop_more}
+use Rattle.std.specs.List.{flat_map, list_any}
 use Rattle.sieve_base.specs.Writers.{name_text, quoted}
 use Rattle.sieve_check.specs.Judgement.{Judgement, sound, faulty, fault_of, fault_word, judgement_of}
 use Rattle.sieve_check.specs.declared.judged.FaultKind.{FaultKind}
 use Rattle.sieve_effects.specs.declared.envelope.Envelope.{Envelope}
 use Rattle.sieve_base.specs.declared.name.ScriptName.{ScriptName}
 use Rattle.sieve_effects.specs.declared.error.RunError.{RunError}
+use Rattle.sieve_profile.specs.Profile.{Profile, has}
+use Rattle.sieve_profile.specs.declared.extension.Extension.{Extension}
 use Rattle.sieve_run.specs.Lines.{action_line, error_line, error_lines, implicit_line, implicit_lines, read_line, read_lines, verdict_lines}
 use Rattle.sieve_run.specs.Verdict.{Verdict}
-use Rattle.bench.specs.Report.{judgement_text, envelope_line, indented, script_line, total_line, verdict_text}
+use Rattle.bench.specs.Report.{judgement_text, envelope_line, extension_text, extensions_line, indented, script_line, total_line, verdict_text}
 use Rattle.bench.specs.view.Lines.{action_text, error_text, implicit_text, read_text, verdict_texts}
 
 -- the line of the envelope
@@ -39,10 +42,10 @@ judgement_is (sound tree) = refl
 judgement_is (faulty line kind) = refl
 
 -- the line of a script without a fault
-pub sound_line : (name : ScriptName) (text : List ℕ) (fault : Option (ℕ × FaultKind)) → fault ≡ fault_of (judgement_of text) → fault ≡ None → script_line (name, text) ≡ codes "script " ++ (name_text name ++ (codes " ok\n" ++ []))
+pub sound_line : (profile : Profile) (name : ScriptName) (text : List ℕ) (fault : Option (ℕ × FaultKind)) → fault ≡ fault_of (judgement_of profile text) → fault ≡ None → script_line profile (name, text) ≡ codes "script " ++ (name_text name ++ (codes " ok\n" ++ []))
 unfolding script_line
-sound_line name text fault f is =
-    ap (λ (l : List ℕ). codes "script " ++ name_text name ++ codes " " ++ l ++ codes "\n") (judgement_is (judgement_of text) ∙ ap fault_text (sym f ∙ is))
+sound_line profile name text fault f is =
+    ap (λ (l : List ℕ). codes "script " ++ name_text name ++ codes " " ++ l ++ codes "\n") (judgement_is (judgement_of profile text) ∙ ap fault_text (sym f ∙ is))
     ∙ simp append_assoc
 
 script_joined : (name fault : List ℕ) → codes "script " ++ name ++ codes " " ++ fault ++ codes "\n" ≡ codes "script " ++ (name ++ (codes " " ++ (fault ++ codes "\n")))
@@ -58,12 +61,49 @@ fault_joined line word =
     ∙ append_assoc (codes "line ") line (codes " " ++ (word ++ codes "\n"))
 
 -- the line of a script with a fault
-pub faulty_line : (name : ScriptName) (text kind_word : List ℕ) (fault : Option (ℕ × FaultKind)) (line : ℕ) (kind : FaultKind) → fault ≡ fault_of (judgement_of text) → fault ≡ Some (line, kind) → kind_word ≡ fault_word kind
-    → script_line (name, text) ≡ codes "script " ++ (name_text name ++ (codes " line " ++ (decimal line ++ (codes " " ++ (kind_word ++ (codes "\n" ++ []))))))
+pub faulty_line : (profile : Profile) (name : ScriptName) (text kind_word : List ℕ) (fault : Option (ℕ × FaultKind)) (line : ℕ) (kind : FaultKind) → fault ≡ fault_of (judgement_of profile text) → fault ≡ Some (line, kind) → kind_word ≡ fault_word kind
+    → script_line profile (name, text) ≡ codes "script " ++ (name_text name ++ (codes " line " ++ (decimal line ++ (codes " " ++ (kind_word ++ (codes "\n" ++ []))))))
 unfolding script_line
-faulty_line name text kind_word fault line kind f is k =
-    ap (λ (l : List ℕ). codes "script " ++ name_text name ++ codes " " ++ l ++ codes "\n") (judgement_is (judgement_of text) ∙ ap fault_text (sym f ∙ is))
+faulty_line profile name text kind_word fault line kind f is k =
+    ap (λ (l : List ℕ). codes "script " ++ name_text name ++ codes " " ++ l ++ codes "\n") (judgement_is (judgement_of profile text) ∙ ap fault_text (sym f ∙ is))
     ∙ rw k (script_joined (name_text name) (fault_text (Some (line, kind))) ∙ ap (λ l. codes "script " ++ (name_text name ++ (codes " " ++ l))) (fault_joined (decimal line) (fault_word kind)))
+
+-- where a profile has one of some extensions, their line has the names of those that it has; and there is none where it has none
+pub line_of_some : (profile : Profile) (xs : List Extension) → list_any (has profile) xs ≡ true
+    → extensions_line (filter (has profile) xs) ≡ codes "with" ++ (flat_map extension_text (filter (has profile) xs) ++ codes "\n")
+unfolding extensions_line
+line_of_some profile [] some = absurd cc
+line_of_some profile (x ∷ xs) some = by (has profile x) some (line_of_some profile xs)
+  where
+    by : (b : Bool) → (b || list_any (has profile) xs) ≡ true
+        → (list_any (has profile) xs ≡ true → extensions_line (filter (has profile) xs) ≡ codes "with" ++ (flat_map extension_text (filter (has profile) xs) ++ codes "\n"))
+        → extensions_line (cond b (x ∷ filter (has profile) xs) (filter (has profile) xs)) ≡ codes "with" ++ (flat_map extension_text (cond b (x ∷ filter (has profile) xs) (filter (has profile) xs)) ++ codes "\n")
+    by true here rest = append_assoc (codes "with") (flat_map extension_text (x ∷ filter (has profile) xs)) (codes "\n")
+    by false here rest = rest here
+
+pub line_of_none : (profile : Profile) (xs : List Extension) → list_any (has profile) xs ≡ false → extensions_line (filter (has profile) xs) ≡ []
+unfolding extensions_line
+line_of_none profile [] none = refl
+line_of_none profile (x ∷ xs) none = by (has profile x) none (line_of_none profile xs)
+  where
+    by : (b : Bool) → (b || list_any (has profile) xs) ≡ false → (list_any (has profile) xs ≡ false → extensions_line (filter (has profile) xs) ≡ [])
+        → extensions_line (cond b (x ∷ filter (has profile) xs) (filter (has profile) xs)) ≡ []
+    by true here rest = absurd cc
+    by false here rest = rest here
+
+-- the names of those that a profile has are those of the first, where it has it, and those of the others
+pub names_cut : (profile : Profile) (x : Extension) (xs : List Extension)
+    → flat_map extension_text (filter (has profile) (x ∷ xs)) ≡ flat_map extension_text (filter (has profile) (x ∷ [])) ++ flat_map extension_text (filter (has profile) xs)
+names_cut profile x xs = by (has profile x)
+  where
+    by : (b : Bool) → flat_map extension_text (cond b (x ∷ filter (has profile) xs) (filter (has profile) xs)) ≡ flat_map extension_text (cond b (x ∷ []) []) ++ flat_map extension_text (filter (has profile) xs)
+    by true = flat_map-append extension_text (x ∷ []) (filter (has profile) xs)
+    by false = refl
+
+pub names_at : (profile : Profile) (xs : List Extension) (i : ℕ) (d : Extension) → i < length xs
+    → flat_map extension_text (filter (has profile) (drop i xs)) ≡ flat_map extension_text (filter (has profile) (get_or xs i d ∷ [])) ++ flat_map extension_text (filter (has profile) (drop (i + 1) xs))
+names_at profile xs i d within =
+    at_drop_more (λ (ys : List Extension). flat_map extension_text (filter (has profile) ys)) xs i d within ∙ names_cut profile (get_or xs i d) (drop (i + 1) xs)
 
 -- the texts of what a function makes of items are the texts of the items by both functions in turn
 flat_map-map : {X Y : Type 0} (f : Y → List ℕ) (g : X → Y) (xs : List X) → flat_map f (map g xs) ≡ flat_map (λ x. f (g x)) xs

@@ -8,15 +8,17 @@ use Rattle.std.specs.Option.{option_map}
 use lib.Pointwise.{pointwise}
 use Rattle.indexmap.specs.IndexMap as ordered
 use Rattle.sieve_base.specs.Name.{name_eq}
-use Rattle.sieve_effects.specs.declared.envelope.Envelope.{Envelope}
+use Rattle.sieve_effects.specs.Delivery.{Arrival}
 use Rattle.sieve_base.specs.declared.name.ScriptName.{ScriptName}
 use Rattle.sieve_run.specs.Frame.{Agree, Texts, outcome_over}
 use Rattle.sieve_run.specs.Run.{is_read}
 use Rattle.sieve_run.specs.Verdict.{Verdict}
-use Rattle.bench.specs.Content.{Sample}
+use Rattle.bench.specs.Content.{Sample, text_at}
+use Rattle.bench.specs.Report.{Site, verdict_by}
 use Rattle.bench.specs.Stale.{ids_where}
 use Rattle.bench.specs.declared.entry.Entry.{Entry}
 use Rattle.bench.specs.view.Entry.{is_stale, messages_of, sample_of, stale_of, KeepsDue, changed, expecting, forgotten, fresh_entry, kept_without, unread}
+use Rattle.bench.specs.view.Site.{with_scripts}
 use Rattle.bench.proofs.Names.{is_id, is_name, other_id, same_id}
 
 or_true : (a b : Bool) → a ≡ true → (a || b) ≡ true
@@ -104,33 +106,35 @@ tells-marked due name test (e ∷ es) kept tells = (stale_for (due e.1.message) 
 -- the frame: a verdict is the same over each library that has the same text, or none, at each name that it looked up
 abbrev pub IsFramed : Type 0
 IsFramed =
-    (texts others : Texts) (main : Option ScriptName) (envelope : Envelope) (message : List ℕ) → Agree texts others (outcome_over texts main envelope message).reads
-    → outcome_over others main envelope message ≡ outcome_over texts main envelope message
+    (texts others : Texts) (main : Option ScriptName) (arrival : Arrival) → Agree texts others (outcome_over texts main arrival).reads
+    → outcome_over others main arrival ≡ outcome_over texts main arrival
 
 -- a verdict that isn't marked stays due, where the text at no other name changes
-still_due : IsFramed → (texts others : Texts) (main : Option ScriptName) (envelope : Envelope) (name : ScriptName) (message : List ℕ) (kept : Option Verdict)
+still_due : IsFramed → (texts others : Texts) (main : Option ScriptName) (arrival : Arrival) (name : ScriptName) (kept : Option Verdict)
     → ((other : ScriptName) → name_eq name other ≡ false → texts other ≡ others other)
-    → IfSome kept (λ verdict. verdict ≡ outcome_over texts main envelope message) → IfSome (kept_without name kept) (λ verdict. verdict ≡ outcome_over others main envelope message)
-still_due frame texts others main envelope name message None alike is = tt
-still_due frame texts others main envelope name message (Some verdict) alike is = by (is_read name verdict.reads) refl
+    → IfSome kept (λ verdict. verdict ≡ outcome_over texts main arrival) → IfSome (kept_without name kept) (λ verdict. verdict ≡ outcome_over others main arrival)
+still_due frame texts others main arrival name None alike is = tt
+still_due frame texts others main arrival name (Some verdict) alike is = by (is_read name verdict.reads) refl
   where
     agree : is_read name verdict.reads ≡ false → (other : ScriptName) → is_read other verdict.reads ≡ true → (b : Bool) → name_eq name other ≡ b → texts other ≡ others other
     agree unread other read true is = let e : name ≡ other = is_name name other is in absurd (let f : is_read other verdict.reads ≡ false = rw (← e) unread in cc)
     agree unread other read false is = alike other is
 
-    by : (b : Bool) → is_read name verdict.reads ≡ b → IfSome (cond b None (Some verdict)) (λ verdict. verdict ≡ outcome_over others main envelope message)
+    by : (b : Bool) → is_read name verdict.reads ≡ b → IfSome (cond b None (Some verdict)) (λ verdict. verdict ≡ outcome_over others main arrival)
     by true read = tt
     by false unread =
-        let all : Agree texts others (outcome_over texts main envelope message).reads = λ other read. agree unread other (rw is read) (name_eq name other) refl in
-        is ∙ sym (frame texts others main envelope message all)
+        let all : Agree texts others (outcome_over texts main arrival).reads = λ other read. agree unread other (rw is read) (name_eq name other) refl in
+        is ∙ sym (frame texts others main arrival all)
 
-pub due-marked : IsFramed → (texts others : Texts) (main : Option ScriptName) (envelope : Envelope) (name : ScriptName) (es : List (List ℕ × Entry))
-    → ((other : ScriptName) → name_eq name other ≡ false → texts other ≡ others other)
-    → KeepsDue (outcome_over texts main envelope) es → KeepsDue (outcome_over others main envelope) (marked name es)
+pub due-marked : IsFramed → (site : Site) (scripts : List (ScriptName × List ℕ)) (name : ScriptName) (es : List (List ℕ × Entry))
+    → ((other : ScriptName) → name_eq name other ≡ false → text_at site.scripts other ≡ text_at scripts other)
+    → KeepsDue (verdict_by site) es → KeepsDue (verdict_by (with_scripts site scripts)) (marked name es)
 unfolding KeepsDue
-due-marked frame texts others main envelope name [] alike kept = tt
-due-marked frame texts others main envelope name (e ∷ es) alike kept =
-    (still_due frame texts others main envelope name e.1.message e.1.kept alike kept.0, due-marked frame texts others main envelope name es alike kept.1)
+due-marked frame site scripts name [] alike kept = tt
+due-marked frame site scripts name (e ∷ es) alike kept = (
+  still_due frame (text_at site.scripts) (text_at scripts) site.main (record { message = e.1.message; envelope = site.envelope; profile = site.profile }) name e.1.kept alike kept.0,
+  due-marked frame site scripts name es alike kept.1,
+)
 
 -- a verdict that is due and that a mark leaves is still due
 kept_due : (due : Verdict) (name : ScriptName) (kept : Option Verdict) → IfSome kept (λ verdict. verdict ≡ due) → IfSome (kept_without name kept) (λ verdict. verdict ≡ due)

@@ -17,11 +17,12 @@ use Rattle.sieve_base.specs.declared.name.ScriptName.{ScriptName}
 use Rattle.bench.specs.Content.{Content, Edit, Sample, after, new_content, put_script, put_message, set_envelope, set_mailbox, unless, text_at, message_at, with_script, with_message, with_expected, is_long, is_long_id, script_refusal, message_refusal}
 use Rattle.bench.specs.Edits.{IsInOrder, IsWithinLimits, AreOrdered, AreDistinct, behind, content_after, expected_edits, main_edits, message_edits, rebuild}
 use Rattle.bench.specs.Test.{after_all, then_edit}
+use Rattle.sieve_profile.specs.Profile.{Profile}
 use Rattle.bench.specs.declared.fault.EditFault.{EditFault}
 use Rattle.bench.specs.declared.fault.EditFault.TheVariants.{TooLarge, Full, NoSuchMessage}
 use Rattle.bench.proofs.Jobs.{refusal_stays}
 use Rattle.bench.proofs.Names.{other_id, same_id}
-use Rattle.bench.proofs.Kept.{above, name_total, new_in_order, stays_in_order}
+use Rattle.bench.proofs.Kept.{above, name_total, new_in_order, profile_stays, stays_in_order}
 use Rattle.bench.proofs.Within.{new_within, stays_within}
 
 -- EDITS IN TURN
@@ -225,7 +226,7 @@ main_again content (Some name) short = ap (λ refusal. unless refusal (record co
 module _ (content : Content) (order : IsInOrder content) (limits : IsWithinLimits content) where
   -- a new bench's content with the scripts, and then the messages too
   abbrev scripts_there : Content
-  scripts_there = record new_content { scripts = content.scripts }
+  scripts_there = record (new_content content.profile) { scripts = content.scripts }
 
   abbrev messages_there : Content
   messages_there = record scripts_there { messages = content.messages }
@@ -246,20 +247,27 @@ module _ (content : Content) (order : IsInOrder content) (limits : IsWithinLimit
       envelope_there = record messages_there { envelope = record messages_there.envelope { from = content.envelope.from; to = content.envelope.to } }
 
   -- none of the edits that make the content anew is refused, and they make it
-  pub made_again : after_all new_content (rebuild content) ≡ Ok content
+  pub made_again : after_all (new_content content.profile) (rebuild content) ≡ Ok content
   unfolding rebuild
   made_again =
-      fold-append then_edit (Ok new_content) (map (λ s. put_script s.0 s.1) content.scripts) (flat_map message_edits content.messages ++ settings)
+      fold-append then_edit (Ok (new_content content.profile)) (map (λ s. put_script s.0 s.1) content.scripts) (flat_map message_edits content.messages ++ settings)
       ∙ ap (λ made. fold then_edit made (flat_map message_edits content.messages ++ settings))
-      (scripts_again new_content [] content.scripts order.scripts limits.scripts.count limits.scripts.names limits.scripts.texts)
+      (scripts_again (new_content content.profile) [] content.scripts order.scripts limits.scripts.count limits.scripts.names limits.scripts.texts)
       ∙ fold-append then_edit (Ok scripts_there) (flat_map message_edits content.messages) settings
       ∙ ap (λ made. fold then_edit made settings)
       (messages_again scripts_there [] content.messages order.ids limits.messages.count limits.messages.ids limits.messages.octets limits.messages.expected)
       ∙ set_again
 
 -- the edits that build anew what edits make of a new bench's content make it again
-pub rebuilt : (edits : List Edit) → after_all new_content (rebuild (content_after new_content edits)) ≡ Ok (content_after new_content edits)
-rebuilt edits = made_again (content_after new_content edits) (stays_in_order new_content edits new_in_order) (stays_within new_content edits new_in_order new_within)
+pub rebuilt : (profile : Profile) (edits : List Edit)
+    → after_all (new_content profile) (rebuild (content_after (new_content profile) edits)) ≡ Ok (content_after (new_content profile) edits)
+rebuilt profile edits =
+    let new = new_content profile in
+    let all = content_after new edits in
+    ap (λ (p : Profile). after_all (new_content p) (rebuild all)) (sym (profile_stays new edits))
+    ∙ made_again all (stays_in_order new edits (new_in_order profile)) (stays_within new edits (new_in_order profile) (new_within profile))
 
-pub rebuilt_content : (edits : List Edit) → content_after new_content (rebuild (content_after new_content edits)) ≡ content_after new_content edits
-rebuilt_content edits = all_made new_content (rebuild (content_after new_content edits)) (content_after new_content edits) (rebuilt edits)
+pub rebuilt_content : (profile : Profile) (edits : List Edit)
+    → content_after (new_content profile) (rebuild (content_after (new_content profile) edits)) ≡ content_after (new_content profile) edits
+rebuilt_content profile edits =
+    all_made (new_content profile) (rebuild (content_after (new_content profile) edits)) (content_after (new_content profile) edits) (rebuilt profile edits)

@@ -9,6 +9,7 @@ use Rattle.sieve_reading.specs.Tree.{Node}
 use Rattle.sieve_check.specs.declared.judged.FaultKind.{FaultKind}
 use Rattle.sieve_run.specs.Run.{outcome_of, exec}
 use Rattle.sieve_base.specs.declared.name.ScriptName.{ScriptName}
+use Rattle.sieve_profile.specs.Profile.{Profile}
 use Rattle.bench.specs.Bench.{RefusedAmong}
 use Rattle.bench.specs.Content.{Content, Edit, after, put_script, put_message, set_main, rename_script, remove_script, remove_message, clear_main, set_envelope, set_mailbox, set_expected, clear_expected}
 use Rattle.bench.specs.Stale.{ids_where, stale_after, verdict_on}
@@ -30,185 +31,188 @@ y = personal (codes "y")
 abbrev global_main : ScriptName
 global_main = record { place = Global; name = codes "main" }
 
--- two messages under a main script, where there are these scripts
-abbrev bench : List (ScriptName × List ℕ) → Content
-bench scripts = record {
-  main = Some main;
-  envelope = record { from = []; to = []; mailbox = codes "INBOX" };
-  scripts = scripts;
-  messages = (codes "m1", record { octets = codes "Subject: one\n\n"; expected = None }) ∷ (codes "m2", record { octets = codes "Subject: two\n\n"; expected = Some (codes "keep\n") }) ∷ [];
-}
+-- rows under any profile
+module _ (profile : Profile) where
+  -- two messages under a main script, where there are these scripts
+  abbrev bench : List (ScriptName × List ℕ) → Content
+  bench scripts = record {
+    profile = profile;
+    main = Some main;
+    envelope = record { from = []; to = []; mailbox = codes "INBOX" };
+    scripts = scripts;
+    messages = (codes "m1", record { octets = codes "Subject: one\n\n"; expected = None }) ∷ (codes "m2", record { octets = codes "Subject: two\n\n"; expected = Some (codes "keep\n") }) ∷ [];
+  }
 
--- the stale messages behind an edit: where it is refused, those that were stale
-abbrev behind : Result Content EditFault → Content → Edit → List (List ℕ) → List (List ℕ)
-behind (Ok new) old edit stale = stale_after old edit stale new
-behind (Err fault) old edit stale = stale
+  -- the stale messages behind an edit: where it is refused, those that were stale
+  abbrev behind : Result Content EditFault → Content → Edit → List (List ℕ) → List (List ℕ)
+  behind (Ok new) old edit stale = stale_after old edit stale new
+  behind (Err fault) old edit stale = stale
 
-abbrev marks : Content → Edit → List (List ℕ) → List (List ℕ)
-marks content edit stale = behind (after content edit) content edit stale
+  abbrev marks : Content → Edit → List (List ℕ) → List (List ℕ)
+  marks content edit stale = behind (after content edit) content edit stale
 
--- the messages that an edit makes stale where none was
-abbrev touched : Content → Edit → List (List ℕ)
-touched content edit = marks content edit []
+  -- the messages that an edit makes stale where none was
+  abbrev touched : Content → Edit → List (List ℕ)
+  touched content edit = marks content edit []
 
--- the ids of both messages, and of the first
-abbrev both : List (List ℕ)
-both = codes "m1" ∷ codes "m2" ∷ []
+  -- the ids of both messages, and of the first
+  abbrev both : List (List ℕ)
+  both = codes "m1" ∷ codes "m2" ∷ []
 
-abbrev first : List (List ℕ)
-first = codes "m1" ∷ []
+  abbrev first : List (List ℕ)
+  first = codes "m1" ∷ []
 
--- THE MAIN SCRIPT IS MISSING
+  -- THE MAIN SCRIPT IS MISSING
 
-abbrev missing : Content
-missing = bench ((y, codes "keep;") ∷ [])
+  abbrev missing : Content
+  missing = bench ((y, codes "keep;") ∷ [])
 
-put_missing_row : touched missing (put_script main (codes "keep;")) ≡ both
-unfolding ids_where outcome_of
-put_missing_row = refl
+  put_missing_row : touched missing (put_script main (codes "keep;")) ≡ both
+  unfolding ids_where outcome_of
+  put_missing_row = refl
 
-put_unread_row : touched missing (put_script x (codes "keep;")) ≡ []
-unfolding ids_where outcome_of
-put_unread_row = refl
+  put_unread_row : touched missing (put_script x (codes "keep;")) ≡ []
+  unfolding ids_where outcome_of
+  put_unread_row = refl
 
--- a rename touches the messages whose runs looked its new name up in vain
-rename_to_missing_row : touched missing (rename_script y main) ≡ both
-unfolding ids_where outcome_of
-rename_to_missing_row = refl
+  -- a rename touches the messages whose runs looked its new name up in vain
+  rename_to_missing_row : touched missing (rename_script y main) ≡ both
+  unfolding ids_where outcome_of
+  rename_to_missing_row = refl
 
-rename_unread_row : touched missing (rename_script y x) ≡ []
-unfolding ids_where outcome_of
-rename_unread_row = refl
+  rename_unread_row : touched missing (rename_script y x) ≡ []
+  unfolding ids_where outcome_of
+  rename_unread_row = refl
 
--- to remove a script that isn't there is refused, and touches no message
-remove_missing_row : touched missing (remove_script main) ≡ []
-unfolding ids_where outcome_of
-remove_missing_row = refl
+  -- to remove a script that isn't there is refused, and touches no message
+  remove_missing_row : touched missing (remove_script main) ≡ []
+  unfolding ids_where outcome_of
+  remove_missing_row = refl
 
--- THE MAIN SCRIPT IS THERE
+  -- THE MAIN SCRIPT IS THERE
 
--- a bench whose main script has this text
-abbrev present : List ℕ → Content
-present text = bench ((main, text) ∷ (y, codes "keep;") ∷ [])
+  -- a bench whose main script has this text
+  abbrev present : List ℕ → Content
+  present text = bench ((main, text) ∷ (y, codes "keep;") ∷ [])
 
--- the run on each message looks the main script up, and no other
-abbrev IsAlone : List ℕ → Type 0
-IsAlone text = (bytes : List ℕ) → (verdict_on (present text) bytes).reads ≡ (main, true) ∷ []
+  -- the run on each message looks the main script up, and no other
+  abbrev IsAlone : List ℕ → Type 0
+  IsAlone text = (bytes : List ℕ) → (verdict_on (present text) bytes).reads ≡ (main, true) ∷ []
 
--- a main script whose text is past the limit, has a fault, or is one keep, looks up no other
-long_row : (text : List ℕ) → nat_lt text_limit (length text) ≡ true → IsAlone text
-unfolding outcome_of
-long_row text long bytes = rw long refl
+  -- a main script whose text is past the limit, has a fault, or is one keep, looks up no other
+  long_row : (text : List ℕ) → nat_lt text_limit (length text) ≡ true → IsAlone text
+  unfolding outcome_of
+  long_row text long bytes = rw long refl
 
-faulty_row : (text : List ℕ) (line : ℕ) (kind : FaultKind) → nat_lt text_limit (length text) ≡ false → judgement_of text ≡ faulty line kind → IsAlone text
-unfolding outcome_of
-faulty_row text line kind short judged bytes = rw (short, judged) refl
+  faulty_row : (text : List ℕ) (line : ℕ) (kind : FaultKind) → nat_lt text_limit (length text) ≡ false → judgement_of profile text ≡ faulty line kind → IsAlone text
+  unfolding outcome_of
+  faulty_row text line kind short judged bytes = rw (short, judged) refl
 
-keep_row : (text : List ℕ) (tree : List Node) → nat_lt text_limit (length text) ≡ false → judgement_of text ≡ sound tree → script_of tree ≡ acts (keep_leaf plain_settings) 1 no_commands → IsAlone text
-unfolding outcome_of exec
-keep_row text tree short judged commands bytes = rw (short, judged, commands) refl
+  keep_row : (text : List ℕ) (tree : List Node) → nat_lt text_limit (length text) ≡ false → judgement_of profile text ≡ sound tree → script_of tree ≡ acts (keep_leaf plain_settings) 1 no_commands → IsAlone text
+  unfolding outcome_of exec
+  keep_row text tree short judged commands bytes = rw (short, judged, commands) refl
 
--- rows where the main script has a text that looks up no other script
-module _ (text : List ℕ) (alone : IsAlone text) where
-  -- a script that no run looks up touches no message where it is put, put anew, removed or renamed, and the main script touches all
-  put_row : touched (present text) (put_script x (codes "keep;")) ≡ []
-  unfolding ids_where
-  put_row = simp alone
+  -- rows where the main script has a text that looks up no other script
+  module _ (text : List ℕ) (alone : IsAlone text) where
+    -- a script that no run looks up touches no message where it is put, put anew, removed or renamed, and the main script touches all
+    put_row : touched (present text) (put_script x (codes "keep;")) ≡ []
+    unfolding ids_where
+    put_row = simp alone
 
-  put_again_row : touched (present text) (put_script y []) ≡ []
-  unfolding ids_where
-  put_again_row = simp alone
+    put_again_row : touched (present text) (put_script y []) ≡ []
+    unfolding ids_where
+    put_again_row = simp alone
 
-  put_global_row : touched (present text) (put_script global_main []) ≡ []
-  unfolding ids_where
-  put_global_row = simp alone
+    put_global_row : touched (present text) (put_script global_main []) ≡ []
+    unfolding ids_where
+    put_global_row = simp alone
 
-  put_main_row : touched (present text) (put_script main []) ≡ both
-  unfolding ids_where
-  put_main_row = simp alone
+    put_main_row : touched (present text) (put_script main []) ≡ both
+    unfolding ids_where
+    put_main_row = simp alone
 
-  remove_main_row : touched (present text) (remove_script main) ≡ both
-  unfolding ids_where
-  remove_main_row = simp alone
+    remove_main_row : touched (present text) (remove_script main) ≡ both
+    unfolding ids_where
+    remove_main_row = simp alone
 
-  remove_row : touched (present text) (remove_script y) ≡ []
-  unfolding ids_where
-  remove_row = simp alone
+    remove_row : touched (present text) (remove_script y) ≡ []
+    unfolding ids_where
+    remove_row = simp alone
 
-  rename_row : touched (present text) (rename_script y x) ≡ []
-  unfolding ids_where
-  rename_row = simp alone
+    rename_row : touched (present text) (rename_script y x) ≡ []
+    unfolding ids_where
+    rename_row = simp alone
 
-  rename_main_row : touched (present text) (rename_script main x) ≡ both
-  unfolding ids_where
-  rename_main_row = simp alone
+    rename_main_row : touched (present text) (rename_script main x) ≡ both
+    unfolding ids_where
+    rename_main_row = simp alone
 
-  -- a refused edit leaves the stale messages: a rename to a name that is taken, and the removal of a message that isn't there
-  refused_rename_row : marks (present text) (rename_script y main) first ≡ first
-  unfolding ids_where
-  refused_rename_row = refl
+    -- a refused edit leaves the stale messages: a rename to a name that is taken, and the removal of a message that isn't there
+    refused_rename_row : marks (present text) (rename_script y main) first ≡ first
+    unfolding ids_where
+    refused_rename_row = refl
 
-  refused_remove_row : marks (present text) (remove_message (codes "m3")) first ≡ first
-  unfolding ids_where
-  refused_remove_row = refl
+    refused_remove_row : marks (present text) (remove_message (codes "m3")) first ≡ first
+    unfolding ids_where
+    refused_remove_row = refl
 
-  -- a message that is put is touched alone, a new one too
-  message_row : touched (present text) (put_message (codes "m2") []) ≡ codes "m2" ∷ []
-  unfolding ids_where
-  message_row = refl
+    -- a message that is put is touched alone, a new one too
+    message_row : touched (present text) (put_message (codes "m2") []) ≡ codes "m2" ∷ []
+    unfolding ids_where
+    message_row = refl
 
-  new_message_row : touched (present text) (put_message (codes "m3") []) ≡ codes "m3" ∷ []
-  unfolding ids_where
-  new_message_row = refl
+    new_message_row : touched (present text) (put_message (codes "m3") []) ≡ codes "m3" ∷ []
+    unfolding ids_where
+    new_message_row = refl
 
-  -- a message that was stale stays stale where another is put
-  stays_row : marks (present text) (put_message (codes "m2") []) first ≡ both
-  unfolding ids_where
-  stays_row = refl
+    -- a message that was stale stays stale where another is put
+    stays_row : marks (present text) (put_message (codes "m2") []) first ≡ both
+    unfolding ids_where
+    stays_row = refl
 
-  -- a message that was stale is stale no more where it is removed, and stays stale where another is removed
-  remove_message_row : marks (present text) (remove_message (codes "m1")) first ≡ []
-  unfolding ids_where
-  remove_message_row = refl
+    -- a message that was stale is stale no more where it is removed, and stays stale where another is removed
+    remove_message_row : marks (present text) (remove_message (codes "m1")) first ≡ []
+    unfolding ids_where
+    remove_message_row = refl
 
-  remove_other_message_row : marks (present text) (remove_message (codes "m2")) first ≡ first
-  unfolding ids_where
-  remove_other_message_row = refl
+    remove_other_message_row : marks (present text) (remove_message (codes "m2")) first ≡ first
+    unfolding ids_where
+    remove_other_message_row = refl
 
-  -- an edit of the settings touches all messages
-  mailbox_row : touched (present text) (set_mailbox (codes "Inbox2")) ≡ both
-  unfolding ids_where
-  mailbox_row = refl
+    -- an edit of the settings touches all messages
+    mailbox_row : touched (present text) (set_mailbox (codes "Inbox2")) ≡ both
+    unfolding ids_where
+    mailbox_row = refl
 
-  envelope_row : touched (present text) (set_envelope (codes "a@b.example") []) ≡ both
-  unfolding ids_where
-  envelope_row = refl
+    envelope_row : touched (present text) (set_envelope (codes "a@b.example") []) ≡ both
+    unfolding ids_where
+    envelope_row = refl
 
-  set_main_row : touched (present text) (set_main y) ≡ both
-  unfolding ids_where
-  set_main_row = refl
+    set_main_row : touched (present text) (set_main y) ≡ both
+    unfolding ids_where
+    set_main_row = refl
 
-  -- the edit that names the main script touches all messages even where the main script stays
-  same_main_row : touched (present text) (set_main main) ≡ both
-  unfolding ids_where
-  same_main_row = refl
+    -- the edit that names the main script touches all messages even where the main script stays
+    same_main_row : touched (present text) (set_main main) ≡ both
+    unfolding ids_where
+    same_main_row = refl
 
-  clear_main_row : touched (present text) clear_main ≡ both
-  unfolding ids_where
-  clear_main_row = refl
+    clear_main_row : touched (present text) clear_main ≡ both
+    unfolding ids_where
+    clear_main_row = refl
 
-  -- an edit of what is expected touches no message, and leaves the stale messages
-  expected_row : touched (present text) (set_expected (codes "m1") (codes "discard\n")) ≡ []
-  unfolding ids_where
-  expected_row = refl
+    -- an edit of what is expected touches no message, and leaves the stale messages
+    expected_row : touched (present text) (set_expected (codes "m1") (codes "discard\n")) ≡ []
+    unfolding ids_where
+    expected_row = refl
 
-  expected_stays_row : marks (present text) (set_expected (codes "m1") (codes "discard\n")) first ≡ first
-  unfolding ids_where
-  expected_stays_row = refl
+    expected_stays_row : marks (present text) (set_expected (codes "m1") (codes "discard\n")) first ≡ first
+    unfolding ids_where
+    expected_stays_row = refl
 
-  not_expected_row : touched (present text) (clear_expected (codes "m2")) ≡ []
-  unfolding ids_where
-  not_expected_row = refl
+    not_expected_row : touched (present text) (clear_expected (codes "m2")) ≡ []
+    unfolding ids_where
+    not_expected_row = refl
 
 -- A REPORT THAT MEMORY WAS REFUSED TO
 

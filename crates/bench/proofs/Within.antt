@@ -13,6 +13,7 @@ use Rattle.sieve_base.specs.Name.{name_cmp, name_eq}
 use Rattle.sieve_base.specs.declared.name.ScriptName.{ScriptName}
 use Rattle.bench.specs.Content.{Content, Edit, Sample, after, new_content, put_script, put_message, set_main, rename_script, remove_script, remove_message, clear_main, set_envelope, set_mailbox, set_expected, clear_expected, text_at, message_at, expected_at, with_script, with_message, with_expected, with_renamed, without_script, without_message, is_long, is_long_id, script_refusal, message_refusal, main_refusal, rename_refusal, remove_script_refusal, absent_refusal, expected_refusal, envelope_refusal, mailbox_refusal}
 use Rattle.bench.specs.Edits.{IsInOrder, IsWithinLimits, AreScriptsWithin, AreMessagesWithin, AreOrdered, behind, content_after}
+use Rattle.sieve_profile.specs.Profile.{Profile}
 use Rattle.bench.specs.declared.fault.EditFault.{EditFault}
 use Rattle.bench.specs.declared.fault.EditFault.TheVariants.{TooLarge, Full, NoSuchScript, NameTaken, NoSuchMessage}
 use Rattle.bench.proofs.Names.{is_name, text-with_script}
@@ -230,8 +231,8 @@ stays_within content (edit ∷ edits) order limits = stays_within (behind conten
 
 -- A NEW BENCH
 
-pub new_within : IsWithinLimits new_content
-new_within = record {
+pub new_within : (profile : Profile) → IsWithinLimits (new_content profile)
+new_within profile = record {
   main = tt;
   envelope = record { from = omega arith; to = omega arith; mailbox = omega arith };
   scripts = record { count = omega arith; names = All-nil (λ n. length n.name ≤ name_limit); texts = All-nil (λ t. length t ≤ text_limit) };

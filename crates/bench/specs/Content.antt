@@ -9,6 +9,7 @@ use Rattle.sieve_base.specs.Limits.{address_limit, expected_limit, id_limit, mai
 use Rattle.sieve_base.specs.declared.name.ScriptName.{ScriptName}
 use Rattle.sieve_effects.specs.declared.envelope.Envelope.{Envelope}
 use Rattle.sieve_base.specs.Name.{name_cmp}
+use Rattle.sieve_profile.specs.Profile.{Profile}
 use Rattle.bench.specs.declared.fault.EditFault.{EditFault}
 use Rattle.bench.specs.declared.fault.EditFault.TheVariants.{TooLarge, NoSuchScript, NameTaken, NoSuchMessage, Full, NoMemory}
 
@@ -17,17 +18,18 @@ pub record Sample : Type 0 where
   pub octets : List ℕ
   pub expected : Option (List ℕ)
 
--- the main script's name, the envelope, the scripts in printing order with their texts, and the messages in order
--- by their ids
+-- what is known beyond what always is, the main script's name, the envelope, the scripts in printing order with their texts,
+-- and the messages in order by their ids
 pub record Content : Type 0 where
+  pub profile : Profile
   pub main : Option ScriptName
   pub envelope : Envelope
   pub scripts : List (ScriptName × List ℕ)
   pub messages : List (List ℕ × Sample)
 
--- what a new bench holds: mail is kept in the INBOX
-abbrev pub new_content : Content
-new_content = record { main = None; envelope = record { from = []; to = []; mailbox = codes "INBOX" }; scripts = []; messages = [] }
+-- what a new bench of a profile holds: mail is kept in the INBOX
+abbrev pub new_content : Profile → Content
+new_content profile = record { profile = profile; main = None; envelope = record { from = []; to = []; mailbox = codes "INBOX" }; scripts = []; messages = [] }
 
 pub data Edit : Type 0 where
   put_script : (name : ScriptName) (text : List ℕ) → Edit

@@ -7,6 +7,7 @@ use Rattle.sieve_code.specs.Choice.{code_of}
 use Rattle.sieve_code.specs.Dump.{line_text}
 use Rattle.sieve_code.specs.Operation.{Operation}
 use Rattle.sieve_base.specs.declared.name.ScriptName.{ScriptName}
+use Rattle.sieve_profile.specs.Profile.{Profile}
 use Rattle.bench.specs.Report.{script_line}
 use Rattle.bench.specs.declared.test_end.TestEnd.{TestEnd}
 use Rattle.bench.specs.declared.test_end.TestEnd.TheVariants as test
@@ -30,13 +31,13 @@ script_code tree = code_text (code_of tree)
 abbrev pub is_too_large : ScriptName → List ℕ → Bool
 is_too_large name text = nat_lt name_limit (length name.name) || nat_lt text_limit (length text)
 
-abbrev pub dump_text_by : ScriptName → List ℕ → Judgement → List ℕ
-dump_text_by name text (sound tree) = script_code tree
-dump_text_by name text (faulty line kind) = script_line (name, text)
+abbrev pub dump_text_by : Profile → ScriptName → List ℕ → Judgement → List ℕ
+dump_text_by profile name text (sound tree) = script_code tree
+dump_text_by profile name text (faulty line kind) = script_line profile (name, text)
 
--- what is printed of a text under a name: its code, or its script's line of a report where it has a fault
-abbrev pub dump_text_of : ScriptName → List ℕ → List ℕ
-dump_text_of name text = dump_text_by name text (judgement_of text)
+-- what is printed of a text under a profile and a name: its code, or its script's line of a report where it has a fault
+abbrev pub dump_text_of : Profile → ScriptName → List ℕ → List ℕ
+dump_text_of profile name text = dump_text_by profile name text (judgement_of profile text)
 
 -- how the printing of a text ends
 abbrev pub dump_end_of : Judgement → TestEnd
@@ -45,10 +46,10 @@ dump_end_of (faulty line kind) = test.Faulty
 
 -- What an end says, where `whole` says that a text was written, `front` that a front of it was, and `nothing` that nothing was: that this was so of the
 -- text of the dump, and the end is the due one; that name or text is too large; or that the writer failed, or memory was refused. `Full` is no end of a dump.
-abbrev pub DumpEnds : TestEnd → ScriptName → List ℕ → (List ℕ → Type 0) → (List ℕ → Type 0) → Type 0 → Type 0
-DumpEnds test.Clean name text whole front nothing = (is_too_large name text ≡ false) × (dump_end_of (judgement_of text) ≡ test.Clean) × whole (dump_text_of name text)
-DumpEnds test.Faulty name text whole front nothing = (is_too_large name text ≡ false) × (dump_end_of (judgement_of text) ≡ test.Faulty) × whole (dump_text_of name text)
-DumpEnds test.TooLarge name text whole front nothing = (is_too_large name text ≡ true) × nothing
-DumpEnds test.Full name text whole front nothing = ⊥
-DumpEnds test.Write name text whole front nothing = (is_too_large name text ≡ false) × front (dump_text_of name text)
-DumpEnds test.NoMemory name text whole front nothing = (is_too_large name text ≡ false) × nothing
+abbrev pub DumpEnds : TestEnd → Profile → ScriptName → List ℕ → (List ℕ → Type 0) → (List ℕ → Type 0) → Type 0 → Type 0
+DumpEnds test.Clean profile name text whole front nothing = (is_too_large name text ≡ false) × (dump_end_of (judgement_of profile text) ≡ test.Clean) × whole (dump_text_of profile name text)
+DumpEnds test.Faulty profile name text whole front nothing = (is_too_large name text ≡ false) × (dump_end_of (judgement_of profile text) ≡ test.Faulty) × whole (dump_text_of profile name text)
+DumpEnds test.TooLarge profile name text whole front nothing = (is_too_large name text ≡ true) × nothing
+DumpEnds test.Full profile name text whole front nothing = ⊥
+DumpEnds test.Write profile name text whole front nothing = (is_too_large name text ≡ false) × front (dump_text_of profile name text)
+DumpEnds test.NoMemory profile name text whole front nothing = (is_too_large name text ≡ false) × nothing

@@ -1,5 +1,5 @@
 -- The text of a report.
-use Rattle.std.specs.Prelude.{ℕ, Bool, true, false, not, List, [], ◌++◌, length, map, Option, None, Some, is_some, if◌then◌else◌, count_by, codes, decimal}
+use Rattle.std.specs.Prelude.{ℕ, Bool, true, false, not, List, [], ◌∷◌, ◌++◌, length, map, filter, Option, None, Some, is_some, if◌then◌else◌, count_by, codes, decimal}
 use Rattle.std.specs.List.{flat_map, list_any}
 use Rattle.sieve_base.specs.Writers.{name_text, quoted}
 use Rattle.sieve_check.specs.Judgement.{Judgement, judgement_of, sound, faulty, fault_word}
@@ -9,6 +9,9 @@ use Rattle.sieve_run.specs.Library.{library_of}
 use Rattle.sieve_run.specs.Lines.{agrees, read_lines, verdict_lines}
 use Rattle.sieve_run.specs.Run.{outcome_of}
 use Rattle.sieve_run.specs.Verdict.{Verdict}
+use Rattle.sieve_profile.specs.Extension.{extension_name, extensions}
+use Rattle.sieve_profile.specs.Profile.{Profile, has}
+use Rattle.sieve_profile.specs.declared.extension.Extension.{Extension}
 use Rattle.bench.specs.Content.{Content, Sample, text_at}
 
 -- the first line: the main script
@@ -25,9 +28,22 @@ abbrev pub judgement_text : Judgement → List ℕ
 judgement_text (sound _) = codes "ok"
 judgement_text (faulty line kind) = codes "line " ++ decimal line ++ codes " " ++ fault_word kind
 
+-- an extension's name in a line
+abbrev pub extension_text : Extension → List ℕ
+extension_text extension = codes " " ++ extension_name extension
+
+-- the line of these extensions, where there are any
+unfoldable pub extensions_line : List Extension → List ℕ
+extensions_line [] = []
+extensions_line (extension ∷ more) = codes "with" ++ flat_map extension_text (extension ∷ more) ++ codes "\n"
+
+-- behind the second line: the names of what a profile has, in their order
+abbrev pub profile_line : Profile → List ℕ
+profile_line profile = extensions_line (filter (has profile) extensions)
+
 -- the line of a script, whose text is this
-unfoldable pub script_line : ScriptName × List ℕ → List ℕ
-script_line (name, text) = codes "script " ++ name_text name ++ codes " " ++ judgement_text (judgement_of text) ++ codes "\n"
+unfoldable pub script_line : Profile → ScriptName × List ℕ → List ℕ
+script_line profile (name, text) = codes "script " ++ name_text name ++ codes " " ++ judgement_text (judgement_of profile text) ++ codes "\n"
 
 -- what stands before each line of a verdict
 unfoldable pub indent : List ℕ
@@ -65,13 +81,24 @@ expectation_text mailbox verdict (Some text) = indented (expectation_line (agree
 abbrev pub message_lines : (mailbox : List ℕ) → Judged → List ℕ
 message_lines mailbox judged = message_line judged.id ++ (verdict_text mailbox judged.verdict ++ expectation_text mailbox judged.verdict judged.expected)
 
+-- what all messages are judged with
+pub record Site : Type 0 where
+  pub profile : Profile
+  pub main : Option ScriptName
+  pub envelope : Envelope
+  pub scripts : List (ScriptName × List ℕ)
+
+abbrev pub site_of : Content → Site
+site_of content = record { profile = content.profile; main = content.main; envelope = content.envelope; scripts = content.scripts }
+
 -- the verdict on a message
-abbrev pub verdict_by : Option ScriptName → Envelope → List (ScriptName × List ℕ) → List ℕ → Verdict
-verdict_by main envelope scripts bytes = outcome_of (library_of (text_at scripts)) main envelope bytes
+abbrev pub verdict_by : Site → List ℕ → Verdict
+verdict_by site bytes =
+    outcome_of (library_of site.profile (text_at site.scripts)) site.main (record { message = bytes; envelope = site.envelope; profile = site.profile })
 
 -- each message, judged
-unfoldable pub verdicts : Option ScriptName → Envelope → List (ScriptName × List ℕ) → List (List ℕ × Sample) → List Judged
-verdicts main envelope scripts messages = map (λ e. record { id = e.0; verdict = verdict_by main envelope scripts e.1.octets; expected = e.1.expected }) messages
+unfoldable pub verdicts : Site → List (List ℕ × Sample) → List Judged
+verdicts site messages = map (λ e. record { id = e.0; verdict = verdict_by site e.1.octets; expected = e.1.expected }) messages
 
 -- how many verdicts have an error
 abbrev pub error_count : List Judged → ℕ
@@ -91,15 +118,17 @@ unfoldable pub total_line : ℕ → ℕ → Option ℕ → List ℕ
 total_line messages errors None = codes "total " ++ decimal messages ++ codes " messages " ++ decimal errors ++ codes " errors\n"
 total_line messages errors (Some unexpected) = codes "total " ++ decimal messages ++ codes " messages " ++ decimal errors ++ codes " errors " ++ decimal unexpected ++ codes " unexpected\n"
 
--- the report of a main script, an envelope and scripts with these verdicts
-unfoldable pub report_with : Option ScriptName → Envelope → List (ScriptName × List ℕ) → List Judged → List ℕ
-report_with main envelope scripts judged =
-    main_line main
-    ++ (envelope_line envelope
-    ++ (flat_map script_line scripts
-    ++ (flat_map (message_lines envelope.mailbox) judged
-    ++ total_line (length judged) (error_count judged) (unexpected_count envelope.mailbox judged))))
+-- the lines in front of the messages
+unfoldable pub site_lines : Site → List ℕ
+site_lines site = main_line site.main ++ (envelope_line site.envelope ++ (profile_line site.profile ++ flat_map (script_line site.profile) site.scripts))
+
+-- the report with these verdicts
+unfoldable pub report_with : Site → List Judged → List ℕ
+report_with site judged =
+    site_lines site
+    ++ (flat_map (message_lines site.envelope.mailbox) judged
+    ++ total_line (length judged) (error_count judged) (unexpected_count site.envelope.mailbox judged))
 
 -- the report of a content
 abbrev pub report_text : Content → List ℕ
-report_text content = report_with content.main content.envelope content.scripts (verdicts content.main content.envelope content.scripts content.messages)
+report_text content = report_with (site_of content) (verdicts (site_of content) content.messages)

@@ -6,11 +6,11 @@ use Rattle.sieve_base.specs.declared.name.ScriptName.{ScriptName}
 use Rattle.sieve_run.specs.Run.{is_read}
 use Rattle.sieve_run.specs.Verdict.{Verdict}
 use Rattle.bench.specs.Content.{Content, Edit, Sample, put_script, put_message, set_main, rename_script, remove_script, remove_message, clear_main, set_envelope, set_mailbox, set_expected, clear_expected}
-use Rattle.bench.specs.Report.{verdict_by}
+use Rattle.bench.specs.Report.{site_of, verdict_by}
 
 -- the verdict on a message of a content
 abbrev pub verdict_on : Content → List ℕ → Verdict
-verdict_on content bytes = verdict_by content.main content.envelope content.scripts bytes
+verdict_on content bytes = verdict_by (site_of content) bytes
 
 -- whether the run on a message looks a name up, present or missing
 abbrev pub looks_up : Content → ScriptName → List ℕ → Bool

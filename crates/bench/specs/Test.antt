@@ -3,9 +3,8 @@ use Rattle.std.specs.Prelude.{◌≡◌, ◌⊎◌, ℕ, Bool, true, false, ◌&
 use Rattle.std.specs.List.{list_all}
 use Rattle.sieve_check.specs.Judgement.{Judgement, judgement_of, sound, faulty}
 use Rattle.sieve_run.specs.Meter.{next_run}
-use Rattle.sieve_base.specs.declared.name.ScriptName.{ScriptName}
 use Rattle.bench.specs.Content.{Content, Edit, after, new_content, put_script, put_message, set_main, set_envelope, set_mailbox}
-use Rattle.bench.specs.Report.{Judged, error_count, report_text, verdicts}
+use Rattle.bench.specs.Report.{Judged, Site, error_count, report_text, site_of, verdicts}
 use Rattle.bench.specs.declared.fault.EditFault.{EditFault}
 use Rattle.bench.specs.declared.fault.EditFault.TheVariants as edit
 use Rattle.bench.specs.declared.test_end.TestEnd.{TestEnd}
@@ -33,9 +32,9 @@ then_edit (Err refusal) edit = Err refusal
 abbrev pub after_all : Content → List Edit → Result Content EditFault
 after_all content edits = fold then_edit (Ok content) edits
 
--- what the edits of a job make of a new bench, or the first refusal
+-- what the edits of a job make of a new bench of its profile, or the first refusal
 unfoldable pub made_by : TestJob → Result Content EditFault
-made_by job = after_all new_content (edits_of job)
+made_by job = after_all (new_content job.profile) (edits_of job)
 
 -- HOW ITS REPORT ENDS
 
@@ -44,13 +43,13 @@ abbrev pub is_sound : Judgement → Bool
 is_sound (sound tree) = true
 is_sound (faulty line kind) = false
 
--- whether a report of scripts with these verdicts has nothing to complain of: each script's line says `ok`, and no message has an error
-abbrev pub is_clean_with : List (ScriptName × List ℕ) → List Judged → Bool
-is_clean_with scripts judged = list_all (λ e. is_sound (judgement_of e.1)) scripts && (error_count judged == 0)
+-- whether a report with these verdicts has nothing to complain of: each script's line says `ok`, and no message has an error
+abbrev pub is_clean_with : Site → List Judged → Bool
+is_clean_with site judged = list_all (λ e. is_sound (judgement_of site.profile e.1)) site.scripts && (error_count judged == 0)
 
 -- whether the report of a content has nothing to complain of
 unfoldable pub is_clean : Content → Bool
-is_clean content = is_clean_with content.scripts (verdicts content.main content.envelope content.scripts content.messages)
+is_clean content = is_clean_with (site_of content) (verdicts (site_of content) content.messages)
 
 -- how a test ends whose report is written
 abbrev pub test_end_of : Content → TestEnd

@@ -3,4 +3,6 @@ pub mod Entry
 pub mod Lines
 pub mod ReportFault
 pub mod Refused
+pub mod Scripts
+pub mod Site
 pub mod Tested

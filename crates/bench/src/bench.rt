@@ -7,6 +7,7 @@ ghost use Rattle.bench.specs.Bench.{RefusedAmong, verdict_at};
 ghost use Rattle.bench.specs.Edits.{AreDistinct};
 ghost use Rattle.bench.specs.Stale.{ids_where, stale_after};
 ghost use Rattle.sieve_base.specs.Writers.{Wrote, WroteFront};
+ghost use Rattle.sieve_profile.specs.Profile.{empty_profile};
 ghost use Rattle.sieve_run.specs.Library.{found_at, library_of};
 ghost use Rattle.sieve_run.specs.Meter.{runs_after};
 ghost use Rattle.sieve_run.specs.view.Found.{FoundAs};
@@ -27,12 +28,13 @@ use crate::refusal::{
 };
 use crate::report::{is_clean, run_stale, write_report};
 use crate::scripts::Scripts;
+use crate::site::Site;
 use crate::sought::{SoughtId, remove_sought};
 use indexmap::IndexMap;
 use sieve_base::{Octets, ScriptName, Sink};
+use sieve_profile::Profile;
 use sieve_run::{Envelope, Found, Meter, Outcome, find};
 use std::alloc::{AllocError, Global};
-use std::collections::BTreeMap;
 use std::marker::Model;
 
 /// Scripts beside sample messages, with the main script's name and the envelope, and the verdicts that reports found and no edit has
@@ -56,12 +58,13 @@ impl Model for Bench {
     ghost use Rattle.bench.specs.Content.{Content};
     ghost use Rattle.bench.specs.Report.{verdict_by};
     ghost use Rattle.bench.specs.view.Entry.{KeepsDue, messages_of, stale_of};
+    ghost use Rattle.bench.specs.view.Site.{site_by};
 
     ghost Value = { BenchState };
 
-    ghost view = { λ b. record { content = record { main = b.main; envelope = b.envelope; scripts = b.scripts; messages = messages_of b.messages.entries }; stale = stale_of b.messages.entries } };
+    ghost view = { λ b. record { content = record { profile = b.scripts.profile; main = b.main; envelope = b.envelope; scripts = b.scripts.scripts; messages = messages_of b.messages.entries }; stale = stale_of b.messages.entries } };
 
-    ghost invariant = { λ b. KeepsDue (verdict_by b.main b.envelope b.scripts) b.messages.entries × IsDistinct (pointwise nat_eq) (keys_of b.messages.entries) };
+    ghost invariant = { λ b. KeepsDue (verdict_by (site_by b.main b.envelope b.scripts)) b.messages.entries × IsDistinct (pointwise nat_eq) (keys_of b.messages.entries) };
 }
 
 impl Bench {
@@ -147,10 +150,18 @@ impl Bench {
         expect(&mut self.messages, SoughtId { octets: id }, Some(text));
     }
 
-    /// A bench with no scripts, no messages, no main script, an empty envelope, and the mailbox `INBOX`.
-    #[tactic(auto, unfolding(crate::specs::view::Entry::messages_of))]
+    /// A bench of the empty profile with no scripts, no messages, no main script, an empty envelope, and the mailbox `INBOX`.
     pub fn new(alloc: Global) -> Result<Bench, AllocError>
-        ensures content { IfOk result (λ bench. bench.content ≡ new_content) }
+        ensures content { IfOk result (λ bench. bench.content ≡ new_content empty_profile) }
+        ensures stale { IfOk result (λ bench. bench.stale ≡ []) }
+    {
+        Bench::with_profile(alloc, Profile::new())
+    }
+
+    /// A bench of a profile with no scripts, no messages, no main script, an empty envelope, and the mailbox `INBOX`. It keeps its profile.
+    #[tactic(auto, unfolding(crate::specs::view::Entry::messages_of))]
+    pub fn with_profile(alloc: Global, profile: Profile) -> Result<Bench, AllocError>
+        ensures content { IfOk result (λ bench. bench.content ≡ new_content profile) }
         ensures stale { IfOk result (λ bench. bench.stale ≡ []) }
     {
         let envelope = Envelope {
@@ -162,9 +173,7 @@ impl Bench {
             alloc,
             main: None,
             envelope,
-            scripts: Scripts {
-                by_name: BTreeMap::new(alloc),
-            },
+            scripts: Scripts::new(alloc, profile),
             messages: IndexMap::new(alloc),
         })
     }
@@ -367,20 +376,15 @@ impl Bench {
             ((self.new.stale ≡ []) × (meter.new ≡ runs_after (length self.old.stale) meter.old))) }
         ensures no_memory { self.old.stale ≡ [] → IfErr result (λ fault. MatchReportFault fault ⊥ ⊤) }
     {
-        let main = self.main.as_ref();
-        if run_stale(
-            self.alloc,
-            &self.scripts,
-            main,
-            &self.envelope,
-            &mut self.messages,
-            meter,
-        )
-        .is_err()
-        {
+        let site = Site {
+            main: self.main.as_ref(),
+            envelope: &self.envelope,
+            scripts: &self.scripts,
+        };
+        if run_stale(self.alloc, &site, &mut self.messages, meter).is_err() {
             return Err(ReportFault::NoMemory);
         }
-        match write_report(main, &self.envelope, &self.scripts, &self.messages, writer) {
+        match write_report(&site, &self.messages, writer) {
             Ok(()) => Ok(()),
             Err(_) => Err(ReportFault::Write),
         }
@@ -391,12 +395,17 @@ impl Bench {
         requires { self.now.stale ≡ [] }
         ensures { result ≡ is_clean self.now.content }
     {
-        is_clean(&self.scripts, &self.messages)
+        let site = Site {
+            main: self.main.as_ref(),
+            envelope: &self.envelope,
+            scripts: &self.scripts,
+        };
+        is_clean(&site, &self.messages)
     }
 
     /// The code of a script, as an `include` of that name finds it: a name of more than 1,024 octets has none.
     pub fn code(&self, name: &ScriptName) -> Found<'_>
-        ensures { FoundAs result (found_at (library_of (text_at self.now.content.scripts)) name.now) }
+        ensures { FoundAs result (found_at (library_of self.now.content.profile (text_at self.now.content.scripts)) name.now) }
     {
         find(&self.scripts, name)
     }

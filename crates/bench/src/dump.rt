@@ -11,6 +11,7 @@ use crate::test_end::TestEnd;
 use sieve_base::limits::{MAX_NAME, MAX_TEXT};
 use sieve_base::{Octets, ScriptName, Sink, WriteFault};
 use sieve_code::Code;
+use sieve_profile::Profile;
 use sieve_run::{Found, Script};
 use std::alloc::{AllocError, Global};
 
@@ -30,8 +31,8 @@ fn write_judged<W: Sink>(
     script: &Script,
     writer: &mut W,
 ) -> Result<(), WriteFault>
-    requires { length script.now ≤ text_limit }
-    ensures { Writes W.contents W.fault_count result writer.old writer.new (dump_text_of name.now script.now) }
+    requires { length script.now.text ≤ text_limit }
+    ensures { Writes W.contents W.fault_count result writer.old writer.new (dump_text_of script.now.profile name.now script.now.text) }
 {
     match script.found() {
         Found::Present(code) => write_code(code, writer),
@@ -42,7 +43,7 @@ fn write_judged<W: Sink>(
 
 /// The end that is due for a script.
 fn due_end(script: &Script) -> TestEnd
-    ensures { result ≡ dump_end_of (judgement_of script.now) }
+    ensures { result ≡ dump_end_of (judgement_of script.now.profile script.now.text) }
 {
     match script.fault() {
         None => TestEnd::Clean,
@@ -50,26 +51,32 @@ fn due_end(script: &Script) -> TestEnd
     }
 }
 
-/// The script of a text.
-fn script_of(alloc: Global, text: &[u8]) -> Result<Script, AllocError>
+/// The script of a text, under a profile.
+fn script_of(alloc: Global, profile: Profile, text: &[u8]) -> Result<Script, AllocError>
     requires { length text.now ≤ text_limit }
-    ensures { IfOk result (λ script. script ≡ text.now) }
+    ensures { IfOk result (λ script. script ≡ record { profile = profile; text = text.now }) }
 {
-    Script::new(alloc, Octets::copied(alloc, text)?)
+    Script::new(alloc, profile, Octets::copied(alloc, text)?)
 }
 
-/// Writes the code of a script's text, one operation a line, or the script's line of a report where the text has a fault.
+/// Writes the code of a script's text under a profile, one operation a line, or the script's line of a report where the text has a fault.
 ///
 /// `Clean` says that the code was written, and `Faulty` that the line was. `TooLarge`: the text has more than 1,048,576 octets, or the name
 /// more than 1,024; nothing was written. `Write`: the writer failed, and a front was written. `NoMemory`: nothing was written. Never `Full`.
-pub fn dump_text<W: Sink>(alloc: Global, name: &ScriptName, text: &[u8], writer: &mut W) -> TestEnd
-    ensures { DumpEnds result name.now text.now (Wrote W.contents W.fault_count writer.old writer.new)
+pub fn dump_text<W: Sink>(
+    alloc: Global,
+    profile: Profile,
+    name: &ScriptName,
+    text: &[u8],
+    writer: &mut W,
+) -> TestEnd
+    ensures { DumpEnds result profile name.now text.now (Wrote W.contents W.fault_count writer.old writer.new)
         (WroteFront W.contents W.fault_count writer.old writer.new) (writer.new ≡ writer.old) }
 {
     if name.name.as_slice().len() > MAX_NAME || text.len() > MAX_TEXT {
         return TestEnd::TooLarge;
     }
-    let Ok(script) = script_of(alloc, text) else {
+    let Ok(script) = script_of(alloc, profile, text) else {
         return TestEnd::NoMemory;
     };
     match write_judged(name, &script, writer) {

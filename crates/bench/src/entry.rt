@@ -5,10 +5,11 @@ ghost use Rattle.sieve_run.specs.Meter.{next_run};
 ghost use Rattle.sieve_run.specs.Run.{is_read};
 ghost use Rattle.bench.specs.Report.{is_unlike, verdict_by};
 ghost use Rattle.bench.specs.view.Entry.{disagrees, expecting, forgotten, has_error, refreshed, renewed, runs_at, unread};
+ghost use Rattle.bench.specs.view.Site.{site_as};
 
-use crate::scripts::Scripts;
+use crate::site::Site;
 use sieve_base::{Octets, ScriptName};
-use sieve_run::{Envelope, Message, Meter, Outcome, run};
+use sieve_run::{Message, Meter, Outcome, run};
 use std::alloc::{AllocError, Global};
 
 /// A message with the text that its verdict is expected to have, where there is one, and with the verdict on it, unless it is stale.
@@ -74,19 +75,24 @@ impl Entry {
     pub(crate) fn refresh(
         &mut self,
         alloc: Global,
-        scripts: &Scripts,
-        main: Option<&ScriptName>,
-        envelope: &Envelope,
+        site: &Site<'_>,
         meter: &mut Meter,
     ) -> Result<(), AllocError>
-        ensures ok { OnOk result (self.new ≡ refreshed (verdict_by (option_copied main.entry) envelope.now scripts.now) self.old) }
+        ensures ok { OnOk result (self.new ≡ refreshed (verdict_by (site_as site.now)) self.old) }
         ensures runs { OnOk result (meter.new ≡ runs_at self.old meter.old) }
         ensures err { OnErr result (self.new ≡ self.old) }
         ensures stale { OnErr result (self.old.kept ≡ None) }
         ensures ran { OnErr result (meter.new ≡ next_run meter.old) }
     {
         if self.kept.is_none() {
-            let outcome = run(alloc, scripts, main, envelope, &self.message, meter)?;
+            let outcome = run(
+                alloc,
+                site.scripts,
+                site.main,
+                site.envelope,
+                &self.message,
+                meter,
+            )?;
             self.kept = Some(outcome);
         }
         Ok(())

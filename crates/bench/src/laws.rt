@@ -5,6 +5,7 @@ ghost use Rattle.bench.specs.Content.{Content, Edit, after, new_content};
 ghost use Rattle.bench.specs.Edits.{IsInOrder, IsWithinLimits, content_after, rebuild};
 ghost use Rattle.bench.specs.Report.{report_text};
 ghost use Rattle.bench.specs.Test.{after_all};
+ghost use Rattle.sieve_profile.specs.Profile.{Profile};
 ghost use Rattle.bench.specs.declared.fault.EditFault as faults;
 
 /// A refused edit leaves a content as it was, and those behind it are made of that. Where none is refused, each is made of what the one
@@ -17,20 +18,26 @@ pub fn refused_edits_leave_the_content()
 /// Scripts stay in the order of their names, and no two messages come to have one id: a new bench is so, each edit that isn't
 /// refused keeps it so, and so do edits in turn, whichever of them are refused.
 pub fn edits_keep_the_order()
-    ensures first { IsInOrder new_content }
+    ensures first { (profile : Profile) → IsInOrder (new_content profile) }
     ensures each { (content : Content) (edit : Edit) (new : Content) → IsInOrder content → after content edit ≡ Ok new → IsInOrder new }
     ensures turns { (content : Content) (edits : List Edit) → IsInOrder content → IsInOrder (content_after content edits) }
 {}
 
 /// Whatever edits are made of a new bench, all that it holds is within the limits.
 pub fn edits_keep_the_limits()
-    ensures { (edits : List Edit) → IsWithinLimits (content_after new_content edits) }
+    ensures { (profile : Profile) (edits : List Edit) → IsWithinLimits (content_after (new_content profile) edits) }
 {}
 
-/// A content is all that edits leave: put into a new bench, what a bench holds is made anew, and so is its report. None of the edits that
-/// do so is refused.
+/// Edits never change a bench's profile, whichever of them are refused.
+pub fn an_edit_keeps_the_profile()
+    ensures each { (content : Content) (edit : Edit) (new : Content) → after content edit ≡ Ok new → new.profile ≡ content.profile }
+    ensures turns { (content : Content) (edits : List Edit) → (content_after content edits).profile ≡ content.profile }
+{}
+
+/// A content is all that edits leave: put into a new bench of its profile, what a bench holds is made anew, and so is its report. None of the
+/// edits that do so is refused.
 pub fn a_content_is_made_anew()
-    ensures made { (edits : List Edit) → after_all new_content (rebuild (content_after new_content edits)) ≡ Ok (content_after new_content edits) }
-    ensures content { (edits : List Edit) → content_after new_content (rebuild (content_after new_content edits)) ≡ content_after new_content edits }
-    ensures report { (edits : List Edit) → report_text (content_after new_content (rebuild (content_after new_content edits))) ≡ report_text (content_after new_content edits) }
+    ensures made { (profile : Profile) (edits : List Edit) → after_all (new_content profile) (rebuild (content_after (new_content profile) edits)) ≡ Ok (content_after (new_content profile) edits) }
+    ensures content { (profile : Profile) (edits : List Edit) → content_after (new_content profile) (rebuild (content_after (new_content profile) edits)) ≡ content_after (new_content profile) edits }
+    ensures report { (profile : Profile) (edits : List Edit) → report_text (content_after (new_content profile) (rebuild (content_after (new_content profile) edits))) ≡ report_text (content_after (new_content profile) edits) }
 {}

@@ -14,6 +14,7 @@ mod refusal;
 mod report;
 mod report_lines;
 mod scripts;
+mod site;
 mod sought;
 mod test_end;
 mod test_job;

@@ -1,12 +1,13 @@
 //! Which messages are marked stale. A mark takes no memory: it is the want of a kept verdict.
-ghost use Rattle.std.specs.Prelude.{◌≡◌, Option, map, nat_eq, false};
+ghost use Rattle.std.specs.Prelude.{◌≡◌, ℕ, List, map, nat_eq, false};
 ghost use Rattle.indexmap.specs.IndexMap.{IsUnique};
 ghost use lib.Pointwise.{pointwise};
 ghost use Rattle.sieve_base.specs.Name.{name_eq};
 ghost use Rattle.sieve_base.specs.declared.name.ScriptName as names;
-ghost use Rattle.sieve_effects.specs.declared.envelope.Envelope.{Envelope};
-ghost use Rattle.sieve_run.specs.Frame.{Texts, outcome_over};
+ghost use Rattle.bench.specs.Content.{text_at};
+ghost use Rattle.bench.specs.Report.{Site, verdict_by};
 ghost use Rattle.bench.specs.view.Entry.{KeepsDue, forgotten, unread, messages_of};
+ghost use Rattle.bench.specs.view.Site.{with_scripts};
 
 use crate::entry::Entry;
 use indexmap::IndexMap;
@@ -30,9 +31,9 @@ pub(crate) fn forget_readers(messages: &mut IndexMap<Octets, Entry>, name: &Scri
     ensures entries { messages.new.entries ≡ map (λ e. (e.0, unread name.now e.1)) messages.old.entries }
     ensures messages { messages_of messages.new.entries ≡ messages_of messages.old.entries }
     ensures unique { IsUnique (pointwise nat_eq) messages.new }
-    ensures due { (texts others : Texts) (main : Option names.ScriptName) (envelope : Envelope)
-        → ((other : names.ScriptName) → name_eq name.now other ≡ false → texts other ≡ others other)
-        → KeepsDue (outcome_over texts main envelope) messages.old.entries → KeepsDue (outcome_over others main envelope) messages.new.entries }
+    ensures due { (site : Site) (scripts : List (names.ScriptName × List ℕ))
+        → ((other : names.ScriptName) → name_eq name.now other ≡ false → text_at site.scripts other ≡ text_at scripts other)
+        → KeepsDue (verdict_by site) messages.old.entries → KeepsDue (verdict_by (with_scripts site scripts)) messages.new.entries }
 {
     a_verdict_depends_on_what_it_looked_up();
     messages.retain(|_id, entry| {

@@ -23,12 +23,12 @@ pub(crate) fn is_long(name: &Octets) -> bool
 
 /// Why a script isn't put, apart from memory.
 pub(crate) fn refuse_script(scripts: &Scripts, name: &ScriptName, text: &[u8]) -> Option<EditFault>
-    ensures { result ≡ spec.script_refusal scripts.now name.now text.now }
+    ensures { result ≡ spec.script_refusal scripts.now.scripts name.now text.now }
 {
     if is_long(&name.name) || text.len() > MAX_TEXT {
         return Some(EditFault::TooLarge);
     }
-    if !scripts.contains(name) && scripts.by_name.len() >= MAX_SCRIPTS {
+    if !scripts.contains(name) && scripts.len() >= MAX_SCRIPTS {
         return Some(EditFault::Full);
     }
     None
@@ -101,7 +101,7 @@ pub(crate) fn refuse_rename(
     from: &ScriptName,
     to: &ScriptName,
 ) -> Option<EditFault>
-    ensures { result ≡ spec.rename_refusal scripts.now from.now to.now }
+    ensures { result ≡ spec.rename_refusal scripts.now.scripts from.now to.now }
 {
     if is_long(&from.name) || is_long(&to.name) {
         Some(EditFault::TooLarge)
@@ -116,7 +116,7 @@ pub(crate) fn refuse_rename(
 
 /// Why a script isn't removed.
 pub(crate) fn refuse_remove_script(scripts: &Scripts, name: &ScriptName) -> Option<EditFault>
-    ensures { result ≡ spec.remove_script_refusal scripts.now name.now }
+    ensures { result ≡ spec.remove_script_refusal scripts.now.scripts name.now }
 {
     if is_long(&name.name) {
         Some(EditFault::TooLarge)

@@ -6,8 +6,9 @@ ghost use Rattle.indexmap.specs.IndexMap.{IsUnique};
 ghost use lib.Pointwise.{pointwise};
 ghost use Rattle.sieve_base.specs.Writers.{Writes};
 ghost use Rattle.bench.specs.Bench.{RefusedAmong};
-ghost use Rattle.bench.specs.Report.{script_line, verdict_by, message_lines, error_count, unexpected_count, total_line, report_with};
+ghost use Rattle.bench.specs.Report.{script_line, verdict_by, message_lines, error_count, unexpected_count, site_lines, total_line, report_with};
 ghost use Rattle.bench.specs.view.Lines.{action_text, read_text, verdict_texts};
+ghost use Rattle.bench.specs.view.Site.{site_as};
 ghost use Rattle.sieve_run.specs.Meter.{runs_after};
 ghost use Rattle.bench.specs.Test.{is_clean_with};
 ghost use Rattle.bench.specs.view.Entry.{KeepsDue, disagrees, judged_of, messages_of, stale_of};
@@ -15,26 +16,25 @@ ghost use Rattle.bench.specs.view.Entry.{KeepsDue, disagrees, judged_of, message
 use crate::entry::Entry;
 use crate::report_lines::{
     write_action_line, write_envelope, write_error_line, write_expectation, write_implicit_line,
-    write_main, write_message, write_read_line, write_script, write_total,
+    write_main, write_message, write_profile, write_read_line, write_script, write_total,
 };
 use crate::scripts::Scripts;
+use crate::site::Site;
 use indexmap::IndexMap;
-use sieve_base::{Octets, ScriptName, Sink, WriteFault};
+use sieve_base::{Octets, Sink, WriteFault};
 use sieve_run::{Envelope, Meter, Outcome};
 use std::alloc::{AllocError, Global};
 
 /// Runs the main script on the stale messages, in their order.
 pub(crate) fn run_stale(
     alloc: Global,
-    scripts: &Scripts,
-    main: Option<&ScriptName>,
-    envelope: &Envelope,
+    site: &Site<'_>,
     messages: &mut IndexMap<Octets, Entry>,
     meter: &mut Meter,
 ) -> Result<(), AllocError>
-    requires { KeepsDue (verdict_by (option_copied main) envelope.now scripts.now) messages.old.entries }
+    requires { KeepsDue (verdict_by (site_as site.now)) messages.old.entries }
     ensures messages { messages_of messages.new.entries ≡ messages_of messages.old.entries }
-    ensures due { KeepsDue (verdict_by (option_copied main.entry) envelope.now scripts.now) messages.new.entries }
+    ensures due { KeepsDue (verdict_by (site_as site.now)) messages.new.entries }
     ensures unique { IsUnique (pointwise nat_eq) messages.new }
     ensures stale { OnOk result (stale_of messages.new.entries ≡ []) }
     ensures runs { OnOk result (meter.new ≡ runs_after (length (stale_of messages.old.entries)) meter.old) }
@@ -43,7 +43,7 @@ pub(crate) fn run_stale(
     let count = messages.len();
     for index in 0..count {
         if let Some(entry) = messages.get_index_mut(index) {
-            entry.refresh(alloc, scripts, main, envelope, meter)?;
+            entry.refresh(alloc, site, meter)?;
         }
     }
     Ok(())
@@ -76,9 +76,9 @@ fn write_reads<W: Sink>(outcome: &Outcome, writer: &mut W) -> Result<(), WriteFa
 /// Writes the lines of scripts.
 #[tactic(auto, using(crate::proofs::Writing::writing))]
 fn write_scripts<W: Sink>(scripts: &Scripts, writer: &mut W) -> Result<(), WriteFault>
-    ensures { Writes W.contents W.fault_count result writer.old writer.new (flat_map script_line scripts.now) }
+    ensures { Writes W.contents W.fault_count result writer.old writer.new (flat_map (script_line scripts.now.profile) scripts.now.scripts) }
 {
-    for (name, script) in &scripts.by_name {
+    for (name, script) in scripts.by_name() {
         write_script(name, script, writer)?;
     }
     Ok(())
@@ -183,28 +183,34 @@ fn unexpected_count(mailbox: &[u8], messages: &IndexMap<Octets, Entry>) -> Optio
 }
 
 /// Whether no script has a fault, and no verdict that is kept an error.
-pub(crate) fn is_clean(scripts: &Scripts, messages: &IndexMap<Octets, Entry>) -> bool
-    ensures { result ≡ is_clean_with scripts.now (judged_of messages.now.entries) }
+pub(crate) fn is_clean(site: &Site<'_>, messages: &IndexMap<Octets, Entry>) -> bool
+    ensures { result ≡ is_clean_with (site_as site.now) (judged_of messages.now.entries) }
 {
-    scripts.are_sound() && error_count(messages) == 0
+    site.scripts.are_sound() && error_count(messages) == 0
+}
+
+/// Writes the lines in front of the messages.
+fn write_site<W: Sink>(site: &Site<'_>, writer: &mut W) -> Result<(), WriteFault>
+    ensures { Writes W.contents W.fault_count result writer.old writer.new (site_lines (site_as site.now)) }
+{
+    write_main(site.main, writer)?;
+    write_envelope(site.envelope, writer)?;
+    write_profile(site.scripts.profile(), writer)?;
+    write_scripts(site.scripts, writer)
 }
 
 /// Writes a report with the verdicts that are kept.
 pub(crate) fn write_report<W: Sink>(
-    main: Option<&ScriptName>,
-    envelope: &Envelope,
-    scripts: &Scripts,
+    site: &Site<'_>,
     messages: &IndexMap<Octets, Entry>,
     writer: &mut W,
 ) -> Result<(), WriteFault>
     requires { stale_of messages.now.entries ≡ [] }
-    ensures { Writes W.contents W.fault_count result writer.old writer.new (report_with (option_copied main.entry) envelope.now scripts.now (judged_of messages.now.entries)) }
+    ensures { Writes W.contents W.fault_count result writer.old writer.new (report_with (site_as site.now) (judged_of messages.now.entries)) }
 {
-    write_main(main, writer)?;
-    write_envelope(envelope, writer)?;
-    write_scripts(scripts, writer)?;
-    write_kept(envelope, messages, writer)?;
-    write_totals(envelope, messages, writer)
+    write_site(site, writer)?;
+    write_kept(site.envelope, messages, writer)?;
+    write_totals(site.envelope, messages, writer)
 }
 
 /// Writes the last line.

@@ -1,12 +1,16 @@
 //! The lines of a report, one by one.
-ghost use Rattle.std.specs.Prelude.{◌≡◌};
+ghost use Rattle.std.specs.Prelude.{◌≡◌, [], ◌∷◌, ◌++◌, codes, filter};
+ghost use Rattle.std.specs.List.{flat_map, list_any};
 ghost use Rattle.std.specs.Option.{option_copied};
 ghost use Rattle.sieve_base.specs.Writers.{Writes};
-ghost use Rattle.bench.specs.Report.{main_line, envelope_line, script_line, indent, indented, message_line, expectation_line, expectation_text, total_line};
+ghost use Rattle.bench.specs.Report.{main_line, envelope_line, extension_text, profile_line, script_line, indent, indented, message_line, expectation_line, expectation_text, total_line};
 ghost use Rattle.bench.specs.view.Lines.{action_text, error_text, implicit_text, read_text};
+ghost use Rattle.sieve_profile.specs.Extension.{extensions};
+ghost use Rattle.sieve_profile.specs.Profile.{has};
 ghost use Rattle.sieve_run.specs.Lines.{error_line, implicit_line};
 
 use sieve_base::{Octets, Piece, ScriptName, Sink, WriteFault, write_out, write_pieces};
+use sieve_profile::{EXTENSIONS, Extension, Profile};
 use sieve_run::{
     Action, Envelope, FlagList, Outcome, RunError, Script, write_action, write_error,
     write_implicit, write_read,
@@ -47,13 +51,70 @@ pub(crate) fn write_envelope<W: Sink>(envelope: &Envelope, writer: &mut W) -> Re
     )
 }
 
+/// Whether a profile has one of these extensions.
+fn has_any(profile: Profile, extensions: &[Extension]) -> bool
+    ensures { result ≡ list_any (has profile) extensions.now }
+{
+    extensions.iter().any(|extension| profile.has(*extension))
+}
+
+/// Writes the name of an extension that a profile has.
+fn write_extension<W: Sink>(
+    profile: Profile,
+    extension: Extension,
+    writer: &mut W,
+) -> Result<(), WriteFault>
+    ensures { Writes W.contents W.fault_count result writer.old writer.new (flat_map extension_text (filter (has profile) (extension ∷ []))) }
+{
+    if profile.has(extension) {
+        write_pieces(&[Piece::Raw(b" "), Piece::Raw(extension.name())], writer)
+    } else {
+        write_out(b"", writer)
+    }
+}
+
+/// Writes the names of those of these extensions that a profile has.
+#[tactic(auto, using(crate::proofs::Writing::writing))]
+fn write_extensions<W: Sink>(
+    profile: Profile,
+    extensions: &[Extension],
+    writer: &mut W,
+) -> Result<(), WriteFault>
+    ensures { Writes W.contents W.fault_count result writer.old writer.new (flat_map extension_text (filter (has profile) extensions.now)) }
+{
+    for extension in extensions {
+        write_extension(profile, *extension, writer)?;
+    }
+    Ok(())
+}
+
+/// Writes the line of a profile's names.
+fn write_names<W: Sink>(profile: Profile, writer: &mut W) -> Result<(), WriteFault>
+    ensures { Writes W.contents W.fault_count result writer.old writer.new (codes "with" ++ (flat_map extension_text (filter (has profile) extensions) ++ codes "\n")) }
+{
+    write_out(b"with", writer)?;
+    write_extensions(profile, &EXTENSIONS, writer)?;
+    write_out(b"\n", writer)
+}
+
+/// Writes the line of a profile's names, where it has any.
+pub(crate) fn write_profile<W: Sink>(profile: Profile, writer: &mut W) -> Result<(), WriteFault>
+    ensures { Writes W.contents W.fault_count result writer.old writer.new (profile_line profile) }
+{
+    if has_any(profile, &EXTENSIONS) {
+        write_names(profile, writer)
+    } else {
+        write_out(b"", writer)
+    }
+}
+
 /// Writes the line of a script.
 pub(crate) fn write_script<W: Sink>(
     name: &ScriptName,
     script: &Script,
     writer: &mut W,
 ) -> Result<(), WriteFault>
-    ensures { Writes W.contents W.fault_count result writer.old writer.new (script_line (name.now, script.now)) }
+    ensures { Writes W.contents W.fault_count result writer.old writer.new (script_line script.now.profile (name.now, script.now.text)) }
 {
     match script.fault() {
         None => write_pieces(

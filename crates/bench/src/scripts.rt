@@ -1,6 +1,7 @@
 //! The scripts of a bench.
-ghost use Rattle.std.specs.Prelude.{◌≡◌, ◌≤◌, IfOk, length};
+ghost use Rattle.std.specs.Prelude.{◌≡◌, ◌≤◌, [], IfOk, length};
 ghost use Rattle.std.specs.BTreeMap.{is_at};
+ghost use Rattle.std.specs.List.{list_all};
 ghost use Rattle.std.specs.Map.{lookup};
 ghost use Rattle.sieve_base.specs.Limits.{text_limit};
 ghost use Rattle.sieve_check.specs.Judgement.{judgement_of};
@@ -8,55 +9,98 @@ ghost use Rattle.sieve_base.specs.Name.{name_cmp};
 ghost use Rattle.bench.specs.Test.{is_sound};
 
 use sieve_base::{Octets, ScriptName};
+use sieve_profile::Profile;
 use sieve_run::{Found, Library, Script};
 use std::alloc::{AllocError, Global};
 use std::collections::BTreeMap;
 use std::marker::Model;
 
-/// The scripts of a bench, in the order of their names.
+/// The scripts of a bench, in the order of their names, all of one profile. Contracts see the profile and the names, each with its text.
 #[derive(Drop)]
 pub(crate) struct Scripts {
-    pub(crate) by_name: BTreeMap<ScriptName, Script>,
+    profile: Profile,
+    by_name: BTreeMap<ScriptName, Script>,
 }
 
 impl Model for Scripts {
-    ghost use Rattle.std.specs.Prelude.{ℕ, List};
-    ghost use Rattle.sieve_base.specs.declared.name.ScriptName.{ScriptName};
+    ghost use Rattle.bench.specs.view.Scripts.{AreOf, ScriptsState, texts_of};
 
-    ghost Value = { List (ScriptName × List ℕ) };
+    ghost Value = { ScriptsState };
 
-    ghost view = { λ a. a.by_name.entries };
+    ghost view = { λ a. record { profile = a.profile; scripts = texts_of a.by_name.entries } };
+
+    ghost invariant = { λ a. AreOf a.profile a.by_name.entries };
 }
 
 /// Whether a script has no fault.
 fn is_sound(script: &Script) -> bool
-    ensures { result ≡ is_sound (judgement_of script.now) }
+    ensures { result ≡ is_sound (judgement_of script.now.profile script.now.text) }
 {
     script.fault().is_none()
 }
 
+/// Whether none of these scripts has a fault.
+fn are_all_sound(scripts: &BTreeMap<ScriptName, Script>) -> bool
+    ensures { result ≡ list_all (λ e. is_sound (judgement_of e.1.profile e.1.text)) scripts.now.entries }
+{
+    scripts.iter().all(|(_, script)| is_sound(script))
+}
+
 impl Scripts {
     ghost use Rattle.std.specs.Prelude.{OnOk, OnErr, is_some};
-    ghost use Rattle.std.specs.List.{list_all};
     ghost use Rattle.bench.specs.Content.{text_at, with_script, without_script, with_renamed};
+    ghost use Rattle.bench.specs.view.Scripts.{AreOf, script_at, texts_of};
+
+    /// No scripts, of a profile. Takes no memory.
+    pub(crate) fn new(alloc: Global, profile: Profile) -> Scripts
+        ensures { result ≡ record { profile = profile; scripts = [] } }
+    {
+        Scripts {
+            profile,
+            by_name: BTreeMap::new(alloc),
+        }
+    }
+
+    /// The profile of all.
+    pub(crate) fn profile(&self) -> Profile
+        ensures { result ≡ self.now.profile }
+    {
+        self.profile
+    }
+
+    /// How many there are.
+    pub(crate) fn len(&self) -> usize
+        ensures { result ≡ length self.now.scripts }
+    {
+        self.by_name.len()
+    }
+
+    /// The scripts in the order of their names.
+    pub(crate) fn by_name(&self) -> &BTreeMap<ScriptName, Script>
+        ensures texts { texts_of result.now.entries ≡ self.now.scripts }
+        ensures profile { AreOf self.now.profile result.now.entries }
+    {
+        &self.by_name
+    }
 
     /// Whether there is a script of that name.
     pub(crate) fn contains(&self, name: &ScriptName) -> bool
-        ensures { result ≡ is_some (text_at self.now name.now) }
+        ensures { result ≡ is_some (text_at self.now.scripts name.now) }
     {
         self.by_name.contains_key(name)
     }
 
     /// Whether no script has a fault.
     pub(crate) fn are_sound(&self) -> bool
-        ensures { result ≡ list_all (λ e. is_sound (judgement_of e.1)) self.now }
+        ensures { result ≡ list_all (λ e. is_sound (judgement_of self.now.profile e.1)) self.now.scripts }
     {
-        self.by_name.iter().all(|(_, script)| is_sound(script))
+        are_all_sound(&self.by_name)
     }
 
-    /// Keeps a script at a name, in place of the one there. An error changes nothing.
+    /// Keeps a script of the profile at a name, in place of the one there. An error changes nothing.
     fn keep(&mut self, name: ScriptName, script: Script) -> Result<(), AllocError>
-        ensures ok { OnOk result (self.new ≡ with_script name script self.old) }
+        requires { script.profile ≡ self.old.profile }
+        ensures ok { OnOk result (self.new ≡ record self.old { scripts = with_script name script.text self.old.scripts }) }
         ensures err { OnErr result (self.new ≡ self.old) }
     {
         let replaced = self.by_name.insert(name, script)?;
@@ -66,7 +110,7 @@ impl Scripts {
 
     /// A copy of the script of a name.
     fn copied(&self, alloc: Global, name: &ScriptName) -> Result<Option<Script>, AllocError>
-        ensures { IfOk result (λ script. script ≡ text_at self.now name.now) }
+        ensures { IfOk result (λ script. script ≡ script_at self.now name.now) }
     {
         match self.by_name.get(name) {
             None => Ok(None),
@@ -82,10 +126,10 @@ impl Scripts {
         text: Octets,
     ) -> Result<(), AllocError>
         requires { length text ≤ text_limit }
-        ensures ok { OnOk result (self.new ≡ with_script name.now text self.old) }
+        ensures ok { OnOk result (self.new ≡ record self.old { scripts = with_script name.now text self.old.scripts }) }
         ensures err { OnErr result (self.new ≡ self.old) }
     {
-        let script = Script::new(alloc, text)?;
+        let script = Script::new(alloc, self.profile, text)?;
         let name = name.copy(alloc)?;
         self.keep(name, script)
     }
@@ -97,7 +141,8 @@ impl Scripts {
         from: &ScriptName,
         to: &ScriptName,
     ) -> Result<(), AllocError>
-        ensures ok { OnOk result (self.new ≡ with_renamed from.now (text_at self.old from.now) to.now self.old) }
+        ensures ok { OnOk result (self.new
+            ≡ record self.old { scripts = with_renamed from.now (text_at self.old.scripts from.now) to.now self.old.scripts }) }
         ensures err { OnErr result (self.new ≡ self.old) }
     {
         let Some(script) = self.copied(alloc, from)? else {
@@ -111,7 +156,7 @@ impl Scripts {
 
     /// Removes the script of a name, if there is one.
     pub(crate) fn remove(&mut self, name: &ScriptName)
-        ensures { self.new ≡ without_script name.now self.old }
+        ensures { self.new ≡ record self.old { scripts = without_script name.now self.old.scripts } }
     {
         let removed = self.by_name.remove(name);
         drop(removed);
@@ -121,7 +166,13 @@ impl Scripts {
 impl Library for Scripts {
     ghost use Rattle.bench.specs.Content.{text_at};
 
-    ghost texts = { text_at };
+    ghost profile = { λ scripts. scripts.profile };
+
+    ghost texts = { λ scripts. text_at scripts.scripts };
+
+    fn profile(&self) -> Profile {
+        self.profile
+    }
 
     fn find(&self, name: &ScriptName) -> Found<'_> {
         match self.by_name.get(name) {

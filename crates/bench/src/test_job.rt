@@ -1,5 +1,6 @@
 //! What the test of a message is given.
 use sieve_base::{Octets, ScriptName};
+use sieve_profile::Profile;
 
 /// A script of a job: its name, of at most 1,024 octets, and its text, of at most 1,048,576.
 #[derive(Drop)]
@@ -13,6 +14,8 @@ pub struct TestScript {
 /// What is tested: a message, the scripts that are run on it, and the envelope.
 #[derive(Drop)]
 pub struct TestJob {
+    /// What is known beyond what always is.
+    pub profile: Profile,
     /// The sender's address, of at most 1,024 octets; empty where there is none.
     pub from: Octets,
     /// The recipient's address, of at most 1,024 octets; empty where it isn't known.

@@ -56,14 +56,14 @@ fn make_edits(bench: &mut Bench, job: &TestJob) -> Result<(), EditFault>
     put_sample(bench, job)
 }
 
-/// A new bench with the edits of a job.
+/// A new bench of a job's profile with the edits of the job.
 #[tactic(auto, unfolding(crate::specs::Test::made_by))]
 fn bench_of(alloc: Global, job: &TestJob) -> Result<Bench, EditFault>
     ensures ok { IfOk result (λ bench. made_by job.now ≡ Ok bench.content) }
     ensures err { IfErr result (λ fault. Refused fault (made_by job.now)) }
     ensures stale { IfOk result (λ bench. bench.stale ≡ job.now.id ∷ []) }
 {
-    let mut bench = Bench::new(alloc)?;
+    let mut bench = Bench::with_profile(alloc, job.profile)?;
     make_edits(&mut bench, job)?;
     Ok(bench)
 }
@@ -83,7 +83,7 @@ fn report_end<W: Sink>(bench: &mut Bench, meter: &mut Meter, writer: &mut W) -> 
     }
 }
 
-/// Makes the edits of a job on a new bench, in the order envelope, mailbox, scripts, main script, message, and writes the report of that bench.
+/// Makes the edits of a job on a new bench of its profile, in the order envelope, mailbox, scripts, main script, message, and writes the report of that bench.
 ///
 /// `Clean` says that the report was written, that no script has a fault, and that the message has no error; `Faulty` that it was written and one of them has.
 /// `TooLarge` and `Full` are the refusal of the first edit that is refused; nothing was written. `Write`: the writer failed, and a front of the report was

@@ -1,2 +1,3 @@
 mod Named
 pub mod Adding
+pub mod Saying

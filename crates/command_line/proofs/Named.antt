@@ -11,7 +11,7 @@ use Rattle.clap.specs.Simple.{argument_words, built, entered, label_of, names_of
 use Rattle.clap.specs.Faults.{built_fault, check_fault, defaults_fault, entered_fault, settle_fault}
 use Rattle.clap.specs.Facts.{explicit_source}
 use Rattle.clap.specs.Takes.{is_given}
-use Rattle.command_line.specs.CommandLine.{dump_shape, letter_rule, name_rule, path_rule, session_shape, test_shape, job_named, job_of, the_app, top_app}
+use Rattle.command_line.specs.CommandLine.{dump_shape, letter_rule, name_rule, names_rule, path_rule, session_shape, test_shape, job_named, job_of, the_app, top_app}
 use Rattle.clap.specs.Lexer.{long_of}
 use Rattle.clap.specs.declared.error.kind.ErrorKind.{ErrorKind}
 use Rattle.clap.specs.Faults.{other_fault, step_fault, turn_fault, walk_fault, word_fault}
@@ -201,7 +201,7 @@ job_in a first second third fourth stop all named is_fourth no_alias elsewhere =
 
 -- where the program takes the words, they name a job
 pub always_named : (words : List Text) → fault_of the_app words ≡ [] → is_some (job_of (subcommand_of the_app words)) ≡ true
-unfolding the_app top_app session_shape dump_shape test_shape path_rule letter_rule name_rule
+unfolding the_app top_app session_shape dump_shape test_shape path_rule letter_rule name_rule names_rule
 always_named words none =
     job_in (built the_app) _ _ _ _ (stop_in (built the_app) (argument_words the_app words)) refl (refl, refl, refl) refl refl
     (built_stops (built the_app) (argument_words the_app words) refl none)

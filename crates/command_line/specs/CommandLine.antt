@@ -1,5 +1,5 @@
 -- What the words of a command line ask for.
-use Rattle.std.specs.Prelude.{◌≡◌, ◌≢◌, ℕ, Bool, true, false, List, [], ◌∷◌, Option, Some, None, codes, if◌then◌else◌, unwrap_or}
+use Rattle.std.specs.Prelude.{◌≡◌, ◌≢◌, ℕ, Bool, true, false, List, [], ◌∷◌, Option, Some, None, Result, Ok, Err, codes, if◌then◌else◌, unwrap_or}
 use Prim.Native.Char.{code}
 use Rattle.std.specs.Str.{bytes_eq}
 use Rattle.clap.specs.Words.{App, IsAmong, Kinds, Row, Shape, Text, app_of, fault_of, new_app, subcommand_of, with_rule, with_subcommand}
@@ -9,15 +9,16 @@ use Rattle.clap.specs.declared.error.kind.ErrorKind.{ErrorKind}
 use Rattle.clap.specs.declared.error.kind.ErrorKind.TheVariants.{DisplayHelp, DisplayVersion, OutOfMemory}
 use Rattle.clap.specs.declared.builder.command.Command.{Command}
 use Rattle.clap.specs.declared.builder.command.Command.TheViews.{out-Command}
+use Rattle.command_line.specs.declared.words.CommandLine.{CommandLine}
 use Rattle.command_line.specs.declared.words.Job.{Job}
 use Rattle.command_line.specs.declared.words.Job.TheVariants as job
 use Rattle.command_line.specs.declared.words.TestWords.{TestWords}
 use Rattle.command_line.specs.declared.words.UsageFault.{UsageFault}
-use Rattle.command_line.specs.declared.words.UsageFault.TheVariants.{Usage, NoMemory}
-
--- `session`, which takes no arguments
-unfoldable pub session_shape : Shape
-session_shape = new_shape (codes "session")
+use Rattle.command_line.specs.declared.words.UsageFault.TheVariants.{Usage, UnknownName, NoMemory}
+use Rattle.clap.specs.declared.builder.action.ArgAction.TheVariants.{Append}
+use Rattle.sieve_profile.specs.Profile.{Profile, empty_profile}
+use Rattle.sieve_profile.specs.view.Profile.{profile_as}
+use Rattle.command_line.specs.Profiles.{profile_in}
 
 -- a path that must be there; help calls its one value by one name
 unfoldable pub path_rule : Text → Rule
@@ -31,15 +32,28 @@ letter_rule id letter = record (new_rule id) { short = Some letter; value_names 
 unfoldable pub name_rule : Text → Rule
 name_rule name = record (new_rule name) { long = Some name; value_names = 1 }
 
--- `dump SCRIPT`
-unfoldable pub dump_shape : Shape
-dump_shape = record (new_shape (codes "dump")) { rules = path_rule (codes "script") ∷ [] }
+-- an option with one value that may be given any number of times: its name names it, as `--with NAME`
+unfoldable pub names_rule : Text → Rule
+names_rule name = record (new_rule name) { long = Some name; action = Some Append; value_names = 1 }
 
--- `test [-f ADDRESS] [--to ADDRESS] [-m BOX] [--personal DIR] [--global DIR] SCRIPT MAIL`
+-- the option of each subcommand for what a bench knows
+abbrev pub profile_rules : List Rule
+profile_rules = names_rule (codes "with") ∷ []
+
+-- `session [--with NAME]..`
+unfoldable pub session_shape : Shape
+session_shape = record (new_shape (codes "session")) { rules = profile_rules }
+
+-- `dump [--with NAME].. SCRIPT`
+unfoldable pub dump_shape : Shape
+dump_shape = record (new_shape (codes "dump")) { rules = names_rule (codes "with") ∷ path_rule (codes "script") ∷ [] }
+
+-- `test [-f ADDRESS] [--to ADDRESS] [-m BOX] [--personal DIR] [--global DIR] [--with NAME].. SCRIPT MAIL`
 unfoldable pub test_shape : Shape
 test_shape = record (new_shape (codes "test")) {
   rules = letter_rule (codes "from") (code "f") ∷ name_rule (codes "to") ∷ letter_rule (codes "mailbox") (code "m")
-      ∷ name_rule (codes "personal") ∷ name_rule (codes "global") ∷ path_rule (codes "script") ∷ path_rule (codes "mail") ∷ [];
+      ∷ name_rule (codes "personal") ∷ name_rule (codes "global") ∷ names_rule (codes "with") ∷ path_rule (codes "script")
+      ∷ path_rule (codes "mail") ∷ [];
 }
 
 -- the options of `test` for the envelope
@@ -113,6 +127,14 @@ where_taken (fault ∷ faults) job = None
 unfoldable pub named_job : List Text → Option Job
 named_job words = where_taken (fault_of the_app words) (job_of (subcommand_of the_app words))
 
+-- the profile that the words say, or the first name by which nothing is known
+abbrev pub profile_met : Option (Text × List Row) → Result Profile Text
+profile_met None = Ok empty_profile
+profile_met (Some (name, rows)) = profile_in rows
+
+unfoldable pub said_profile : List Text → Result Profile Text
+said_profile words = profile_met (subcommand_of the_app words)
+
 -- whether an answer of this kind is what was asked for, and no mistake
 abbrev pub is_help : ErrorKind → Bool
 is_help DisplayHelp = true
@@ -122,9 +144,24 @@ is_help _ = false
 -- the fault for an answer of this kind
 abbrev pub IsFaultFor : ErrorKind → UsageFault → Type 0
 IsFaultFor kind NoMemory = Unit {0}
+IsFaultFor kind (UnknownName name) = ⊥
 IsFaultFor kind (Usage help text) = (kind ≢ OutOfMemory) × (help ≡ is_help kind)
 
--- the refusal is for one of these mistakes, or is the help that was asked for
-abbrev pub IsRefusalFor : Kinds → UsageFault → Type 0
-IsRefusalFor kinds NoMemory = Unit {0}
-IsRefusalFor kinds (Usage help text) = (kind : ErrorKind) × IsAmong kind kinds × (help ≡ is_help kind)
+-- the refusal is for one of these mistakes, or is the help that was asked for; where there is none, it is for the name that is said in place of a profile
+abbrev pub IsRefusalFor : Kinds → Result Profile Text → UsageFault → Type 0
+IsRefusalFor kinds said NoMemory = Unit {0}
+IsRefusalFor kinds said (UnknownName name) = (kinds ≡ []) × (said ≡ Err name)
+IsRefusalFor kinds said (Usage help text) = (kind : ErrorKind) × IsAmong kind kinds × (help ≡ is_help kind)
+
+-- the fault for a name by which nothing is known
+abbrev pub IsUnknown : Text → UsageFault → Type 0
+IsUnknown unknown NoMemory = Unit {0}
+IsUnknown unknown (UnknownName name) = name ≡ unknown
+IsUnknown unknown (Usage help text) = ⊥
+
+-- the answer has the profile that is said, or is for the name that is said in place of one
+abbrev pub SaysOf : Result Profile Text → Result CommandLine UsageFault → Type 0
+SaysOf said (Ok line) = said ≡ Ok (profile_as line.profile)
+SaysOf said (Err NoMemory) = Unit {0}
+SaysOf said (Err (UnknownName name)) = said ≡ Err name
+SaysOf said (Err (Usage help text)) = ⊥

@@ -7,21 +7,11 @@ ghost use Rattle.clap.specs.declared.builder.command.Command.TheViews.{out-Comma
 ghost use Rattle.command_line.specs.CommandLine as spec;
 
 use crate::help;
-use clap::{Arg, Command};
+use clap::{Arg, ArgAction, Command};
 use std::alloc::{AllocError, Global};
 
 /// The version that `--version` answers.
 const VERSION: &str = "0.1.0";
-
-// The subcommand `session`.
-fn session_command<'a>(alloc: Global) -> Command<'a>
-    ensures shape { shape_of result ≡ spec.session_shape }
-    ensures local { (out-Command result).has_globals ≡ false }
-{
-    Command::new(alloc, "session")
-        .about("Reads a session from standard input and writes its replies to standard output")
-        .after_help(help::of_session())
-}
 
 // A path that must be there, under the name `id`.
 fn path_argument<'a>(alloc: Global, id: &'a str, value: &'a str, help: &'a str) -> Arg<'a>
@@ -62,6 +52,47 @@ fn name_option<'a>(alloc: Global, name: &'a str, value: &'a str, help: &'a str) 
         .help(help)
 }
 
+// An option with one value that may be given any number of times, and that its name names.
+fn names_option<'a>(alloc: Global, name: &'a str, value: &'a str, help: &'a str) -> Arg<'a>
+    ensures rule { rule_of result ≡ spec.names_rule name.entry.now }
+    ensures local { result.global ≡ false }
+{
+    Arg::new(alloc, name)
+        .long(name)
+        .action(ArgAction::Append)
+        .value_name(value)
+        .help(help)
+}
+
+// The command with the option for what a bench knows, whose help lists the names.
+fn with_profile<'a>(
+    alloc: Global,
+    command: Command<'a>,
+    names: &'a str,
+) -> Result<Command<'a>, AllocError>
+    ensures { IfOk result (spec.HasMore command.entry spec.profile_rules) }
+{
+    command.arg(names_option(alloc, "with", "NAME", names))
+}
+
+// The subcommand `session` before it has an argument.
+fn bare_session_command<'a>(alloc: Global) -> Command<'a>
+    ensures shape { app_of result ≡ new_app (codes "session") }
+    ensures local { (out-Command result).has_globals ≡ false }
+{
+    Command::new(alloc, "session")
+        .about("Reads a session from standard input and writes its replies to standard output")
+        .after_help(help::of_session())
+}
+
+// The subcommand `session`.
+fn session_command<'a>(alloc: Global, names: &'a str) -> Result<Command<'a>, AllocError>
+    ensures shape { IfOk result (λ command. shape_of command ≡ spec.session_shape) }
+    ensures local { IfOk result (λ command. (out-Command command).has_globals ≡ false) }
+{
+    with_profile(alloc, bare_session_command(alloc), names)
+}
+
 // The subcommand `dump` before it has an argument.
 fn bare_dump_command<'a>(alloc: Global) -> Command<'a>
     ensures shape { app_of result ≡ new_app (codes "dump") }
@@ -73,12 +104,12 @@ fn bare_dump_command<'a>(alloc: Global) -> Command<'a>
 }
 
 // The subcommand `dump`.
-fn dump_command<'a>(alloc: Global) -> Result<Command<'a>, AllocError>
+fn dump_command<'a>(alloc: Global, names: &'a str) -> Result<Command<'a>, AllocError>
     ensures shape { IfOk result (λ command. shape_of command ≡ spec.dump_shape) }
     ensures local { IfOk result (λ command. (out-Command command).has_globals ≡ false) }
 {
     let script = path_argument(alloc, "script", "SCRIPT", "The file that the script is in");
-    bare_dump_command(alloc).arg(script)
+    with_profile(alloc, bare_dump_command(alloc), names)?.arg(script)
 }
 
 // The subcommand `test` before it has an argument.
@@ -133,13 +164,14 @@ fn with_files<'a>(alloc: Global, command: Command<'a>) -> Result<Command<'a>, Al
 }
 
 // The subcommand `test`.
-fn test_command<'a>(alloc: Global) -> Result<Command<'a>, AllocError>
+fn test_command<'a>(alloc: Global, names: &'a str) -> Result<Command<'a>, AllocError>
     ensures shape { IfOk result (λ command. shape_of command ≡ spec.test_shape) }
     ensures local { IfOk result (λ command. (out-Command command).has_globals ≡ false) }
 {
     let command = with_envelope(alloc, bare_test_command(alloc))?;
     let command = with_mailbox(alloc, command)?;
     let command = with_folders(alloc, command)?;
+    let command = with_profile(alloc, command, names)?;
     with_files(alloc, command)
 }
 
@@ -164,22 +196,22 @@ fn top_command<'a>(alloc: Global) -> Result<Command<'a>, AllocError>
 }
 
 // The program with `session`.
-fn with_session<'a>(alloc: Global) -> Result<Command<'a>, AllocError>
+fn with_session<'a>(alloc: Global, names: &'a str) -> Result<Command<'a>, AllocError>
     ensures { IfOk result (λ command. app_of command ≡ with_subcommand spec.top_app spec.session_shape) }
 {
-    top_command(alloc)?.subcommand(session_command(alloc))
+    top_command(alloc)?.subcommand(session_command(alloc, names)?)
 }
 
 // The program with `session` and `dump`.
-fn with_dump<'a>(alloc: Global) -> Result<Command<'a>, AllocError>
+fn with_dump<'a>(alloc: Global, names: &'a str) -> Result<Command<'a>, AllocError>
     ensures { IfOk result (λ command. app_of command ≡ with_subcommand (with_subcommand spec.top_app spec.session_shape) spec.dump_shape) }
 {
-    with_session(alloc)?.subcommand(dump_command(alloc)?)
+    with_session(alloc, names)?.subcommand(dump_command(alloc, names)?)
 }
 
-/// The program and its subcommands.
-pub(crate) fn program<'a>(alloc: Global) -> Result<Command<'a>, AllocError>
+/// The program and its subcommands, whose help on `--with` is `names`.
+pub(crate) fn program<'a>(alloc: Global, names: &'a str) -> Result<Command<'a>, AllocError>
     ensures { IfOk result (λ command. app_of command ≡ spec.the_app) }
 {
-    with_dump(alloc)?.subcommand(test_command(alloc)?)
+    with_dump(alloc, names)?.subcommand(test_command(alloc, names)?)
 }

@@ -96,6 +96,7 @@ a tip says; a path that begins with - does.
 Standard output is the report:
   main personal \"NAME\"
   envelope \"FROM\" \"TO\" mailbox \"BOX\"
+  with NAME..                            where --with gives names: these, in their order
   script PLACE \"NAME\" ok                 for each script, PLACE being personal or global
   script PLACE \"NAME\" line N KIND        or its first fault: syntax, or the broken rule's word
   message \"MAIL\"

@@ -4,7 +4,8 @@
 mod argument;
 mod commands;
 mod help;
+mod profile;
 mod words;
 
 pub use argument::Argument;
-pub use words::{Job, TestWords, UsageFault, command_of};
+pub use words::{CommandLine, Job, TestWords, UsageFault, command_of};

@@ -1,15 +1,28 @@
 //! What the words of a command line ask for.
-ghost use Rattle.std.specs.Prelude.{◌≡◌, ◌↔◌, IfOk, IfErr, Some, false, true, map, IsSome, IsOkUnless};
+ghost use Rattle.std.specs.Prelude.{◌≡◌, ◌↔◌, IfOk, IfErr, IsOk, Ok, Some, false, true, map, IsSome, IsOkUnless};
 ghost use Rattle.clap.specs.Words.{fault_of, first_of, kind_of, rows_of, subcommand_rows_of};
 ghost use Rattle.clap.specs.Matches.{found_of};
-ghost use Rattle.command_line.specs.CommandLine.{the_app, job_named, job_of, named_job, test_words, value_in, IsFaultFor, IsRefusalFor};
+ghost use Rattle.command_line.specs.CommandLine.{the_app, job_named, job_of, named_job, profile_met, said_profile, test_words, value_in, IsFaultFor, IsRefusalFor, IsUnknown, SaysOf};
+ghost use Rattle.command_line.specs.Profiles.{Says};
+ghost use Rattle.sieve_profile.specs.view.Profile.{profile_as};
 
 use crate::argument::Argument;
 use crate::commands::program;
+use crate::profile::{Names, names_help, profile_in};
 use clap::error::ErrorKind;
 use clap::{ArgMatches, Error};
+use sieve_profile::Profile;
 use std::alloc::{AllocError, Global};
 use std::convert::AsStr;
+
+/// What the words of a command line ask for.
+#[derive(Drop)]
+pub struct CommandLine {
+    /// What is known beyond what always is.
+    pub profile: Profile,
+    /// What the program is to do.
+    pub job: Job,
+}
 
 /// What the program is to do.
 #[derive(Drop)]
@@ -54,6 +67,9 @@ pub enum UsageFault {
     /// Memory ran out.
     #[error("out of memory")]
     NoMemory,
+    /// A name in the words of `--with` is none of those that there are.
+    #[error("error: invalid value '{name}' for '--with <NAME>'\n  [possible values: {}]\n\nFor more information, try '--help'.\n", Names)]
+    UnknownName { name: Argument },
 }
 
 impl From<AllocError> for UsageFault {
@@ -143,22 +159,62 @@ fn job_in(alloc: Global, matches: &ArgMatches<'_>) -> Result<Option<Job>, AllocE
     }
 }
 
-/// What the words ask for. The first word is the program's name, as in `std::env::args`.
-/// `Usage` is for a mistake in the words, or for the help that they ask for; `NoMemory` is for want of memory.
-pub fn command_of<'a, S: AsStr>(alloc: Global, words: &'a [S]) -> Result<Job, UsageFault>
-    // The job is the one that the words name.
-    ensures ok { IfOk result (λ job. named_job (map S.text words.entry.now) ≡ Some job) }
-    // Words that name a job are refused only for want of memory.
-    ensures named { IsSome (named_job (map S.text words.entry.now)) → IsOkUnless result UsageFault.NoMemory }
-    // Any other refusal is for a mistake in the words, or it is the help that they ask for.
-    ensures refused { IfErr result (IsRefusalFor (fault_of the_app (map S.text words.entry.now))) }
+// What is asked for by a job and the profile of the subcommand that was met.
+fn with_profile(
+    alloc: Global,
+    matches: &ArgMatches<'_>,
+    job: Job,
+) -> Result<CommandLine, UsageFault>
+    ensures job { IfOk result (λ line. line.job ≡ job) }
+    ensures profile { SaysOf (profile_met (subcommand_rows_of matches.now)) result }
 {
-    let matches = match program(alloc)?.try_get_matches_from(words) {
+    match profile_met(matches) {
+        Ok(profile) => Ok(CommandLine { profile, job }),
+        Err(name) => Err(unknown_name(alloc, name)),
+    }
+}
+
+// The fault of a name by which nothing is known.
+fn unknown_name(alloc: Global, name: &str) -> UsageFault
+    ensures { IsUnknown name.now result }
+{
+    match Argument::copied(alloc, name) {
+        Ok(name) => UsageFault::UnknownName { name },
+        Err(_) => UsageFault::NoMemory,
+    }
+}
+
+// The profile of the subcommand that was met.
+fn profile_met<'a>(matches: &'a ArgMatches<'_>) -> Result<Profile, &'a str>
+    ensures { Says (profile_met (subcommand_rows_of matches.now)) result }
+{
+    match matches.subcommand() {
+        Some((_name, words)) => profile_in(words),
+        None => Ok(Profile::new()),
+    }
+}
+
+/// What the words ask for. The first word is the program's name, as in `std::env::args`.
+/// `Usage` is for a mistake in the words, or for the help that they ask for; `UnknownName` is for the first name of a `--with` by which nothing
+/// is known, where there is no other mistake; `NoMemory` is for want of memory.
+pub fn command_of<'a, S: AsStr>(alloc: Global, words: &'a [S]) -> Result<CommandLine, UsageFault>
+    // The job is the one that the words name.
+    ensures ok { IfOk result (λ line. named_job (map S.text words.entry.now) ≡ Some line.job) }
+    // The profile is the one that they say.
+    ensures profile { IfOk result (λ line. said_profile (map S.text words.entry.now) ≡ Ok (profile_as line.profile)) }
+    // Words that name a job and say a profile are refused only for want of memory.
+    ensures named { IsSome (named_job (map S.text words.entry.now)) → IsOk (said_profile (map S.text words.entry.now))
+        → IsOkUnless result UsageFault.NoMemory }
+    // Any other refusal is for a mistake in the words, or for a name by which nothing is known, or it is the help that they ask for.
+    ensures refused { IfErr result (IsRefusalFor (fault_of the_app (map S.text words.entry.now)) (said_profile (map S.text words.entry.now))) }
+{
+    let names = names_help(alloc)?;
+    let matches = match program(alloc, names.as_str())?.try_get_matches_from(&*words) {
         Ok(matches) => matches,
         Err(error) => return Err(usage_fault(alloc, &error)),
     };
     match job_in(alloc, &matches)? {
-        Some(job) => Ok(job),
+        Some(job) => with_profile(alloc, &matches, job),
         None => unreachable!("a subcommand is required"),
     }
 }

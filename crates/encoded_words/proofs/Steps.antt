@@ -9,6 +9,7 @@ use Rattle.memchr.specs.Find.{IsFirstByte, Nowhere, Passes, is_byte}
 use Rattle.std.proofs.lemmas.List.{take_all, take_more}
 use Rattle.std.proofs.Math.ListN.{drop_of_length-le}
 use Rattle.std.proofs.lemmas.Str.{encodes-append, IsUtf8-from_is_utf8, is_utf8-from_IsUtf8}
+use Rattle.sieve_profile.specs.Profile.{Profile}
 use Rattle.encoded_words.specs.Encoding.{octet_before}
 use Rattle.encoded_words.specs.Cut.{Cuts, ValuePiece, joined, kept, leads_to_word, octet, replaced}
 use Rattle.sieve_base.specs.Octet.{is_blank, octet_of}
@@ -53,53 +54,53 @@ latin_step octets text next i within so_far is =
 
 -- the piece with which a value begins
 
-pub none_at : (value : List ℕ) → 0 < length value → None ≡ word_at value → pieces_of value ≡ octet (get_or value 0 0) ∷ pieces_of (drop 1 value)
+pub none_at : (profile : Profile) (value : List ℕ) → 0 < length value → None ≡ word_at value → pieces_of profile value ≡ octet (get_or value 0 0) ∷ pieces_of profile (drop 1 value)
 unfolding pieces_from
-none_at [] some is = absurd (omega arith)
-none_at (c ∷ rest) some is = ap (λ found. first_piece c found ∷ pieces_from (further_octets (first_piece c found)) rest) (sym is)
+none_at profile [] some is = absurd (omega arith)
+none_at profile (c ∷ rest) some is = ap (λ found. first_piece profile c found ∷ pieces_from profile (further_octets (first_piece profile c found)) rest) (sym is)
 
-pub meaningless_at : (value : List ℕ) (word : EncodedWord) → 0 < length value → Some word ≡ word_at value → None ≡ meaning word → pieces_of value ≡ octet (get_or value 0 0) ∷ pieces_of (drop 1 value)
+pub meaningless_at : (profile : Profile) (value : List ℕ) (word : EncodedWord) → 0 < length value → Some word ≡ word_at value → None ≡ meaning profile word → pieces_of profile value ≡ octet (get_or value 0 0) ∷ pieces_of profile (drop 1 value)
 unfolding pieces_from
-meaningless_at [] word some is none = absurd (omega arith)
-meaningless_at (c ∷ rest) word some is none =
-    ap (λ found. first_piece c found ∷ pieces_from (further_octets (first_piece c found)) rest) (sym is)
-    ∙ ap (λ meant. piece_by c word meant ∷ pieces_from (further_octets (piece_by c word meant)) rest) (sym none)
+meaningless_at profile [] word some is none = absurd (omega arith)
+meaningless_at profile (c ∷ rest) word some is none =
+    ap (λ found. first_piece profile c found ∷ pieces_from profile (further_octets (first_piece profile c found)) rest) (sym is)
+    ∙ ap (λ meant. piece_by c word meant ∷ pieces_from profile (further_octets (piece_by c word meant)) rest) (sym none)
 
-replaced_at : (value meant : List ℕ) (word : EncodedWord) (n : ℕ) → 0 < length value → Some word ≡ word_at value → Some meant ≡ meaning word → n ≡ length word.charset + length word.text + 7 → pieces_of value ≡ replaced word meant ∷ pieces_of (drop n value)
+replaced_at : (profile : Profile) (value meant : List ℕ) (word : EncodedWord) (n : ℕ) → 0 < length value → Some word ≡ word_at value → Some meant ≡ meaning profile word → n ≡ length word.charset + length word.text + 7 → pieces_of profile value ≡ replaced word meant ∷ pieces_of profile (drop n value)
 unfolding pieces_from
-replaced_at [] meant word n some is means count = absurd (omega arith)
-replaced_at (c ∷ rest) meant word n some is means count =
+replaced_at profile [] meant word n some is means count = absurd (omega arith)
+replaced_at profile (c ∷ rest) meant word n some is means count =
     let further = length word.charset + length word.text + 6 in
     let same : suc further ≡ n = omega arith in
-    ap (λ found. first_piece c found ∷ pieces_from (further_octets (first_piece c found)) rest) (sym is)
-    ∙ ap (λ meant. piece_by c word meant ∷ pieces_from (further_octets (piece_by c word meant)) rest) (sym means)
-    ∙ ap (λ pieces. replaced word meant ∷ pieces) (pieces_from-drop further rest)
-    ∙ ap (λ n. replaced word meant ∷ pieces_of (drop n (c ∷ rest))) same
+    ap (λ found. first_piece profile c found ∷ pieces_from profile (further_octets (first_piece profile c found)) rest) (sym is)
+    ∙ ap (λ meant. piece_by c word meant ∷ pieces_from profile (further_octets (piece_by c word meant)) rest) (sym means)
+    ∙ ap (λ pieces. replaced word meant ∷ pieces) (pieces_from-drop profile further rest)
+    ∙ ap (λ n. replaced word meant ∷ pieces_of profile (drop n (c ∷ rest))) same
 
 -- octets that stand for themselves, and the pieces behind them
 abbrev pub in_front : List ℕ → List ValuePiece → List ValuePiece
 in_front octets pieces = map octet octets ++ pieces
 
-plain_next : (left : List ℕ) (plain : ℕ) → plain < length left → pieces_of (drop plain left) ≡ octet (get_or (drop plain left) 0 0) ∷ pieces_of (drop 1 (drop plain left)) → in_front (take (suc plain) left) (pieces_of (drop (suc plain) left)) ≡ in_front (take plain left) (pieces_of (drop plain left))
-plain_next [] plain within is = absurd (omega arith)
-plain_next (c ∷ rest) zero within is = sym is
-plain_next (c ∷ rest) (suc plain) within is = ap (λ pieces. octet c ∷ pieces) (plain_next rest plain (omega arith) is)
+plain_next : (profile : Profile) (left : List ℕ) (plain : ℕ) → plain < length left → pieces_of profile (drop plain left) ≡ octet (get_or (drop plain left) 0 0) ∷ pieces_of profile (drop 1 (drop plain left)) → in_front (take (suc plain) left) (pieces_of profile (drop (suc plain) left)) ≡ in_front (take plain left) (pieces_of profile (drop plain left))
+plain_next profile [] plain within is = absurd (omega arith)
+plain_next profile (c ∷ rest) zero within is = sym is
+plain_next profile (c ∷ rest) (suc plain) within is = ap (λ pieces. octet c ∷ pieces) (plain_next profile rest plain (omega arith) is)
 
-pub plain_step : (left : List ℕ) (plain : ℕ) (whole : List ValuePiece) → plain < length left → pieces_of (drop plain left) ≡ octet (get_or (drop plain left) 0 0) ∷ pieces_of (drop 1 (drop plain left)) → in_front (take plain left) (pieces_of (drop plain left)) ≡ whole → in_front (take (plain + 1) left) (pieces_of (drop (plain + 1) left)) ≡ whole
-plain_step left plain whole within is so_far = rw add-one (plain_next left plain within is ∙ so_far)
+pub plain_step : (profile : Profile) (left : List ℕ) (plain : ℕ) (whole : List ValuePiece) → plain < length left → pieces_of profile (drop plain left) ≡ octet (get_or (drop plain left) 0 0) ∷ pieces_of profile (drop 1 (drop plain left)) → in_front (take plain left) (pieces_of profile (drop plain left)) ≡ whole → in_front (take (plain + 1) left) (pieces_of profile (drop (plain + 1) left)) ≡ whole
+plain_step profile left plain whole within is so_far = rw add-one (plain_next profile left plain within is ∙ so_far)
 
-pub word_step : (gap rest behind meant : List ℕ) (word : EncodedWord) (n : ℕ) (whole : List ValuePiece) → 0 < length rest → Some word ≡ word_at rest → Some meant ≡ meaning word → n ≡ length word.charset + length word.text + 7 → behind ≡ drop n rest → in_front gap (pieces_of rest) ≡ whole → whole ≡ in_front gap (replaced word meant ∷ pieces_of behind)
-word_step gap rest behind meant word n whole some is means count behind_is so_far =
+pub word_step : (profile : Profile) (gap rest behind meant : List ℕ) (word : EncodedWord) (n : ℕ) (whole : List ValuePiece) → 0 < length rest → Some word ≡ word_at rest → Some meant ≡ meaning profile word → n ≡ length word.charset + length word.text + 7 → behind ≡ drop n rest → in_front gap (pieces_of profile rest) ≡ whole → whole ≡ in_front gap (replaced word meant ∷ pieces_of profile behind)
+word_step profile gap rest behind meant word n whole some is means count behind_is so_far =
     sym so_far
-    ∙ ap (in_front gap) (replaced_at rest meant word n some is means count)
-    ∙ ap (λ one. in_front gap (replaced word meant ∷ pieces_of one)) (sym behind_is)
+    ∙ ap (in_front gap) (replaced_at profile rest meant word n some is means count)
+    ∙ ap (λ one. in_front gap (replaced word meant ∷ pieces_of profile one)) (sym behind_is)
 
-pub all_alone : (left : List ℕ) (plain : ℕ) → length left ≤ plain → in_front (take plain left) (pieces_of (drop plain left)) ≡ pieces_of left → pieces_of left ≡ map octet left
+pub all_alone : (profile : Profile) (left : List ℕ) (plain : ℕ) → length left ≤ plain → in_front (take plain left) (pieces_of profile (drop plain left)) ≡ pieces_of profile left → pieces_of profile left ≡ map octet left
 unfolding pieces_from
-all_alone left plain ended is =
+all_alone profile left plain ended is =
     sym is
-    ∙ ap (λ one. in_front one (pieces_of (drop plain left))) (take_all plain left ended)
-    ∙ ap (λ one. in_front left (pieces_of one)) (drop_of_length-le left ended)
+    ∙ ap (λ one. in_front one (pieces_of profile (drop plain left))) (take_all plain left ended)
+    ∙ ap (λ one. in_front left (pieces_of profile one)) (drop_of_length-le left ended)
     ∙ append-nil (map octet left)
 
 -- octets in front of the first `=`
@@ -112,14 +113,14 @@ sign_here c (d ∷ rest) other = rw other refl
 sign_behind : (c : ℕ) (rest : List ℕ) (n : ℕ) → Nowhere (Passes (is_byte (octet_of "=")) (c ∷ rest)) 0 (suc n) → Nowhere (Passes (is_byte (octet_of "=")) rest) 0 n
 sign_behind c rest n nowhere k low high passes = nowhere (suc k) (omega arith) (omega arith) passes
 
-pub signs_alone : (value : List ℕ) (n : ℕ) → n ≤ length value → Nowhere (Passes (is_byte (octet_of "=")) value) 0 n → in_front (take n value) (pieces_of (drop n value)) ≡ pieces_of value
-signs_alone [] zero within nowhere = refl
-signs_alone [] (suc n) within nowhere = absurd (omega arith)
-signs_alone (c ∷ rest) zero within nowhere = refl
-signs_alone (c ∷ rest) (suc n) within nowhere =
+pub signs_alone : (profile : Profile) (value : List ℕ) (n : ℕ) → n ≤ length value → Nowhere (Passes (is_byte (octet_of "=")) value) 0 n → in_front (take n value) (pieces_of profile (drop n value)) ≡ pieces_of profile value
+signs_alone profile [] zero within nowhere = refl
+signs_alone profile [] (suc n) within nowhere = absurd (omega arith)
+signs_alone profile (c ∷ rest) zero within nowhere = refl
+signs_alone profile (c ∷ rest) (suc n) within nowhere =
     let other : (c == octet_of "=") ≡ false = false_from_ne_true (c == octet_of "=") (λ is. nowhere 0 (omega arith) (omega arith) is) in
-    ap (λ pieces. octet c ∷ pieces) (signs_alone rest n (omega arith) (sign_behind c rest n nowhere))
-    ∙ sym (none_at (c ∷ rest) (omega arith) (sign_here c rest other))
+    ap (λ pieces. octet c ∷ pieces) (signs_alone profile rest n (omega arith) (sign_behind c rest n nowhere))
+    ∙ sym (none_at profile (c ∷ rest) (omega arith) (sign_here c rest other))
 
 -- no `=` stands before what a search for `=` found, or before the end where it found nothing
 pub front_of : (value : List ℕ) (found : Option ℕ) → IsFirstByte (is_byte (octet_of "=")) value found → (unwrap_or found (length value) ≤ length value) × Nowhere (Passes (is_byte (octet_of "=")) value) 0 (unwrap_or found (length value))
@@ -214,62 +215,62 @@ or_last : (a b : Bool) → (a || b) ≡ false → b ≡ false
 or_last true b is = absurd cc
 or_last false b is = is
 
-known_behind : (left : List ℕ) (plain : ℕ) → plain < length left → has_known (drop plain left) ≡ false → has_known (drop (suc plain) left) ≡ false
+known_behind : (profile : Profile) (left : List ℕ) (plain : ℕ) → plain < length left → has_known profile (drop plain left) ≡ false → has_known profile (drop (suc plain) left) ≡ false
 unfolding has_known
-known_behind [] plain within none = absurd (omega arith)
-known_behind (c ∷ rest) zero within none = or_last (is_known (word_at (c ∷ rest))) (has_known rest) none
-known_behind (c ∷ rest) (suc plain) within none = known_behind rest plain (omega arith) none
+known_behind profile [] plain within none = absurd (omega arith)
+known_behind profile (c ∷ rest) zero within none = or_last (is_known profile (word_at (c ∷ rest))) (has_known profile rest) none
+known_behind profile (c ∷ rest) (suc plain) within none = known_behind profile rest plain (omega arith) none
 
-pub known_next : (left : List ℕ) (plain : ℕ) → plain < length left → has_known (drop plain left) ≡ false → has_known (drop (plain + 1) left) ≡ false
-known_next left plain within none = rw add-one (known_behind left plain within none)
+pub known_next : (profile : Profile) (left : List ℕ) (plain : ℕ) → plain < length left → has_known profile (drop plain left) ≡ false → has_known profile (drop (plain + 1) left) ≡ false
+known_next profile left plain within none = rw add-one (known_behind profile left plain within none)
 
-pub known_from : (left : List ℕ) (n : ℕ) → n ≤ length left → has_known left ≡ false → has_known (drop n left) ≡ false
+pub known_from : (profile : Profile) (left : List ℕ) (n : ℕ) → n ≤ length left → has_known profile left ≡ false → has_known profile (drop n left) ≡ false
 unfolding has_known
-known_from [] zero within none = none
-known_from [] (suc n) within none = absurd (omega arith)
-known_from (c ∷ rest) zero within none = none
-known_from (c ∷ rest) (suc n) within none = known_from rest n (omega arith) (or_last (is_known (word_at (c ∷ rest))) (has_known rest) none)
+known_from profile [] zero within none = none
+known_from profile [] (suc n) within none = absurd (omega arith)
+known_from profile (c ∷ rest) zero within none = none
+known_from profile (c ∷ rest) (suc n) within none = known_from profile rest n (omega arith) (or_last (is_known profile (word_at (c ∷ rest))) (has_known profile rest) none)
 
 not_there : (found : Option Charset) → is_some found ≡ false → found ≡ None
 not_there None none = refl
 not_there (Some charset) none = absurd cc
 
 -- where no word of a known charset is written, the charset of a word in front isn't known
-pub unknown_here : (rest : List ℕ) (word : EncodedWord) → Some word ≡ word_at rest → has_known rest ≡ false → charset_named word.charset ≡ None
+pub unknown_here : (profile : Profile) (rest : List ℕ) (word : EncodedWord) → Some word ≡ word_at rest → has_known profile rest ≡ false → charset_named profile word.charset ≡ None
 unfolding has_known word_at
-unknown_here [] word is none = absurd cc
-unknown_here (c ∷ rest) word is none =
-    not_there (charset_named word.charset) (ap is_known is ∙ or_first (is_known (word_at (c ∷ rest))) (has_known rest) none)
+unknown_here profile [] word is none = absurd cc
+unknown_here profile (c ∷ rest) word is none =
+    not_there (charset_named profile word.charset) (ap (is_known profile) is ∙ or_first (is_known profile (word_at (c ∷ rest))) (has_known profile rest) none)
 
 -- where no word of a known charset is written, a word in front stands for nothing
-pub unknown_means : (rest meant : List ℕ) (word : EncodedWord) → Some word ≡ word_at rest → Some meant ≡ meaning word → has_known rest ≡ false → ⊥
+pub unknown_means : (profile : Profile) (rest meant : List ℕ) (word : EncodedWord) → Some word ≡ word_at rest → Some meant ≡ meaning profile word → has_known profile rest ≡ false → ⊥
 unfolding meaning
-unknown_means rest meant word is means none =
+unknown_means profile rest meant word is means none =
     let nothing : Some meant ≡ None =
-    means ∙ ap (λ found. option_and_then (λ charset. option_and_then (in_utf8 charset) (octets_in word)) found) (unknown_here rest word is none) in
+    means ∙ ap (λ found. option_and_then (λ charset. option_and_then (in_utf8 charset) (octets_in word)) found) (unknown_here profile rest word is none) in
     cc
 
 -- values in which no word is replaced, and those in which one is
 
-unchanged_pieces : (pieces : List ValuePiece) (value : List ℕ) → Cuts pieces value → list_any is_word pieces ≡ false → joined false pieces ≡ value
-unchanged_pieces [] value is none = sym is
-unchanged_pieces (replaced word octets ∷ pieces) value cut none = absurd cc
-unchanged_pieces (octet c ∷ pieces) value (nowhere, rest, is, cut) none =
-    ap (λ octets. c ∷ octets) (unchanged_pieces pieces rest cut none) ∙ sym is
+unchanged_pieces : (profile : Profile) (pieces : List ValuePiece) (value : List ℕ) → Cuts profile pieces value → list_any is_word pieces ≡ false → joined false pieces ≡ value
+unchanged_pieces profile [] value is none = sym is
+unchanged_pieces profile (replaced word octets ∷ pieces) value cut none = absurd cc
+unchanged_pieces profile (octet c ∷ pieces) value (nowhere, rest, is, cut) none =
+    ap (λ octets. c ∷ octets) (unchanged_pieces profile pieces rest cut none) ∙ sym is
 
-pub unchanged : (value : List ℕ) → has_word value ≡ false → decoded_of value ≡ value
-unchanged value none = unchanged_pieces (pieces_of value) value (cuts_from 0 value) none
+pub unchanged : (profile : Profile) (value : List ℕ) → has_word profile value ≡ false → decoded_of profile value ≡ value
+unchanged profile value none = unchanged_pieces profile (pieces_of profile value) value (cuts_from profile 0 value) none
 
-none_step : (value : List ℕ) (b : Bool) → None ≡ cond b (Some (decoded_of value)) None → b ≡ false
-none_step value true is = absurd cc
-none_step value false is = refl
+none_step : (profile : Profile) (value : List ℕ) (b : Bool) → None ≡ cond b (Some (decoded_of profile value)) None → b ≡ false
+none_step profile value true is = absurd cc
+none_step profile value false is = refl
 
-pub none_replaced : (value : List ℕ) → None ≡ replaced_of value → has_word value ≡ false
-none_replaced value is = none_step value (has_word value) is
+pub none_replaced : (profile : Profile) (value : List ℕ) → None ≡ replaced_of profile value → has_word profile value ≡ false
+none_replaced profile value is = none_step profile value (has_word profile value) is
 
-some_step : (value octets : List ℕ) (b : Bool) → Some octets ≡ cond b (Some (decoded_of value)) None → (b ≡ true) × (octets ≡ decoded_of value)
-some_step value octets true is = (refl, cc)
-some_step value octets false is = absurd cc
+some_step : (profile : Profile) (value octets : List ℕ) (b : Bool) → Some octets ≡ cond b (Some (decoded_of profile value)) None → (b ≡ true) × (octets ≡ decoded_of profile value)
+some_step profile value octets true is = (refl, cc)
+some_step profile value octets false is = absurd cc
 
-pub some_replaced : (value octets : List ℕ) → Some octets ≡ replaced_of value → (has_word value ≡ true) × (octets ≡ decoded_of value)
-some_replaced value octets is = some_step value octets (has_word value) is
+pub some_replaced : (profile : Profile) (value octets : List ℕ) → Some octets ≡ replaced_of profile value → (has_word profile value ≡ true) × (octets ≡ decoded_of profile value)
+some_replaced profile value octets is = some_step profile value octets (has_word profile value) is

@@ -1,17 +1,18 @@
 -- A value with its encoded words replaced.
 use Rattle.std.specs.Prelude.{◌≡◌, ℕ, Bool, true, false, ◌&&◌, List, [], ◌∷◌, ◌++◌, Some, if◌then◌else◌}
 use Rattle.std.specs.List.{list_all}
+use Rattle.sieve_profile.specs.Profile.{Profile}
 use Rattle.encoded_words.specs.Charset.{meaning}
 use Rattle.sieve_base.specs.Octet.{is_blank}
 use Rattle.encoded_words.specs.Word.{EncodedWord, is_legal, written}
 
 -- a value that begins with a word that can be decoded
-pub record BeginsWithWord (value : List ℕ) : Type 0 where
+pub record BeginsWithWord (profile : Profile) (value : List ℕ) : Type 0 where
   pub word : EncodedWord
   pub octets : List ℕ
   pub rest : List ℕ
   pub legal : is_legal word ≡ true
-  pub means : meaning word ≡ Some octets
+  pub means : meaning profile word ≡ Some octets
   pub is : value ≡ written word ++ rest
 
 -- a piece of a value: a word with the octets that it stands for, or an octet
@@ -21,10 +22,10 @@ pub data ValuePiece : Type 0 where
 
 -- A value is cut from the left into words that can be decoded and single octets, and no such word begins where an octet stands
 -- alone. So one is replaced even where it begins inside a word that can't be decoded, which stays as it is written.
-abbrev pub Cuts : List ValuePiece → List ℕ → Type 0
-Cuts [] value = value ≡ []
-Cuts (replaced word octets ∷ pieces) value = (is_legal word ≡ true) × (meaning word ≡ Some octets) × (rest : List ℕ) × (value ≡ written word ++ rest) × Cuts pieces rest
-Cuts (octet c ∷ pieces) value = (BeginsWithWord value → ⊥) × (rest : List ℕ) × (value ≡ c ∷ rest) × Cuts pieces rest
+abbrev pub Cuts : Profile → List ValuePiece → List ℕ → Type 0
+Cuts profile [] value = value ≡ []
+Cuts profile (replaced word octets ∷ pieces) value = (is_legal word ≡ true) × (meaning profile word ≡ Some octets) × (rest : List ℕ) × (value ≡ written word ++ rest) × Cuts profile pieces rest
+Cuts profile (octet c ∷ pieces) value = (BeginsWithWord profile value → ⊥) × (rest : List ℕ) × (value ≡ c ∷ rest) × Cuts profile pieces rest
 
 -- whether pieces are spaces and tabs, if any, and then a word
 abbrev pub leads_to_word : List ValuePiece → Bool

@@ -1,6 +1,7 @@
 -- The one cut of a value into words that can be decoded and octets, computed, and the value with its words replaced.
 use Rattle.std.specs.Prelude.{ℕ, zero, suc, ◌+◌, Bool, true, false, ◌==◌, ◌&&◌, List, [], ◌∷◌, length, drop, Option, None, Some, is_some, ◌||◌, if◌then◌else◌}
 use Rattle.std.specs.List.{list_any, prefix_len, take_while}
+use Rattle.sieve_profile.specs.Profile.{Profile}
 use Rattle.encoded_words.specs.Charset.{charset_named, meaning}
 use Rattle.encoded_words.specs.Cut.{ValuePiece, joined, octet, replaced}
 use Rattle.sieve_base.specs.Octet.{is_filled, octet_of}
@@ -41,9 +42,9 @@ abbrev pub piece_by : ℕ → EncodedWord → Option (List ℕ) → ValuePiece
 piece_by c word None = octet c
 piece_by c word (Some octets) = replaced word octets
 
-abbrev pub first_piece : ℕ → Option EncodedWord → ValuePiece
-first_piece c None = octet c
-first_piece c (Some word) = piece_by c word (meaning word)
+abbrev pub first_piece : Profile → ℕ → Option EncodedWord → ValuePiece
+first_piece profile c None = octet c
+first_piece profile c (Some word) = piece_by c word (meaning profile word)
 
 -- how many octets of a piece stand behind its first
 abbrev pub further_octets : ValuePiece → ℕ
@@ -51,18 +52,18 @@ further_octets (octet c) = 0
 further_octets (replaced word octets) = length word.charset + length word.text + 6
 
 -- the pieces of a value, of which the first octets, as many as `skip`, belong to the piece before
-unfoldable pub pieces_from : (skip : ℕ) → List ℕ → List ValuePiece
-pieces_from skip [] = []
-pieces_from zero (c ∷ rest) = first_piece c (word_at (c ∷ rest)) ∷ pieces_from (further_octets (first_piece c (word_at (c ∷ rest)))) rest
-pieces_from (suc skip) (c ∷ rest) = pieces_from skip rest
+unfoldable pub pieces_from : Profile → (skip : ℕ) → List ℕ → List ValuePiece
+pieces_from profile skip [] = []
+pieces_from profile zero (c ∷ rest) = first_piece profile c (word_at (c ∷ rest)) ∷ pieces_from profile (further_octets (first_piece profile c (word_at (c ∷ rest)))) rest
+pieces_from profile (suc skip) (c ∷ rest) = pieces_from profile skip rest
 
 -- the pieces of a value
-abbrev pub pieces_of : List ℕ → List ValuePiece
-pieces_of value = pieces_from 0 value
+abbrev pub pieces_of : Profile → List ℕ → List ValuePiece
+pieces_of profile value = pieces_from profile 0 value
 
 -- a value with its words replaced
-abbrev pub decoded_of : List ℕ → List ℕ
-decoded_of value = joined false (pieces_of value)
+abbrev pub decoded_of : Profile → List ℕ → List ℕ
+decoded_of profile value = joined false (pieces_of profile value)
 
 -- whether a piece is a word
 abbrev pub is_word : ValuePiece → Bool
@@ -70,19 +71,19 @@ is_word (octet c) = false
 is_word (replaced word octets) = true
 
 -- whether a value has a word that can be decoded
-abbrev pub has_word : List ℕ → Bool
-has_word value = list_any is_word (pieces_of value)
+abbrev pub has_word : Profile → List ℕ → Bool
+has_word profile value = list_any is_word (pieces_of profile value)
 
 -- a value with its words replaced, if it has one
-abbrev pub replaced_of : List ℕ → Option (List ℕ)
-replaced_of value = if has_word value then Some (decoded_of value) else None
+abbrev pub replaced_of : Profile → List ℕ → Option (List ℕ)
+replaced_of profile value = if has_word profile value then Some (decoded_of profile value) else None
 
 -- whether there is a word, of a charset that is known
-abbrev pub is_known : Option EncodedWord → Bool
-is_known None = false
-is_known (Some word) = is_some (charset_named word.charset)
+abbrev pub is_known : Profile → Option EncodedWord → Bool
+is_known profile None = false
+is_known profile (Some word) = is_some (charset_named profile word.charset)
 
 -- whether a word of a charset that is known is written in a value, whether or not it can be decoded
-unfoldable pub has_known : List ℕ → Bool
-has_known [] = false
-has_known (c ∷ rest) = is_known (word_at (c ∷ rest)) || has_known rest
+unfoldable pub has_known : Profile → List ℕ → Bool
+has_known profile [] = false
+has_known profile (c ∷ rest) = is_known profile (word_at (c ∷ rest)) || has_known profile rest

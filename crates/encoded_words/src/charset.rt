@@ -2,12 +2,32 @@
 ghost use Rattle.std.specs.Prelude.{◌≡◌, IfOk, IsOk, None, encode_utf8_all};
 ghost use Rattle.std.specs.List.{list_all};
 ghost use Rattle.std.specs.Str.{is_utf8, str_eq_ignore_ascii_case};
-ghost use Rattle.encoded_words.specs.Charset.{charset_named, in_utf8, is_ascii, meaning, octets_in};
+ghost use Rattle.encoded_words.specs.Charset.{character_at, charset_named, codepage_named, in_utf8, is_ascii, meaning, octets_in, table_of, tabled};
 ghost use Rattle.encoded_words.specs.view.Word.{octets_of, word_of};
+ghost use Rattle.sieve_profile.specs.view.Profile.{profile_as};
 
 use crate::encoding::{b_octets, q_octets};
+use crate::tables::{ISO_8859_2, ISO_8859_15, KOI8_R, WINDOWS_1250, WINDOWS_1251, WINDOWS_1252};
 use crate::word::{EncodedWord, is_b};
+use sieve_profile::{Extension, Profile};
 use std::alloc::{AllocError, Global};
+
+/// A charset of which each octet is a character, or stands for nothing.
+#[derive(Clone, Copy)]
+pub(crate) enum Codepage {
+    /// Windows-1250.
+    Windows1250,
+    /// Windows-1251.
+    Windows1251,
+    /// Windows-1252.
+    Windows1252,
+    /// ISO 8859-2.
+    Iso8859Part2,
+    /// ISO 8859-15.
+    Iso8859Part15,
+    /// KOI8-R (RFC 1489).
+    Koi8R,
+}
 
 /// A charset whose words can be decoded.
 #[derive(Clone, Copy)]
@@ -18,6 +38,8 @@ pub(crate) enum Charset {
     Ascii,
     /// ISO 8859-1. Its octets are the first 256 characters of Unicode.
     Latin1,
+    /// One of a table.
+    Tabled(Codepage),
 }
 
 // Whether a charset has this name, in any case.
@@ -27,9 +49,31 @@ fn is_named(charset: &[u8], name: &[u8]) -> bool
     name.eq_ignore_ascii_case(charset)
 }
 
-// The charset of that name, if it is known (RFC 2047, section 2).
-fn charset_named(name: &[u8]) -> Option<Charset>
-    ensures { result ≡ charset_named name.now }
+// The charset of that name that has a table.
+#[tactic(auto, unfolding(crate::specs::Charset::codepage_named))]
+fn codepage_named(name: &[u8]) -> Option<Codepage>
+    ensures { result ≡ codepage_named name.now }
+{
+    if is_named(name, b"windows-1250") {
+        Some(Codepage::Windows1250)
+    } else if is_named(name, b"windows-1251") {
+        Some(Codepage::Windows1251)
+    } else if is_named(name, b"windows-1252") {
+        Some(Codepage::Windows1252)
+    } else if is_named(name, b"iso-8859-2") {
+        Some(Codepage::Iso8859Part2)
+    } else if is_named(name, b"iso-8859-15") {
+        Some(Codepage::Iso8859Part15)
+    } else if is_named(name, b"koi8-r") {
+        Some(Codepage::Koi8R)
+    } else {
+        None
+    }
+}
+
+// The charset of that name, if the profile knows it (RFC 2047, section 2).
+fn charset_named(profile: Profile, name: &[u8]) -> Option<Charset>
+    ensures { result ≡ charset_named (profile_as profile) name.now }
 {
     if is_named(name, b"utf-8") {
         Some(Charset::Utf8)
@@ -37,6 +81,8 @@ fn charset_named(name: &[u8]) -> Option<Charset>
         Some(Charset::Ascii)
     } else if is_named(name, b"iso-8859-1") {
         Some(Charset::Latin1)
+    } else if profile.has(Extension::Charsets) {
+        Some(Charset::Tabled(codepage_named(name)?))
     } else {
         None
     }
@@ -51,6 +97,50 @@ fn latin(alloc: Global, octets: &[u8]) -> Result<Vec<u8>, AllocError>
         text.push(char::from(*octet))?;
     }
     Ok(text.into_bytes())
+}
+
+// The characters of a charset's octets from 128 on.
+#[tactic(auto, unfolding(crate::specs::Charset::table_of))]
+fn table_of(codepage: Codepage) -> &'static [char; 128]
+    ensures { result.now ≡ table_of codepage }
+{
+    match codepage {
+        Codepage::Windows1250 => &WINDOWS_1250,
+        Codepage::Windows1251 => &WINDOWS_1251,
+        Codepage::Windows1252 => &WINDOWS_1252,
+        Codepage::Iso8859Part2 => &ISO_8859_2,
+        Codepage::Iso8859Part15 => &ISO_8859_15,
+        Codepage::Koi8R => &KOI8_R,
+    }
+}
+
+// The character of an octet.
+fn character_at(table: &[char; 128], octet: u8) -> Option<char>
+    ensures { result ≡ character_at table.now octet }
+{
+    if octet.is_ascii() {
+        return Some(char::from(octet));
+    }
+    let character = table[usize::from(octet) - 128];
+    if character == '\0' {
+        None
+    } else {
+        Some(character)
+    }
+}
+
+// Octets in UTF-8 by a table, or nothing where one of them stands for nothing.
+fn tabled(alloc: Global, table: &[char; 128], octets: &[u8]) -> Result<Option<Vec<u8>>, AllocError>
+    ensures { IfOk result (λ text. octets_of text ≡ tabled table.now octets.now) }
+{
+    let mut text = String::new(alloc);
+    for octet in octets {
+        let Some(character) = character_at(table, *octet) else {
+            return Ok(None);
+        };
+        text.push(character)?;
+    }
+    Ok(Some(text.into_bytes()))
 }
 
 // Whether octets are well-formed UTF-8 (RFC 3629, section 4).
@@ -81,6 +171,7 @@ fn in_utf8(alloc: Global, charset: Charset, octets: Vec<u8>) -> Result<Option<Ve
             None
         }),
         Charset::Latin1 => Ok(Some(latin(alloc, &octets)?)),
+        Charset::Tabled(codepage) => tabled(alloc, table_of(codepage), &octets),
     }
 }
 
@@ -97,11 +188,15 @@ fn octets_in(alloc: Global, word: &EncodedWord<'_>) -> Result<Option<Vec<u8>>, A
 
 // What a word stands for, if it can be decoded. The charset comes first: a text of one that isn't known isn't read.
 #[tactic(auto, unfolding(crate::specs::Charset::meaning))]
-pub(crate) fn meaning(alloc: Global, word: &EncodedWord<'_>) -> Result<Option<Vec<u8>>, AllocError>
-    ensures is { IfOk result (λ octets. octets_of octets ≡ meaning (word_of word.now)) }
-    ensures unknown { charset_named word.now.charset.now ≡ None → IsOk result }
+pub(crate) fn meaning(
+    alloc: Global,
+    profile: Profile,
+    word: &EncodedWord<'_>,
+) -> Result<Option<Vec<u8>>, AllocError>
+    ensures is { IfOk result (λ octets. octets_of octets ≡ meaning (profile_as profile) (word_of word.now)) }
+    ensures unknown { charset_named (profile_as profile) word.now.charset.now ≡ None → IsOk result }
 {
-    let Some(charset) = charset_named(word.charset) else {
+    let Some(charset) = charset_named(profile, word.charset) else {
         return Ok(None);
     };
     match octets_in(alloc, word)? {

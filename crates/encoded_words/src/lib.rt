@@ -4,6 +4,7 @@
 mod charset;
 mod encoding;
 pub mod laws;
+mod tables;
 mod values;
 mod word;
 

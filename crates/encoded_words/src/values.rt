@@ -6,11 +6,14 @@ ghost use Rattle.sieve_base.specs.Octet.{is_blank};
 ghost use Rattle.encoded_words.specs.Scan.{decoded_of, has_known, has_word, pieces_of, replaced_of};
 ghost use Rattle.encoded_words.specs.Cut.{kept, octet};
 ghost use Rattle.encoded_words.specs.view.Word.{octets_of};
+ghost use Rattle.sieve_profile.specs.Profile as profiles;
+ghost use Rattle.sieve_profile.specs.view.Profile.{profile_as};
 
 use crate::charset::meaning;
 use crate::word::{SIGN_COUNT, word_at};
 use memchr::memchr;
 use sieve_base::octet::is_blank;
+use sieve_profile::Profile;
 use std::alloc::{AllocError, Global};
 use std::borrow::CowSlice;
 
@@ -39,17 +42,17 @@ fn push_word(
 // How many octets stand in front of the first `=`. No word begins among them.
 fn before_sign(value: &[u8]) -> usize
     ensures within { result ≤ length value.now }
-    ensures alone { map octet (take result value.now) ++ pieces_of (drop result value.now) ≡ pieces_of value.now }
-    ensures unknown { has_known value.now ≡ false → has_known (drop result value.now) ≡ false }
+    ensures alone { (profile : profiles.Profile) → map octet (take result value.now) ++ pieces_of profile (drop result value.now) ≡ pieces_of profile value.now }
+    ensures unknown { (profile : profiles.Profile) → has_known profile value.now ≡ false → has_known profile (drop result value.now) ≡ false }
 {
     memchr(b'=', value).unwrap_or(value.len())
 }
 
 // A value with its encoded words replaced, if it has one that can be decoded.
-fn replaced(alloc: Global, value: &[u8]) -> Result<Option<Vec<u8>>, AllocError>
-    ensures is { IfOk result (λ found. octets_of found ≡ replaced_of value.now) }
+fn replaced(alloc: Global, profile: Profile, value: &[u8]) -> Result<Option<Vec<u8>>, AllocError>
+    ensures is { IfOk result (λ found. octets_of found ≡ replaced_of (profile_as profile) value.now) }
     // A value in which no word of a known charset is written takes no memory, so want of it is never answered.
-    ensures unknown { has_known value.now ≡ false → IsOk result }
+    ensures unknown { has_known (profile_as profile) value.now ≡ false → IsOk result }
 {
     let mut octets = Vec::new(alloc);
     let mut behind_word = false;
@@ -62,7 +65,7 @@ fn replaced(alloc: Global, value: &[u8]) -> Result<Option<Vec<u8>>, AllocError>
             plain += 1;
             continue;
         };
-        let Some(meant) = meaning(alloc, &word)? else {
+        let Some(meant) = meaning(alloc, profile, &word)? else {
             plain += 1;
             continue;
         };
@@ -81,13 +84,13 @@ fn replaced(alloc: Global, value: &[u8]) -> Result<Option<Vec<u8>>, AllocError>
 
 // A value with its encoded words replaced. It is borrowed exactly where none was.
 #[tactic(auto, using(crate::proofs::Steps::unchanged, crate::proofs::Steps::none_replaced, crate::proofs::Steps::some_replaced))]
-fn decoded(alloc: Global, value: &[u8]) -> Result<CowSlice<'_, u8>, AllocError>
-    ensures octets { IfOk result (λ octets. cow_slice_items octets ≡ decoded_of value.now) }
-    ensures borrowed { has_word value.now ≡ false → IfOk result IsBorrowedSlice }
-    ensures owned { has_word value.now ≡ true → IfOk result IsOwnedSlice }
-    ensures unknown { has_known value.now ≡ false → IsOk result }
+fn decoded(alloc: Global, profile: Profile, value: &[u8]) -> Result<CowSlice<'_, u8>, AllocError>
+    ensures octets { IfOk result (λ octets. cow_slice_items octets ≡ decoded_of (profile_as profile) value.now) }
+    ensures borrowed { has_word (profile_as profile) value.now ≡ false → IfOk result IsBorrowedSlice }
+    ensures owned { has_word (profile_as profile) value.now ≡ true → IfOk result IsOwnedSlice }
+    ensures unknown { has_known (profile_as profile) value.now ≡ false → IsOk result }
 {
-    match replaced(alloc, value)? {
+    match replaced(alloc, profile, value)? {
         None => Ok(CowSlice::Borrowed(value)),
         Some(octets) => Ok(CowSlice::Owned(octets)),
     }
@@ -96,23 +99,27 @@ fn decoded(alloc: Global, value: &[u8]) -> Result<CowSlice<'_, u8>, AllocError>
 /// The value with its encoded words (RFC 2047, section 2) replaced by what they stand for, in UTF-8.
 ///
 /// From the left each word that can be decoded is replaced, wherever it stands, and spaces and tabs alone between
-/// two such words are dropped (RFC 2047, section 6.2). A word whose charset isn't known, or whose text isn't of its
+/// two such words are dropped (RFC 2047, section 6.2). A word whose charset the profile doesn't know, or whose text isn't of its
 /// encoding or charset, stays as it is written, and another may begin inside it. The value is one of unfolded lines.
 ///
 /// The result is borrowed exactly where the value was and no word was replaced. No memory is taken where no word of a
 /// charset that is known is written in the value.
 #[tactic(auto, using(crate::proofs::Steps::unchanged, crate::proofs::Steps::none_replaced, crate::proofs::Steps::some_replaced))]
-pub fn decoded_value(alloc: Global, value: CowSlice<'_, u8>) -> Result<CowSlice<'_, u8>, AllocError>
-    ensures octets { IfOk result (λ octets. cow_slice_items octets ≡ decoded_of (cow_slice_items value.entry)) }
-    ensures borrowed { has_word (cow_slice_items value.entry) ≡ false → IsBorrowedSlice value.entry → IfOk result IsBorrowedSlice }
-    ensures replaced { has_word (cow_slice_items value.entry) ≡ true → IfOk result IsOwnedSlice }
+pub fn decoded_value(
+    alloc: Global,
+    profile: Profile,
+    value: CowSlice<'_, u8>,
+) -> Result<CowSlice<'_, u8>, AllocError>
+    ensures octets { IfOk result (λ octets. cow_slice_items octets ≡ decoded_of (profile_as profile) (cow_slice_items value.entry)) }
+    ensures borrowed { has_word (profile_as profile) (cow_slice_items value.entry) ≡ false → IsBorrowedSlice value.entry → IfOk result IsBorrowedSlice }
+    ensures replaced { has_word (profile_as profile) (cow_slice_items value.entry) ≡ true → IfOk result IsOwnedSlice }
     ensures owned { IsOwnedSlice value.entry → IfOk result IsOwnedSlice }
-    ensures unknown { has_known (cow_slice_items value.entry) ≡ false → IsOk result }
+    ensures unknown { has_known (profile_as profile) (cow_slice_items value.entry) ≡ false → IsOk result }
 {
     match value {
-        CowSlice::Borrowed(octets) => decoded(alloc, octets),
+        CowSlice::Borrowed(octets) => decoded(alloc, profile, octets),
         CowSlice::Owned(octets) => {
-            let found = replaced(alloc, &octets)?;
+            let found = replaced(alloc, profile, &octets)?;
             Ok(CowSlice::Owned(found.unwrap_or(octets)))
         }
     }

@@ -3,6 +3,7 @@ pub mod RouteLemmas
 pub mod MarkLemmas
 pub mod DivisionLemmas
 pub mod AddressLemmas
+pub mod SubaddressLemmas
 pub mod LawLemmas
 pub mod LineLemmas
 pub mod HeadLemmas

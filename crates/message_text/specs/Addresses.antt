@@ -2,6 +2,7 @@
 -- octet of a value is marked with what it stands in; what follows are steps over marked octets.
 use Rattle.std.specs.Prelude.{◌≡◌, ℕ, ◌+◌, ◌-◌, ◌<◌, nat_le, nat_eq, Bool, true, false, not, ◌&&◌, ◌||◌, ◌==◌, if◌then◌else◌, length, List, [], ◌∷◌, ◌++◌, map, filter, Option, None, Some, codes}
 use Rattle.std.specs.List.{after_first, after_last, before_first, before_last, filter_map, list_any, slice_split}
+use Rattle.std.specs.Option.{option_and_then, option_map}
 use lib.Pointwise.{pointwise}
 use Rattle.sieve_base.specs.Octet.{is_white, octet_of}
 use Rattle.message_text.specs.declared.addressing.AddressPart.{AddressPart}
@@ -19,11 +20,25 @@ pub record AddrSpec : Type 0 where
   pub local_part : Option (List ℕ)
   pub domain : Option (List ℕ)
 
--- what a test sees of an address (RFC 5228, section 2.7.4)
+-- the octet between user and detail
+abbrev pub is_separator : ℕ → Bool
+is_separator octet = octet == octet_of "+"
+
+-- the user in a local part: what stands before its first separator, or all of it (RFC 5233, section 4)
+abbrev pub user_in : List ℕ → List ℕ
+user_in local_part = before_first is_separator local_part
+
+-- the detail in a local part: what stands behind its first separator, if it has one (RFC 5233, section 4)
+abbrev pub detail_in : List ℕ → Option (List ℕ)
+detail_in local_part = if list_any is_separator local_part then Some (after_first is_separator local_part) else None
+
+-- what a test sees of an address (RFC 5228, section 2.7.4; RFC 5233, section 4)
 abbrev pub part_of_address : AddressPart → AddrSpec → Option (List ℕ)
 part_of_address part.All address = Some address.all
 part_of_address part.Local address = address.local_part
 part_of_address part.Domain address = address.domain
+part_of_address part.User address = option_map user_in address.local_part
+part_of_address part.Detail address = option_and_then detail_in address.local_part
 
 -- MARKS
 
@@ -249,9 +264,9 @@ the_only text [] = record { all = text; local_part = None; domain = None }
 the_only text (one ∷ []) = one
 the_only text (one ∷ two ∷ more) = record { all = text; local_part = None; domain = None }
 
--- The address of an envelope (RFC 5228, section 5.4): a null path is the empty string, whatever part is asked for.
-unfoldable pub envelope_address_of : List ℕ → AddrSpec
-envelope_address_of text = if is_null_path text then record { all = []; local_part = Some []; domain = Some [] } else the_only text (addresses_of text)
+-- A part of the address of an envelope (RFC 5228, section 5.4): a null path is the empty string, whatever part is asked for.
+unfoldable pub part_of_path : AddressPart → List ℕ → Option (List ℕ)
+part_of_path part text = if is_null_path text then Some [] else part_of_address part (the_only text (addresses_of text))
 
 -- LAWS
 
@@ -266,3 +281,16 @@ PartsJoin all (Some local_part) (Some domain) = (all ≡ local_part ++ octet_of 
 pub record IsAddrSpec (address : AddrSpec) : Type 0 where
   pub filled : 0 < length address.all
   pub parts : PartsJoin address.all address.local_part address.domain
+
+-- a local part is its user, where it has no detail, and else user and detail with a separator between them; none stands in a user
+abbrev pub UserJoins : (local_part user : List ℕ) → (detail : Option (List ℕ)) → Type 0
+UserJoins local_part user None = (user ≡ local_part) × (list_any is_separator user ≡ false)
+UserJoins local_part user (Some detail) = (local_part ≡ user ++ octet_of "+" ∷ detail) × (list_any is_separator user ≡ false)
+
+-- an address without a local part has neither user nor detail; one with a local part has a user, and they join to it
+abbrev pub SubpartsJoin : (local_part user detail : Option (List ℕ)) → Type 0
+SubpartsJoin None None None = Unit {0}
+SubpartsJoin None None (Some detail) = ⊥
+SubpartsJoin None (Some user) detail = ⊥
+SubpartsJoin (Some local_part) None detail = ⊥
+SubpartsJoin (Some local_part) (Some user) detail = UserJoins local_part user detail

@@ -3,6 +3,7 @@ use Rattle.std.specs.Prelude.{◌≡◌, ◌<◌, ◌≤◌, ℕ, Bool, true, fa
 use Rattle.std.specs.List.{after_first, before_first, concat, list_all, list_any, slice_get, take_while}
 use Rattle.std.specs.Str.Lines.{lines}
 use Rattle.encoded_words.specs.Scan.{decoded_of, has_known, has_word}
+use Rattle.sieve_profile.specs.Profile.{Profile}
 use Rattle.match_text.specs.Comparator.{ascii_casemap, same}
 use Rattle.sieve_base.specs.Octet.{is_blank, is_filled, is_visible, octet_of}
 use Rattle.message_text.specs.Blanks.{trim, trim_end}
@@ -90,20 +91,20 @@ abbrev pub IsFolded : List ℕ → ℕ → Type 0
 IsFolded message i = slice_get (map is_unfolded (field_groups message)) i ≡ Some false
 
 -- the values of the fields with their encoded words replaced, in order (RFC 2047)
-abbrev pub decoded_values_of : List ℕ → List (List ℕ)
-decoded_values_of message = map decoded_of (values_of message)
+abbrev pub decoded_values_of : Profile → List ℕ → List (List ℕ)
+decoded_values_of profile message = map (decoded_of profile) (values_of message)
 
 -- a word is replaced in the value of field i
-abbrev pub IsReplaced : List ℕ → ℕ → Type 0
-IsReplaced message i = slice_get (map has_word (values_of message)) i ≡ Some true
+abbrev pub IsReplaced : Profile → List ℕ → ℕ → Type 0
+IsReplaced profile message i = slice_get (map (has_word profile) (values_of message)) i ≡ Some true
 
 -- no word is replaced in the value of field i
-abbrev pub IsUnreplaced : List ℕ → ℕ → Type 0
-IsUnreplaced message i = slice_get (map has_word (values_of message)) i ≡ Some false
+abbrev pub IsUnreplaced : Profile → List ℕ → ℕ → Type 0
+IsUnreplaced profile message i = slice_get (map (has_word profile) (values_of message)) i ≡ Some false
 
 -- no word of a charset that is known is written in the value of field i
-abbrev pub IsUnknown : List ℕ → ℕ → Type 0
-IsUnknown message i = slice_get (map has_known (values_of message)) i ≡ Some false
+abbrev pub IsUnknown : Profile → List ℕ → ℕ → Type 0
+IsUnknown profile message i = slice_get (map (has_known profile) (values_of message)) i ≡ Some false
 
 -- whether a field has that name; names of fields ignore the case of ASCII (RFC 5228, section 2.4.2.2)
 abbrev pub is_field_named : List ℕ → Field → Bool

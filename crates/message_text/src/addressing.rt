@@ -2,15 +2,16 @@
 ghost use Rattle.std.specs.Prelude.{◌≡◌, ◌<◌, ◌++◌, IfOk, OnOk, Some, length, option_to_list};
 ghost use Rattle.std.specs.Option.{option_map};
 ghost use Rattle.sieve_base.specs.Octet.{octet_of};
-ghost use Rattle.message_text.specs.Addresses.{address_by, address_in, addresses_of, is_free, octets_of, part_of_address};
+ghost use Rattle.message_text.specs.Addresses.{address_by, address_in, addresses_of, detail_in, is_free, octets_of, part_of_address, user_in};
 ghost use Rattle.message_text.specs.view.Divisions.{IsBehindLast, divided_at};
 
 use crate::marks::{Marked, marks_of};
 use crate::pieces::{address_marks, is_free, separates};
+use memchr::memchr;
 use std::alloc::{AllocError, Global};
 use std::marker::Model;
 
-/// Which part of an address a test sees (RFC 5228, section 2.7.4).
+/// Which part of an address a test sees (RFC 5228, section 2.7.4; RFC 5233, section 4).
 #[derive(Clone, Copy, Debug, PartialEq, Eq)]
 pub enum AddressPart {
     /// The whole address: `:all`.
@@ -19,6 +20,10 @@ pub enum AddressPart {
     Local,
     /// What stands behind that `@`: `:domain`.
     Domain,
+    /// What stands before the first `+` of the local part, or all of it (RFC 5233, section 4): `:user`.
+    User,
+    /// What stands behind that `+` (RFC 5233, section 4): `:detail`.
+    Detail,
 }
 
 /// An address of a value, as [`addresses`] reads it.
@@ -42,7 +47,8 @@ impl Model for Address {
 
 impl Address {
     /// The octets of a part, or nothing where the address has no such part. The whole is always
-    /// there; local part and domain are there both or not at all (RFC 5228, section 2.7.4).
+    /// there; local part and domain are there both or not at all (RFC 5228, section 2.7.4). The user is there with the local
+    /// part, and the detail where a `+` stands in it; either may be empty (RFC 5233, section 4).
     pub fn part(&self, part: AddressPart) -> Option<&[u8]>
         ensures { option_map (λ octets. octets.now) result ≡ part_of_address part self.now }
     {
@@ -51,8 +57,26 @@ impl Address {
             AddressPart::All => Some(all),
             AddressPart::Local => Some(&all[..self.at?]),
             AddressPart::Domain => Some(&all[self.at? + 1..]),
+            AddressPart::User => Some(user_in(&all[..self.at?])),
+            AddressPart::Detail => detail_in(&all[..self.at?]),
         }
     }
+}
+
+// The user in a local part.
+fn user_in(local: &[u8]) -> &[u8]
+    ensures { result.now ≡ user_in local.now }
+{
+    let end = memchr(b'+', local).unwrap_or(local.len());
+    &local[..end]
+}
+
+// The detail in a local part.
+fn detail_in(local: &[u8]) -> Option<&[u8]>
+    ensures { option_map (λ octets. octets.now) result ≡ detail_in local.now }
+{
+    let separator = memchr(b'+', local)?;
+    Some(&local[separator + 1..])
 }
 
 /// The addresses of a value, in order (RFC 5322, sections 3.4 and 4.4).

@@ -3,12 +3,14 @@ ghost use Rattle.std.specs.Prelude.{◌≡◌, ◌<◌, ◌≤◌, ◌↔◌, �
 ghost use Rattle.std.specs.Cow.{IsBorrowedSlice, IsOwnedSlice, cow_slice_items};
 ghost use Rattle.sieve_base.specs.Limits.{message_limit};
 ghost use Rattle.message_text.specs.Fields as spec;
+ghost use Rattle.sieve_profile.specs.view.Profile.{profile_as};
 
 use crate::fields::{FieldSpan, span_in, spans_of};
 use crate::names::{FieldName, next_named};
 use crate::values::value_at;
 use encoded_words::decoded_value;
 use sieve_base::limits::MAX_MESSAGE;
+use sieve_profile::Profile;
 use std::alloc::{AllocError, Global};
 use std::borrow::CowSlice;
 use std::marker::Model;
@@ -126,23 +128,29 @@ impl Message {
         value_at(alloc, octets, span)
     }
 
-    /// The value of field `i` with its encoded words (RFC 2047) replaced by what they stand for, in UTF-8.
+    /// The value of field `i` with its encoded words (RFC 2047) replaced by what they stand for, in UTF-8; the profile says which
+    /// charsets are known.
     ///
     /// A word is replaced wherever it stands in the unfolded and trimmed value, also inside another that can't be
     /// decoded; spaces and tabs between two such words are dropped. The result isn't trimmed again.
     ///
     /// The result is borrowed from the message where the field stands on one line and no word was replaced, and else a copy.
     /// No memory is taken where the field stands on one line in which no word of a charset that is known is written.
-    pub fn decoded(&self, alloc: Global, i: usize) -> Result<CowSlice<'_, u8>, AllocError>
+    pub fn decoded(
+        &self,
+        alloc: Global,
+        profile: Profile,
+        i: usize,
+    ) -> Result<CowSlice<'_, u8>, AllocError>
         requires { i < length (spec.fields_of self.now) }
-        ensures octets { IfOk result (λ value. slice_get (spec.decoded_values_of self.now) i
+        ensures octets { IfOk result (λ value. slice_get (spec.decoded_values_of (profile_as profile) self.now) i
             ≡ Some (cow_slice_items value)) }
-        ensures unchanged { spec.IsUnfolded self.now i → spec.IsUnreplaced self.now i → IfOk result IsBorrowedSlice }
+        ensures unchanged { spec.IsUnfolded self.now i → spec.IsUnreplaced (profile_as profile) self.now i → IfOk result IsBorrowedSlice }
         ensures folded { spec.IsFolded self.now i → IfOk result IsOwnedSlice }
-        ensures replaced { spec.IsReplaced self.now i → IfOk result IsOwnedSlice }
-        ensures unknown { spec.IsUnfolded self.now i → spec.IsUnknown self.now i → IsOk result }
+        ensures replaced { spec.IsReplaced (profile_as profile) self.now i → IfOk result IsOwnedSlice }
+        ensures unknown { spec.IsUnfolded self.now i → spec.IsUnknown (profile_as profile) self.now i → IsOk result }
     {
         let value = self.value(alloc, i)?;
-        decoded_value(alloc, value)
+        decoded_value(alloc, profile, value)
     }
 }

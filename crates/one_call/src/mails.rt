@@ -3,6 +3,7 @@
 use crate::telling::{Host, mark, prepared, tell_octets, tell_refused, tell_value};
 use encoded_words::decoded_value;
 use message_text::{Address, AddressPart, FieldName, Message, addresses};
+use sieve_profile::Profile;
 use std::borrow::CowSlice;
 use std::io;
 
@@ -71,7 +72,7 @@ pub(crate) fn ask_decoded(rt: &impl Host, place: usize) -> io::Result<()> {
     let mail = mail_of(rt)?;
     if place < mail.fields() {
         mark(rt);
-        let value = mail.decoded(rt.alloc(), place);
+        let value = mail.decoded(rt.alloc(), Profile::new(), place);
         mark(rt);
         tell_value(rt, value)?;
     }
@@ -92,7 +93,7 @@ pub(crate) fn ask(rt: &impl Host) -> io::Result<()> {
 pub(crate) fn decode(rt: &impl Host, octets: &[u8]) -> io::Result<()> {
     let value = CowSlice::Borrowed(octets);
     mark(rt);
-    let answer = decoded_value(rt.alloc(), value);
+    let answer = decoded_value(rt.alloc(), Profile::new(), value);
     mark(rt);
     tell_value(rt, answer)
 }

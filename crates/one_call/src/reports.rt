@@ -6,6 +6,7 @@ use crate::scripts::tell_end;
 use crate::telling::{Host, mark, personal, prepared, tell_outcome, tell_refused};
 use bench::{Bench, TestJob, TestScript, test_bench};
 use sieve_base::{Counted, Octets};
+use sieve_profile::Profile;
 use sieve_run::Meter;
 use sievebench::{
     Argument, End, Job, SessionEnd, TestWords, UsageFault, command_of, session, status_of,
@@ -106,6 +107,7 @@ fn job_of(rt: &impl Host) -> Result<TestJob, AllocError> {
         text: Octets::copied(rt.alloc(), b"keep;")?,
     })?;
     Ok(TestJob {
+        profile: Profile::new(),
         from: Octets::copied(rt.alloc(), b"a@b.example")?,
         to: Octets::from_vec(Vec::new(rt.alloc())),
         mailbox: Octets::copied(rt.alloc(), b"Box")?,
@@ -141,10 +143,18 @@ pub(crate) fn read_words(rt: &impl Host, words: &[&str]) -> io::Result<()> {
     let answer = command_of(rt.alloc(), words);
     mark(rt);
     match answer {
-        Ok(Job::Test(words)) => tell_test(rt, &words),
-        Ok(_) => println!(rt; "another job"),
+        Ok(line) => tell_job(rt, &line.job),
         Err(UsageFault::Usage { text, .. }) => rt.print(text.as_str()),
+        Err(UsageFault::UnknownName { name }) => println!(rt; "unknown {}", name.as_str()),
         Err(UsageFault::NoMemory) => tell_refused(rt),
+    }
+}
+
+/// Tells the job that words name.
+fn tell_job(rt: &impl Print, job: &Job) -> io::Result<()> {
+    match job {
+        Job::Test(words) => tell_test(rt, words),
+        _ => println!(rt; "another job"),
     }
 }
 

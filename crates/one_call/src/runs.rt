@@ -1,6 +1,7 @@
 //! Runs of scripts on a mail, without a bench.
 
 use crate::telling::{Host, mark, personal, prepared, tell_done, tell_outcome, tell_refused};
+use sieve_profile::Profile;
 use sieve_run::{
     Envelope, Found, Library, Message, Meter, Octets, Outcome, ScriptName, Shelf, run,
 };
@@ -42,7 +43,7 @@ pub(crate) const BAD: &[u8] = b"keep;\nredirect \"nobody\";";
 
 /// Puts a text in place of one with a fault. What is there stands behind the answer.
 pub(crate) fn add(rt: &impl Host) -> io::Result<()> {
-    let mut shelf = Shelf::new(rt.alloc());
+    let mut shelf = Shelf::new(rt.alloc(), Profile::new());
     let main = personal(rt, b"main")?;
     shelf.add(&main, b"kep;")?;
     mark(rt);
@@ -63,7 +64,7 @@ pub(crate) fn tell_found(rt: &impl Print, found: &Found<'_>) -> io::Result<()> {
 
 /// Runs a main script beside another.
 pub(crate) fn run_texts(rt: &impl Host, text: &[u8], lib: &[u8]) -> io::Result<()> {
-    let mut shelf = Shelf::new(rt.alloc());
+    let mut shelf = Shelf::new(rt.alloc(), Profile::new());
     fill(rt, &mut shelf, text, lib)?;
     run_shelf(rt, &shelf)
 }
@@ -110,7 +111,7 @@ fn tell_run(
 }
 
 pub(crate) fn ask_shelf(rt: &impl Host) -> io::Result<()> {
-    let mut shelf = Shelf::new(rt.alloc());
+    let mut shelf = Shelf::new(rt.alloc(), Profile::new());
     let main = personal(rt, b"main")?;
     shelf.add(&main, LIB)?;
     mark(rt);
@@ -123,7 +124,7 @@ pub(crate) fn ask_shelf(rt: &impl Host) -> io::Result<()> {
 fn outcome_of(rt: &impl Host) -> io::Result<Outcome> {
     let envelope = envelope_of(rt)?;
     let mail = prepared(Message::new(rt.alloc(), Vec::new(rt.alloc())))?;
-    let shelf = Shelf::new(rt.alloc());
+    let shelf = Shelf::new(rt.alloc(), Profile::new());
     let mut meter = Meter::new();
     Ok(run(rt.alloc(), &shelf, None, &envelope, &mail, &mut meter)?)
 }

@@ -5,6 +5,7 @@ use bench::{TestEnd, dump_text, write_code};
 use sieve_base::{Counted, Piece, write_quoted};
 use sieve_check::{CheckFault, Checked, JudgeFault, Judged, check, judge};
 use sieve_code::{Code, compile};
+use sieve_profile::Profile;
 use sieve_syntax::{Command, ParsedScript, SyntaxFault, Tests, Token, parse, tokens};
 use std::io;
 
@@ -104,7 +105,7 @@ fn tell_command(rt: &impl Print, command: &Command) -> io::Result<()> {
 pub(crate) fn check_script(rt: &impl Host) -> io::Result<()> {
     let script = prepared(parse(rt.alloc(), TEXT))?;
     mark(rt);
-    let answer = check(rt.alloc(), script);
+    let answer = check(rt.alloc(), Profile::new(), script);
     mark(rt);
     match answer {
         Ok(checked) => println!(rt; "{}", checked.commands().len()),
@@ -116,7 +117,7 @@ pub(crate) fn check_script(rt: &impl Host) -> io::Result<()> {
 /// How many commands the text has, or its fault.
 pub(crate) fn judge_text(rt: &impl Host, text: &[u8]) -> io::Result<()> {
     mark(rt);
-    let answer = judge(rt.alloc(), text);
+    let answer = judge(rt.alloc(), Profile::new(), text);
     mark(rt);
     match answer {
         Ok(Judged::Sound(checked)) => println!(rt; "{}", checked.commands().len()),
@@ -135,7 +136,7 @@ pub(crate) fn judge_text(rt: &impl Host, text: &[u8]) -> io::Result<()> {
 
 fn checked_of(rt: &impl Host) -> io::Result<Checked> {
     let script = prepared(parse(rt.alloc(), TEXT))?;
-    prepared(check(rt.alloc(), script))
+    prepared(check(rt.alloc(), Profile::new(), script))
 }
 
 pub(crate) fn compile_script(rt: &impl Host) -> io::Result<()> {
@@ -157,7 +158,7 @@ pub(crate) fn dump(rt: &impl Host) -> io::Result<()> {
     let name = personal(rt, b"main")?;
     let mut writer = Counted::new(io::writer(rt));
     mark(rt);
-    let end = dump_text(rt.alloc(), &name, TEXT, &mut writer);
+    let end = dump_text(rt.alloc(), Profile::new(), &name, TEXT, &mut writer);
     mark(rt);
     tell_end(rt, end)
 }

@@ -10,7 +10,7 @@ use Rattle.sieve_reading.specs.Tree.{Argument}
 use Rattle.sieve_reading.specs.declared.label.Label.{Label}
 use Rattle.sieve_reading.specs.declared.reading.FlagChange.{FlagChange}
 use Rattle.sieve_reading.specs.declared.reading.FlagChange.TheVariants as change
-use Rattle.sieve_table.proofs.Each.{of_each}
+use Rattle.sieve_profile.proofs.Each.{of_each}
 use Rattle.sieve_table.specs.Table.{command_row, test_row}
 use Rattle.sieve_table.specs.contracts.table.CommandKind as every_command
 use Rattle.sieve_table.specs.contracts.table.TestKind as every_test

@@ -7,7 +7,8 @@ use Rattle.sieve_check.specs.Parted.{command_labels, parted, parted_argument, pa
 use Rattle.sieve_reading.specs.Role.{first_role}
 use Rattle.sieve_syntax.specs.TreeOf.{strings, test, one_test, test_list, more_tests, block, Node, node, Nodes, end_nodes, more_nodes, items, nodes}
 use Rattle.sieve_reading.specs.declared.label.Label.{Label}
-use Rattle.sieve_table.specs.Table.{command_named, test_named}
+use Rattle.sieve_profile.specs.Profile.{Profile}
+use Rattle.sieve_table.specs.Known.{known_command, known_test}
 use Rattle.sieve_table.specs.declared.row.Role.{Role}
 
 -- ARGUMENTS
@@ -32,7 +33,7 @@ arguments_kept context labels (a ∷ args) =
 mutual
   test_kept : (t : syntax.Test) (context : Context) → bare_test (parted_test context t) ≡ bare_test t
   test_kept (syntax.test name line args ts) context =
-      ap (λ x. test name line x (bare_tests (parted_tests context ts))) (arguments_kept context (test_labels (test_named name) args) args)
+      ap (λ x. test name line x (bare_tests (parted_tests context ts))) (arguments_kept context (test_labels context.profile (known_test context.profile name) args) args)
       ∙ ap (λ x. test name line (map bare_argument args) x) (tests_kept ts context)
 
   tests_kept : (ts : syntax.Tests) (context : Context) → bare_tests (parted_tests context ts) ≡ bare_tests ts
@@ -51,8 +52,8 @@ mutual
 mutual
   node_kept : (n : syntax.Node) (context : Context) → bare_node (parted_node context n) ≡ bare_node n
   node_kept (syntax.node name line args ts ending) context =
-      let within = behind_kind context (command_named name) args in
-      ap (λ x. node name line x (bare_tests (parted_tests context ts)) (bare_block (parted_block within ending))) (arguments_kept context (command_labels (command_named name) args) args)
+      let within = behind_kind context (known_command context.profile name) args in
+      ap (λ x. node name line x (bare_tests (parted_tests context ts)) (bare_block (parted_block within ending))) (arguments_kept context (command_labels context.profile (known_command context.profile name) args) args)
       ∙ ap (λ x. node name line (map bare_argument args) x (bare_block (parted_block within ending))) (tests_kept ts context)
       ∙ ap (λ x. node name line (map bare_argument args) (bare_tests ts) x) (block_kept ending within)
 
@@ -77,7 +78,7 @@ nodes_bare : {S : Type 0} (ns : List (Node S)) → items (bare_nodes (nodes ns))
 nodes_bare [] = refl
 nodes_bare (n ∷ ns) = ap (λ l. bare_node n ∷ l) (nodes_bare ns)
 
-pub tree_kept : (tree : List syntax.Node) → map bare_node (parted tree) ≡ map bare_node tree
-tree_kept tree =
-    let ns = parted_nodes script_start (nodes tree) in
-    items_bare ns ∙ ap items (nodes_kept (nodes tree) script_start) ∙ nodes_bare tree
+pub tree_kept : (profile : Profile) (tree : List syntax.Node) → map bare_node (parted profile tree) ≡ map bare_node tree
+tree_kept profile tree =
+    let ns = parted_nodes (script_start profile) (nodes tree) in
+    items_bare ns ∙ ap items (nodes_kept (nodes tree) (script_start profile)) ∙ nodes_bare tree

@@ -7,17 +7,18 @@ use Rattle.sieve_syntax.specs.view.Tree.{argument_of, block_of, tests_of}
 use Rattle.sieve_syntax.specs.declared.tree.Argument as arguments
 use Rattle.sieve_syntax.specs.declared.tree.Command as commands
 use Rattle.sieve_syntax.specs.declared.tree.Test as one_tests
-use Rattle.sieve_check.specs.Breach.{Breach, breach_if, breaches_at, breaches_by, breaches_in, command_breaks, test_breaks}
+use Rattle.sieve_check.specs.Breach.{Breach, breach_if, breaches_at, breaches_by, breaches_in, command_breaks, kind_breaks, test_breaks}
 use Rattle.sieve_table.specs.Rule.{all_rules}
 use Rattle.sieve_check.specs.CheckFault.{IsFirst}
 use Rattle.sieve_check.specs.Context.{Context, is_require, continues_if}
 use Rattle.sieve_check.specs.Element.{the_command, the_test, test_arguments, command_arguments}
-use Rattle.sieve_table.specs.Table as table
+use Rattle.sieve_table.specs.Known.{known_command, known_test}
 use Rattle.sieve_table.specs.Table.{Row, command_row, test_row}
 use Rattle.sieve_check.specs.Use.{has_block}
+use Rattle.sieve_reading.specs.Shape.{known_shapes}
 use Rattle.sieve_check.specs.view.Finds.{Finds, FindsIn}
 use Rattle.sieve_check.specs.view.Head.{test_head, command_head, kind_found}
-use Rattle.sieve_check.specs.view.Use.{row_found, use_breaks}
+use Rattle.sieve_check.specs.view.Use.{row_found}
 use Rattle.sieve_table.specs.declared.rule.Rule.TheVariants.{RequirePlace, UnknownCommand}
 use Rattle.sieve_table.specs.declared.table.CommandKind.{CommandKind}
 use Rattle.sieve_table.specs.declared.table.TestKind.{TestKind}
@@ -28,19 +29,19 @@ use Rattle.sieve_check.proofs.Searches.{first_stops, cons_in}
 -- TESTS
 
 -- a test of a name that no test has breaks the rule of unknown commands first
-pub test_unknown : (t : one_tests.Test) (context : Context) (line : ℕ) → None ≡ table.test_named (one_tests.out-Test t).name → line ≡ (one_tests.out-Test t).line → IsFirst (breaches_in (test_head context t)) (faults.Breach line UnknownCommand)
+pub test_unknown : (t : one_tests.Test) (context : Context) (line : ℕ) → None ≡ known_test context.profile (one_tests.out-Test t).name → line ≡ (one_tests.out-Test t).line → IsFirst (breaches_in (test_head context t)) (faults.Breach line UnknownCommand)
 unfolding breaches_at
 test_unknown t context line is l =
     let o = one_tests.out-Test t in
     let args = map argument_of o.args.items in
     let ts = tests_of o.tests in
     let here : IsFirst (breaches_at (the_test context o.name o.line args ts)) (faults.Breach o.line UnknownCommand) = subst (λ k. IsFirst (breaches_by (test_breaks context k args ts) o.line all_rules) (faults.Breach o.line UnknownCommand)) is refl in
-    first_stops (the_test context o.name o.line args ts) (test_arguments context (table.test_named o.name) args ts) (faults.Breach line UnknownCommand)
+    first_stops (the_test context o.name o.line args ts) (test_arguments context (known_test context.profile o.name) args ts) (faults.Breach line UnknownCommand)
     (subst (λ x. IsFirst (breaches_at (the_test context o.name o.line args ts)) (faults.Breach x UnknownCommand)) (sym l) here)
 
 -- what is found in a test of a kind is the breaches of the test and its arguments
 known_by : (t : one_tests.Test) (context : Context) (kind : TestKind) (row : Row) (line : ℕ) (xs : List arguments.Argument) → let o = one_tests.out-Test t in
-    Some kind ≡ table.test_named o.name → line ≡ o.line → row ≡ test_row kind → xs ≡ o.args.items → row_found false context line row (map argument_of xs) (tests_of o.tests) false ≡ breaches_in (test_head context t)
+    Some kind ≡ known_test context.profile o.name → line ≡ o.line → row ≡ test_row kind → xs ≡ o.args.items → row_found false context line row (map argument_of xs) (tests_of o.tests) false ≡ breaches_in (test_head context t)
 unfolding breaches_at
 known_by t context kind row line xs is l same a =
     let o = one_tests.out-Test t in
@@ -50,10 +51,10 @@ known_by t context kind row line xs is l same a =
     ∙ ap (λ x. row_found false context o.line x (map argument_of xs) ts false) same
     ∙ ap (λ x. row_found false context o.line (test_row kind) (map argument_of x) ts false) a
     ∙ ap (λ k. breaches_by (test_breaks context k args ts) o.line all_rules ++ breaches_in (test_arguments context k args ts)) is
-    ∙ sym (cons_in (the_test context o.name o.line args ts) (test_arguments context (table.test_named o.name) args ts))
+    ∙ sym (cons_in (the_test context o.name o.line args ts) (test_arguments context (known_test context.profile o.name) args ts))
 
 pub test_known : {A : Type 0} (t : one_tests.Test) (context : Context) (kind : TestKind) (row : Row) (line : ℕ) (xs : List arguments.Argument) (r : Result A CheckFault) → let o = one_tests.out-Test t in
-    Some kind ≡ table.test_named o.name → line ≡ o.line → row ≡ test_row kind → xs ≡ o.args.items → Finds (row_found false context line row (map argument_of xs) (tests_of o.tests) false) r → FindsIn (test_head context t) r
+    Some kind ≡ known_test context.profile o.name → line ≡ o.line → row ≡ test_row kind → xs ≡ o.args.items → Finds (row_found false context line row (map argument_of xs) (tests_of o.tests) false) r → FindsIn (test_head context t) r
 test_known t context kind row line xs r is l same a found = subst (λ bs. Finds bs r) (known_by t context kind row line xs is l same a) found
 
 -- COMMANDS
@@ -74,7 +75,7 @@ module _ (context : Context) (kind : CommandKind) (c : commands.Command) where
   unfolding by_places
   found_by = let o = commands.out-Command c in
       append_assoc (breach_if (is_require kind && not context.leads) o.line RequirePlace)
-      (breaches_by (use_breaks (continues_if kind && not context.follows_if) context.required (command_row kind) (map argument_of o.args.items) (tests_of o.tests) (has_block (block_of o.block))) o.line all_rules)
+      (breaches_by (kind_breaks false (continues_if kind && not context.follows_if) context.required (command_row kind) (known_shapes context.profile (command_row kind).tags (map argument_of o.args.items)) (tests_of o.tests) (has_block (block_of o.block))) o.line all_rules)
       (breaches_in (command_arguments context (Some kind) (map argument_of o.args.items) (tests_of o.tests) (block_of o.block)))
 
   pub require_misplaced : (line : ℕ) → line ≡ (commands.out-Command c).line → true ≡ (is_require kind && not context.leads) → IsFirst (kind_found context kind c) (faults.Breach line RequirePlace)
@@ -100,7 +101,7 @@ module _ (context : Context) (kind : CommandKind) (c : commands.Command) where
       found
 
 -- a command of a name that no command has breaks the rule of unknown commands first
-pub command_unknown : (c : commands.Command) (context : Context) (line : ℕ) → None ≡ table.command_named (commands.out-Command c).name → line ≡ (commands.out-Command c).line → IsFirst (breaches_in (command_head context c)) (faults.Breach line UnknownCommand)
+pub command_unknown : (c : commands.Command) (context : Context) (line : ℕ) → None ≡ known_command context.profile (commands.out-Command c).name → line ≡ (commands.out-Command c).line → IsFirst (breaches_in (command_head context c)) (faults.Breach line UnknownCommand)
 unfolding breaches_at
 command_unknown c context line is l =
     let o = commands.out-Command c in
@@ -108,10 +109,10 @@ command_unknown c context line is l =
     let ts = tests_of o.tests in
     let ending = block_of o.block in
     let here : IsFirst (breaches_at (the_command context o.name o.line args ts ending)) (faults.Breach o.line UnknownCommand) = subst (λ k. IsFirst (breaches_by (command_breaks context k args ts ending) o.line all_rules) (faults.Breach o.line UnknownCommand)) is refl in
-    first_stops (the_command context o.name o.line args ts ending) (command_arguments context (table.command_named o.name) args ts ending) (faults.Breach line UnknownCommand)
+    first_stops (the_command context o.name o.line args ts ending) (command_arguments context (known_command context.profile o.name) args ts ending) (faults.Breach line UnknownCommand)
     (subst (λ x. IsFirst (breaches_at (the_command context o.name o.line args ts ending)) (faults.Breach x UnknownCommand)) (sym l) here)
 
-head_by : (c : commands.Command) (context : Context) (kind : CommandKind) → Some kind ≡ table.command_named (commands.out-Command c).name → kind_found context kind c ≡ breaches_in (command_head context c)
+head_by : (c : commands.Command) (context : Context) (kind : CommandKind) → Some kind ≡ known_command context.profile (commands.out-Command c).name → kind_found context kind c ≡ breaches_in (command_head context c)
 unfolding breaches_at
 head_by c context kind is =
     let o = commands.out-Command c in
@@ -119,15 +120,13 @@ head_by c context kind is =
     let ts = tests_of o.tests in
     let ending = block_of o.block in
     ap (λ k. breaches_by (command_breaks context k args ts ending) o.line all_rules ++ breaches_in (command_arguments context k args ts ending)) is
-    ∙ sym (cons_in (the_command context o.name o.line args ts ending) (command_arguments context (table.command_named o.name) args ts ending))
+    ∙ sym (cons_in (the_command context o.name o.line args ts ending) (command_arguments context (known_command context.profile o.name) args ts ending))
 
 -- what is found in a command of a kind is the breaches of the command and its arguments
-pub command_stops : (c : commands.Command) (context : Context) (kind : CommandKind) (fault : CheckFault) → Some kind ≡ table.command_named (commands.out-Command c).name → IsFirst (kind_found context kind c) fault → IsFirst (breaches_in (command_head context c)) fault
+pub command_stops : (c : commands.Command) (context : Context) (kind : CommandKind) (fault : CheckFault) → Some kind ≡ known_command context.profile (commands.out-Command c).name → IsFirst (kind_found context kind c) fault → IsFirst (breaches_in (command_head context c)) fault
 command_stops c context kind fault is h = subst (λ bs. IsFirst bs fault) (head_by c context kind is) h
 
-pub command_passes : (c : commands.Command) (context : Context) (kind : CommandKind) → Some kind ≡ table.command_named (commands.out-Command c).name → kind_found context kind c ≡ [] → breaches_in (command_head context c) ≡ []
+pub command_passes : (c : commands.Command) (context : Context) (kind : CommandKind) → Some kind ≡ known_command context.profile (commands.out-Command c).name → kind_found context kind c ≡ [] → breaches_in (command_head context c) ≡ []
 command_passes c context kind is none = sym (head_by c context kind is) ∙ none
 
 pub ruleset kind_steps = (require_misplaced, kind_placed)
-
-pub ruleset command_head_steps = (command_unknown, command_stops, command_passes)

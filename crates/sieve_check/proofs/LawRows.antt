@@ -9,6 +9,7 @@ use Rattle.sieve_check.specs.Naming.{declares, nodes_mentions, set_by, sets}
 use Rattle.sieve_check.specs.Order.{written_by}
 use Rattle.sieve_check.specs.Parted.{parted}
 use Rattle.sieve_check.specs.Readable.{IsReadable, ReadsBlock, ReadsNode, ReadsNodes, act_mark, choice_mark, marks, return_mark, stop_mark}
+use Rattle.sieve_profile.specs.Profile.{empty_profile}
 use Rattle.sieve_reading.specs.Given.{has_tag}
 use Rattle.sieve_reading.specs.Reading.{plain_settings, discard_leaf, keep_leaf}
 use Rattle.sieve_reading.specs.Script.{always, block_commands, chain_of, condition_of, conditions_in, never, chain_with, script_of}
@@ -30,22 +31,22 @@ last line inner = syntax.node (codes "else") line [] syntax.no_tests (syntax.blo
 abbrev branches : List syntax.Node
 branches = branch (codes "if") 1 (codes "true") (plain (codes "keep") 1) ∷ branch (codes "elsif") 2 (codes "false") (plain (codes "stop") 2) ∷ last 3 (plain (codes "discard") 3) ∷ plain (codes "keep") 4 ∷ []
 
-marks_row : marks (script_of (parted branches)) ≡ choice_mark always ∷ act_mark (keep_leaf plain_settings) 1 ∷ choice_mark never ∷ stop_mark ∷ act_mark discard_leaf 3 ∷ act_mark (keep_leaf plain_settings) 4 ∷ []
+marks_row : marks (script_of (parted empty_profile branches)) ≡ choice_mark always ∷ act_mark (keep_leaf plain_settings) 1 ∷ choice_mark never ∷ stop_mark ∷ act_mark discard_leaf 3 ∷ act_mark (keep_leaf plain_settings) 4 ∷ []
 unfolding marks chain_of chain_with block_commands condition_of conditions_in command_named test_named behind has_tag
 marks_row = refl
 
 -- return; keep;
-return_marks_row : marks (script_of (parted (plain (codes "return") 1 ∷ plain (codes "keep") 2 ∷ []))) ≡ return_mark ∷ act_mark (keep_leaf plain_settings) 2 ∷ []
+return_marks_row : marks (script_of (parted empty_profile (plain (codes "return") 1 ∷ plain (codes "keep") 2 ∷ []))) ≡ return_mark ∷ act_mark (keep_leaf plain_settings) 2 ∷ []
 unfolding marks chain_of chain_with block_commands condition_of conditions_in command_named test_named behind has_tag
 return_marks_row = refl
 
 -- elsif true { keep; }
-astray_row : IsReadable (parted (branch (codes "elsif") 1 (codes "true") (plain (codes "keep") 1) ∷ [])) → ⊥
+astray_row : IsReadable (parted empty_profile (branch (codes "elsif") 1 (codes "true") (plain (codes "keep") 1) ∷ [])) → ⊥
 unfolding ReadsNode ReadsBlock ReadsNodes command_named
 astray_row reads = not_both (reads.0.1.2 refl)
 
 -- if size :over 5 { keep; } require "a";
-order_row : map written_by (elements_of (syntax.node (codes "if") 1 [] (syntax.one_test (syntax.test (codes "size") 1 (syntax.tag (codes "over") 1 ∷ syntax.number (Some 5) 1 ∷ []) syntax.no_tests)) (syntax.block (syntax.nodes (plain (codes "keep") 2 ∷ [])))
+order_row : map written_by (elements_of empty_profile (syntax.node (codes "if") 1 [] (syntax.one_test (syntax.test (codes "size") 1 (syntax.tag (codes "over") 1 ∷ syntax.number (Some 5) 1 ∷ []) syntax.no_tests)) (syntax.block (syntax.nodes (plain (codes "keep") 2 ∷ [])))
     ∷ syntax.node (codes "require") 3 (syntax.strings (record { string = codes "a"; line = 3 } ∷ []) false ∷ []) syntax.no_tests syntax.no_block ∷ []))
     ≡ identifier (codes "if") 1 ∷ identifier (codes "size") 1 ∷ number_symbol (Some 5) 1 ∷ identifier (codes "keep") 2 ∷ identifier (codes "require") 3 ∷ string_symbol (codes "a") 3 ∷ []
 unfolding nodes_elements node_elements block_elements tests_elements test_elements command_named test_named behind
@@ -78,10 +79,10 @@ naming =
     naming_two (codes "set") (codes "Ab") ∷ naming_two (codes "set") (codes "aB") ∷ branch (codes "if") 1 (codes "true") (naming_two (codes "addflag") (codes "c")) ∷ naming_one (codes "global") (codes "d")
     ∷ naming_two (codes "set") (codes "D") ∷ naming_two (codes "set") (codes "1") ∷ naming_two (codes "setflag") (codes "E") ∷ naming_one (codes "setflag") (codes "f") ∷ []
 
-mentions_row : nodes_mentions (syntax.nodes naming) ≡ sets (codes "Ab") ∷ sets (codes "aB") ∷ sets (codes "c") ∷ declares (codes "d") ∷ sets (codes "D") ∷ sets (codes "1") ∷ sets (codes "E") ∷ []
+mentions_row : nodes_mentions empty_profile (syntax.nodes naming) ≡ sets (codes "Ab") ∷ sets (codes "aB") ∷ sets (codes "c") ∷ declares (codes "d") ∷ sets (codes "D") ∷ sets (codes "1") ∷ sets (codes "E") ∷ []
 unfolding command_named
 mentions_row = refl
 
-set_row : set_by (nodes_mentions (syntax.nodes naming)) ≡ codes "Ab" ∷ codes "c" ∷ codes "E" ∷ []
+set_row : set_by (nodes_mentions empty_profile (syntax.nodes naming)) ≡ codes "Ab" ∷ codes "c" ∷ codes "E" ∷ []
 unfolding command_named
 set_row = refl

@@ -1,6 +1,7 @@
 -- The first of the breaches, in the order of the text and then of the rules, is the least.
 use Rattle.std.proofs.Common.{◌≡◌, Bool, true, false, List, [], ◌∷◌, ◌++◌, Some, None, refl, ap, ◌∙◌, subst, slice_get}
 use Rattle.std.specs.List.{flat_map}
+use Rattle.sieve_profile.specs.Profile.{Profile}
 use Rattle.sieve_syntax.specs.Tree.{Node}
 use Rattle.sieve_check.specs.Breach.{Breach, breach_if, breaches_at, breaches_by, breaches_in, breaches_of, breaks, first_breach, line_of, IsLeast, IsLeastBreach}
 use Rattle.sieve_table.specs.Rule.{all_rules}
@@ -86,11 +87,11 @@ unfolding breaches_in breaches_at
 least_of [] breach first = absurd (none_is breach first)
 least_of (element ∷ behind) breach first = in_front element behind breach (finding element all_rules (breaches_in behind) breach first) (least_of behind breach)
 
-pub first_is_least : (tree : List Node) (breach : Breach) → first_breach tree ≡ Some breach → IsLeastBreach tree breach
-first_is_least tree breach first = least_of (elements_of tree) breach first
+pub first_is_least : (profile : Profile) (tree : List Node) (breach : Breach) → first_breach profile tree ≡ Some breach → IsLeastBreach profile tree breach
+first_is_least profile tree breach first = least_of (elements_of profile tree) breach first
 
-pub breaches_order : (tree : List Node) → breaches_of tree ≡ flat_map breaches_at (elements_of tree)
+pub breaches_order : (profile : Profile) (tree : List Node) → breaches_of profile tree ≡ flat_map breaches_at (elements_of profile tree)
 unfolding breaches_in
-breaches_order tree = refl
+breaches_order profile tree = refl
 
 pub ruleset least = (first_is_least, breaches_order)

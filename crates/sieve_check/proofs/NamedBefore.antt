@@ -11,7 +11,9 @@ use Rattle.sieve_check.specs.Naming.{HasSetBefore, element_mentions, is_command,
 use Rattle.sieve_check.specs.Scope.{Scope, no_names}
 use Rattle.sieve_reading.specs.Role.{first_role}
 use Rattle.sieve_reading.specs.declared.label.Label.{Label}
-use Rattle.sieve_table.specs.Table.{command_named, test_named}
+use Rattle.sieve_profile.specs.Profile.{Profile}
+use Rattle.sieve_table.specs.Known.{known_command, known_test}
+use Rattle.sieve_check.proofs.Profiles.{kind_profile, node_profile}
 use Rattle.sieve_table.specs.declared.row.Role.{Role}
 use Rattle.sieve_table.specs.declared.table.CommandKind.{CommandKind}
 use Rattle.sieve_table.specs.declared.table.TestKind.{TestKind}
@@ -22,7 +24,7 @@ use Rattle.sieve_check.proofs.Naming.{behind_mentions, in_turn, kind_mentions, n
 -- Elements in turn: `done` are the names written before the command that they stand in, `own` those that it writes.
 abbrev Goes : (done own : List Mention) → List Element → Type 0
 Goes done own [] = Unit {0}
-Goes done own (the_command context name line args ts ending ∷ es) = (context.scope.assigned ≡ set_by (done ++ own)) × Goes (done ++ own) (command_mentions (command_named name) args) es
+Goes done own (the_command context name line args ts ending ∷ es) = (context.scope.assigned ≡ set_by (done ++ own)) × Goes (done ++ own) (command_mentions context.profile (known_command context.profile name) args) es
 Goes done own (the_test context name line args ts ∷ es) = (context.scope.assigned ≡ set_by done) × Goes done own es
 Goes done own (the_text context role text ∷ es) = (context.scope.assigned ≡ set_by done) × Goes done own es
 Goes done own (the_number value line ∷ es) = Goes done own es
@@ -58,8 +60,8 @@ module _ (done own : List Mention) (context : Context) (so : context.scope.assig
     test_goes : (t : Test) (es : List Element) → Goes done own es → Goes done own (test_elements context t ++ es)
     test_goes (test name line args ts) es goes = (
       so,
-      subst (Goes done own) (sym (append_assoc (test_arguments context (test_named name) args ts) (tests_elements context ts) es))
-          (test_arguments_go (test_named name) args ts (tests_elements context ts ++ es) (tests_go ts es goes)),
+      subst (Goes done own) (sym (append_assoc (test_arguments context (known_test context.profile name) args ts) (tests_elements context ts) es))
+          (test_arguments_go (known_test context.profile name) args ts (tests_elements context ts ++ es) (tests_go ts es goes)),
     )
 
     tests_go : (ts : Tests) (es : List Element) → Goes done own es → Goes done own (tests_elements context ts ++ es)
@@ -87,39 +89,39 @@ GoesOn names es = (done own : List Mention) → done ++ own ≡ names → Goes d
 mutual
   unfolding node_elements block_elements nodes_elements
 
-  node_goes : (n : Node) (context : Context) (done own : List Mention) → Behind context.scope (done ++ own) → (es : List Element) → GoesOn ((done ++ own) ++ node_mentions n) es → Goes done own (node_elements context n ++ es)
+  node_goes : (n : Node) (context : Context) (done own : List Mention) → Behind context.scope (done ++ own) → (es : List Element) → GoesOn ((done ++ own) ++ node_mentions context.profile n) es → Goes done own (node_elements context n ++ es)
   node_goes (node name line args ts ending) context done own so es goes =
-      let k = command_named name in
+      let k = known_command context.profile name in
       let own_args = command_arguments context k args ts ending in
       let its_tests = tests_elements context ts in
       let its_block = block_elements (behind_kind context k args) ending in
       let now = ap (λ s. s.assigned) so ∙ set_so (done ++ own) in (
         now,
-        subst (Goes (done ++ own) (command_mentions k args)) (sym (append_assoc own_args (its_tests ++ its_block) es))
-            (command_arguments_go (done ++ own) (command_mentions k args) context now k args ts ending ((its_tests ++ its_block) ++ es)
-            (subst (Goes (done ++ own) (command_mentions k args)) (sym (append_assoc its_tests its_block es))
-            (tests_go (done ++ own) (command_mentions k args) context now ts (its_block ++ es)
-            (block_goes ending (behind_kind context k args) (done ++ own) (command_mentions k args)
-            (behind_more context.scope (behind_kind context k args).scope (done ++ own) (command_mentions k args) so (kind_mentions context k args)) es
-            (λ d o e. goes d o (e ∙ append_assoc (done ++ own) (command_mentions k args) (block_mentions ending))))))),
+        subst (Goes (done ++ own) (command_mentions context.profile k args)) (sym (append_assoc own_args (its_tests ++ its_block) es))
+            (command_arguments_go (done ++ own) (command_mentions context.profile k args) context now k args ts ending ((its_tests ++ its_block) ++ es)
+            (subst (Goes (done ++ own) (command_mentions context.profile k args)) (sym (append_assoc its_tests its_block es))
+            (tests_go (done ++ own) (command_mentions context.profile k args) context now ts (its_block ++ es)
+            (block_goes ending (behind_kind context k args) (done ++ own) (command_mentions context.profile k args)
+            (behind_more context.scope (behind_kind context k args).scope (done ++ own) (command_mentions context.profile k args) so (kind_mentions context k args)) es
+            (λ d o e. goes d o (e ∙ ap (λ p. ((done ++ own) ++ command_mentions context.profile k args) ++ block_mentions p ending) (kind_profile context k args) ∙ append_assoc (done ++ own) (command_mentions context.profile k args) (block_mentions context.profile ending))))))),
       )
 
-  block_goes : (b : Block) (context : Context) (done own : List Mention) → Behind context.scope (done ++ own) → (es : List Element) → GoesOn ((done ++ own) ++ block_mentions b) es → Goes done own (block_elements context b ++ es)
+  block_goes : (b : Block) (context : Context) (done own : List Mention) → Behind context.scope (done ++ own) → (es : List Element) → GoesOn ((done ++ own) ++ block_mentions context.profile b) es → Goes done own (block_elements context b ++ es)
   block_goes no_block context done own so es goes = goes done own (sym (append-nil (done ++ own)))
   block_goes (block ns) context done own so es goes = nodes_go ns (inside context) done own so es goes
 
-  nodes_go : (ns : Nodes) (context : Context) (done own : List Mention) → Behind context.scope (done ++ own) → (es : List Element) → GoesOn ((done ++ own) ++ nodes_mentions ns) es → Goes done own (nodes_elements context ns ++ es)
+  nodes_go : (ns : Nodes) (context : Context) (done own : List Mention) → Behind context.scope (done ++ own) → (es : List Element) → GoesOn ((done ++ own) ++ nodes_mentions context.profile ns) es → Goes done own (nodes_elements context ns ++ es)
   nodes_go end_nodes context done own so es goes = goes done own (sym (append-nil (done ++ own)))
   nodes_go (more_nodes n ns) context done own so es goes =
       let rest = nodes_elements (behind context n) ns in
-      let next = behind_more context.scope (behind context n).scope (done ++ own) (node_mentions n) so (node_names n context) in
+      let next = behind_more context.scope (behind context n).scope (done ++ own) (node_mentions context.profile n) so (node_names n context) in
       subst (Goes done own) (sym (append_assoc (node_elements context n) rest es))
       (node_goes n context done own so (rest ++ es)
       (λ d o e. nodes_go ns (behind context n) d o (next ∙ sym (ap (behind_mentions no_names) e)) es
-      (λ d' o' e'. goes d' o' (e' ∙ ap (λ l. l ++ nodes_mentions ns) e ∙ append_assoc (done ++ own) (node_mentions n) (nodes_mentions ns)))))
+      (λ d' o' e'. goes d' o' (e' ∙ ap (λ p. (d ++ o) ++ nodes_mentions p ns) (node_profile n context) ∙ ap (λ l. l ++ nodes_mentions context.profile ns) e ∙ append_assoc (done ++ own) (node_mentions context.profile n) (nodes_mentions context.profile ns)))))
 
-all_go : (tree : List Node) → Goes [] [] (elements_of tree)
-all_go tree = subst (Goes [] []) (append-nil (elements_of tree)) (nodes_go (nodes tree) script_start [] [] refl [] (λ d o e. tt))
+all_go : (profile : Profile) (tree : List Node) → Goes [] [] (elements_of profile tree)
+all_go profile tree = subst (Goes [] []) (append-nil (elements_of profile tree)) (nodes_go (nodes tree) (script_start profile) [] [] refl [] (λ d o e. tt))
 
 -- THE LAST COMMAND
 
@@ -162,7 +164,7 @@ more_mentions front e names all = flat_map-append element_mentions front (e ∷ 
 
 -- `front` and a command behind it stand before the elements of that command
 command_stands : (front : List Element) (done own : List Mention) (context : Context) (name : List ℕ) (line : ℕ) (args : List Argument) (ts : Tests) (ending : Block) → StandsBefore done own front
-    → StandsBefore (done ++ own) (command_mentions (command_named name) args) (front ++ the_command context name line args ts ending ∷ [])
+    → StandsBefore (done ++ own) (command_mentions context.profile (known_command context.profile name) args) (front ++ the_command context name line args ts ending ∷ [])
 command_stands front done own context name line args ts ending stands =
     let e = the_command context name line args ts ending in
     record { all = more_mentions front e (done ++ own) stands.all; old = ap mentions_in (before_push is_command e front true refl) ∙ stands.all }
@@ -183,7 +185,7 @@ each_goes (x ∷ es) zero e front done own stands goes is =
     subst (λ l. HasSetBefore l e) (sym (append-nil front)) (subst (HasSetBefore front) (one_of x e is) (here_goes x es front done own stands goes))
 each_goes (the_command context name line args ts ending ∷ es) (suc place) e front done own stands goes is =
     past front (the_command context name line args ts ending) e (take place es)
-    (each_goes es place e (front ++ the_command context name line args ts ending ∷ []) (done ++ own) (command_mentions (command_named name) args) (command_stands front done own context name line args ts ending stands) goes.1 is)
+    (each_goes es place e (front ++ the_command context name line args ts ending ∷ []) (done ++ own) (command_mentions context.profile (known_command context.profile name) args) (command_stands front done own context name line args ts ending stands) goes.1 is)
 each_goes (the_test context name line args ts ∷ es) (suc place) e front done own stands goes is =
     past front (the_test context name line args ts) e (take place es)
     (each_goes es place e (front ++ the_test context name line args ts ∷ []) done own (other_stands front done own (the_test context name line args ts) refl refl stands) goes.1 is)
@@ -194,5 +196,5 @@ each_goes (the_number value line ∷ es) (suc place) e front done own stands goe
     past front (the_number value line) e (take place es)
     (each_goes es place e (front ++ the_number value line ∷ []) done own (other_stands front done own (the_number value line) refl refl stands) goes is)
 
-pub set_before : (tree : List Node) (place : ℕ) (element : Element) → slice_get (elements_of tree) place ≡ Some element → HasSetBefore (take place (elements_of tree)) element
-set_before tree place element is = each_goes (elements_of tree) place element [] [] [] (record { all = refl; old = refl }) (all_go tree) is
+pub set_before : (profile : Profile) (tree : List Node) (place : ℕ) (element : Element) → slice_get (elements_of profile tree) place ≡ Some element → HasSetBefore (take place (elements_of profile tree)) element
+set_before profile tree place element is = each_goes (elements_of profile tree) place element [] [] [] (record { all = refl; old = refl }) (all_go profile tree) is

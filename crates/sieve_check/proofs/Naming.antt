@@ -14,9 +14,12 @@ use Rattle.sieve_check.specs.Naming.{Mention, sets, declares, block_mentions, co
 use Rattle.sieve_check.specs.Scope.{Scope, assigning, assigning_argument, assigning_arguments, assigning_texts, declaring_argument, declaring_texts, is_assigned, no_names, with_declared}
 use Rattle.sieve_reading.specs.Role.{first_role}
 use Rattle.sieve_table.specs.Role.{has_role}
-use Rattle.sieve_reading.specs.Shape.{row_labels}
+use Rattle.sieve_reading.specs.Shape.{known_labels}
 use Rattle.sieve_reading.specs.declared.label.Label.{Label}
-use Rattle.sieve_table.specs.Table.{command_named, command_row}
+use Rattle.sieve_profile.specs.Profile.{Profile}
+use Rattle.sieve_table.specs.Known.{known_command}
+use Rattle.sieve_table.specs.Table.{command_row}
+use Rattle.sieve_check.proofs.Profiles.{kind_profile, node_profile}
 use Rattle.sieve_table.specs.declared.row.Role.{Role}
 use Rattle.sieve_table.specs.declared.row.Role.TheVariants.{NameToSet, NamesToDeclare}
 use Rattle.sieve_table.specs.declared.table.CommandKind.{CommandKind}
@@ -114,10 +117,10 @@ arguments_declare (a ∷ args) scope labels =
 
 -- COMMANDS
 
-pub kind_mentions : (context : Context) (k : Option CommandKind) (args : List Argument) → (behind_kind context k args).scope ≡ behind_mentions context.scope (command_mentions k args)
+pub kind_mentions : (context : Context) (k : Option CommandKind) (args : List Argument) → (behind_kind context k args).scope ≡ behind_mentions context.scope (command_mentions context.profile k args)
 kind_mentions context None args = refl
 kind_mentions context (Some kind) args =
-    let labels = row_labels (command_row kind) args in
+    let labels = known_labels context.profile (command_row kind) args in
     let first = map sets (names_in_role NameToSet labels args) in
     let then_those = map declares (names_in_role NamesToDeclare labels args) in
     ap (λ s. with_declared s labels args) (arguments_set args context.scope labels)
@@ -127,22 +130,25 @@ kind_mentions context (Some kind) args =
 mutual
   unfolding behind behind_block behind_nodes
 
-  pub node_names : (n : Node) (context : Context) → (behind context n).scope ≡ behind_mentions context.scope (node_mentions n)
+  pub node_names : (n : Node) (context : Context) → (behind context n).scope ≡ behind_mentions context.scope (node_mentions context.profile n)
   node_names (node name line args ts ending) context =
-      block_names ending (behind_kind context (command_named name) args)
-      ∙ ap (λ s. behind_mentions s (block_mentions ending)) (kind_mentions context (command_named name) args)
-      ∙ sym (in_turn (command_mentions (command_named name) args) (block_mentions ending) context.scope)
+      let k = known_command context.profile name in
+      block_names ending (behind_kind context k args)
+      ∙ ap (λ p. behind_mentions (behind_kind context k args).scope (block_mentions p ending)) (kind_profile context k args)
+      ∙ ap (λ s. behind_mentions s (block_mentions context.profile ending)) (kind_mentions context k args)
+      ∙ sym (in_turn (command_mentions context.profile k args) (block_mentions context.profile ending) context.scope)
 
-  block_names : (b : Block) (context : Context) → (behind_block context b).scope ≡ behind_mentions context.scope (block_mentions b)
+  block_names : (b : Block) (context : Context) → (behind_block context b).scope ≡ behind_mentions context.scope (block_mentions context.profile b)
   block_names no_block context = refl
   block_names (block ns) context = nodes_names ns (inside context)
 
-  nodes_names : (ns : Nodes) (context : Context) → (behind_nodes context ns).scope ≡ behind_mentions context.scope (nodes_mentions ns)
+  nodes_names : (ns : Nodes) (context : Context) → (behind_nodes context ns).scope ≡ behind_mentions context.scope (nodes_mentions context.profile ns)
   nodes_names end_nodes context = refl
   nodes_names (more_nodes n ns) context =
       nodes_names ns (behind context n)
-      ∙ ap (λ s. behind_mentions s (nodes_mentions ns)) (node_names n context)
-      ∙ sym (in_turn (node_mentions n) (nodes_mentions ns) context.scope)
+      ∙ ap (λ p. behind_mentions (behind context n).scope (nodes_mentions p ns)) (node_profile n context)
+      ∙ ap (λ s. behind_mentions s (nodes_mentions context.profile ns)) (node_names n context)
+      ∙ sym (in_turn (node_mentions context.profile n) (nodes_mentions context.profile ns) context.scope)
 
 -- NAMES THAT ARE ONE
 
@@ -286,5 +292,5 @@ mentions_set (declares name ∷ ms) scope =
 pub set_so : (ms : List Mention) → (behind_mentions no_names ms).assigned ≡ set_by ms
 set_so ms = mentions_set ms no_names ∙ filter_all (set_by ms)
 
-pub names_set : (ns : Nodes) → (behind_nodes script_start ns).scope.assigned ≡ set_by (nodes_mentions ns)
-names_set ns = ap (λ s. s.assigned) (nodes_names ns script_start) ∙ set_so (nodes_mentions ns)
+pub names_set : (profile : Profile) (ns : Nodes) → (behind_nodes (script_start profile) ns).scope.assigned ≡ set_by (nodes_mentions profile ns)
+names_set profile ns = ap (λ s. s.assigned) (nodes_names ns (script_start profile)) ∙ set_so (nodes_mentions profile ns)

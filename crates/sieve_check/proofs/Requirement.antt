@@ -10,8 +10,10 @@ use Rattle.sieve_check.specs.Requirement.{IsJudgedUnder, JudgesBehindRequires, i
 use Rattle.sieve_reading.specs.Role.{first_role}
 use Rattle.sieve_reading.specs.declared.label.Label.{Label}
 use Rattle.sieve_check.proofs.Truth.{not_both}
-use Rattle.sieve_table.specs.Required.{Required, nothing_required}
-use Rattle.sieve_table.specs.Table.{command_named, test_named}
+use Rattle.sieve_table.specs.Required.{Required}
+use Rattle.sieve_profile.specs.Profile.{Profile}
+use Rattle.sieve_table.specs.Known.{known_command, known_test}
+use Rattle.sieve_check.proofs.Profiles.{node_profile}
 use Rattle.sieve_table.specs.declared.row.Role.{Role}
 use Rattle.sieve_table.specs.declared.table.CommandKind.{CommandKind}
 use Rattle.sieve_table.specs.declared.table.TestKind.{TestKind}
@@ -50,9 +52,9 @@ module _ (r : Required) where
 
     test_judged : (t : Test) (context : Context) → context.required ≡ r → All Judged (test_elements context t)
     test_judged (test name line args ts) context same =
-        All-cons Judged (the_test context name line args ts) (test_arguments context (test_named name) args ts ++ tests_elements context ts) same
-        (All-append Judged (test_arguments context (test_named name) args ts) (tests_elements context ts)
-        (test_arguments_judged context (test_named name) args ts same) (tests_judged ts context same))
+        All-cons Judged (the_test context name line args ts) (test_arguments context (known_test context.profile name) args ts ++ tests_elements context ts) same
+        (All-append Judged (test_arguments context (known_test context.profile name) args ts) (tests_elements context ts)
+        (test_arguments_judged context (known_test context.profile name) args ts same) (tests_judged ts context same))
 
     tests_judged : (ts : Tests) (context : Context) → context.required ≡ r → All Judged (tests_elements context ts)
     tests_judged no_tests context same = All-nil Judged
@@ -76,22 +78,22 @@ module _ (r : Required) where
   block_requires_none no_block context so = so
   block_requires_none (block ns) context so = so
 
-  node_requires_none : (n : Node) (context : Context) → (context.leads && is_require_command n) ≡ false → context.required ≡ r → ((behind context n).leads ≡ false) × ((behind context n).required ≡ r)
+  node_requires_none : (n : Node) (context : Context) → (context.leads && is_require_command context.profile n) ≡ false → context.required ≡ r → ((behind context n).leads ≡ false) × ((behind context n).required ≡ r)
   unfolding behind
-  node_requires_none (node name line args ts ending) context other same = block_requires_none ending (behind_kind context (command_named name) args) (kind_requires_none context (command_named name) args other same)
+  node_requires_none (node name line args ts ending) context other same = block_requires_none ending (behind_kind context (known_command context.profile name) args) (kind_requires_none context (known_command context.profile name) args other same)
 
   mutual
     unfolding node_elements block_elements nodes_elements
 
-    node_judged : (n : Node) (context : Context) → (context.leads && is_require_command n) ≡ false → context.required ≡ r → All Judged (node_elements context n)
+    node_judged : (n : Node) (context : Context) → (context.leads && is_require_command context.profile n) ≡ false → context.required ≡ r → All Judged (node_elements context n)
     node_judged (node name line args ts ending) context other same =
-        let within = tests_elements context ts ++ block_elements (behind_kind context (command_named name) args) ending in
-        All-cons Judged (the_command context name line args ts ending) (command_arguments context (command_named name) args ts ending ++ within) same
-        (All-append Judged (command_arguments context (command_named name) args ts ending) within
-        (command_arguments_judged context (command_named name) args ts ending same)
-        (All-append Judged (tests_elements context ts) (block_elements (behind_kind context (command_named name) args) ending)
+        let within = tests_elements context ts ++ block_elements (behind_kind context (known_command context.profile name) args) ending in
+        All-cons Judged (the_command context name line args ts ending) (command_arguments context (known_command context.profile name) args ts ending ++ within) same
+        (All-append Judged (command_arguments context (known_command context.profile name) args ts ending) within
+        (command_arguments_judged context (known_command context.profile name) args ts ending same)
+        (All-append Judged (tests_elements context ts) (block_elements (behind_kind context (known_command context.profile name) args) ending)
         (tests_judged ts context same)
-        (block_judged ending (behind_kind context (command_named name) args) (kind_requires_none context (command_named name) args other same).1)))
+        (block_judged ending (behind_kind context (known_command context.profile name) args) (kind_requires_none context (known_command context.profile name) args other same).1)))
 
     block_judged : (ending : Block) (context : Context) → context.required ≡ r → All Judged (block_elements context ending)
     block_judged no_block context same = All-nil Judged
@@ -100,7 +102,7 @@ module _ (r : Required) where
     nodes_judged : (ns : Nodes) (context : Context) → context.leads ≡ false → context.required ≡ r → All Judged (nodes_elements context ns)
     nodes_judged end_nodes context behind_them same = All-nil Judged
     nodes_judged (more_nodes n ns) context behind_them same =
-        let other = ap (λ b. b && is_require_command n) behind_them in
+        let other = ap (λ b. b && is_require_command context.profile n) behind_them in
         let next = node_requires_none n context other same in
         All-append Judged (node_elements context n) (nodes_elements (behind context n) ns) (node_judged n context other same) (nodes_judged ns (behind context n) next.0 next.1)
 
@@ -126,9 +128,9 @@ block_requires r no_block context so = so
 block_requires r (block ns) context so = so
 
 -- what is required behind a `require`
-node_requires : (n : Node) (context : Context) → context.leads ≡ true → is_require_command n ≡ true → ((behind context n).leads ≡ true) × ((behind context n).required ≡ requiring_command context.required n)
+node_requires : (n : Node) (context : Context) → context.leads ≡ true → is_require_command context.profile n ≡ true → ((behind context n).leads ≡ true) × ((behind context n).required ≡ requiring_command context.required n)
 unfolding behind
-node_requires (node name line args ts ending) context leads is = block_requires (requiring_arguments context.required args) ending (behind_kind context (command_named name) args) (kind_requires context (command_named name) args leads is)
+node_requires (node name line args ts ending) context leads is = block_requires (requiring_arguments context.required args) ending (behind_kind context (known_command context.profile name) args) (kind_requires context (known_command context.profile name) args leads is)
 
 take_one : {X : Type 0} (x : X) (xs : List X) (n : ℕ) → take (1 + n) (x ∷ xs) ≡ x ∷ take n xs
 take_one x xs n = let one : 1 + n ≡ suc n = omega arith in ap (λ k. take k (x ∷ xs)) one
@@ -141,34 +143,34 @@ front_fails : {X : Type 0} (p : X → Bool) (x : X) (xs : List X) → p x ≡ fa
 front_fails p x xs not = ap (λ b. take (cond b (1 + prefix_len p xs) 0) (x ∷ xs)) not
 
 -- the elements from a place at the top of a script on: those of the `require` commands there, and others for which these are required
-abbrev Splits : Context → List Node → Type 0
-Splits context tree = (rest : List Element) × (nodes_elements context (nodes tree) ≡ nodes_elements context (nodes (leading_requires tree)) ++ rest) × All (IsJudgedUnder (requiring_commands context.required (leading_requires tree))) rest
+abbrev Splits : Profile → Context → List Node → Type 0
+Splits p context tree = (rest : List Element) × (nodes_elements context (nodes tree) ≡ nodes_elements context (nodes (leading_requires p tree)) ++ rest) × All (IsJudgedUnder (requiring_commands context.required (leading_requires p tree))) rest
 
-splits : (tree : List Node) (context : Context) → context.leads ≡ true → Splits context tree
+splits : (p : Profile) (tree : List Node) (context : Context) → context.profile ≡ p → context.leads ≡ true → Splits p context tree
 unfolding nodes_elements
-splits [] context leads = ([], refl, All-nil (IsJudgedUnder context.required))
-splits (n ∷ tree) context leads = by_command (is_require_command n) refl (splits tree (behind context n))
+splits p [] context same leads = ([], refl, All-nil (IsJudgedUnder context.required))
+splits p (n ∷ tree) context same leads = by_command (is_require_command p n) refl (splits p tree (behind context n) (node_profile n context ∙ same))
   where
-    by_command : (b : Bool) → is_require_command n ≡ b → ((behind context n).leads ≡ true → Splits (behind context n) tree) → Splits context (n ∷ tree)
+    by_command : (b : Bool) → is_require_command p n ≡ b → ((behind context n).leads ≡ true → Splits p (behind context n) tree) → Splits p context (n ∷ tree)
     by_command true is below =
-        let next = node_requires n context leads is in
+        let next = node_requires n context leads (ap (λ q. is_require_command q n) same ∙ is) in
         let more = below next.0 in (
           more.0,
           ap (λ l. node_elements context n ++ l) more.1
-              ∙ sym (append_assoc (node_elements context n) (nodes_elements (behind context n) (nodes (leading_requires tree))) more.0)
-              ∙ sym (ap (λ l. nodes_elements context (nodes l) ++ more.0) (front_passes is_require_command n tree is)),
-          subst (λ r. All (IsJudgedUnder r) more.0) (ap (λ r. requiring_commands r (leading_requires tree)) next.1 ∙ sym (ap (requiring_commands context.required) (front_passes is_require_command n tree is))) more.2,
+              ∙ sym (append_assoc (node_elements context n) (nodes_elements (behind context n) (nodes (leading_requires p tree))) more.0)
+              ∙ sym (ap (λ l. nodes_elements context (nodes l) ++ more.0) (front_passes (is_require_command p) n tree is)),
+          subst (λ r. All (IsJudgedUnder r) more.0) (ap (λ r. requiring_commands r (leading_requires p tree)) next.1 ∙ sym (ap (requiring_commands context.required) (front_passes (is_require_command p) n tree is))) more.2,
         )
     by_command false not below =
-        let other = ap (λ b. context.leads && b) not ∙ never context.leads in
+        let other = ap (λ q. context.leads && is_require_command q n) same ∙ ap (λ b. context.leads && b) not ∙ never context.leads in
         let next = node_requires_none context.required n context other refl in (
           nodes_elements context (nodes (n ∷ tree)),
-          sym (ap (λ l. nodes_elements context (nodes l) ++ nodes_elements context (nodes (n ∷ tree))) (front_fails is_require_command n tree not)),
-          subst (λ r. All (IsJudgedUnder r) (nodes_elements context (nodes (n ∷ tree)))) (sym (ap (requiring_commands context.required) (front_fails is_require_command n tree not)))
+          sym (ap (λ l. nodes_elements context (nodes l) ++ nodes_elements context (nodes (n ∷ tree))) (front_fails (is_require_command p) n tree not)),
+          subst (λ r. All (IsJudgedUnder r) (nodes_elements context (nodes (n ∷ tree)))) (sym (ap (requiring_commands context.required) (front_fails (is_require_command p) n tree not)))
               (All-append (IsJudgedUnder context.required) (node_elements context n) (nodes_elements (behind context n) (nodes tree)) (node_judged context.required n context other refl) (nodes_judged context.required (nodes tree) (behind context n) next.0 next.1)),
         )
 
-pub judged_behind : (tree : List Node) → JudgesBehindRequires tree
-judged_behind tree =
-    let so = splits tree script_start refl in
+pub judged_behind : (profile : Profile) (tree : List Node) → JudgesBehindRequires profile tree
+judged_behind profile tree =
+    let so = splits profile tree (script_start profile) refl refl in
     record { rest = so.0; split = so.1; same = so.2 }

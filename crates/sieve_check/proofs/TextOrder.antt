@@ -19,6 +19,7 @@ use Rattle.sieve_syntax.specs.declared.token.TokenKind.{TokenKind}
 use Rattle.sieve_syntax.specs.declared.token.TokenKind.TheVariants as kinds
 use Rattle.sieve_check.specs.Breach.{line_of}
 use Rattle.sieve_check.specs.Element.{Element, elements_of, the_command, the_number, the_test, the_text}
+use Rattle.sieve_profile.specs.Profile.{Profile}
 use Rattle.sieve_check.specs.Order.{IsInTextOrder, writes_element, written_by}
 use Rattle.sieve_check.proofs.Truth.{not_both}
 use Rattle.sieve_check.proofs.Written.{elements_written}
@@ -194,14 +195,14 @@ module _ (text : List ℕ) where
       by_token true is below = ap (λ n. n ∷ map symbol_line (map (symbol_of text) (filter writes tokens))) (token_line token.kind (slice_range text token.start token.end) token.line is) ∙ ap (λ l. token.line ∷ l) below
       by_token false is below = below
 
-pub in_text_order : (tree : List Node) (text : List ℕ) (tokens : List Token) → Spells tokens text → WritesSymbols test_depth block_room tree (symbols_of text tokens) → IsInTextOrder tree text tokens
-in_text_order tree text tokens spelled written =
+pub in_text_order : (profile : Profile) (tree : List Node) (text : List ℕ) (tokens : List Token) → Spells tokens text → WritesSymbols test_depth block_room tree (symbols_of text tokens) → IsInTextOrder profile tree text tokens
+in_text_order profile tree text tokens spelled written =
     let stand = stand_from text tokens 0 spelled in
-    let same = elements_written tree text tokens test_depth block_room written in
+    let same = elements_written profile tree text tokens test_depth block_room written in
     record {
       elements = same;
       inside = stand.inside;
       apart = never_fall 0 (ends_of tokens) stand.apart;
-      lines = subst (λ l. IsNonDecreasing l) (sym (element_lines (elements_of tree) ∙ ap (map symbol_line) same ∙ token_lines text tokens))
+      lines = subst (λ l. IsNonDecreasing l) (sym (element_lines (elements_of profile tree) ∙ ap (map symbol_line) same ∙ token_lines text tokens))
           (never_fall (line_at text 0) (map (λ token. token.line) (filter (writes text) tokens)) (stand.lines (writes text)));
     }

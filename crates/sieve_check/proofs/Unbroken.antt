@@ -3,11 +3,12 @@ use Rattle.std.proofs.Common.{◌≡◌, ℕ, Bool, true, false, not, ◌&&◌, 
 use Rattle.std.proofs.lemmas.List.Elements.{All-cons}
 use Rattle.std.specs.List.{All, list_all}
 use Rattle.sieve_syntax.specs.Tree.{Node}
+use Rattle.sieve_profile.specs.Profile.{Profile}
 use Rattle.sieve_check.specs.Breach.{Breach, breach_if, breaches_at, breaches_by, breaches_in, breaches_of, breaks, first_breach, line_of}
 use Rattle.sieve_table.specs.Rule.{all_rules}
 use Rattle.sieve_check.specs.Element.{Element, elements_of}
 use Rattle.sieve_table.specs.declared.rule.Rule.{Rule}
-use Rattle.sieve_table.proofs.Each.{of_each}
+use Rattle.sieve_profile.proofs.Each.{of_each}
 use Rattle.sieve_table.specs.contracts.rule.Rule as every_rule
 use Rattle.sieve_check.proofs.Searches.{in_turn, cons_in}
 
@@ -45,20 +46,20 @@ none_in_front e es none = both_empty (breaches_at e) (breaches_in es) (sym (cons
 
 -- THE LAW
 
-all_keep : (es : List Element) → breaches_in es ≡ [] → All (λ e. (rule : Rule) → breaks e rule ≡ false) es
+pub all_keep : (es : List Element) → breaches_in es ≡ [] → All (λ e. (rule : Rule) → breaks e rule ≡ false) es
 all_keep [] none = λ k d below. absurd (omega arith)
 all_keep (e ∷ es) none =
     let parts = none_in_front e es none in
     All-cons (λ e. (rule : Rule) → breaks e rule ≡ false) e es (keeps e parts.0) (all_keep es parts.1)
 
-none_first : (bs : List Breach) → slice_get bs 0 ≡ None → bs ≡ []
+pub none_first : (bs : List Breach) → slice_get bs 0 ≡ None → bs ≡ []
 none_first [] none = refl
 none_first (b ∷ bs) none = absurd (some_none b none)
   where
     some_none : (b : Breach) → Some b ≡ None → ⊥
     some_none b e = cc
 
-pub no_rule_broken : (tree : List Node) → first_breach tree ≡ None → All (λ e. (rule : Rule) → breaks e rule ≡ false) (elements_of tree)
-no_rule_broken tree none = all_keep (elements_of tree) (none_first (breaches_of tree) none)
+pub no_rule_broken : (profile : Profile) (tree : List Node) → first_breach profile tree ≡ None → All (λ e. (rule : Rule) → breaks e rule ≡ false) (elements_of profile tree)
+no_rule_broken profile tree none = all_keep (elements_of profile tree) (none_first (breaches_of profile tree) none)
 
 pub ruleset unbroken = (no_rule_broken)

@@ -13,7 +13,7 @@ use Rattle.sieve_check.specs.Context.{Context, behind, behind_block, behind_kind
 use Rattle.sieve_check.specs.Element.{Element, block_elements, node_elements, nodes_elements, test_elements, test_list_elements, tests_elements}
 use Rattle.sieve_check.specs.view.Context.{at_spot}
 use Rattle.sieve_check.specs.view.Head.{command_head, test_head}
-use Rattle.sieve_table.specs.Table.{command_named}
+use Rattle.sieve_table.specs.Known.{known_command}
 use Rattle.sieve_check.specs.declared.context.Spot.{Spot}
 use Rattle.sieve_check.specs.declared.validator.CheckFault.{CheckFault}
 use Rattle.sieve_check.proofs.Searches.{front_stops, front_passes, none_in}
@@ -60,7 +60,7 @@ list_ends context = none_in
 module _ (c : commands.Command) (context : Context) where
   -- what stands before its block
   abbrev before_block : Context
-  before_block = let o = commands.out-Command c in behind_kind context (command_named o.name) (map argument_of o.args.items)
+  before_block = let o = commands.out-Command c in behind_kind context (known_command context.profile o.name) (map argument_of o.args.items)
 
   abbrev of_tests : List Element
   of_tests = tests_elements context (tests_of (commands.out-Command c).tests)

@@ -11,8 +11,10 @@ use Rattle.sieve_check.specs.Context.{Context, behind, behind_kind, inside, scri
 use Rattle.sieve_check.specs.Element.{Element, argument_elements, block_elements, command_arguments, elements_of, judged_labels, labelled_elements, node_elements, nodes_elements, test_arguments, test_elements, test_list_elements, tests_elements, text_elements}
 use Rattle.sieve_check.specs.Order.{writes_element, written_by}
 use Rattle.sieve_reading.specs.Role.{first_role}
-use Rattle.sieve_reading.specs.Shape.{shapes_of}
-use Rattle.sieve_table.specs.Table.{command_named, command_row, test_named, test_row}
+use Rattle.sieve_profile.specs.Profile.{Profile}
+use Rattle.sieve_reading.specs.Shape.{known_labels, known_shapes}
+use Rattle.sieve_table.specs.Known.{known_command, known_test}
+use Rattle.sieve_table.specs.Table.{command_row, test_row}
 use Rattle.sieve_check.specs.Use.{has_block, is_well_used}
 use Rattle.sieve_reading.specs.declared.label.Label.{Label}
 use Rattle.sieve_table.specs.declared.row.Role.{Role}
@@ -64,11 +66,11 @@ module _ (context : Context) where
 
   of_test : (k : Option TestKind) (args : List Argument) (ts : Tests) → AreWritten (test_arguments context k args ts) (written_arguments args)
   of_test None args ts = arguments [] args
-  of_test (Some k) args ts = let row = test_row k in arguments (judged_labels (is_well_used row (shapes_of row.tags args) ts false) row args) args
+  of_test (Some k) args ts = let row = test_row k in arguments (judged_labels (is_well_used row (known_shapes context.profile row.tags args) ts false) (known_labels context.profile row args)) args
 
   of_command : (k : Option CommandKind) (args : List Argument) (ts : Tests) (ending : Block) → AreWritten (command_arguments context k args ts ending) (written_arguments args)
   of_command None args ts ending = arguments [] args
-  of_command (Some k) args ts ending = let row = command_row k in arguments (judged_labels (is_well_used row (shapes_of row.tags args) ts (has_block ending)) row args) args
+  of_command (Some k) args ts ending = let row = command_row k in arguments (judged_labels (is_well_used row (known_shapes context.profile row.tags args) ts (has_block ending)) (known_labels context.profile row args)) args
 
 -- TESTS
 
@@ -78,8 +80,8 @@ mutual
   test_written : (t : Test) (context : Context) → AreWritten (test_elements context t) (written_test t)
   test_written (test name line args ts) context =
       ap (λ l. identifier name line ∷ l)
-      (in_turn (test_arguments context (test_named name) args ts) (tests_elements context ts) (written_arguments args) (written_tests ts)
-      (of_test context (test_named name) args ts) (tests_written ts context))
+      (in_turn (test_arguments context (known_test context.profile name) args ts) (tests_elements context ts) (written_arguments args) (written_tests ts)
+      (of_test context (known_test context.profile name) args ts) (tests_written ts context))
 
   tests_written : (ts : Tests) (context : Context) → AreWritten (tests_elements context ts) (written_tests ts)
   tests_written no_tests context = refl
@@ -104,10 +106,10 @@ mutual
   node_written : (n : Node) (context : Context) → AreWritten (node_elements context n) (written_node n)
   node_written (node name line args ts ending) context =
       let args_written = written_arguments args in
-      let inner = behind_kind context (command_named name) args in
+      let inner = behind_kind context (known_command context.profile name) args in
       ap (λ l. identifier name line ∷ l)
-      (in_turn (command_arguments context (command_named name) args ts ending) (tests_elements context ts ++ block_elements inner ending) args_written (written_tests ts ++ written_block ending)
-      (of_command context (command_named name) args ts ending)
+      (in_turn (command_arguments context (known_command context.profile name) args ts ending) (tests_elements context ts ++ block_elements inner ending) args_written (written_tests ts ++ written_block ending)
+      (of_command context (known_command context.profile name) args ts ending)
       (in_turn (tests_elements context ts) (block_elements inner ending) (written_tests ts) (written_block ending) (tests_written ts context) (block_is_written ending inner))
       ∙ ap (filter writes_element) (sym (append_assoc args_written (written_tests ts) (written_block ending))))
 
@@ -132,9 +134,9 @@ filtered view (x ∷ xs) = by_first (writes_element (view x)) (filtered view xs)
     by_first false same = same
 
 -- the elements of a tree are written by those of its tokens that write elements
-pub elements_written : (tree : List Node) (text : List ℕ) (tokens : List Token) (depth room : ℕ) → WritesSymbols depth room tree (symbols_of text tokens)
-    → map written_by (elements_of tree) ≡ map (symbol_of text) (filter (λ token. writes_element (symbol_of text token)) tokens)
-elements_written tree text tokens depth room writes =
-    nodes_written (nodes tree) script_start
+pub elements_written : (profile : Profile) (tree : List Node) (text : List ℕ) (tokens : List Token) (depth room : ℕ) → WritesSymbols depth room tree (symbols_of text tokens)
+    → map written_by (elements_of profile tree) ≡ map (symbol_of text) (filter (λ token. writes_element (symbol_of text token)) tokens)
+elements_written profile tree text tokens depth room writes =
+    nodes_written (nodes tree) (script_start profile)
     ∙ ap (filter writes_element) (sym writes.1)
     ∙ filtered (symbol_of text) tokens

@@ -1,12 +1,13 @@
 -- The breaches of the validator's rules in a script, in the order of the text and then of the rules.
 use Rattle.std.specs.Prelude.{◌≡◌, ℕ, Bool, true, false, not, ◌&&◌, ◌||◌, List, [], ◌∷◌, ◌++◌, Option, Some, None, is_none, length, slice_get, nat_lt, if◌then◌else◌}
 use Rattle.std.specs.List.{flat_map}
+use Rattle.sieve_profile.specs.Profile.{Profile}
 use Rattle.sieve_syntax.specs.Tree.{Node, Block, Tests, Argument}
 use Rattle.sieve_base.specs.Limits.{local_limit}
 use Rattle.sieve_table.specs.Address.{is_address_field, is_envelope_part}
 use Rattle.sieve_variables.specs.Name.{is_global_name, is_identifier}
 use Rattle.sieve_variables.specs.Scan.{has_reference, has_namespace, has_foreign_namespace, has_far_index}
-use Rattle.sieve_table.specs.Capability.{is_capability}
+use Rattle.sieve_table.specs.Known.{known_command, known_test, may_be_required}
 use Rattle.sieve_check.specs.Context.{Context, takes_references, is_require, continues_if}
 use Rattle.sieve_check.specs.Element.{Element, the_command, the_test, the_text, the_number, elements_of}
 use Rattle.match_text.specs.Comparator.{collation_named}
@@ -14,8 +15,10 @@ use Rattle.sieve_table.specs.Required.{Required, is_required}
 use Rattle.sieve_table.specs.Role.{has_role, names_variable}
 use Rattle.sieve_table.specs.Rule.{all_rules}
 use Rattle.sieve_check.specs.Scope.{Scope, is_assigned, is_new_local}
-use Rattle.sieve_reading.specs.Shape.{row_labels, shapes_of}
-use Rattle.sieve_table.specs.Table.{Row, command_named, test_named, command_row, test_row}
+use Rattle.sieve_reading.specs.Label.{labels_of}
+use Rattle.sieve_reading.specs.Shape.{known_shapes}
+use Rattle.sieve_reading.specs.declared.label.Shape.{Shape}
+use Rattle.sieve_table.specs.Table.{Row, command_row, test_row}
 use Rattle.sieve_check.specs.Use.{has_bad_tag, has_bad_arguments, has_block, lacks_required}
 use Rattle.sieve_table.specs.declared.capability.Capability.TheVariants.{Include}
 use Rattle.sieve_table.specs.declared.row.Role.{Role}
@@ -32,26 +35,33 @@ pub record Breach : Type 0 where
 
 -- WHAT BREAKS WHICH RULE
 
--- a command or test of a row (RFC 5228, sections 2.5, 2.6, 2.8, 2.9 and 2.10.5)
-abbrev pub row_breaks : Required → Row → List Argument → Tests → (ends_by_block : Bool) → Rule → Bool
-row_breaks required row args ts ends_by_block NotRequired = lacks_required required row (row_labels row args)
-row_breaks required row args ts ends_by_block BadTag = has_bad_tag (row_labels row args)
-row_breaks required row args ts ends_by_block BadArguments = has_bad_arguments row (shapes_of row.tags args) ts ends_by_block
-row_breaks required row args ts ends_by_block rule = false
+-- a command or test of a row, by the shapes of its arguments (RFC 5228, sections 2.5, 2.6, 2.8, 2.9 and 2.10.5)
+abbrev pub row_breaks : Required → Row → List Shape → Tests → (ends_by_block : Bool) → Rule → Bool
+row_breaks required row shapes ts ends_by_block NotRequired = lacks_required required row (labels_of row shapes)
+row_breaks required row shapes ts ends_by_block BadTag = has_bad_tag (labels_of row shapes)
+row_breaks required row shapes ts ends_by_block BadArguments = has_bad_arguments row shapes ts ends_by_block
+row_breaks required row shapes ts ends_by_block rule = false
 
--- a command (RFC 5228, sections 2.10.5, 3.1 and 3.2)
+-- a command of a row: `misplaced` says whether it is a `require` in a wrong place, and `alone` whether it goes on with an `if` that isn't there
+-- (RFC 5228, sections 3.1 and 3.2)
+abbrev pub kind_breaks : (misplaced alone : Bool) → Required → Row → List Shape → Tests → (ends_by_block : Bool) → Rule → Bool
+kind_breaks misplaced alone required row shapes ts ends_by_block RequirePlace = misplaced
+kind_breaks misplaced alone required row shapes ts ends_by_block ElsePlace = alone
+kind_breaks misplaced alone required row shapes ts ends_by_block rule = row_breaks required row shapes ts ends_by_block rule
+
+-- a command or a test that there isn't, or that isn't known (RFC 5228, section 2.10.5)
+abbrev pub unknown_breaks : Rule → Bool
+unknown_breaks UnknownCommand = true
+unknown_breaks rule = false
+
 abbrev pub command_breaks : Context → Option CommandKind → List Argument → Tests → Block → Rule → Bool
-command_breaks context None args ts ending UnknownCommand = true
-command_breaks context None args ts ending rule = false
-command_breaks context (Some kind) args ts ending RequirePlace = is_require kind && not context.leads
-command_breaks context (Some kind) args ts ending ElsePlace = continues_if kind && not context.follows_if
-command_breaks context (Some kind) args ts ending rule = row_breaks context.required (command_row kind) args ts (has_block ending) rule
+command_breaks context None args ts ending rule = unknown_breaks rule
+command_breaks context (Some kind) args ts ending rule =
+    kind_breaks (is_require kind && not context.leads) (continues_if kind && not context.follows_if) context.required (command_row kind) (known_shapes context.profile (command_row kind).tags args) ts (has_block ending) rule
 
--- a test (RFC 5228, section 2.10.5)
 abbrev pub test_breaks : Context → Option TestKind → List Argument → Tests → Rule → Bool
-test_breaks context None args ts UnknownCommand = true
-test_breaks context None args ts rule = false
-test_breaks context (Some kind) args ts rule = row_breaks context.required (test_row kind) args ts false rule
+test_breaks context None args ts rule = unknown_breaks rule
+test_breaks context (Some kind) args ts rule = row_breaks context.required (test_row kind) (known_shapes context.profile (test_row kind).tags args) ts false rule
 
 -- a string that has no reference in it is known before the script runs
 abbrev pub is_known : Required → Option Role → List ℕ → Bool
@@ -83,7 +93,7 @@ is_past_locals octets scope = is_new_local octets scope && not (nat_lt (length s
 -- 5.4), a field that holds addresses (section 5.1), the name of a variable (RFC 5229, section 4; RFC 5232, sections 3 and 4; RFC
 -- 6609, section 3.4.1), or one with references to variables (RFC 5229, sections 3 and 6)
 abbrev pub text_breaks : Context → Option Role → List ℕ → Rule → Bool
-text_breaks context role octets UnknownCapability = has_role Capabilities role && (context.leads && not (is_capability octets))
+text_breaks context role octets UnknownCapability = has_role Capabilities role && (context.leads && not (may_be_required context.profile octets))
 text_breaks context role octets UnknownComparator = has_role ComparatorName role && is_none (collation_named octets)
 text_breaks context role octets BadVariableName = (names_variable role && is_bad_name octets) || is_no_declaration role octets
 text_breaks context role octets GlobalAfterSet = has_role NamesToDeclare role && is_assigned octets context.scope
@@ -100,8 +110,8 @@ number_breaks value NumberTooLarge = is_none value
 number_breaks value rule = false
 
 abbrev pub breaks : Element → Rule → Bool
-breaks (the_command context name line args ts ending) rule = command_breaks context (command_named name) args ts ending rule
-breaks (the_test context name line args ts) rule = test_breaks context (test_named name) args ts rule
+breaks (the_command context name line args ts ending) rule = command_breaks context (known_command context.profile name) args ts ending rule
+breaks (the_test context name line args ts) rule = test_breaks context (known_test context.profile name) args ts rule
 breaks (the_text context role text) rule = text_breaks context role text.string rule
 breaks (the_number value line) rule = number_breaks value rule
 
@@ -129,13 +139,13 @@ breaches_at element = breaches_by (breaks element) (line_of element) all_rules
 unfoldable pub breaches_in : List Element → List Breach
 breaches_in elements = flat_map breaches_at elements
 
--- all breaches of a script
-abbrev pub breaches_of : List Node → List Breach
-breaches_of tree = breaches_in (elements_of tree)
+-- all breaches of a script, where it is judged by a profile
+abbrev pub breaches_of : Profile → List Node → List Breach
+breaches_of profile tree = breaches_in (elements_of profile tree)
 
 -- the first breach: the least by its place in the text, and then by its rule's number
-abbrev pub first_breach : List Node → Option Breach
-first_breach tree = slice_get (breaches_of tree) 0
+abbrev pub first_breach : Profile → List Node → Option Breach
+first_breach profile tree = slice_get (breaches_of profile tree) 0
 
 -- A breach of one of these in the order of the text: nothing before it breaks a rule, and it breaks none before this one.
 pub record IsLeast (elements : List Element) (breach : Breach) : Type 0 where
@@ -152,5 +162,5 @@ pub record IsLeast (elements : List Element) (breach : Breach) : Type 0 where
   pub none_lower : breaches_by (breaks broken) (line_of broken) lower ≡ []
 
 -- the breach of a script that is least by its place in the text, and then by its rule's number
-abbrev pub IsLeastBreach : List Node → Breach → Type 0
-IsLeastBreach tree breach = IsLeast (elements_of tree) breach
+abbrev pub IsLeastBreach : Profile → List Node → Breach → Type 0
+IsLeastBreach profile tree breach = IsLeast (elements_of profile tree) breach

@@ -3,9 +3,11 @@ use Rattle.std.specs.Prelude.{Bool, true, false, ◌&&◌, ◌||◌, List, [], �
 use Rattle.sieve_syntax.specs.Tree.{Node, node, Nodes, end_nodes, more_nodes, Block, no_block, block, Text, Argument, strings, number, tag}
 use Rattle.sieve_table.specs.Role.{is_expanded}
 use Rattle.sieve_check.specs.Scope.{Scope, naming_arguments, no_names}
-use Rattle.sieve_reading.specs.Shape.{row_labels}
+use Rattle.sieve_profile.specs.Profile.{Profile}
+use Rattle.sieve_reading.specs.Shape.{known_labels}
+use Rattle.sieve_table.specs.Known.{known_command}
 use Rattle.sieve_table.specs.Required.{Required, is_required, nothing_required, requiring}
-use Rattle.sieve_table.specs.Table.{command_named, command_row, same_command}
+use Rattle.sieve_table.specs.Table.{command_row, same_command}
 use Rattle.sieve_table.specs.declared.capability.Capability.TheVariants.{Variables}
 use Rattle.sieve_table.specs.declared.row.Role.{Role}
 use Rattle.sieve_table.specs.declared.table.CommandKind.{CommandKind}
@@ -31,6 +33,8 @@ requiring_arguments required [] = required
 requiring_arguments required (a ∷ args) = requiring_arguments (requiring_argument required a) args
 
 pub record Context : Type 0 where
+  -- what is known beyond what always is; it is the same for a whole script
+  pub profile : Profile
   -- only requires stand before it in the script (RFC 5228, section 3.2)
   pub leads : Bool
   -- an `if` or `elsif` stands directly before it in its block (RFC 5228, section 3.1)
@@ -42,8 +46,8 @@ pub record Context : Type 0 where
   pub scope : Scope
 
 -- the context at the start of a script
-abbrev pub script_start : Context
-script_start = record { leads = true; follows_if = false; required = nothing_required; scope = no_names }
+abbrev pub script_start : Profile → Context
+script_start profile = record { profile = profile; leads = true; follows_if = false; required = nothing_required; scope = no_names }
 
 abbrev pub is_require : CommandKind → Bool
 is_require kind = same_command kind Require
@@ -64,10 +68,11 @@ required_behind context kind args = if context.leads && is_require kind then req
 abbrev pub behind_kind : Context → Option CommandKind → List Argument → Context
 behind_kind context None args = record context { leads = false; follows_if = false }
 behind_kind context (Some kind) args = record {
+  profile = context.profile;
   leads = context.leads && is_require kind;
   follows_if = allows_else kind;
   required = required_behind context kind args;
-  scope = naming_arguments context.scope (row_labels (command_row kind) args) args;
+  scope = naming_arguments context.scope (known_labels context.profile (command_row kind) args) args;
 }
 
 -- the context at the start of a block
@@ -77,7 +82,7 @@ inside context = record context { leads = false; follows_if = false }
 unfoldable mutual
   -- the context behind a whole command
   pub behind : Context → Node → Context
-  behind context (node name line args ts ending) = behind_block (behind_kind context (command_named name) args) ending
+  behind context (node name line args ts ending) = behind_block (behind_kind context (known_command context.profile name) args) ending
 
   -- the context behind a block, in which variables may be set and declared
   pub behind_block : Context → Block → Context

@@ -3,9 +3,11 @@
 use Rattle.std.specs.Prelude.{ℕ, Bool, true, false, List, [], ◌∷◌, ◌++◌, Option, Some, None, drop}
 use Rattle.sieve_syntax.specs.Tree.{Node, node, Nodes, end_nodes, more_nodes, nodes, Block, no_block, block, Test, test, Tests, no_tests, one_test, test_list, TestList, end_tests, more_tests, Text, Argument, strings, number, tag}
 use Rattle.sieve_check.specs.Context.{Context, script_start, inside, behind, behind_kind}
+use Rattle.sieve_profile.specs.Profile.{Profile}
 use Rattle.sieve_reading.specs.Role.{first_role}
-use Rattle.sieve_reading.specs.Shape.{row_labels, shapes_of}
-use Rattle.sieve_table.specs.Table.{Row, command_named, test_named, command_row, test_row}
+use Rattle.sieve_table.specs.Known.{known_command, known_test}
+use Rattle.sieve_reading.specs.Shape.{known_labels, known_shapes}
+use Rattle.sieve_table.specs.Table.{Row, command_row, test_row}
 use Rattle.sieve_check.specs.Use.{is_well_used, has_block}
 use Rattle.sieve_reading.specs.declared.label.Label.{Label}
 use Rattle.sieve_table.specs.declared.row.Role.{Role}
@@ -36,14 +38,14 @@ abbrev pub labelled_elements : Context → List Label → List Argument → List
 labelled_elements context labels [] = []
 labelled_elements context labels (a ∷ args) = argument_elements context (first_role labels) a ++ labelled_elements context (drop 1 labels) args
 
--- the labels by which the arguments of a row are judged: strings are judged only where all is as the row says
-abbrev pub judged_labels : Bool → Row → List Argument → List Label
-judged_labels true row args = row_labels row args
-judged_labels false row args = []
+-- the labels by which arguments are judged: strings are judged only where all is as the row says
+abbrev pub judged_labels : Bool → List Label → List Label
+judged_labels true labels = labels
+judged_labels false labels = []
 
 -- the arguments of a command or test of a row
 abbrev pub row_elements : Context → Row → List Argument → Tests → (ends_by_block : Bool) → List Element
-row_elements context row args ts ends_by_block = labelled_elements context (judged_labels (is_well_used row (shapes_of row.tags args) ts ends_by_block) row args) args
+row_elements context row args ts ends_by_block = labelled_elements context (judged_labels (is_well_used row (known_shapes context.profile row.tags args) ts ends_by_block) (known_labels context.profile row args)) args
 
 abbrev pub test_arguments : Context → Option TestKind → List Argument → Tests → List Element
 test_arguments context None args ts = labelled_elements context [] args
@@ -58,7 +60,7 @@ command_arguments context (Some kind) args ts ending = row_elements context (com
 unfoldable mutual
   -- a test, its arguments, and its tests
   pub test_elements : Context → Test → List Element
-  test_elements context (test name line args ts) = the_test context name line args ts ∷ test_arguments context (test_named name) args ts ++ tests_elements context ts
+  test_elements context (test name line args ts) = the_test context name line args ts ∷ test_arguments context (known_test context.profile name) args ts ++ tests_elements context ts
 
   pub tests_elements : Context → Tests → List Element
   tests_elements context no_tests = []
@@ -75,7 +77,7 @@ unfoldable mutual
   -- a command, its arguments, its tests, and its block
   pub node_elements : Context → Node → List Element
   node_elements context (node name line args ts ending) =
-      the_command context name line args ts ending ∷ command_arguments context (command_named name) args ts ending ++ (tests_elements context ts ++ block_elements (behind_kind context (command_named name) args) ending)
+      the_command context name line args ts ending ∷ command_arguments context (known_command context.profile name) args ts ending ++ (tests_elements context ts ++ block_elements (behind_kind context (known_command context.profile name) args) ending)
 
   pub block_elements : Context → Block → List Element
   block_elements context no_block = []
@@ -85,6 +87,6 @@ unfoldable mutual
   nodes_elements context end_nodes = []
   nodes_elements context (more_nodes n ns) = node_elements context n ++ nodes_elements (behind context n) ns
 
--- the elements of a script, in the order of its text
-abbrev pub elements_of : List Node → List Element
-elements_of tree = nodes_elements script_start (nodes tree)
+-- the elements of a script, in the order of its text, where it is judged by a profile
+abbrev pub elements_of : Profile → List Node → List Element
+elements_of profile tree = nodes_elements (script_start profile) (nodes tree)

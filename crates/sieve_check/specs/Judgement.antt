@@ -1,6 +1,7 @@
--- What a script's text is: the tree of a script without a fault, its strings cut into parts, or the line and kind of the
+-- What a script's text is to a bench of a profile: the tree of a script without a fault, its strings cut into parts, or the line and kind of the
 -- first fault.
 use Rattle.std.specs.Prelude.{ℕ, List, codes, Option, None, Some, Result, Ok, Err}
+use Rattle.sieve_profile.specs.Profile.{Profile}
 use Rattle.sieve_syntax.specs.Tree as syntax
 use Rattle.sieve_syntax.specs.Syntax.{syntax_of}
 use Rattle.sieve_check.specs.Breach as breaches
@@ -31,9 +32,9 @@ judgement_by None tree = sound tree
 judgement_by (Some breach) tree = faulty breach.line (Breach breach.rule)
 
 -- a text that no tree writes has a fault of syntax, on the line that the syntax says
-abbrev pub judgement_from : Result (List syntax.Node) ℕ → Judgement
-judgement_from (Ok tree) = judgement_by (first_breach tree) (parted tree)
-judgement_from (Err line) = faulty line Syntax
+abbrev pub judgement_from : Profile → Result (List syntax.Node) ℕ → Judgement
+judgement_from profile (Ok tree) = judgement_by (first_breach profile tree) (parted profile tree)
+judgement_from profile (Err line) = faulty line Syntax
 
-unfoldable pub judgement_of : List ℕ → Judgement
-judgement_of text = judgement_from (syntax_of text)
+unfoldable pub judgement_of : Profile → List ℕ → Judgement
+judgement_of profile text = judgement_from profile (syntax_of text)

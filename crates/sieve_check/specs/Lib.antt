@@ -1,3 +1,4 @@
+pub mod Absent
 pub mod Asked
 pub mod Bare
 pub mod Breach

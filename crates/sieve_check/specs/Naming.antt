@@ -7,9 +7,11 @@ use Rattle.sieve_syntax.specs.Tree.{Argument, strings, number, tag, Node, node, 
 use Rattle.sieve_reading.specs.Role.{first_role}
 use Rattle.sieve_table.specs.Role.{has_role}
 use Rattle.sieve_check.specs.Element.{Element, the_command, the_test, the_text, the_number}
-use Rattle.sieve_reading.specs.Shape.{row_labels}
+use Rattle.sieve_profile.specs.Profile.{Profile}
+use Rattle.sieve_reading.specs.Shape.{known_labels}
+use Rattle.sieve_table.specs.Known.{known_command}
 use Rattle.sieve_reading.specs.declared.label.Label.{Label}
-use Rattle.sieve_table.specs.Table.{command_named, command_row}
+use Rattle.sieve_table.specs.Table.{command_row}
 use Rattle.sieve_table.specs.declared.row.Role.{Role}
 use Rattle.sieve_table.specs.declared.row.Role.TheVariants.{NameToSet, NamesToDeclare}
 use Rattle.sieve_table.specs.declared.table.CommandKind.{CommandKind}
@@ -34,22 +36,22 @@ names_in_role wanted labels [] = []
 names_in_role wanted labels (a ∷ args) = (if has_role wanted (first_role labels) then octets_in a else []) ++ names_in_role wanted (drop 1 labels) args
 
 -- the names that a command writes; none both sets and declares
-abbrev pub command_mentions : Option CommandKind → List Argument → List Mention
-command_mentions None args = []
-command_mentions (Some kind) args = map sets (names_in_role NameToSet (row_labels (command_row kind) args) args) ++ map declares (names_in_role NamesToDeclare (row_labels (command_row kind) args) args)
+abbrev pub command_mentions : Profile → Option CommandKind → List Argument → List Mention
+command_mentions profile None args = []
+command_mentions profile (Some kind) args = map sets (names_in_role NameToSet (known_labels profile (command_row kind) args) args) ++ map declares (names_in_role NamesToDeclare (known_labels profile (command_row kind) args) args)
 
 abbrev mutual
   -- the mentions of a command and its block, in the order of the text
-  pub node_mentions : Node → List Mention
-  node_mentions (node name line args ts ending) = command_mentions (command_named name) args ++ block_mentions ending
+  pub node_mentions : Profile → Node → List Mention
+  node_mentions profile (node name line args ts ending) = command_mentions profile (known_command profile name) args ++ block_mentions profile ending
 
-  pub block_mentions : Block → List Mention
-  block_mentions no_block = []
-  block_mentions (block ns) = nodes_mentions ns
+  pub block_mentions : Profile → Block → List Mention
+  block_mentions profile no_block = []
+  block_mentions profile (block ns) = nodes_mentions profile ns
 
-  pub nodes_mentions : Nodes → List Mention
-  nodes_mentions end_nodes = []
-  nodes_mentions (more_nodes n ns) = node_mentions n ++ nodes_mentions ns
+  pub nodes_mentions : Profile → Nodes → List Mention
+  nodes_mentions profile end_nodes = []
+  nodes_mentions profile (more_nodes n ns) = node_mentions profile n ++ nodes_mentions profile ns
 
 -- VARIABLES THAT ARE SET
 
@@ -68,7 +70,7 @@ set_by (declares name ∷ rest) = without_name name (set_by rest)
 
 -- the names that are written by the commands among elements
 abbrev pub element_mentions : Element → List Mention
-element_mentions (the_command context name line args ts ending) = command_mentions (command_named name) args
+element_mentions (the_command context name line args ts ending) = command_mentions context.profile (known_command context.profile name) args
 element_mentions (the_test context name line args ts) = []
 element_mentions (the_text context role text) = []
 element_mentions (the_number value line) = []

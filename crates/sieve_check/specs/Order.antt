@@ -2,6 +2,7 @@
 use Rattle.std.specs.Prelude.{◌≡◌, ℕ, Bool, true, false, List, [], ◌∷◌, map, filter, All}
 use Rattle.std.specs.List.{flat_map}
 use Rattle.std.specs.List.Sorted.{IsNonDecreasing}
+use Rattle.sieve_profile.specs.Profile.{Profile}
 use Rattle.sieve_syntax.specs.Token.{IsInside}
 use Rattle.sieve_syntax.specs.Tree.{Node}
 use Rattle.sieve_syntax.specs.Symbol.{Symbol, identifier, tag_symbol, number_symbol, string_symbol, semicolon, open_brace, close_brace, open_parenthesis, close_parenthesis, open_bracket, close_bracket, comma, bad, symbol_of}
@@ -39,8 +40,8 @@ StandApart tokens = IsNonDecreasing (flat_map (λ token. token.start ∷ token.e
 -- The elements of a tree that writes these tokens of a text are, one by one and in order, the identifiers, strings and numbers
 -- among them. The tokens aren't empty, and stand apart and in order in the text, and the lines of the elements never fall. By
 -- this nothing of a text is left out or judged out of its place; what an element carries beside its word says `elements_of`.
-pub record IsInTextOrder (tree : List Node) (text : List ℕ) (tokens : List Token) : Type 0 where
-  pub elements : map written_by (elements_of tree) ≡ map (symbol_of text) (filter (λ token. writes_element (symbol_of text token)) tokens)
+pub record IsInTextOrder (profile : Profile) (tree : List Node) (text : List ℕ) (tokens : List Token) : Type 0 where
+  pub elements : map written_by (elements_of profile tree) ≡ map (symbol_of text) (filter (λ token. writes_element (symbol_of text token)) tokens)
   pub inside : All (IsInside text) tokens
   pub apart : StandApart tokens
-  pub lines : IsNonDecreasing (map line_of (elements_of tree))
+  pub lines : IsNonDecreasing (map line_of (elements_of profile tree))

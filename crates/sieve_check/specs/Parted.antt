@@ -2,12 +2,14 @@
 -- variable is that variable; any other is one literal where `variables` isn't required. A name that the text before a command declares is that
 -- of a variable that scripts share (RFC 6609, section 3.4.1). What stands before a command is the context under which it is judged.
 use Rattle.std.specs.Prelude.{ℕ, List, [], ◌∷◌, Option, Some, None, map, drop, if◌then◌else◌}
+use Rattle.sieve_profile.specs.Profile.{Profile}
 use Rattle.sieve_syntax.specs.Tree as syntax
 use Rattle.sieve_check.specs.Context.{Context, behind, behind_kind, inside, script_start, takes_references}
 use Rattle.sieve_reading.specs.Role.{first_role}
 use Rattle.sieve_table.specs.Role.{names_variable}
-use Rattle.sieve_reading.specs.Shape.{row_labels}
-use Rattle.sieve_table.specs.Table.{command_named, test_named, command_row, test_row}
+use Rattle.sieve_reading.specs.Shape.{known_labels}
+use Rattle.sieve_table.specs.Known.{known_command, known_test}
+use Rattle.sieve_table.specs.Table.{command_row, test_row}
 use Rattle.sieve_reading.specs.Tree.{Text, Argument, strings, number, tag, Test, test, Tests, no_tests, one_test, test_list, TestList, end_tests, more_tests, Node, node, Block, no_block, block, Nodes, end_nodes, more_nodes, items}
 use Rattle.sieve_reading.specs.declared.label.Label.{Label}
 use Rattle.sieve_table.specs.declared.row.Role.{Role}
@@ -38,17 +40,17 @@ parted_labelled context labels [] = []
 parted_labelled context labels (a ∷ args) = parted_argument context (first_role labels) a ∷ parted_labelled context (drop 1 labels) args
 
 -- the labels of the arguments of a test or a command
-abbrev pub test_labels : Option TestKind → List syntax.Argument → List Label
-test_labels None args = []
-test_labels (Some kind) args = row_labels (test_row kind) args
+abbrev pub test_labels : Profile → Option TestKind → List syntax.Argument → List Label
+test_labels profile None args = []
+test_labels profile (Some kind) args = known_labels profile (test_row kind) args
 
-abbrev pub command_labels : Option CommandKind → List syntax.Argument → List Label
-command_labels None args = []
-command_labels (Some kind) args = row_labels (command_row kind) args
+abbrev pub command_labels : Profile → Option CommandKind → List syntax.Argument → List Label
+command_labels profile None args = []
+command_labels profile (Some kind) args = known_labels profile (command_row kind) args
 
 abbrev mutual
   pub parted_test : Context → syntax.Test → Test
-  parted_test context (syntax.test name line args ts) = test name line (parted_labelled context (test_labels (test_named name) args) args) (parted_tests context ts)
+  parted_test context (syntax.test name line args ts) = test name line (parted_labelled context (test_labels context.profile (known_test context.profile name) args) args) (parted_tests context ts)
 
   pub parted_tests : Context → syntax.Tests → Tests
   parted_tests context syntax.no_tests = no_tests
@@ -62,7 +64,7 @@ abbrev mutual
 abbrev mutual
   -- a command: its arguments and its tests are cut by what stands before it, and its block by what stands behind them
   pub parted_node : Context → syntax.Node → Node
-  parted_node context (syntax.node name line args ts ending) = node name line (parted_labelled context (command_labels (command_named name) args) args) (parted_tests context ts) (parted_block (behind_kind context (command_named name) args) ending)
+  parted_node context (syntax.node name line args ts ending) = node name line (parted_labelled context (command_labels context.profile (known_command context.profile name) args) args) (parted_tests context ts) (parted_block (behind_kind context (known_command context.profile name) args) ending)
 
   pub parted_block : Context → syntax.Block → Block
   parted_block context syntax.no_block = no_block
@@ -73,5 +75,5 @@ abbrev mutual
   parted_nodes context (syntax.more_nodes n ns) = more_nodes (parted_node context n) (parted_nodes (behind context n) ns)
 
 -- the commands of a text's tree, with their strings cut into parts
-abbrev pub parted : List syntax.Node → List Node
-parted tree = items (parted_nodes script_start (syntax.nodes tree))
+abbrev pub parted : Profile → List syntax.Node → List Node
+parted profile tree = items (parted_nodes (script_start profile) (syntax.nodes tree))

@@ -24,6 +24,7 @@ tests_of_reading reads_all = inner.List
 tests_of_reading reads_any = inner.List
 tests_of_reading reads_not = inner.One
 
+-- a test of such a reading has the tests in it that it needs, and no others
 abbrev pub Joins : Option TestReading → Tests → Type 0
 Joins None ts = ⊥
 Joins (Some r) ts = tests_fit (tests_of_reading r) ts ≡ true
@@ -52,7 +53,7 @@ unfoldable mutual
   ReadsTestList end_tests = Unit {0}
   ReadsTestList (more_tests t ts) = ReadsTest t × ReadsTestList ts
 
--- What a command of such a reading needs: which test, whether a block, and whether an `if` with which it goes on (RFC 5228, section 3.1).
+-- What a command of such a reading needs: which tests, whether a block, and whether an `if` with which it goes on (RFC 5228, section 3.1).
 pub record Needs : Type 0 where
   pub tests : Inner
   pub block : Bool

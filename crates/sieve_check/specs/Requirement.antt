@@ -1,11 +1,12 @@
 -- What is required where an element of a script is judged (RFC 5228, section 3.2).
 use Rattle.std.specs.Prelude.{◌≡◌, ⊤, Bool, false, List, [], ◌∷◌, ◌++◌, Option, Some, None}
 use Rattle.std.specs.List.{All, take_while}
+use Rattle.sieve_profile.specs.Profile.{Profile}
 use Rattle.sieve_syntax.specs.Tree.{Node, node}
 use Rattle.sieve_check.specs.Context.{is_require, requiring_arguments}
 use Rattle.sieve_check.specs.Element.{Element, the_command, the_test, the_text, the_number, elements_of}
 use Rattle.sieve_table.specs.Required.{Required, nothing_required}
-use Rattle.sieve_table.specs.Table.{command_named}
+use Rattle.sieve_table.specs.Known.{known_command}
 use Rattle.sieve_table.specs.declared.table.CommandKind.{CommandKind}
 
 -- whether a command is a `require`
@@ -13,12 +14,12 @@ abbrev pub requires_kind : Option CommandKind → Bool
 requires_kind None = false
 requires_kind (Some kind) = is_require kind
 
-abbrev pub is_require_command : Node → Bool
-is_require_command (node name line args ts ending) = requires_kind (command_named name)
+abbrev pub is_require_command : Profile → Node → Bool
+is_require_command profile (node name line args ts ending) = requires_kind (known_command profile name)
 
 -- the `require` commands at the top of a script
-abbrev pub leading_requires : List Node → List Node
-leading_requires tree = take_while is_require_command tree
+abbrev pub leading_requires : Profile → List Node → List Node
+leading_requires profile tree = take_while (is_require_command profile) tree
 
 -- what is required with what the strings of commands name
 abbrev pub requiring_command : Required → Node → Required
@@ -37,7 +38,7 @@ IsJudgedUnder required (the_number value line) = ⊤
 
 -- The elements of a script are those of the `require` commands at its top, and then others; at each of these, what is required is exactly
 -- what those commands name.
-pub record JudgesBehindRequires (tree : List Node) : Type 0 where
+pub record JudgesBehindRequires (profile : Profile) (tree : List Node) : Type 0 where
   pub rest : List Element
-  pub split : elements_of tree ≡ elements_of (leading_requires tree) ++ rest
-  pub same : All (IsJudgedUnder (requiring_commands nothing_required (leading_requires tree))) rest
+  pub split : elements_of profile tree ≡ elements_of profile (leading_requires profile tree) ++ rest
+  pub same : All (IsJudgedUnder (requiring_commands nothing_required (leading_requires profile tree))) rest

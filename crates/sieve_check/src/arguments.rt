@@ -6,7 +6,7 @@ ghost use Rattle.sieve_check.specs.Breach.{breaches_at, has_unknown_namespace, i
 ghost use Rattle.sieve_check.specs.Context.{takes_references};
 ghost use Rattle.sieve_check.specs.Element.{argument_elements, labelled_elements, text_elements, the_number, the_text};
 ghost use Rattle.sieve_table.specs.Role.{has_role, names_variable};
-ghost use Rattle.sieve_reading.specs.Shape.{row_labels};
+ghost use Rattle.sieve_reading.specs.Shape.{known_labels};
 ghost use Rattle.sieve_check.specs.view.Context.{context_as};
 ghost use Rattle.sieve_table.specs.view.Required.{required_as};
 ghost use Rattle.sieve_check.specs.view.Finds.{Finds, FindsIn};
@@ -20,11 +20,11 @@ use crate::role::{behind_first, first_role};
 use crate::usage::{has_bad_arguments, has_bad_tag, lacks_required};
 use crate::validator::CheckFault;
 use match_text::collation_named;
-use sieve_reading::{AsOctets, Label, RowLabels, row_labels};
+use sieve_reading::{AsOctets, Label, RowLabels, known_labels};
 use sieve_syntax::{Argument, Tests, Text};
 use sieve_table::{
-    Capability, Required, Role, Row, Rule, has_role, is_address_field, is_capability,
-    is_envelope_part, names_variable,
+    Capability, Required, Role, Row, Rule, has_role, is_address_field, is_envelope_part,
+    may_be_required, names_variable,
 };
 use sieve_variables::{is_global_name, is_identifier, references_in};
 use std::alloc::{AllocError, Global};
@@ -84,7 +84,8 @@ fn text_breaks(
     let required = context.spot.required;
     let broken = match rule {
         Rule::UnknownCapability => {
-            has_role(Role::Capabilities, role) && (context.spot.leads && !is_capability(octets))
+            has_role(Role::Capabilities, role)
+                && (context.spot.leads && !may_be_required(context.spot.profile, octets))
         }
         Rule::UnknownComparator => {
             has_role(Role::ComparatorName, role) && collation_named(octets).is_none()
@@ -247,10 +248,15 @@ pub(crate) fn check_use(
     ends_by_block: bool,
     stands_alone: bool,
 ) -> Result<Vec<Label>, CheckFault>
-    ensures labels { IfOk result (λ labels. labels.items ≡ row_labels (row_as row.now) (map argument_of args.now)) }
+    ensures labels { IfOk result (λ labels. labels.items ≡ known_labels (context_as context.entry).profile (row_as row.now) (map argument_of args.now)) }
     ensures found { Finds (row_found stands_alone (context_as context.entry) line (row_as row.now) (map argument_of args.now) (tests_of tests.now) ends_by_block) result }
 {
-    let RowLabels { labels, filled } = row_labels::<AsOctets>(alloc, row, args)?;
+    let RowLabels { labels, filled } = known_labels::<AsOctets>(
+        alloc,
+        context.spot.profile,
+        row,
+        args,
+    )?;
     if lacks_required(context.spot.required, row, &labels) {
         let rule = Rule::NotRequired;
         return Err(CheckFault::Breach { line, rule });

@@ -7,10 +7,12 @@ ghost use Rattle.sieve_check.specs.Context.{behind, behind_kind, behind_nodes, c
 ghost use Rattle.sieve_check.specs.Element.{node_elements, nodes_elements, tests_elements};
 ghost use Rattle.sieve_check.specs.Parted.{parted_labelled, parted_node, parted_nodes, parted_tests};
 ghost use Rattle.sieve_check.specs.Scope.{naming_arguments};
-ghost use Rattle.sieve_reading.specs.Shape.{row_labels};
+ghost use Rattle.sieve_reading.specs.Shape.{known_labels};
 ghost use Rattle.sieve_reading.specs.Tree.{items};
 ghost use Rattle.sieve_reading.specs.view.Tree.{argument_of, node_of, tests_of};
-ghost use Rattle.sieve_table.specs.Table.{command_named, command_row};
+ghost use Rattle.sieve_profile.specs.view.Profile.{profile_as};
+ghost use Rattle.sieve_table.specs.Known as spec;
+ghost use Rattle.sieve_table.specs.Table.{command_row};
 ghost use Rattle.sieve_check.specs.view.Context.{at_spot, context_as};
 ghost use Rattle.sieve_check.specs.view.Finds.{Finds, FindsIn};
 ghost use Rattle.sieve_check.specs.view.Head.{command_head, kind_found};
@@ -21,9 +23,10 @@ use crate::cutting::cut_arguments;
 use crate::scope::Scope;
 use crate::test_rules::check_tests;
 use crate::validator::CheckFault;
+use sieve_profile::Profile;
 use sieve_reading::Label;
 use sieve_syntax::{Argument, Command, Tests};
-use sieve_table::{CommandKind, Rule};
+use sieve_table::{CommandKind, Rule, known_command};
 use std::alloc::{AllocError, Global};
 use std::mem;
 
@@ -49,7 +52,7 @@ fn check_kind(
     kind: CommandKind,
     command: &Command,
 ) -> Result<Vec<Label>, CheckFault>
-    ensures labels { IfOk result (λ labels. labels.items ≡ row_labels (command_row kind) (map seen.argument_of (out-Command command.now).args.items)) }
+    ensures labels { IfOk result (λ labels. labels.items ≡ known_labels (context_as context.entry).profile (command_row kind) (map seen.argument_of (out-Command command.now).args.items)) }
     ensures found { Finds (kind_found (context_as context.entry) kind command.now) result }
 {
     let line = command.line as u64;
@@ -70,6 +73,13 @@ fn check_kind(
     )
 }
 
+/// The kind of a command, where it is known.
+fn kind_of(profile: Profile, command: &Command) -> Option<CommandKind>
+    ensures { result ≡ spec.known_command (profile_as profile) (out-Command command.now).name }
+{
+    known_command(profile, command.name.kind())
+}
+
 /// A command's kind, and the labels of its arguments.
 #[derive(Drop)]
 struct Head {
@@ -78,17 +88,16 @@ struct Head {
 }
 
 /// Checks a command of some kind apart from its tests and its block.
-#[tactic(auto, using(crate::proofs::Heads::command_head_steps))]
 fn check_command_head(
     alloc: Global,
     context: Context<'_>,
     command: &Command,
 ) -> Result<Head, CheckFault>
     ensures found { FindsIn (command_head (context_as context.entry) command.now) result }
-    ensures kind { IfOk result (λ head. command_named (out-Command command.now).name ≡ Some head.kind) }
-    ensures labels { IfOk result (λ head. head.labels.items ≡ row_labels (command_row head.kind) (map seen.argument_of (out-Command command.now).args.items)) }
+    ensures kind { IfOk result (λ head. spec.known_command (context_as context.entry).profile (out-Command command.now).name ≡ Some head.kind) }
+    ensures labels { IfOk result (λ head. head.labels.items ≡ known_labels (context_as context.entry).profile (command_row head.kind) (map seen.argument_of (out-Command command.now).args.items)) }
 {
-    match command.name.kind() {
+    match kind_of(context.spot.profile, command) {
         None => Err(CheckFault::Breach {
             line: command.line as u64,
             rule: Rule::UnknownCommand,
@@ -131,7 +140,7 @@ fn check_front(
     args: &mut Vec<Argument>,
     tests: &mut Tests,
 ) -> Result<Spot, CheckFault>
-    requires { head.labels.items ≡ row_labels (command_row head.kind) (map seen.argument_of args.old.items) }
+    requires { head.labels.items ≡ known_labels (profile_as spot.profile) (command_row head.kind) (map seen.argument_of args.old.items) }
     ensures found { FindsIn (tests_elements (at_spot spot scope.old) (seen.tests_of tests.old)) result }
     ensures goes { IfOk result (λ next. at_spot next scope.new ≡ behind_kind (at_spot spot scope.old) (Some head.kind) (map seen.argument_of args.old.items)) }
     ensures args { OnOk result (map argument_of args.new.items ≡ parted_labelled (at_spot spot scope.old) head.labels.items (map seen.argument_of args.old.items)) }

@@ -3,13 +3,15 @@ ghost use Rattle.std.specs.Prelude.{◌≡◌, ◌&&◌, Some, map};
 ghost use Rattle.sieve_syntax.specs.view.Tree.{argument_of, text_of};
 ghost use Rattle.sieve_check.specs.Context as spec;
 ghost use Rattle.sieve_check.specs.Scope.{naming_arguments, no_names};
-ghost use Rattle.sieve_reading.specs.Shape.{row_labels};
+ghost use Rattle.sieve_profile.specs.view.Profile.{profile_as};
+ghost use Rattle.sieve_reading.specs.Shape.{known_labels};
 ghost use Rattle.sieve_check.specs.view.Context.{at_spot};
 ghost use Rattle.sieve_table.specs.view.Required.{required_as};
 ghost use Rattle.sieve_check.specs.view.Scope.{ScopeState};
 ghost use Rattle.sieve_table.specs.Table.{command_row};
 
 use crate::scope::Scope;
+use sieve_profile::Profile;
 use sieve_syntax::{Argument, Text};
 use sieve_table::{Capability, CommandKind, Required, Role, is_expanded};
 
@@ -59,6 +61,8 @@ pub(crate) fn takes_references(required: Required, role: Option<Role>) -> bool
 /// What stands before a command in its text, apart from the names of variables.
 #[derive(Clone, Copy)]
 pub(crate) struct Spot {
+    /// What is known beyond what always is.
+    pub(crate) profile: Profile,
     /// Only requires stand before it in the script (RFC 5228, section 3.2).
     pub(crate) leads: bool,
     /// An `if` or `elsif` stands directly before it in its block (RFC 5228, section 3.1).
@@ -105,10 +109,11 @@ fn leads_behind(leads: bool, kind: CommandKind) -> bool
 
 impl Spot {
     /// At the start of a script.
-    pub(crate) fn script_start() -> Spot
-        ensures { at_spot result no_names ≡ spec.script_start }
+    pub(crate) fn script_start(profile: Profile) -> Spot
+        ensures { at_spot result no_names ≡ spec.script_start (profile_as profile) }
     {
         Spot {
+            profile,
             leads: true,
             follows_if: false,
             required: Required::nothing(),
@@ -139,9 +144,10 @@ impl Spot {
 
     /// Behind a command of this kind with these arguments.
     pub(crate) fn behind_kind(self, kind: CommandKind, args: &[Argument]) -> Spot
-        ensures { (scope : ScopeState) → at_spot result (naming_arguments scope (row_labels (command_row kind) (map argument_of args.now)) (map argument_of args.now)) ≡ spec.behind_kind (at_spot self scope) (Some kind) (map argument_of args.now) }
+        ensures { (scope : ScopeState) → at_spot result (naming_arguments scope (known_labels (profile_as self.profile) (command_row kind) (map argument_of args.now)) (map argument_of args.now)) ≡ spec.behind_kind (at_spot self scope) (Some kind) (map argument_of args.now) }
     {
         Spot {
+            profile: self.profile,
             leads: leads_behind(self.leads, kind),
             follows_if: allows_else(kind),
             required: self.required_behind(kind, args),

@@ -2,9 +2,11 @@
 ghost use Rattle.std.specs.Prelude.{◌≡◌, ◌<◌, ◌↔◌, length, IfOk, IsErrOf};
 ghost use Rattle.sieve_base.specs.Limits.{text_limit};
 ghost use Rattle.sieve_check.specs.Judgement.{judgement_of, fault_word};
+ghost use Rattle.sieve_profile.specs.view.Profile.{profile_as};
 ghost use Rattle.sieve_check.specs.view.Judged.{judged_as};
 
 use crate::{CheckFault, Checked, Rule, check};
+use sieve_profile::Profile;
 use sieve_syntax::{SyntaxFault, parse};
 use std::alloc::Global;
 use thiserror::Error;
@@ -50,13 +52,13 @@ pub enum JudgeFault {
     NoMemory = 2,
 }
 
-/// Reads and checks a script's text.
+/// Reads a script's text, and checks it by what a bench of a profile knows.
 ///
 /// `TooLarge` is the answer exactly where the text has more than 1,048,576 octets, and `NoMemory` where memory runs out.
 #[tactic(auto, unfolding(crate::specs::Judgement::judgement_of))]
-pub fn judge(alloc: Global, text: &[u8]) -> Result<Judged, JudgeFault>
+pub fn judge(alloc: Global, profile: Profile, text: &[u8]) -> Result<Judged, JudgeFault>
     ensures large { IsErrOf result JudgeFault.TooLarge ↔ text_limit < length text.now }
-    ensures judged { IfOk result (λ judged. judged_as judged ≡ judgement_of text.now) }
+    ensures judged { IfOk result (λ judged. judged_as judged ≡ judgement_of (profile_as profile) text.now) }
 {
     let script = match parse(alloc, text) {
         Ok(script) => script,
@@ -69,7 +71,7 @@ pub fn judge(alloc: Global, text: &[u8]) -> Result<Judged, JudgeFault>
         Err(SyntaxFault::TooLarge) => return Err(JudgeFault::TooLarge),
         Err(SyntaxFault::NoMemory) => return Err(JudgeFault::NoMemory),
     };
-    match check(alloc, script) {
+    match check(alloc, profile, script) {
         Ok(checked) => Ok(Judged::Sound(checked)),
         Err(CheckFault::Breach { line, rule }) => Ok(Judged::Faulty {
             line,

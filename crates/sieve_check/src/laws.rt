@@ -2,6 +2,10 @@
 ghost use Rattle.std.specs.Prelude.{◌≡◌, ◌∷◌, ℕ, true, false, map, slice_get, take, All, List, [], Option, None, Some};
 ghost use Rattle.std.specs.List.{flat_map};
 ghost use Rattle.sieve_base.specs.Limits.{test_depth, block_room};
+ghost use Rattle.sieve_profile.specs.Profile.{Profile, with_extension};
+ghost use Rattle.sieve_profile.specs.declared.extension.Extension.TheVariants.{Unused};
+ghost use Rattle.sieve_check.specs.Absent.{lacks};
+ghost use Rattle.sieve_check.specs.Judgement.{judgement_of, sound};
 ghost use Rattle.sieve_syntax.specs.Grammar.{WritesSymbols};
 ghost use Rattle.sieve_syntax.specs.Token.{Spells};
 ghost use Rattle.sieve_syntax.specs.Tree.{Node, Nodes};
@@ -42,8 +46,8 @@ ghost use Rattle.sieve_variables.specs.Variable.{scoped, variable_named};
 #[tactic(auto, using(crate::proofs::Least::least))]
 pub fn first_breach_is_least()
     ensures rules { all_rules ≡ RequirePlace ∷ UnknownCapability ∷ UnknownCommand ∷ NotRequired ∷ ElsePlace ∷ BadTag ∷ BadArguments ∷ UnknownComparator ∷ BadVariableName ∷ GlobalAfterSet ∷ BadNamespace ∷ MatchIndex ∷ NumberTooLarge ∷ BadEnvelopePart ∷ NotAddressHeader ∷ TooManyVariables ∷ [] }
-    ensures order { (tree : List Node) → breaches_of tree ≡ flat_map breaches_at (elements_of tree) }
-    ensures least { (tree : List Node) (breach : Breach) → first_breach tree ≡ Some breach → IsLeastBreach tree breach }
+    ensures order { (profile : Profile) (tree : List Node) → breaches_of profile tree ≡ flat_map breaches_at (elements_of profile tree) }
+    ensures least { (profile : Profile) (tree : List Node) (breach : Breach) → first_breach profile tree ≡ Some breach → IsLeastBreach profile tree breach }
 {}
 
 /// How a string is cut into parts goes by its role. One whose references stand for values has the parts that its one cut makes (RFC
@@ -59,14 +63,14 @@ pub fn parts_go_by_the_role()
 /// Cutting strings into parts changes nothing else of a tree (RFC 5229, section 3): the checked tree has the names, lines, tags, numbers,
 /// tests and blocks of the text's tree, and in each argument as many strings, on the same lines, in brackets or not.
 pub fn parting_changes_strings_alone()
-    ensures { (tree : List Node) → map bare_node (parted tree) ≡ map bare_node tree }
+    ensures { (profile : Profile) (tree : List Node) → map bare_node (parted profile tree) ≡ map bare_node tree }
 {}
 
 /// After the `require` commands at the top of a script, what is required where a command, a test or a string is judged is all that these
 /// name, and nothing else (RFC 5228, section 3.2).
 #[tactic(auto, using(crate::proofs::Requirement::judged_behind))]
 pub fn what_is_required_is_named_at_the_top()
-    ensures { (tree : List Node) → JudgesBehindRequires tree }
+    ensures { (profile : Profile) (tree : List Node) → JudgesBehindRequires profile tree }
 {}
 
 /// The variables that a text sets are the identifiers that it writes to set them, each once and as it is first written, but for those that
@@ -74,8 +78,8 @@ pub fn what_is_required_is_named_at_the_top()
 /// text, and before each command, test and string of a script, wherever it stands: there those variables are set that are by the commands
 /// before its own.
 pub fn what_is_written_to_be_set_is_set()
-    ensures behind { (commands : Nodes) → (behind_nodes script_start commands).scope.assigned ≡ set_by (nodes_mentions commands) }
-    ensures before { (tree : List Node) (place : ℕ) (element : Element) → slice_get (elements_of tree) place ≡ Some element → HasSetBefore (take place (elements_of tree)) element }
+    ensures behind { (profile : Profile) (commands : Nodes) → (behind_nodes (script_start profile) commands).scope.assigned ≡ set_by (nodes_mentions profile commands) }
+    ensures before { (profile : Profile) (tree : List Node) (place : ℕ) (element : Element) → slice_get (elements_of profile tree) place ≡ Some element → HasSetBefore (take place (elements_of profile tree)) element }
 {}
 
 /// The abstract script of a readable tree has each command's choice, stop, return or act once, in the order of the text. So nothing of
@@ -88,7 +92,18 @@ pub fn a_readable_script_does_all()
 /// Where a script has no first breach, none of its elements breaks a rule.
 #[tactic(auto, using(crate::proofs::Unbroken::unbroken))]
 pub fn without_a_breach_no_rule_is_broken()
-    ensures { (tree : List Node) → first_breach tree ≡ None → All (λ e. (rule : Rule) → breaks e rule ≡ false) (elements_of tree) }
+    ensures { (profile : Profile) (tree : List Node) → first_breach profile tree ≡ None → All (λ e. (rule : Rule) → breaks e rule ≡ false) (elements_of profile tree) }
+{}
+
+/// A script without a breach has no command, test or tag that needs a capability which isn't known by the profile, and without `unused` no leading
+/// `require` names one. So by the empty profile it has only what each bench knows.
+pub fn what_is_not_known_is_in_no_script()
+    ensures { (profile : Profile) (tree : List Node) → breaches_of profile tree ≡ [] → All (λ e. lacks profile e ≡ false) (elements_of profile tree) }
+{}
+
+/// A text without a fault has none with `unused` either, and is the same tree then, so its code is the same.
+pub fn unused_changes_no_sound_script()
+    ensures { (profile : Profile) (text : List ℕ) (tree : List checked.Node) → judgement_of profile text ≡ sound tree → judgement_of (with_extension profile Unused) text ≡ sound tree }
 {}
 
 /// Each argument that the reading of a command or a test asks for is in its row: exactly one there is of the role, and that one is written as
@@ -108,11 +123,11 @@ pub fn rows_give_what_readings_ask_for()
 /// says, and it stands where it may. So a faultless script is readable, and does all that its commands say.
 #[tactic(auto, using(crate::proofs::Readable::readable))]
 pub fn faultless_scripts_are_readable()
-    ensures { (tree : List Node) → breaches_of tree ≡ [] → IsReadable (parted tree) }
+    ensures { (profile : Profile) (tree : List Node) → breaches_of profile tree ≡ [] → IsReadable (parted profile tree) }
 {}
 
 /// The elements of a tree that writes a text are, one by one and in order, the text's identifiers, strings and numbers. These
 /// aren't empty, they stand apart and in order in the text, and the lines of the elements never fall.
 pub fn elements_are_in_text_order()
-    ensures { (tree : List Node) (text : List ℕ) (tokens : List Token) → Spells tokens text → WritesSymbols test_depth block_room tree (symbols_of text tokens) → IsInTextOrder tree text tokens }
+    ensures { (profile : Profile) (tree : List Node) (text : List ℕ) (tokens : List Token) → Spells tokens text → WritesSymbols test_depth block_room tree (symbols_of text tokens) → IsInTextOrder profile tree text tokens }
 {}

@@ -9,30 +9,38 @@ ghost use Rattle.sieve_check.specs.view.Context.{context_as};
 ghost use Rattle.sieve_check.specs.view.Finds.{FindsIn};
 ghost use Rattle.sieve_check.specs.view.Head.{test_head};
 ghost use Rattle.sieve_reading.specs.view.Tree.{test_of, tests_of};
-ghost use Rattle.sieve_table.specs.Table.{test_named};
+ghost use Rattle.sieve_profile.specs.view.Profile.{profile_as};
+ghost use Rattle.sieve_table.specs.Known as spec;
 
 use crate::arguments::check_use;
 use crate::context::Context;
 use crate::cutting::cut_arguments;
 use crate::validator::CheckFault;
+use sieve_profile::Profile;
 use sieve_reading::Label;
 use sieve_syntax::{Test, Tests};
-use sieve_table::Rule;
+use sieve_table::{Rule, TestKind, known_test};
 use std::alloc::Global;
 use std::mem;
 
+/// The kind of a test, where it is known.
+fn kind_of(profile: Profile, test: &Test) -> Option<TestKind>
+    ensures { result ≡ spec.known_test (profile_as profile) (out-Test test.now).name }
+{
+    known_test(profile, test.name.kind())
+}
+
 /// Checks a test apart from the tests in it. Answers the labels of its arguments.
-#[tactic(auto, using(crate::proofs::Heads::test_unknown))]
 fn check_test_head(
     alloc: Global,
     context: Context<'_>,
     test: &Test,
 ) -> Result<Vec<Label>, CheckFault>
     ensures found { FindsIn (test_head (context_as context.entry) test.now) result }
-    ensures labels { IfOk result (λ labels. labels.items ≡ test_labels (test_named (out-Test test.now).name) (map seen.argument_of (out-Test test.now).args.items)) }
+    ensures labels { IfOk result (λ labels. labels.items ≡ test_labels (context_as context.entry).profile (spec.known_test (context_as context.entry).profile (out-Test test.now).name) (map seen.argument_of (out-Test test.now).args.items)) }
 {
     let line = test.line as u64;
-    match test.name.kind() {
+    match kind_of(context.spot.profile, test) {
         None => Err(CheckFault::Breach {
             line,
             rule: Rule::UnknownCommand,

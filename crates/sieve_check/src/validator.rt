@@ -1,5 +1,6 @@
 //! The validator.
 ghost use Rattle.std.specs.Prelude.{◌≡◌, [], MatchResult};
+ghost use Rattle.sieve_profile.specs.view.Profile.{profile_as};
 ghost use Rattle.sieve_syntax.specs.view.Script.{nodes_of};
 ghost use Rattle.sieve_check.specs.Breach.{breaches_of};
 ghost use Rattle.sieve_check.specs.view.Checked.{tree_of};
@@ -11,6 +12,7 @@ use crate::checked::Checked;
 use crate::command_rules::check_commands;
 use crate::context::Spot;
 use crate::scope::Scope;
+use sieve_profile::Profile;
 use sieve_syntax::ParsedScript;
 use sieve_table::Rule;
 use std::alloc::{AllocError, Global};
@@ -36,15 +38,16 @@ impl From<AllocError> for CheckFault {
     }
 }
 
-/// Checks a script: the least breach of a rule, or, where there is none, the checked script, which is the same tree with its
-/// strings cut into parts.
-pub fn check(alloc: Global, script: ParsedScript) -> Result<Checked, CheckFault>
+/// Checks a script by what a bench of a profile knows: the least breach of a rule, or, where there is none, the checked script, which is
+/// the same tree with its strings cut into parts.
+pub fn check(alloc: Global, profile: Profile, script: ParsedScript) -> Result<Checked, CheckFault>
     ensures { MatchResult result
-        (λ checked. (breaches_of (nodes_of script) ≡ []) × (tree_of checked ≡ parted (nodes_of script)))
-        (IsFirst (breaches_of (nodes_of script))) }
+        (λ checked. (breaches_of (profile_as profile) (nodes_of script) ≡ []) × (tree_of checked ≡ parted (profile_as profile) (nodes_of script)))
+        (IsFirst (breaches_of (profile_as profile) (nodes_of script))) }
 {
     let mut commands = script.into_commands();
     let mut scope = Scope::new(alloc);
-    check_commands(alloc, Spot::script_start(), &mut scope, &mut commands)?;
+    let start = Spot::script_start(profile);
+    check_commands(alloc, start, &mut scope, &mut commands)?;
     Ok(Checked { commands })
 }

@@ -62,6 +62,8 @@ abbrev pub address_part_word : AddressPart → List ℕ
 address_part_word address_part.All = codes "all"
 address_part_word address_part.Local = codes "localpart"
 address_part_word address_part.Domain = codes "domain"
+address_part_word address_part.User = codes "user"
+address_part_word address_part.Detail = codes "detail"
 
 -- the words of a test that compares values with keys
 unfoldable pub comparing_words : List ℕ → Comparison → List ℕ

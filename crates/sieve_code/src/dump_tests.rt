@@ -40,6 +40,8 @@ fn address_part_word(part: AddressPart) -> &'static [u8]
         AddressPart::All => b"all",
         AddressPart::Local => b"localpart",
         AddressPart::Domain => b"domain",
+        AddressPart::User => b"user",
+        AddressPart::Detail => b"detail",
     }
 }
 

@@ -1,12 +1,13 @@
 -- What one field or one name gives, in what all of them give.
 use Rattle.std.proofs.Common.{◌≡◌, ℕ, zero, suc, ◌+◌, ◌-◌, ◌<◌, ◌≤◌, arith, Bool, true, false, ◌||◌, List, [], ◌∷◌, ◌++◌, map, filter, length, drop, cond, Option, None, Some, Result, refl, subst, sym, ap, ◌∙◌, add-one}
-use Rattle.std.specs.Prelude.{IfNone, IfOk, IfSome, is_some, if◌then◌else◌}
+use Rattle.std.specs.Prelude.{IfNone, IfOk, IfSome, is_some, if◌then◌else◌, option_to_list}
 use Rattle.std.specs.List.{cons_option, flat_map, list_any, slice_get}
 use Rattle.std.specs.Option.{option_and_then, option_map, option_or}
 use Rattle.std.proofs.Math.Bool.{or-true}
 use Rattle.std.proofs.lemmas.List.{drop_all}
 use Rattle.encoded_words.specs.Scan.{decoded_of}
-use Rattle.message_text.specs.Addresses.{AddrSpec, addresses_of, envelope_address_of, part_of_address}
+use Rattle.sieve_profile.specs.Profile.{Profile}
+use Rattle.message_text.specs.Addresses.{AddrSpec, addresses_of, part_of_address, part_of_path}
 use Rattle.message_text.specs.Fields.{Field, IsNextNamed, fields_of, is_field_named}
 use Rattle.message_text.specs.declared.addressing.AddressPart.{AddressPart}
 use Rattle.sieve_reading.specs.Reading.{ValueSource, address_values, envelope_values, flag_values, header_values, string_values}
@@ -114,23 +115,23 @@ pub has_next : (found : Option ℕ) (fields : List Field) (name : List ℕ) → 
 has_next None fields name some none = sym (none_passes (is_field_named name) fields none)
 has_next (Some i) fields name some none = sym (any_at (is_field_named name) fields i some.is)
 
-module _ (find : List ℕ → Option (List (List ℕ))) (part : Option AddressPart) (fields : List Field) (name : List ℕ) where
+module _ (find : List ℕ → Option (List (List ℕ))) (profile : Profile) (part : Option AddressPart) (fields : List Field) (name : List ℕ) where
   -- the next field of a name gives what its value gives, and those in front of it nothing
-  pub next_found : (start i : ℕ) (found o : Option (List (List ℕ))) → first_some (field_found find part name) (drop start fields) ≡ o → IsNextNamed fields name start i
-      → slice_get (map (λ field. value_found find part field.value) fields) i ≡ Some found → (slice_get (map (field_found find part name) fields) i ≡ Some found) × (first_some (field_found find part name) (drop i fields) ≡ o)
+  pub next_found : (start i : ℕ) (found o : Option (List (List ℕ))) → first_some (field_found find profile part name) (drop start fields) ≡ o → IsNextNamed fields name start i
+      → slice_get (map (λ field. value_found find profile part field.value) fields) i ≡ Some found → (slice_get (map (field_found find profile part name) fields) i ≡ Some found) × (first_some (field_found find profile part name) (drop i fields) ≡ o)
   next_found start i found o so next at = (
-    get-passes (is_field_named name) (λ field. value_found find part field.value) fields i found next.is at,
-    skips (is_field_named name) (λ field. value_found find part field.value) fields start i next.behind next.others ∙ so,
+    get-passes (is_field_named name) (λ field. value_found find profile part field.value) fields i found next.is at,
+    skips (is_field_named name) (λ field. value_found find profile part field.value) fields start i next.behind next.others ∙ so,
   )
 
   -- where no field of the name is left, nothing is found
-  pub none_left : (start : ℕ) (o : Option (List (List ℕ))) → first_some (field_found find part name) (drop start fields) ≡ o → start ≤ length fields
+  pub none_left : (start : ℕ) (o : Option (List (List ℕ))) → first_some (field_found find profile part name) (drop start fields) ≡ o → start ≤ length fields
       → ((k : ℕ) → start ≤ k → k < length fields → slice_get (map (is_field_named name) fields) k ≡ Some false) → None ≡ o
-  none_left start o so ordered fail = sym (gives_none (is_field_named name) (λ field. value_found find part field.value) fields start ordered fail) ∙ so
+  none_left start o so ordered fail = sym (gives_none (is_field_named name) (λ field. value_found find profile part field.value) fields start ordered fail) ∙ so
 
   -- behind all fields nothing is found
-  pub none_behind : (start : ℕ) (o : Option (List (List ℕ))) → first_some (field_found find part name) (drop start fields) ≡ o → length fields ≤ start → None ≡ o
-  none_behind start o so behind = sym (ap (first_some (field_found find part name)) (drop_all start fields behind)) ∙ so
+  pub none_behind : (start : ℕ) (o : Option (List (List ℕ))) → first_some (field_found find profile part name) (drop start fields) ≡ o → length fields ≤ start → None ≡ o
+  none_behind start o so behind = sym (ap (first_some (field_found find profile part name)) (drop_all start fields behind)) ∙ so
 
 not_both : false ≡ true → ⊥
 not_both e = cc
@@ -193,34 +194,38 @@ module _ (find : List ℕ → Option (List (List ℕ))) where
   where_so true octets = refl
   where_so false octets = refl
 
-  first_parts_named : (part : AddressPart) (fields : List Field) (name : List ℕ) → first_some find (parts_named part fields name) ≡ name_found find (Some part) fields name
-  first_parts_named part fields name =
+  first_parts_named : (profile : Profile) (part : AddressPart) (fields : List Field) (name : List ℕ) → first_some find (parts_named part fields name) ≡ name_found find profile (Some part) fields name
+  first_parts_named profile part fields name =
       where_so (is_address_field name) (flat_map (parts_of_value part) (values_named fields name))
       ∙ ap (λ o. if is_address_field name then o else None)
       (first_flat find (parts_of_value part) (values_named fields name)
-      ∙ first_same (λ value. first_some find (parts_of_value part value)) (value_found find (Some part)) (λ value. first_part part (addresses_of value)) (values_named fields name)
-      ∙ first_named (value_found find (Some part)) name fields)
+      ∙ first_same (λ value. first_some find (parts_of_value part value)) (value_found find profile (Some part)) (λ value. first_part part (addresses_of value)) (values_named fields name)
+      ∙ first_named (value_found find profile (Some part)) name fields)
 
   -- what decoded values of a name give is what the fields give that have it
-  first_decoded_named : (name : List ℕ) (fields : List Field) → first_some find (decoded_named fields name) ≡ name_found find None fields name
-  first_decoded_named name fields = first_map find decoded_of (values_named fields name) ∙ first_named (value_found find None) name fields
+  first_decoded_named : (profile : Profile) (name : List ℕ) (fields : List Field) → first_some find (decoded_named profile fields name) ≡ name_found find profile None fields name
+  first_decoded_named profile name fields = first_map find (decoded_of profile) (values_named fields name) ∙ first_named (value_found find profile None) name fields
 
-  pub first_of_names : (part : Option AddressPart) (delivery : Delivery) (state : RunState) (names : List (List Part)) → first_some find (values_of delivery state (field_source part names)) ≡ first_some (name_found find part (fields_of delivery.message)) (map (text_value state.values) names)
+  pub first_of_names : (part : Option AddressPart) (delivery : Delivery) (state : RunState) (names : List (List Part)) → first_some find (values_of delivery state (field_source part names)) ≡ first_some (name_found find delivery.arrival.profile part (fields_of delivery.arrival.message)) (map (text_value state.values) names)
   first_of_names None delivery state names =
-      first_flat find (decoded_named (fields_of delivery.message)) (map (text_value state.values) names)
-      ∙ first_same (λ name. first_some find (decoded_named (fields_of delivery.message) name)) (name_found find None (fields_of delivery.message)) (λ name. first_decoded_named name (fields_of delivery.message)) (map (text_value state.values) names)
+      first_flat find (decoded_named delivery.arrival.profile (fields_of delivery.arrival.message)) (map (text_value state.values) names)
+      ∙ first_same (λ name. first_some find (decoded_named delivery.arrival.profile (fields_of delivery.arrival.message) name)) (name_found find delivery.arrival.profile None (fields_of delivery.arrival.message)) (λ name. first_decoded_named delivery.arrival.profile name (fields_of delivery.arrival.message)) (map (text_value state.values) names)
   first_of_names (Some part) delivery state names =
-      first_flat find (parts_named part (fields_of delivery.message)) (map (text_value state.values) names)
-      ∙ first_same (λ name. first_some find (parts_named part (fields_of delivery.message) name)) (name_found find (Some part) (fields_of delivery.message)) (λ name. first_parts_named part (fields_of delivery.message) name) (map (text_value state.values) names)
+      first_flat find (parts_named part (fields_of delivery.arrival.message)) (map (text_value state.values) names)
+      ∙ first_same (λ name. first_some find (parts_named part (fields_of delivery.arrival.message) name)) (name_found find delivery.arrival.profile (Some part) (fields_of delivery.arrival.message)) (λ name. first_parts_named delivery.arrival.profile part (fields_of delivery.arrival.message) name) (map (text_value state.values) names)
 
   first_of_path : (part : AddressPart) (path : Option (List ℕ)) → first_some find (parts_of_envelope part path) ≡ option_and_then (path_found find part) path
   first_of_path part None = refl
-  first_of_path part (Some text) = one_part (part_of_address part (envelope_address_of text)) [] ∙ or_none (part_found find part (envelope_address_of text))
+  first_of_path part (Some text) = first_of_one (part_of_path part text)
+    where
+      first_of_one : (o : Option (List ℕ)) → first_some find (option_to_list o) ≡ option_and_then find o
+      first_of_one None = refl
+      first_of_one (Some x) = or_none (find x)
 
-  pub first_of_paths : (part : AddressPart) (delivery : Delivery) (state : RunState) (names : List (List Part)) → first_some find (values_of delivery state (envelope_values part names)) ≡ first_some (path_name_found find part delivery.envelope) (map (text_value state.values) names)
+  pub first_of_paths : (part : AddressPart) (delivery : Delivery) (state : RunState) (names : List (List Part)) → first_some find (values_of delivery state (envelope_values part names)) ≡ first_some (path_name_found find part delivery.arrival.envelope) (map (text_value state.values) names)
   first_of_paths part delivery state names =
-      first_flat find (envelope_named part delivery.envelope) (map (text_value state.values) names)
-      ∙ first_same (λ name. first_some find (envelope_named part delivery.envelope name)) (path_name_found find part delivery.envelope) (λ name. first_of_path part (envelope_text delivery.envelope name)) (map (text_value state.values) names)
+      first_flat find (envelope_named part delivery.arrival.envelope) (map (text_value state.values) names)
+      ∙ first_same (λ name. first_some find (envelope_named part delivery.arrival.envelope name)) (path_name_found find part delivery.arrival.envelope) (λ name. first_of_path part (envelope_text delivery.arrival.envelope name)) (map (text_value state.values) names)
 
 -- the flags in the texts of a flag test's variables give what the values of the test's source give
 module _ (find : List ℕ → Option (List (List ℕ))) (delivery : Delivery) (state : RunState) where

@@ -165,7 +165,7 @@ store_deed state mailbox settings = deed_of (Store mailbox (stored_flags state s
 
 -- keep stores into the delivery's mailbox (RFC 5228, section 4.3)
 abbrev pub keeps : Delivery → Settings → ℕ → RunState → Ending
-keeps delivery settings line state = performs delivery line (store_deed state delivery.envelope.mailbox settings) state
+keeps delivery settings line state = performs delivery line (store_deed state delivery.arrival.envelope.mailbox settings) state
 
 -- fileinto stores into the mailbox that it names (RFC 5228, section 4.1)
 abbrev pub files_into : Delivery → List Part → Settings → ℕ → RunState → Ending

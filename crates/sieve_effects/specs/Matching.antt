@@ -1,14 +1,15 @@
 -- What tests find in a delivery: fields, addresses and parts of the envelope by name, and whether a value matches a key (RFC 5228,
 -- sections 2.7 and 5).
-use Rattle.std.specs.Prelude.{ℕ, Bool, List, [], ◌∷◌, Option, None, Some, is_some, map, filter, length, nat_lt, if◌then◌else◌, codes}
+use Rattle.std.specs.Prelude.{ℕ, Bool, List, [], ◌∷◌, Option, None, Some, is_some, map, filter, length, nat_lt, if◌then◌else◌, codes, option_to_list}
 use Rattle.std.specs.List.{filter_map, flat_map, list_any, list_all}
 use Rattle.std.specs.Option.{option_or}
 use Rattle.std.specs.Str.{str_eq_ignore_ascii_case}
 use Rattle.encoded_words.specs.Scan.{decoded_of}
+use Rattle.sieve_profile.specs.Profile.{Profile}
 use Rattle.match_text.specs.Comparator.{same, is_part, fold_of}
 use Rattle.match_text.specs.Flags.{flag_keys_of_texts, flag_list}
 use Rattle.match_text.specs.Wildcard.{matched}
-use Rattle.message_text.specs.Addresses.{AddrSpec, part_of_address, addresses_of, envelope_address_of}
+use Rattle.message_text.specs.Addresses.{AddrSpec, part_of_address, addresses_of, part_of_path}
 use Rattle.message_text.specs.Fields.{Field, fields_of, is_field_named}
 use Rattle.message_text.specs.declared.addressing.AddressPart.{AddressPart}
 use Rattle.sieve_reading.specs.Reading.{ValueSource, header_values, address_values, envelope_values, string_values, flag_values, Ask, compares, exists_ask, over_ask, under_ask}
@@ -42,10 +43,10 @@ pub record Pair : Type 0 where
 abbrev pub values_named : List Field → List ℕ → List (List ℕ)
 values_named fields name = map (λ field. field.value) (filter (is_field_named name) fields)
 
--- the values of the fields of that name with their encoded words (RFC 2047) replaced, as a `header` test sees them (RFC 5228,
+-- the values of the fields of that name with their encoded words (RFC 2047) of known charsets replaced, as a `header` test sees them (RFC 5228,
 -- section 2.7.2)
-abbrev pub decoded_named : List Field → List ℕ → List (List ℕ)
-decoded_named fields name = map decoded_of (values_named fields name)
+abbrev pub decoded_named : Profile → List Field → List ℕ → List (List ℕ)
+decoded_named profile fields name = map (decoded_of profile) (values_named fields name)
 
 -- a value with each key
 abbrev pub pairs_with : List (List ℕ) → List ℕ → List Pair
@@ -71,7 +72,7 @@ envelope_text envelope name =
 
 abbrev pub parts_of_envelope : AddressPart → Option (List ℕ) → List (List ℕ)
 parts_of_envelope part None = []
-parts_of_envelope part (Some text) = address_parts part (envelope_address_of text ∷ [])
+parts_of_envelope part (Some text) = option_to_list (part_of_path part text)
 
 abbrev pub envelope_named : AddressPart → Envelope → List ℕ → List (List ℕ)
 envelope_named part envelope name = parts_of_envelope part (envelope_text envelope name)
@@ -79,9 +80,9 @@ envelope_named part envelope name = parts_of_envelope part (envelope_text envelo
 -- What a test compares with its keys, by names, then by fields, then by addresses; an absent field gives nothing. Strings stand for
 -- what they do when the test begins.
 abbrev pub values_of : Delivery → RunState → ValueSource → List (List ℕ)
-values_of delivery state (header_values names) = flat_map (decoded_named (fields_of delivery.message)) (map (text_value state.values) names)
-values_of delivery state (address_values part names) = flat_map (parts_named part (fields_of delivery.message)) (map (text_value state.values) names)
-values_of delivery state (envelope_values part names) = flat_map (envelope_named part delivery.envelope) (map (text_value state.values) names)
+values_of delivery state (header_values names) = flat_map (decoded_named delivery.arrival.profile (fields_of delivery.arrival.message)) (map (text_value state.values) names)
+values_of delivery state (address_values part names) = flat_map (parts_named part (fields_of delivery.arrival.message)) (map (text_value state.values) names)
+values_of delivery state (envelope_values part names) = flat_map (envelope_named part delivery.arrival.envelope) (map (text_value state.values) names)
 values_of delivery state (string_values texts) = map (text_value state.values) texts
 values_of delivery state (flag_values None) = state.flags
 values_of delivery state (flag_values (Some variables)) = flat_map flag_list (map (text_value state.values) variables)
@@ -123,9 +124,9 @@ match_found delivery state source comparison keys = first_match comparison (pair
 -- the limit's octets is neither over nor under it.
 unfoldable pub truth_of : Delivery → RunState → Ask → Bool
 truth_of delivery state (compares source comparison keys) = is_some (match_found delivery state source comparison keys)
-truth_of delivery state (exists_ask names) = list_all (has_field (fields_of delivery.message)) (map (text_value state.values) names)
-truth_of delivery state (over_ask limit) = nat_lt limit (length delivery.message)
-truth_of delivery state (under_ask limit) = nat_lt (length delivery.message) limit
+truth_of delivery state (exists_ask names) = list_all (has_field (fields_of delivery.arrival.message)) (map (text_value state.values) names)
+truth_of delivery state (over_ask limit) = nat_lt limit (length delivery.arrival.message)
+truth_of delivery state (under_ask limit) = nat_lt (length delivery.arrival.message) limit
 
 -- under `:matches`, the match variables are what the first pair that matches gives; where none does, and under the other match
 -- types, they stay (RFC 5229, section 3.2)

@@ -92,7 +92,7 @@ pub fn keep(
 ) -> Result<Flow, AllocError>
     ensures { IfOk result (λ flow. ending_by flow (state_of state.new) ≡ spec.keeps (delivery_as delivery.now) (settings_op_as settings.now) line (state_of state.old)) }
 {
-    let mailbox = Octets::copied(delivery.alloc, delivery.envelope.mailbox.as_slice())?;
+    let mailbox = Octets::copied(delivery.alloc, delivery.arrival.envelope.mailbox.as_slice())?;
     store(delivery, mailbox, settings, line, state)
 }
 

@@ -31,8 +31,8 @@ fn find_in_source(
     source: &SourceOp<'_>,
     matcher: &Matcher<'_>,
 ) -> Result<Option<MatchValues>, AllocError>
-    requires { fields.old ≡ (delivery_as delivery.now).message }
-    ensures message { fields.new ≡ fields.old }
+    requires { fields.old ≡ (delivery_as delivery.now).arrival }
+    ensures arrival { fields.new ≡ fields.old }
     ensures found { IfOk result (λ found. found ≡ first_some (found_with matcher.now) (values_of (delivery_as delivery.now) (state_of state.now) (source_op_as source.now))) }
 {
     match source {
@@ -59,8 +59,8 @@ fn find_keyed(
     comparison: Comparison,
     keys: Keys<'_>,
 ) -> Result<Option<MatchValues>, AllocError>
-    requires { fields.old ≡ (delivery_as delivery.now).message }
-    ensures message { fields.new ≡ fields.old }
+    requires { fields.old ≡ (delivery_as delivery.now).arrival }
+    ensures arrival { fields.new ≡ fields.old }
     ensures found { IfOk result (λ found. found ≡ first_some (λ value. first_match comparison (pairs_with (key_texts keys.entry) value)) (values_of (delivery_as delivery.now) (state_of state.now) (source_op_as source.now))) }
 {
     let matcher = Matcher { comparison, keys };
@@ -100,8 +100,8 @@ fn find_whole(
     comparison: Comparison,
     keys: &Strings<'_>,
 ) -> Result<Option<MatchValues>, AllocError>
-    requires { fields.old ≡ (delivery_as delivery.now).message }
-    ensures message { fields.new ≡ fields.old }
+    requires { fields.old ≡ (delivery_as delivery.now).arrival }
+    ensures arrival { fields.new ≡ fields.old }
     ensures found { IfOk result (λ found. found ≡ first_some (λ value. first_match comparison (pairs_with (map (text_value (state_of state.now).values) keys.now) value)) (values_of (delivery_as delivery.now) (state_of state.now) (source_op_as source.now))) }
 {
     let values = &state.values;
@@ -124,8 +124,8 @@ fn find_match(
     comparison: Comparison,
     keys: &Strings<'_>,
 ) -> Result<Option<MatchValues>, AllocError>
-    requires { fields.old ≡ (delivery_as delivery.now).message }
-    ensures message { fields.new ≡ fields.old }
+    requires { fields.old ≡ (delivery_as delivery.now).arrival }
+    ensures arrival { fields.new ≡ fields.old }
     ensures found { IfOk result (λ found. found ≡ match_found (delivery_as delivery.now) (state_of state.now) (source_op_as source.now) comparison keys.now) }
 {
     if !cuts_keys(source) {
@@ -149,8 +149,8 @@ pub fn compare(
     fields: &mut FieldReads<'_>,
     state: &mut State,
 ) -> Result<bool, AllocError>
-    requires { fields.old ≡ (delivery_as delivery.now).message }
-    ensures message { fields.new ≡ fields.old }
+    requires { fields.old ≡ (delivery_as delivery.now).arrival }
+    ensures arrival { fields.new ≡ fields.old }
     ensures truth { IfOk result (λ truth. truth ≡ truth_of (delivery_as delivery.now) (state_of state.old) (compares (source_op_as source.now) comparison keys.now)) }
     ensures behind { IfOk result (λ truth. state_of state.new ≡ behind_test (delivery_as delivery.now) (compares (source_op_as source.now) comparison keys.now) (state_of state.old)) }
 {
@@ -167,19 +167,20 @@ pub fn exists(
 ) -> Result<bool, AllocError>
     ensures { IfOk result (λ truth. truth ≡ truth_of (delivery_as delivery.now) (state_of state.now) (exists_ask names.now)) }
 {
-    has_fields(delivery.alloc, delivery.message, &state.values, names)
+    let message = delivery.arrival.message;
+    has_fields(delivery.alloc, message, &state.values, names)
 }
 
 /// Whether the message has more octets than the limit (RFC 5228, section 5.9).
 pub fn is_over(delivery: &Delivery<'_>, limit: u64) -> bool
-    ensures { result ≡ nat_lt limit (length (delivery_as delivery.now).message) }
+    ensures { result ≡ nat_lt limit (length (delivery_as delivery.now).arrival.message) }
 {
-    delivery.message.size() as u64 > limit
+    delivery.arrival.message.size() as u64 > limit
 }
 
 /// Whether the message has fewer octets than the limit (RFC 5228, section 5.9).
 pub fn is_under(delivery: &Delivery<'_>, limit: u64) -> bool
-    ensures { result ≡ nat_lt (length (delivery_as delivery.now).message) limit }
+    ensures { result ≡ nat_lt (length (delivery_as delivery.now).arrival.message) limit }
 {
-    (delivery.message.size() as u64) < limit
+    (delivery.arrival.message.size() as u64) < limit
 }

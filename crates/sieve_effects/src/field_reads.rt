@@ -2,18 +2,20 @@
 ghost use Rattle.std.specs.Prelude.{◌≡◌, ◌<◌, length, slice_get, IfOk, IfSome, OnOk, Some};
 ghost use Rattle.std.specs.Cow.{cow_slice_items};
 ghost use Rattle.message_text.specs.Fields.{decoded_values_of, fields_of};
+ghost use Rattle.sieve_effects.specs.view.Delivery.{arrival_as};
 ghost use Rattle.sieve_effects.specs.view.FieldReads.{HasNoMore, address_lists_of};
 
+use crate::delivery::Arrival;
 use message_text::{Address, Message, addresses};
 use std::alloc::{AllocError, Global};
 use std::borrow::CowSlice;
 use std::marker::Model;
 
-/// What a run has made of the fields of a message, so that none of its tests makes it again. Contracts see the message's octets. It has a
+/// What a run has made of the fields of a message, so that none of its tests makes it again. Contracts see what is delivered. It has a
 /// place for each field up to the last that a test has looked at.
 #[derive(Drop)]
 pub struct FieldReads<'a> {
-    message: &'a Message,
+    arrival: &'a Arrival<'a>,
     // The addresses in the values of fields, each list at its field's place.
     listed: Vec<Option<Vec<Address>>>,
     // Values with their encoded words replaced, each at its field's place.
@@ -21,14 +23,15 @@ pub struct FieldReads<'a> {
 }
 
 impl<'a> Model for FieldReads<'a> {
-    ghost use Rattle.std.specs.Prelude.{ℕ, List};
+    ghost use Rattle.sieve_effects.specs.Delivery.{Arrival};
+    ghost use Rattle.sieve_effects.specs.view.Delivery.{arrival_as};
     ghost use Rattle.sieve_effects.specs.view.FieldReads.{AreDecoded, AreListed};
 
-    ghost Value = { List ℕ };
+    ghost Value = { Arrival };
 
-    ghost view = { λ f. f.message.now };
+    ghost view = { λ f. arrival_as f.arrival.now };
 
-    ghost invariant = { λ f. AreListed f.message.now f.listed.items × AreDecoded f.message.now f.decoded.items };
+    ghost invariant = { λ f. let arrival = arrival_as f.arrival.now in AreListed arrival.message f.listed.items × AreDecoded arrival.profile arrival.message f.decoded.items };
 }
 
 /// Takes what lies at a place, if anything does.
@@ -59,11 +62,11 @@ fn reach<T: Drop>(places: &mut Vec<Option<T>>, place: usize) -> Result<(), Alloc
 
 impl<'a> FieldReads<'a> {
     /// Nothing is read yet. Takes no memory.
-    pub fn new(alloc: Global, message: &'a Message) -> FieldReads<'a>
-        ensures { result ≡ message.now }
+    pub fn new(alloc: Global, arrival: &'a Arrival<'a>) -> FieldReads<'a>
+        ensures { result ≡ arrival_as arrival.now }
     {
         FieldReads {
-            message,
+            arrival,
             listed: Vec::new(alloc),
             decoded: Vec::new(alloc),
         }
@@ -71,9 +74,9 @@ impl<'a> FieldReads<'a> {
 
     /// The message. Takes no memory.
     pub(crate) fn message(&self) -> &'a Message
-        ensures { result.now ≡ self.now }
+        ensures { result.now ≡ self.now.message }
     {
-        self.message
+        self.arrival.message
     }
 
     /// The addresses in the value of field `i`, which is read where they aren't kept. [`keep_addresses`](FieldReads::keep_addresses) takes
@@ -83,14 +86,14 @@ impl<'a> FieldReads<'a> {
         alloc: Global,
         i: usize,
     ) -> Result<Vec<Address>, AllocError>
-        requires { i < length (fields_of self.old) }
-        ensures message { self.new ≡ self.old }
-        ensures listed { IfOk result (λ listed. slice_get (address_lists_of self.old) i ≡ Some listed.items) }
+        requires { i < length (fields_of self.old.message) }
+        ensures arrival { self.new ≡ self.old }
+        ensures listed { IfOk result (λ listed. slice_get (address_lists_of self.old.message) i ≡ Some listed.items) }
     {
         if let Some(listed) = take(&mut self.listed, i) {
             return Ok(listed);
         }
-        let value = self.message.value(alloc, i)?;
+        let value = self.arrival.message.value(alloc, i)?;
         addresses(alloc, value.as_slice())
     }
 
@@ -100,7 +103,7 @@ impl<'a> FieldReads<'a> {
         i: usize,
         listed: Vec<Address>,
     ) -> Result<(), AllocError>
-        requires { slice_get (address_lists_of self.old) i ≡ Some listed.items }
+        requires { slice_get (address_lists_of self.old.message) i ≡ Some listed.items }
         ensures { self.new ≡ self.old }
     {
         reach(&mut self.listed, i)?;
@@ -115,14 +118,19 @@ impl<'a> FieldReads<'a> {
         alloc: Global,
         i: usize,
     ) -> Result<CowSlice<'a, u8>, AllocError>
-        requires { i < length (fields_of self.old) }
-        ensures message { self.new ≡ self.old }
-        ensures decoded { IfOk result (λ value. slice_get (decoded_values_of self.old) i ≡ Some (cow_slice_items value)) }
+        requires { i < length (fields_of self.old.message) }
+        ensures arrival { self.new ≡ self.old }
+        ensures decoded { IfOk result (λ value. slice_get (decoded_values_of self.old.profile self.old.message) i ≡ Some (cow_slice_items value)) }
     {
         if let Some(value) = take(&mut self.decoded, i) {
             return Ok(value);
         }
-        self.message.decoded(alloc, i)
+        let Arrival {
+            message,
+            profile,
+            ..
+        } = *self.arrival;
+        message.decoded(alloc, profile, i)
     }
 
     /// Keeps the value of field `i` with its encoded words replaced.
@@ -131,7 +139,7 @@ impl<'a> FieldReads<'a> {
         i: usize,
         value: CowSlice<'a, u8>,
     ) -> Result<(), AllocError>
-        requires { slice_get (decoded_values_of self.old) i ≡ Some (cow_slice_items value) }
+        requires { slice_get (decoded_values_of self.old.profile self.old.message) i ≡ Some (cow_slice_items value) }
         ensures { self.new ≡ self.old }
     {
         reach(&mut self.decoded, i)?;

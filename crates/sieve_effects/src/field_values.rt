@@ -83,9 +83,9 @@ fn find_in_decoded(
     i: usize,
     matcher: &Matcher<'_>,
 ) -> Result<Option<MatchValues>, AllocError>
-    requires { i < length (fields_of fields.old) }
-    ensures message { fields.new ≡ fields.old }
-    ensures found { IfOk result (λ found. slice_get (map (λ field. value_found (found_with matcher.now) None field.value) (fields_of fields.old)) i ≡ Some found) }
+    requires { i < length (fields_of fields.old.message) }
+    ensures arrival { fields.new ≡ fields.old }
+    ensures found { IfOk result (λ found. slice_get (map (λ field. value_found (found_with matcher.now) fields.old.profile None field.value) (fields_of fields.old.message)) i ≡ Some found) }
 {
     let value = fields.take_decoded(alloc, i)?;
     let found = matcher.first_match(alloc, value.as_slice())?;
@@ -101,9 +101,9 @@ fn find_in_listed(
     part: AddressPart,
     matcher: &Matcher<'_>,
 ) -> Result<Option<MatchValues>, AllocError>
-    requires { i < length (fields_of fields.old) }
-    ensures message { fields.new ≡ fields.old }
-    ensures found { IfOk result (λ found. slice_get (map (λ field. value_found (found_with matcher.now) (Some part) field.value) (fields_of fields.old)) i ≡ Some found) }
+    requires { i < length (fields_of fields.old.message) }
+    ensures arrival { fields.new ≡ fields.old }
+    ensures found { IfOk result (λ found. slice_get (map (λ field. value_found (found_with matcher.now) fields.old.profile (Some part) field.value) (fields_of fields.old.message)) i ≡ Some found) }
 {
     let listed = fields.take_addresses(alloc, i)?;
     let found = find_in_addresses(alloc, part, &listed, matcher)?;
@@ -119,9 +119,9 @@ fn find_in_value(
     part: Option<AddressPart>,
     matcher: &Matcher<'_>,
 ) -> Result<Option<MatchValues>, AllocError>
-    requires { i < length (fields_of fields.old) }
-    ensures message { fields.new ≡ fields.old }
-    ensures found { IfOk result (λ found. slice_get (map (λ field. value_found (found_with matcher.now) part field.value) (fields_of fields.old)) i ≡ Some found) }
+    requires { i < length (fields_of fields.old.message) }
+    ensures arrival { fields.new ≡ fields.old }
+    ensures found { IfOk result (λ found. slice_get (map (λ field. value_found (found_with matcher.now) fields.old.profile part field.value) (fields_of fields.old.message)) i ≡ Some found) }
 {
     match part {
         None => find_in_decoded(alloc, fields, i, matcher),
@@ -137,8 +137,8 @@ fn find_in_fields(
     name: &FieldName<'_>,
     matcher: &Matcher<'_>,
 ) -> Result<Option<MatchValues>, AllocError>
-    ensures message { fields.new ≡ fields.old }
-    ensures found { IfOk result (λ found. found ≡ first_some (field_found (found_with matcher.now) part name.now) (fields_of fields.old)) }
+    ensures arrival { fields.new ≡ fields.old }
+    ensures found { IfOk result (λ found. found ≡ first_some (field_found (found_with matcher.now) fields.old.profile part name.now) (fields_of fields.old.message)) }
 {
     let message = fields.message();
     let mut start = 0;
@@ -172,8 +172,8 @@ fn find_by_name(
     name: &FieldName<'_>,
     matcher: &Matcher<'_>,
 ) -> Result<Option<MatchValues>, AllocError>
-    ensures message { fields.new ≡ fields.old }
-    ensures found { IfOk result (λ found. found ≡ name_found (found_with matcher.now) part (fields_of fields.old) name.now) }
+    ensures arrival { fields.new ≡ fields.old }
+    ensures found { IfOk result (λ found. found ≡ name_found (found_with matcher.now) fields.old.profile part (fields_of fields.old.message) name.now) }
 {
     if is_looked_at(part, name.octets()) {
         find_in_fields(alloc, fields, part, name, matcher)
@@ -191,8 +191,8 @@ fn find_by_names(
     names: &FieldNames<'_>,
     matcher: &Matcher<'_>,
 ) -> Result<Option<MatchValues>, AllocError>
-    ensures message { fields.new ≡ fields.old }
-    ensures found { IfOk result (λ found. found ≡ first_some (name_found (found_with matcher.now) part (fields_of fields.old)) (map (text_value values.now) names.now)) }
+    ensures arrival { fields.new ≡ fields.old }
+    ensures found { IfOk result (λ found. found ≡ first_some (name_found (found_with matcher.now) fields.old.profile part (fields_of fields.old.message)) (map (text_value values.now) names.now)) }
 {
     let mut buffer = Vec::new(alloc);
     for i in 0..names.len() {
@@ -213,8 +213,8 @@ pub(crate) fn find_in_named(
     names: &FieldNames<'_>,
     matcher: &Matcher<'_>,
 ) -> Result<Option<MatchValues>, AllocError>
-    requires { fields.old ≡ (delivery_as delivery.now).message }
-    ensures message { fields.new ≡ fields.old }
+    requires { fields.old ≡ (delivery_as delivery.now).arrival }
+    ensures arrival { fields.new ≡ fields.old }
     ensures found { IfOk result (λ found. found ≡ first_some (found_with matcher.now) (values_of (delivery_as delivery.now) (state_of state.now) (field_source part names.now))) }
 {
     find_by_names(delivery.alloc, fields, part, &state.values, names, matcher)

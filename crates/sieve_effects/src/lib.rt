@@ -28,7 +28,7 @@ pub use acting::{discard, file_into, keep, redirect, set};
 pub use action::Action;
 pub use actions::Actions;
 pub use asking::{compare, exists, is_over, is_under};
-pub use delivery::Delivery;
+pub use delivery::{Arrival, Delivery};
 pub use envelope::Envelope;
 pub use error::{ErrorKind, RunError};
 pub use field_names::{FieldNames, NameLists};

@@ -1,7 +1,7 @@
 //! What a test finds in an envelope (RFC 5228, section 5.4).
 ghost use Rattle.std.specs.Prelude.{◌≡◌, None, map, IfOk};
 ghost use Rattle.std.specs.Option.{option_map};
-ghost use Rattle.message_text.specs.Addresses.{envelope_address_of, is_null_path, part_of_address};
+ghost use Rattle.message_text.specs.Addresses.{is_null_path, part_of_address};
 ghost use Rattle.sieve_reading.specs.Reading.{envelope_values};
 ghost use Rattle.sieve_effects.specs.Matching.{envelope_text, first_some, values_of};
 ghost use Rattle.sieve_effects.specs.view.Delivery.{delivery_as};
@@ -45,13 +45,12 @@ fn seen_part(part: AddressPart, text: &[u8]) -> Option<&[u8]>
 {
     match part {
         AddressPart::All => Some(text),
-        AddressPart::Local => None,
-        AddressPart::Domain => None,
+        AddressPart::Local | AddressPart::Domain | AddressPart::User | AddressPart::Detail => None,
     }
 }
 
 /// What that part of an envelope's address gives.
-#[tactic(auto, unfolding(message_text::specs::Addresses::envelope_address_of))]
+#[tactic(auto, unfolding(message_text::specs::Addresses::part_of_path))]
 fn find_in_path(
     alloc: Global,
     part: AddressPart,
@@ -119,7 +118,7 @@ pub(crate) fn find_in_paths(
 {
     find_by_path_names(
         delivery.alloc,
-        delivery.envelope,
+        delivery.arrival.envelope,
         part,
         &state.values,
         names,

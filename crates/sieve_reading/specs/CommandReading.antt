@@ -38,7 +38,7 @@ fileinto_by labels args = fileinto_leaf (text_in (in_role role.Mailbox labels ar
 abbrev pub redirect_by : List Label → List Argument → Leaf
 redirect_by labels args = redirect_leaf (text_in (in_role role.Address labels args)) (settings_by labels args)
 
--- the modifiers of a `set` (RFC 5229, section 4.1)
+-- the case that a modifier makes (RFC 5229, section 4.1.3)
 abbrev pub case_by : Option Tag → Option LetterCase
 case_by (Some tag.Lower) = Some letter_case.Lower
 case_by (Some tag.Upper) = Some letter_case.Upper
@@ -46,6 +46,7 @@ case_by (Some tag.LowerFirst) = Some letter_case.Lower
 case_by (Some tag.UpperFirst) = Some letter_case.Upper
 case_by other = None
 
+-- the modifiers of a `set` (RFC 5229, section 4.1)
 unfoldable pub modifiers_of : Tags → Modifiers
 modifiers_of tags = record {
   letter_case = case_by (tags kind.Case);

@@ -1,5 +1,5 @@
--- What the arguments of a command or a test give, by their labels, by which the rules and the cut of strings go too. All of it is there
--- whatever stands there: what isn't given is empty, or what counts by default.
+-- What the arguments of a command or a test give, by their labels, by which the rules and the cut of strings go too. Any arguments give
+-- something: what isn't given is empty, or what counts by default.
 use Rattle.std.specs.Prelude.{ℕ, Bool, false, List, [], ◌∷◌, Option, Some, None, is_some, map, drop, if◌then◌else◌}
 use Rattle.match_text.specs.Comparator.{collation_named}
 use Rattle.match_text.specs.declared.comparators.Collation.{Collation}
@@ -88,7 +88,8 @@ number_in (Some (number None line)) = 0
 number_in (Some (number (Some value) line)) = value
 number_in (Some (tag name line)) = 0
 
--- the comparator, which is `i;ascii-casemap` where none is named (RFC 5228, section 2.7.3)
+-- the comparator, which is `i;ascii-casemap` where none is named (RFC 5228, section 2.7.3), and where a name isn't known, which a script without
+-- a breach doesn't have
 abbrev pub collation_or_casemap : Option Collation → Collation
 collation_or_casemap None = Casemap
 collation_or_casemap (Some collation) = collation
@@ -140,10 +141,12 @@ match_type_by other = Is
 unfoldable pub match_type_of : Tags → MatchType
 match_type_of tags = match_type_by (tags kind.MatchType)
 
--- the part of an address, which is all of it where none is named (RFC 5228, section 2.7.4)
+-- the part of an address, which is all of it where none is named (RFC 5228, section 2.7.4; RFC 5233, section 4)
 abbrev pub address_part_by : Option Tag → AddressPart
 address_part_by (Some tag.LocalPart) = part.Local
 address_part_by (Some tag.Domain) = part.Domain
+address_part_by (Some tag.User) = part.User
+address_part_by (Some tag.Detail) = part.Detail
 address_part_by other = part.All
 
 unfoldable pub address_part_of : Tags → AddressPart

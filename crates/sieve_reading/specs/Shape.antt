@@ -1,7 +1,9 @@
 -- The shape of an argument, whatever its strings are, where some tags are taken.
 use Rattle.std.specs.Prelude.{ℕ, Bool, not, ◌&&◌, List, map, length, nat_eq, if◌then◌else◌}
 use Rattle.sieve_syntax.specs.TreeOf.{Argument, strings, number, tag}
+use Rattle.sieve_profile.specs.Profile.{Profile}
 use Rattle.sieve_reading.specs.Label.{labels_of}
+use Rattle.sieve_table.specs.Known.{known_tag}
 use Rattle.sieve_table.specs.Table.{Row, tag_named}
 use Rattle.sieve_reading.specs.declared.label.Label.{Label}
 use Rattle.sieve_reading.specs.declared.label.Shape.{Shape}
@@ -23,3 +25,18 @@ shapes_of tags args = map (shape_of tags) args
 -- the labels of a row's arguments
 abbrev pub row_labels : {S : Type 0} → Row → List (Argument S) → List Label
 row_labels row args = labels_of row (shapes_of row.tags args)
+
+-- WHERE A BENCH OF A PROFILE READS THEM
+-- A tag that it doesn't know is another tag, and takes no argument.
+
+abbrev pub known_shape : Profile → Shape → Shape
+known_shape profile shape.Text = shape.Text
+known_shape profile shape.Texts = shape.Texts
+known_shape profile shape.Number = shape.Number
+known_shape profile (shape.Tag taken) = shape.Tag (known_tag profile taken)
+
+abbrev pub known_shapes : {S : Type 0} → Profile → List Tag → List (Argument S) → List Shape
+known_shapes profile tags args = map (λ a. known_shape profile (shape_of tags a)) args
+
+abbrev pub known_labels : {S : Type 0} → Profile → Row → List (Argument S) → List Label
+known_labels profile row args = labels_of row (known_shapes profile row.tags args)

@@ -47,7 +47,7 @@ flag_source labels args = flag_values (given_texts (in_role role.NamesToRead lab
 abbrev pub exists_by : List Label → List Argument → Ask
 exists_by labels args = exists_ask (texts_in (in_role role.FieldNames labels args))
 
--- what a `size` test asks (RFC 5228, section 5.9)
+-- what a `size` test asks (RFC 5228, section 5.9); without a bound, which no script without a breach lacks, as with `:over`
 abbrev pub bound_by : Option Tag → ℕ → Ask
 bound_by (Some tag.Under) limit = under_ask limit
 bound_by other limit = over_ask limit

@@ -187,6 +187,8 @@ fn address_part_by(tag: Option<Tag>) -> AddressPart
     match tag {
         Some(Tag::LocalPart) => AddressPart::Local,
         Some(Tag::Domain) => AddressPart::Domain,
+        Some(Tag::User) => AddressPart::User,
+        Some(Tag::Detail) => AddressPart::Detail,
         _ => AddressPart::All,
     }
 }

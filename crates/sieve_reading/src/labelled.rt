@@ -15,9 +15,9 @@ use sieve_table::{Role, Row, has_role};
 pub(crate) fn argument_in<'a>(row: &Row, wanted: Role, args: &'a [Argument]) -> Option<&'a Argument>
     ensures { option_map (λ a. argument_of a.now) result ≡ in_role wanted (labels_in row.now args.now) (map argument_of args.now) }
 {
-    let mut expected = row_expected::<AsParts>(row, args);
+    let mut expected = row_expected::<AsParts>(row, None, args);
     for argument in args {
-        let shape = shape_of::<AsParts>(row.tags, argument);
+        let shape = shape_of::<AsParts>(None, row.tags, argument);
         if has_role(wanted, role_of(expected.label(shape))) {
             return Some(argument);
         }
@@ -30,9 +30,9 @@ pub(crate) fn argument_in<'a>(row: &Row, wanted: Role, args: &'a [Argument]) -> 
 pub(crate) fn into_argument(row: &Row, wanted: Role, args: Vec<Argument>) -> Option<Argument>
     ensures { option_map argument_of result ≡ in_role wanted (labels_in row.now args.items) (map argument_of args.items) }
 {
-    let mut expected = row_expected::<AsParts>(row, &args);
+    let mut expected = row_expected::<AsParts>(row, None, &args);
     for argument in args {
-        let shape = shape_of::<AsParts>(row.tags, &argument);
+        let shape = shape_of::<AsParts>(None, row.tags, &argument);
         if has_role(wanted, role_of(expected.label(shape))) {
             return Some(argument);
         }
@@ -62,11 +62,11 @@ pub(crate) fn into_arguments(
     ensures wanted { option_map argument_of result.0 ≡ in_role wanted (labels_in row.now args.items) (map argument_of args.items) }
     ensures other { option_map argument_of result.1 ≡ in_role other (labels_in row.now args.items) (map argument_of args.items) }
 {
-    let mut expected = row_expected::<AsParts>(row, &args);
+    let mut expected = row_expected::<AsParts>(row, None, &args);
     let mut in_wanted = None;
     let mut in_other = None;
     for argument in args {
-        let shape = shape_of::<AsParts>(row.tags, &argument);
+        let shape = shape_of::<AsParts>(None, row.tags, &argument);
         let role = role_of(expected.label(shape));
         expected = expected.behind(shape);
         if has_role(wanted, role) {

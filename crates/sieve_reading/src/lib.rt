@@ -15,13 +15,13 @@ mod test_reading;
 
 pub use command_reading::read_command;
 pub use given::literal_in_parts;
-pub use label::{Expected, Label, Shape};
+pub use label::Label;
 pub use reading::{
     Ask, CommandReading, Comparison, FlagChange, Leaf, MatchType, Settings, TestReading,
     ValueSource,
 };
 pub use role::role_of;
-pub use shape::{AsOctets, AsParts, RowLabels, StringView, row_expected, row_labels, shape_of};
+pub use shape::{AsOctets, AsParts, RowLabels, StringView, known_labels};
 pub use sieve_base::Place;
 pub use sieve_syntax::{Argument, Command, CommandName, Test, TestName, Tests, Text};
 pub use sieve_table::{CommandKind, TestKind};

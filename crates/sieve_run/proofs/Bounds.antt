@@ -11,14 +11,13 @@ use Rattle.sieve_reading.specs.declared.reading.FlagChange.{FlagChange}
 use Rattle.sieve_reading.specs.Script.{script_of}
 use Rattle.sieve_reading.specs.Tree.{Node}
 use Rattle.sieve_code.specs.Walk.{Walk, at_end, by_stop, by_return, cut_off, asked, acted, tree_walk}
-use Rattle.sieve_effects.specs.Delivery.{Delivery, inside}
+use Rattle.sieve_effects.specs.Delivery.{Arrival, Delivery, inside}
 use Rattle.sieve_run.specs.Library.{Lookup, missing, invalid, present, found_at}
 use Rattle.sieve_effects.specs.Matching.{behind_test, truth_of}
 use Rattle.sieve_run.specs.Perform.{perform}
 use Rattle.sieve_effects.specs.Act.{deed_of, store_deed, Ending, goes_on, returned, stopped, failed, performed, one_too_many, same_action, joined_with, changes, ends_with, gives, performs, fails_at, is_mailbox, only_address, redirects, held_flags, changed_flags, flags_named, state_behind}
 use Rattle.sieve_run.specs.Run.{entering, included, include_of, includes, is_running, is_script, is_there, looked_up, act_of, and_then, answer_of, begun, chosen, delivery_to, exec, resumed, run_of, running, verdict_at, verdict_of, outcome_of, with_found_script, with_read}
 use Rattle.sieve_effects.specs.State.{RunState}
-use Rattle.sieve_effects.specs.declared.envelope.Envelope.{Envelope}
 use Rattle.sieve_effects.specs.declared.flow.Flow.{Flow}
 use Rattle.sieve_effects.specs.declared.flow.Flow.TheVariants as flow
 use Rattle.sieve_base.specs.declared.name.ScriptName.{ScriptName}
@@ -136,7 +135,7 @@ module _ (Holds : RunState → Type 0) (kept : IsKept Holds) where
   module _ (find : ScriptName → Lookup) where
     acts_hold : (depth : ℕ) (delivery : Delivery) → ((name : ScriptName) (once optional : Bool) (line : ℕ) (s : RunState) → Holds s → Ends (included find depth delivery name once optional line s))
         → (leaf : Leaf) (line : ℕ) (s : RunState) → Holds s → Ends (act_of find depth delivery leaf line s)
-    acts_hold depth delivery inner (keep_leaf settings) line s h = kept.acts delivery line (store_deed s delivery.envelope.mailbox settings) s h
+    acts_hold depth delivery inner (keep_leaf settings) line s h = kept.acts delivery line (store_deed s delivery.arrival.envelope.mailbox settings) s h
     acts_hold depth delivery inner (fileinto_leaf mailbox settings) line s h = filed delivery line (store_deed s (text_value s.values mailbox) settings) s h (is_mailbox (text_value s.values mailbox))
     acts_hold depth delivery inner (redirect_leaf address settings) line s h = redirected delivery line (only_address (addresses_of (text_value s.values address))) settings s h
     acts_hold depth delivery inner discard_leaf line s h = kept.acts delivery line (deed_of Discard plain_settings) s h
@@ -205,16 +204,16 @@ verdict_bounded (returned s) bound = bound
 verdict_bounded (stopped s) bound = bound
 verdict_bounded (failed error s) bound = omega arith
 
-found_bounded : (find : ScriptName → Lookup) (envelope : Envelope) (message : List ℕ) (main : ScriptName) (lookup : Lookup) → length (verdict_at find envelope message main lookup).actions ≤ action_limit
-found_bounded find envelope message main missing = omega arith
-found_bounded find envelope message main invalid = omega arith
-found_bounded find envelope message main (present tree) =
-    verdict_bounded (run_of find envelope message main tree) (running_holds IsBounded bounded find include_depth (delivery_to envelope message main) tree (begun main) (omega arith))
+found_bounded : (find : ScriptName → Lookup) (arrival : Arrival) (main : ScriptName) (lookup : Lookup) → length (verdict_at find arrival main lookup).actions ≤ action_limit
+found_bounded find arrival main missing = omega arith
+found_bounded find arrival main invalid = omega arith
+found_bounded find arrival main (present tree) =
+    verdict_bounded (run_of find arrival main tree) (running_holds IsBounded bounded find include_depth (delivery_to arrival main) tree (begun main) (omega arith))
 
-pub outcome_bounded : (find : ScriptName → Lookup) (main : Option ScriptName) (envelope : Envelope) (message : List ℕ) → length (outcome_of find main envelope message).actions ≤ action_limit
+pub outcome_bounded : (find : ScriptName → Lookup) (main : Option ScriptName) (arrival : Arrival) → length (outcome_of find main arrival).actions ≤ action_limit
 unfolding outcome_of
-outcome_bounded find None envelope message = omega arith
-outcome_bounded find (Some main) envelope message = found_bounded find envelope message main (found_at find main)
+outcome_bounded find None arrival = omega arith
+outcome_bounded find (Some main) arrival = found_bounded find arrival main (found_at find main)
 
 -- INCLUDES
 
@@ -240,8 +239,8 @@ short = record {
 }
 
 -- a run enters the main script and so many others at most
-pub run_short : (find : ScriptName → Lookup) (envelope : Envelope) (message : List ℕ) (main : ScriptName) (tree : List Node) → length (state_behind (run_of find envelope message main tree)).entered ≤ suc include_limit
-run_short find envelope message main tree = running_holds IsShort short find include_depth (delivery_to envelope message main) tree (begun main) (omega arith)
+pub run_short : (find : ScriptName → Lookup) (arrival : Arrival) (main : ScriptName) (tree : List Node) → length (state_behind (run_of find arrival main tree)).entered ≤ suc include_limit
+run_short find arrival main tree = running_holds IsShort short find include_depth (delivery_to arrival main) tree (begun main) (omega arith)
 
 -- the scripts that were entered begin with these
 abbrev Keeps : List ScriptName → RunState → Type 0

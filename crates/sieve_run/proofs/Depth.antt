@@ -6,18 +6,17 @@ use Rattle.std.specs.Prelude.{if◌then◌else◌}
 use Rattle.sieve_base.specs.Limits.{include_depth}
 use Rattle.sieve_reading.specs.Script.{script_of}
 use Rattle.sieve_reading.specs.Tree.{Node}
-use Rattle.sieve_effects.specs.Delivery.{Delivery, inside}
+use Rattle.sieve_effects.specs.Delivery.{Arrival, Delivery, inside}
 use Rattle.sieve_run.specs.Depth.{IsDeepest, depth_left, entered_within, watched, watched_include, watched_run}
 use Rattle.sieve_run.specs.Library.{Lookup}
 use Rattle.sieve_effects.specs.Act.{Ending, goes_on, act_by, state_behind}
 use Rattle.sieve_run.specs.Run.{answer_of, begun, delivery_to, exec, include_of, included, is_running, is_script, run_of, running}
 use Rattle.sieve_effects.specs.State.{RunState}
-use Rattle.sieve_effects.specs.declared.envelope.Envelope.{Envelope}
 use Rattle.sieve_base.specs.declared.name.ScriptName.{ScriptName}
 
 -- the main script has all depth left
-pub main_first : (find : ScriptName → Lookup) (envelope : Envelope) (message : List ℕ) (main : ScriptName) (tree : List Node) → run_of find envelope message main tree ≡ running find (depth_left (delivery_to envelope message main)) (delivery_to envelope message main) tree (begun main)
-main_first find envelope message main tree = refl
+pub main_first : (find : ScriptName → Lookup) (arrival : Arrival) (main : ScriptName) (tree : List Node) → run_of find arrival main tree ≡ running find (depth_left (delivery_to arrival main)) (delivery_to arrival main) tree (begun main)
+main_first find arrival main tree = refl
 
 -- with one more script that includes the running one, one level less is left; where as many include it as may, none is left
 one_less : (n m : ℕ) → m ≡ n + 1 → nat_lt n include_depth ≡ true → include_depth - n ≡ suc (include_depth - m)
@@ -92,7 +91,7 @@ module _ (beyond : Delivery → List Node → RunState → Ending) (find : Scrip
       room_in script = omega (arith, length_push delivery.including delivery.script)
 
   -- no run comes to a script that is too deep
-  pub never_beyond : (envelope : Envelope) (message : List ℕ) (main : ScriptName) (tree : List Node) → watched_run beyond find envelope message main tree ≡ run_of find envelope message main tree
-  never_beyond envelope message main tree =
-      let delivery = delivery_to envelope message main in
+  pub never_beyond : (arrival : Arrival) (main : ScriptName) (tree : List Node) → watched_run beyond find arrival main tree ≡ run_of find arrival main tree
+  never_beyond arrival main tree =
+      let delivery = delivery_to arrival main in
       script_alike include_depth delivery tree (begun main) (omega arith) (include_alike include_depth delivery (omega arith))

@@ -6,12 +6,11 @@ use Rattle.std.specs.Cmp.Lexicographic.{nat_list_eq_equiv}
 use Rattle.std.specs.List.{AllByRecursion, IsDistinct, list_any}
 use Rattle.std.specs.Prelude.{if◌then◌else◌}
 use Rattle.sieve_base.specs.Limits.{action_limit, include_depth}
-use Rattle.sieve_effects.specs.Delivery.{Delivery}
+use Rattle.sieve_effects.specs.Delivery.{Arrival, Delivery}
 use Rattle.sieve_effects.specs.State.{RunState}
 use Rattle.sieve_effects.specs.declared.action.Action.{Action}
 use Rattle.sieve_effects.specs.declared.action.Action.TheVariants.{Store, Redirect, Discard}
 use Rattle.sieve_effects.specs.declared.action.Deed.{Deed}
-use Rattle.sieve_effects.specs.declared.envelope.Envelope.{Envelope}
 use Rattle.sieve_base.specs.declared.name.ScriptName.{ScriptName}
 use Rattle.sieve_effects.specs.Act.{Ending, goes_on, returned, stopped, failed, performed, one_too_many, ends_with, joined_with, same_action, state_behind, with_flags_of}
 use Rattle.sieve_run.specs.Distinct.{AreDistinct}
@@ -118,14 +117,14 @@ verdict_distinct (returned s) distinct = distinct
 verdict_distinct (stopped s) distinct = distinct
 verdict_distinct (failed error s) distinct = none_distinct
 
-found_distinct : (find : ScriptName → Lookup) (envelope : Envelope) (message : List ℕ) (main : ScriptName) (lookup : Lookup) → AreDistinct (verdict_at find envelope message main lookup).actions
-found_distinct find envelope message main missing = none_distinct
-found_distinct find envelope message main invalid = none_distinct
-found_distinct find envelope message main (present tree) =
-    verdict_distinct (run_of find envelope message main tree) (running_holds ActsApart apart find include_depth (delivery_to envelope message main) tree (begun main) none_distinct)
+found_distinct : (find : ScriptName → Lookup) (arrival : Arrival) (main : ScriptName) (lookup : Lookup) → AreDistinct (verdict_at find arrival main lookup).actions
+found_distinct find arrival main missing = none_distinct
+found_distinct find arrival main invalid = none_distinct
+found_distinct find arrival main (present tree) =
+    verdict_distinct (run_of find arrival main tree) (running_holds ActsApart apart find include_depth (delivery_to arrival main) tree (begun main) none_distinct)
 
 -- the actions of a verdict are distinct
-pub outcome_distinct : (find : ScriptName → Lookup) (main : Option ScriptName) (envelope : Envelope) (message : List ℕ) → AreDistinct (outcome_of find main envelope message).actions
+pub outcome_distinct : (find : ScriptName → Lookup) (main : Option ScriptName) (arrival : Arrival) → AreDistinct (outcome_of find main arrival).actions
 unfolding outcome_of
-outcome_distinct find None envelope message = none_distinct
-outcome_distinct find (Some main) envelope message = found_distinct find envelope message main (found_at find main)
+outcome_distinct find None arrival = none_distinct
+outcome_distinct find (Some main) arrival = found_distinct find arrival main (found_at find main)

@@ -13,14 +13,13 @@ use Rattle.sieve_reading.specs.Reading.{Settings, plain_settings, Leaf, keep_lea
 use Rattle.sieve_reading.specs.declared.reading.FlagChange.{FlagChange}
 use Rattle.sieve_reading.specs.Script.{Condition, Commands, no_commands, stops, returns, acts, chooses, script_of}
 use Rattle.sieve_reading.specs.Tree.{Node}
-use Rattle.sieve_effects.specs.Delivery.{Delivery, inside}
+use Rattle.sieve_effects.specs.Delivery.{Arrival, Delivery, inside}
 use Rattle.sieve_run.specs.Frame.{Agree, Texts, outcome_over}
 use Rattle.sieve_run.specs.Library.{Lookup, found_at, invalid, library_of, lookup_of, missing, present}
 use Rattle.sieve_base.specs.Name.{name_eq, place_eq}
 use Rattle.sieve_effects.specs.Act.{deed_of, store_deed, Ending, goes_on, returned, stopped, failed, performed, one_too_many, same_action, joined_with, changes, changed_flags, ends_with, flags_named, held_flags, performs, fails_at, is_mailbox, only_address, redirects, act_by, state_behind}
 use Rattle.sieve_run.specs.Run.{entering, included, include_of, includes, is_read, is_running, is_script, is_there, looked_up, act_of, and_then, answer_of, begun, chosen, decide, delivery_to, exec, resumed, run_of, running, verdict_at, verdict_of, outcome_of, with_found_script, with_read}
 use Rattle.sieve_effects.specs.State.{RunState}
-use Rattle.sieve_effects.specs.declared.envelope.Envelope.{Envelope}
 use Rattle.sieve_base.specs.declared.name.ScriptName.{ScriptName}
 use Rattle.sieve_effects.specs.declared.action.Deed.{Deed}
 use Rattle.sieve_effects.specs.declared.action.Action.TheVariants.{Redirect, Discard}
@@ -279,7 +278,7 @@ module _ (find other : ScriptName → Lookup) where
 
   acts_frames : (delivery : Delivery) (include include' : ScriptName → (once optional : Bool) → ℕ → RunState → Ending) → ((name : ScriptName) (once optional : Bool) (line : ℕ) → Frames (include name once optional line) (include' name once optional line))
       → (leaf : Leaf) (line : ℕ) → Frames (act_by include delivery leaf line) (act_by include' delivery leaf line)
-  acts_frames delivery include include' frames (keep_leaf settings) line = own_frames _ (λ s. performs_reads delivery line (store_deed s delivery.envelope.mailbox settings) s)
+  acts_frames delivery include include' frames (keep_leaf settings) line = own_frames _ (λ s. performs_reads delivery line (store_deed s delivery.arrival.envelope.mailbox settings) s)
   acts_frames delivery include include' frames (fileinto_leaf mailbox settings) line = own_frames _ (λ s. filed_reads delivery line (store_deed s (text_value s.values mailbox) settings) s (is_mailbox (text_value s.values mailbox)))
   acts_frames delivery include include' frames (redirect_leaf address settings) line = own_frames _ (λ s. redirected_reads delivery line (only_address (addresses_of (text_value s.values address))) settings s)
   acts_frames delivery include include' frames discard_leaf line = own_frames _ (λ s. performs_reads delivery line (deed_of Discard plain_settings) s)
@@ -311,28 +310,28 @@ module _ (find other : ScriptName → Lookup) where
   verdict_reads (stopped s) = refl
   verdict_reads (failed error s) = refl
 
-  main_read : (envelope : Envelope) (message : List ℕ) (main : ScriptName) (lookup : Lookup) → is_read main (verdict_at find envelope message main lookup).reads ≡ true
-  main_read envelope message main missing = or_first (name_eq main main) false (same_name main)
-  main_read envelope message main invalid = or_first (name_eq main main) false (same_name main)
-  main_read envelope message main (present tree) =
-      subst (λ reads. is_read main reads ≡ true) (sym (verdict_reads (run_of find envelope message main tree)))
-      ((running_frames include_depth (delivery_to envelope message main) tree).grows (begun main) main (or_first (name_eq main main) false (same_name main)))
+  main_read : (arrival : Arrival) (main : ScriptName) (lookup : Lookup) → is_read main (verdict_at find arrival main lookup).reads ≡ true
+  main_read arrival main missing = or_first (name_eq main main) false (same_name main)
+  main_read arrival main invalid = or_first (name_eq main main) false (same_name main)
+  main_read arrival main (present tree) =
+      subst (λ reads. is_read main reads ≡ true) (sym (verdict_reads (run_of find arrival main tree)))
+      ((running_frames include_depth (delivery_to arrival main) tree).grows (begun main) main (or_first (name_eq main main) false (same_name main)))
 
-  verdict_same : (envelope : Envelope) (message : List ℕ) (main : ScriptName) (lookup : Lookup) → AgreeOn (verdict_at find envelope message main lookup).reads → verdict_at other envelope message main lookup ≡ verdict_at find envelope message main lookup
-  verdict_same envelope message main missing agree = refl
-  verdict_same envelope message main invalid agree = refl
-  verdict_same envelope message main (present tree) agree =
-      ap verdict_of ((running_frames include_depth (delivery_to envelope message main) tree).same (begun main)
-      (λ name r. agree name (subst (λ reads. is_read name reads ≡ true) (sym (verdict_reads (run_of find envelope message main tree))) r)))
+  verdict_same : (arrival : Arrival) (main : ScriptName) (lookup : Lookup) → AgreeOn (verdict_at find arrival main lookup).reads → verdict_at other arrival main lookup ≡ verdict_at find arrival main lookup
+  verdict_same arrival main missing agree = refl
+  verdict_same arrival main invalid agree = refl
+  verdict_same arrival main (present tree) agree =
+      ap verdict_of ((running_frames include_depth (delivery_to arrival main) tree).same (begun main)
+      (λ name r. agree name (subst (λ reads. is_read name reads ≡ true) (sym (verdict_reads (run_of find arrival main tree))) r)))
 
-  outcome_same : (main : Option ScriptName) (envelope : Envelope) (message : List ℕ) → AgreeOn (outcome_of find main envelope message).reads → outcome_of other main envelope message ≡ outcome_of find main envelope message
+  outcome_same : (main : Option ScriptName) (arrival : Arrival) → AgreeOn (outcome_of find main arrival).reads → outcome_of other main arrival ≡ outcome_of find main arrival
   unfolding outcome_of
-  outcome_same None envelope message agree = refl
-  outcome_same (Some main) envelope message agree =
-      ap (λ lookup. verdict_at other envelope message main (if nat_lt name_limit (length main.name) then missing else lookup)) (sym (agree main (main_read envelope message main (found_at find main))))
-      ∙ verdict_same envelope message main (found_at find main) agree
+  outcome_same None arrival agree = refl
+  outcome_same (Some main) arrival agree =
+      ap (λ lookup. verdict_at other arrival main (if nat_lt name_limit (length main.name) then missing else lookup)) (sym (agree main (main_read arrival main (found_at find main))))
+      ∙ verdict_same arrival main (found_at find main) agree
 
 -- the verdict over a library is the verdict over another that has the same at each name that was looked up
-pub frame : (texts others : Texts) (main : Option ScriptName) (envelope : Envelope) (message : List ℕ) → Agree texts others (outcome_over texts main envelope message).reads → outcome_over others main envelope message ≡ outcome_over texts main envelope message
-frame texts others main envelope message agree =
-    outcome_same (library_of texts) (library_of others) main envelope message (λ name r. ap lookup_of (agree name r))
+pub frame : (texts others : Texts) (main : Option ScriptName) (arrival : Arrival) → Agree texts others (outcome_over texts main arrival).reads → outcome_over others main arrival ≡ outcome_over texts main arrival
+frame texts others main arrival agree =
+    outcome_same (library_of arrival.profile texts) (library_of arrival.profile others) main arrival (λ name r. ap (lookup_of arrival.profile) (agree name r))

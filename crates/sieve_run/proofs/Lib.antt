@@ -2,6 +2,7 @@ mod AgreeRows
 mod Bounds
 mod Depth
 mod Distinct
+pub mod Entries
 mod RunRows
 pub mod Unchanged
 pub mod Frame

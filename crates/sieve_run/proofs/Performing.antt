@@ -7,10 +7,9 @@ use Rattle.sieve_code.specs.Walk.{Walk, at_end, by_stop, by_return, cut_off, ask
 use Rattle.sieve_code.specs.Operation.{Operation}
 use Rattle.sieve_base.specs.Limits.{include_depth}
 use Rattle.sieve_code.specs.Compiles.{Compiles}
-use Rattle.sieve_effects.specs.Delivery.{Delivery, inside}
+use Rattle.sieve_effects.specs.Delivery.{Arrival, Delivery, inside}
 use Rattle.sieve_run.specs.Library.{HasCode, Lookup, missing, invalid, present}
 use Rattle.sieve_run.specs.Perform.{answers_after, answers_of, chosen_answers, do_gone, do_met, end_of, perform}
-use Rattle.sieve_effects.specs.declared.envelope.Envelope.{Envelope}
 use Rattle.sieve_base.specs.declared.name.ScriptName.{ScriptName}
 use Rattle.sieve_run.specs.view.Include.{enters}
 use Rattle.sieve_run.specs.view.Step.{doing}
@@ -120,11 +119,11 @@ by_running_code find depth delivery tree ops s has =
     ap (λ w. doing (act_of find depth delivery) delivery w s) has.does ∙ sym (does_walk (answer_of delivery) (act_of find depth delivery) tree s)
 
 -- the verdict of doing the code of the main script is the verdict on that script
-pub by_code : (find : ScriptName → Lookup) (message : List ℕ) (envelope : Envelope) (main : ScriptName) (lookup : Lookup) (ops : List Operation) → HasCode lookup ops
-    → verdict_of (doing (act_of find include_depth (delivery_to envelope message main)) (delivery_to envelope message main) (code_walk ops (length ops)) (begun main)) ≡ verdict_at find envelope message main lookup
-by_code find message envelope main missing ops has = absurd has
-by_code find message envelope main invalid ops has = absurd has
-by_code find message envelope main (present tree) ops has = ap verdict_of (by_running_code find include_depth (delivery_to envelope message main) tree ops (begun main) has)
+pub by_code : (find : ScriptName → Lookup) (arrival : Arrival) (main : ScriptName) (lookup : Lookup) (ops : List Operation) → HasCode lookup ops
+    → verdict_of (doing (act_of find include_depth (delivery_to arrival main)) (delivery_to arrival main) (code_walk ops (length ops)) (begun main)) ≡ verdict_at find arrival main lookup
+by_code find arrival main missing ops has = absurd has
+by_code find arrival main invalid ops has = absurd has
+by_code find arrival main (present tree) ops has = ap verdict_of (by_running_code find include_depth (delivery_to arrival main) tree ops (begun main) has)
 
 -- entering a script by its code is what an include does with the script that is found
 pub by_found_code : (find : ScriptName → Lookup) (depth : ℕ) (delivery : Delivery) (name : ScriptName) (optional : Bool) (line : ℕ) (lookup : Lookup) (ops : List Operation) (s : RunState) → HasCode lookup ops

@@ -1,6 +1,6 @@
 -- Worked rows of what no run of the program shows: runs that are watched, libraries that have scripts of too long names, and what the laws
 -- say of actions.
-use Rattle.std.proofs.Common.{◌≡◌, ℕ, true, false, List, [], ◌∷◌, length, nat_lt, if◌then◌else◌, Some, refl, ap, codes}
+use Rattle.std.proofs.Common.{◌≡◌, true, false, List, [], ◌∷◌, length, nat_lt, if◌then◌else◌, Some, refl, ap, codes}
 use Rattle.std.specs.List.{IsDistinct}
 use Rattle.sieve_reading.specs.Script.{chain_of, chain_with, block_commands, conditions_in}
 use Rattle.sieve_table.specs.Table.{command_named}
@@ -10,9 +10,10 @@ use Rattle.sieve_base.specs.declared.place.Place.TheVariants.{Personal}
 use Rattle.sieve_base.specs.Limits.{name_limit}
 use Rattle.sieve_base.specs.Name.{name_eq}
 use Rattle.sieve_effects.specs.Act.{Ending, goes_on}
-use Rattle.sieve_effects.specs.Delivery.{Delivery, inside}
+use Rattle.sieve_effects.specs.Delivery.{Arrival, Delivery, inside}
 use Rattle.sieve_effects.specs.State.{RunState}
 use Rattle.sieve_effects.specs.declared.envelope.Envelope.{Envelope}
+use Rattle.sieve_profile.specs.Profile.{empty_profile}
 use Rattle.sieve_effects.specs.declared.action.Action.TheVariants.{Store, Discard}
 use Rattle.sieve_effects.specs.declared.error.ErrorKind.TheVariants.{MissingScript}
 use Rattle.sieve_base.specs.declared.name.ScriptName.{ScriptName}
@@ -45,7 +46,7 @@ entered_a = record { actions = []; cancelled = false; reads = (main, true) ∷ (
 
 -- a delivery in a script that these scripts include
 abbrev under : List ScriptName → Delivery
-under including = record { message = []; envelope = envelope; script = main; including = including }
+under including = record { arrival = record { message = []; envelope = envelope; profile = empty_profile }; script = main; including = including }
 
 abbrev nine : List ScriptName
 nine = script_b ∷ script_b ∷ script_b ∷ script_b ∷ script_b ∷ script_b ∷ script_b ∷ script_b ∷ script_b ∷ []
@@ -65,10 +66,10 @@ beyond_row beyond = refl
 long_include_row : (find : ScriptName → Lookup) (name : ScriptName) → length name.name ≡ 1025 → found_at find name ≡ missing
 long_include_row find name is = ap (λ n. if nat_lt name_limit n then missing else find name) is
 
-long_name_row : (find : ScriptName → Lookup) (name : ScriptName) (message : List ℕ) → length name.name ≡ 1025 → outcome_of find (Some name) envelope message
+long_name_row : (find : ScriptName → Lookup) (name : ScriptName) (arrival : Arrival) → length name.name ≡ 1025 → outcome_of find (Some name) arrival
     ≡ record { actions = []; implicit = Some []; error = Some (record { script = name; line = 0; kind = MissingScript }); reads = (name, false) ∷ [] }
 unfolding outcome_of
-long_name_row find name message is = ap (λ n. verdict_at find envelope message name (if nat_lt name_limit n then missing else find name)) is
+long_name_row find name arrival is = ap (λ n. verdict_at find arrival name (if nat_lt name_limit n then missing else find name)) is
 
 -- DISTINCT ACTIONS
 

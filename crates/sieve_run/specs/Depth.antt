@@ -3,12 +3,11 @@ use Rattle.std.specs.Prelude.{ℕ, zero, suc, ◌-◌, ◌≤◌, Bool, List, le
 use Rattle.sieve_base.specs.Limits.{include_depth}
 use Rattle.sieve_reading.specs.Script.{script_of}
 use Rattle.sieve_reading.specs.Tree.{Node}
-use Rattle.sieve_effects.specs.Delivery.{Delivery, inside}
+use Rattle.sieve_effects.specs.Delivery.{Arrival, Delivery, inside}
 use Rattle.sieve_run.specs.Library.{Lookup}
 use Rattle.sieve_effects.specs.Act.{Ending, act_by}
 use Rattle.sieve_run.specs.Run.{answer_of, begun, delivery_to, exec, include_of, running}
 use Rattle.sieve_effects.specs.State.{RunState}
-use Rattle.sieve_effects.specs.declared.envelope.Envelope.{Envelope}
 use Rattle.sieve_base.specs.declared.name.ScriptName.{ScriptName}
 
 -- how many scripts may still include one another below the running one: one less for each that includes it
@@ -39,5 +38,5 @@ watched_include beyond find (suc depth) delivery name once optional line state =
     include_of find delivery (Some (λ script tree. watched beyond (watched_include beyond find depth (inside script delivery)) (inside script delivery) tree)) name once optional line state
 
 -- what the main script does, watched with all the scripts below it
-abbrev pub watched_run : (beyond : Delivery → List Node → RunState → Ending) → (ScriptName → Lookup) → Envelope → List ℕ → ScriptName → List Node → Ending
-watched_run beyond find envelope message main tree = watched beyond (watched_include beyond find include_depth (delivery_to envelope message main)) (delivery_to envelope message main) tree (begun main)
+abbrev pub watched_run : (beyond : Delivery → List Node → RunState → Ending) → (ScriptName → Lookup) → Arrival → ScriptName → List Node → Ending
+watched_run beyond find arrival main tree = watched beyond (watched_include beyond find include_depth (delivery_to arrival main)) (delivery_to arrival main) tree (begun main)

@@ -1,12 +1,13 @@
--- What a verdict depends on: of a library, the texts at the names that it looked up, and that there are none at those that were missing.
+-- What a verdict depends on: of a library of a profile, the texts at the names that it looked up, and that there are none at those that were
+-- missing.
 use Rattle.std.specs.Prelude.{◌≡◌, ℕ, Bool, true, List, Option}
+use Rattle.sieve_effects.specs.Delivery.{Arrival}
 use Rattle.sieve_run.specs.Library.{library_of}
 use Rattle.sieve_run.specs.Run.{is_read, outcome_of}
 use Rattle.sieve_run.specs.Verdict.{Verdict}
-use Rattle.sieve_effects.specs.declared.envelope.Envelope.{Envelope}
 use Rattle.sieve_base.specs.declared.name.ScriptName.{ScriptName}
 
--- a library: the text at each name, or none
+-- the texts of a library: at each name one, or none
 abbrev pub Texts : Type 0
 Texts = ScriptName → Option (List ℕ)
 
@@ -14,6 +15,6 @@ Texts = ScriptName → Option (List ℕ)
 abbrev pub Agree : (texts others : Texts) → List (ScriptName × Bool) → Type 0
 Agree texts others reads = (name : ScriptName) → is_read name reads ≡ true → texts name ≡ others name
 
--- the verdict over a library
-abbrev pub outcome_over : Texts → Option ScriptName → Envelope → List ℕ → Verdict
-outcome_over texts main envelope message = outcome_of (library_of texts) main envelope message
+-- the verdict over a library of the profile that the message is judged by
+abbrev pub outcome_over : Texts → Option ScriptName → Arrival → Verdict
+outcome_over texts main arrival = outcome_of (library_of arrival.profile texts) main arrival

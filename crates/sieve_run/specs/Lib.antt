@@ -6,6 +6,7 @@ pub mod Lines
 pub mod Meter
 pub mod Perform
 pub mod Run
+pub mod Script
 pub mod Shelf
 pub mod Verdict
 pub mod view

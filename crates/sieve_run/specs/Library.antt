@@ -1,6 +1,7 @@
--- What a library has at a name, by the text there.
+-- What a library has at a name, by its profile and the text there.
 use Rattle.std.specs.Prelude.{ℕ, List, length, Option, None, Some, if◌then◌else◌, nat_lt}
 use Rattle.sieve_base.specs.Limits.{text_limit, name_limit}
+use Rattle.sieve_profile.specs.Profile.{Profile}
 use Rattle.sieve_check.specs.Judgement.{Judgement, judgement_of, sound, faulty}
 use Rattle.sieve_reading.specs.Tree.{Node}
 use Rattle.sieve_code.specs.Compiles.{Compiles}
@@ -24,14 +25,14 @@ abbrev pub lookup_of_judgement : Judgement → Lookup
 lookup_of_judgement (sound tree) = present tree
 lookup_of_judgement (faulty line kind) = invalid
 
--- what there is where this text is, or none; a text past the limit counts as faulty
-abbrev pub lookup_of : Option (List ℕ) → Lookup
-lookup_of None = missing
-lookup_of (Some text) = if nat_lt text_limit (length text) then invalid else lookup_of_judgement (judgement_of text)
+-- what there is under a profile where this text is, or none; a text past the limit counts as faulty
+abbrev pub lookup_of : Profile → Option (List ℕ) → Lookup
+lookup_of profile None = missing
+lookup_of profile (Some text) = if nat_lt text_limit (length text) then invalid else lookup_of_judgement (judgement_of profile text)
 
--- what a library has at each name, by the texts there
-abbrev pub library_of : (ScriptName → Option (List ℕ)) → ScriptName → Lookup
-library_of texts = λ name. lookup_of (texts name)
+-- what a library of a profile has at each name, by the texts there
+abbrev pub library_of : Profile → (ScriptName → Option (List ℕ)) → ScriptName → Lookup
+library_of profile texts = λ name. lookup_of profile (texts name)
 
 -- what a run finds: a name past the limit is missing, whatever a library has there
 abbrev pub found_at : (ScriptName → Lookup) → ScriptName → Lookup

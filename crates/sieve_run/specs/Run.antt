@@ -6,10 +6,9 @@ use Rattle.sieve_reading.specs.Reading.{Ask, Leaf}
 use Rattle.sieve_reading.specs.Script.{Condition, always, never, asks, negated, both, either, Commands, no_commands, stops, returns, acts, chooses, script_of}
 use Rattle.sieve_reading.specs.Tree.{Node}
 use Rattle.sieve_base.specs.declared.name.ScriptName.{ScriptName}
-use Rattle.sieve_effects.specs.declared.envelope.Envelope.{Envelope}
 use Rattle.sieve_effects.specs.Act.{Ending, goes_on, returned, stopped, failed, fails_at, act_by}
 use Rattle.sieve_effects.specs.declared.error.ErrorKind.TheVariants.{MissingScript, InvalidScript, RecursiveInclude, IncludeDepth, IncludeCount}
-use Rattle.sieve_effects.specs.Delivery.{Delivery, inside}
+use Rattle.sieve_effects.specs.Delivery.{Arrival, Delivery, inside}
 use Rattle.sieve_effects.specs.Matching.{behind_test, truth_of}
 use Rattle.sieve_run.specs.Library.{Lookup, missing, invalid, present, found_at}
 use Rattle.sieve_base.specs.Name.{name_eq}
@@ -175,20 +174,20 @@ abbrev pub begun : ScriptName → RunState
 begun main = record { actions = []; cancelled = false; reads = (main, true) ∷ []; entered = main ∷ []; values = no_values; flags = [] }
 
 -- the delivery as the main script knows it
-abbrev pub delivery_to : Envelope → List ℕ → ScriptName → Delivery
-delivery_to envelope message main = record { message = message; envelope = envelope; script = main; including = [] }
+abbrev pub delivery_to : Arrival → ScriptName → Delivery
+delivery_to arrival main = record { arrival = arrival; script = main; including = [] }
 
 -- what the main script does
-abbrev pub run_of : (ScriptName → Lookup) → Envelope → List ℕ → ScriptName → List Node → Ending
-run_of find envelope message main tree = running find include_depth (delivery_to envelope message main) tree (begun main)
+abbrev pub run_of : (ScriptName → Lookup) → Arrival → ScriptName → List Node → Ending
+run_of find arrival main tree = running find include_depth (delivery_to arrival main) tree (begun main)
 
 -- the verdict where the main script is this
-abbrev pub verdict_at : (ScriptName → Lookup) → Envelope → List ℕ → ScriptName → Lookup → Verdict
-verdict_at find envelope message main missing = record { actions = []; implicit = Some []; error = Some (record { script = main; line = 0; kind = MissingScript }); reads = (main, false) ∷ [] }
-verdict_at find envelope message main invalid = record { actions = []; implicit = Some []; error = Some (record { script = main; line = 0; kind = InvalidScript }); reads = (main, true) ∷ [] }
-verdict_at find envelope message main (present tree) = verdict_of (run_of find envelope message main tree)
+abbrev pub verdict_at : (ScriptName → Lookup) → Arrival → ScriptName → Lookup → Verdict
+verdict_at find arrival main missing = record { actions = []; implicit = Some []; error = Some (record { script = main; line = 0; kind = MissingScript }); reads = (main, false) ∷ [] }
+verdict_at find arrival main invalid = record { actions = []; implicit = Some []; error = Some (record { script = main; line = 0; kind = InvalidScript }); reads = (main, true) ∷ [] }
+verdict_at find arrival main (present tree) = verdict_of (run_of find arrival main tree)
 
 -- the verdict on a message, and the names that it looked up, over a library
-unfoldable pub outcome_of : (ScriptName → Lookup) → Option ScriptName → Envelope → List ℕ → Verdict
-outcome_of find None envelope message = record { actions = []; implicit = Some []; error = None; reads = [] }
-outcome_of find (Some main) envelope message = verdict_at find envelope message main (found_at find main)
+unfoldable pub outcome_of : (ScriptName → Lookup) → Option ScriptName → Arrival → Verdict
+outcome_of find None arrival = record { actions = []; implicit = Some []; error = None; reads = [] }
+outcome_of find (Some main) arrival = verdict_at find arrival main (found_at find main)

@@ -1,9 +1,15 @@
--- A list of scripts, each with its text.
+-- A list of scripts, each with its text, and the profile of them all.
 use Rattle.std.specs.Prelude.{ℕ, List, Option}
 use Rattle.std.specs.Map.{lookup}
 use Rattle.indexmap.specs.IndexMap as ordered
 use Rattle.sieve_base.specs.Name.{name_eq}
 use Rattle.sieve_base.specs.declared.name.ScriptName.{ScriptName}
+use Rattle.sieve_profile.specs.Profile.{Profile}
+
+pub record ShelfState : Type 0 where
+  pub profile : Profile
+  -- the names with their texts
+  pub scripts : List (ScriptName × List ℕ)
 
 -- the text of the script of that name
 abbrev pub text_on : List (ScriptName × List ℕ) → ScriptName → Option (List ℕ)

@@ -17,7 +17,7 @@ use std::alloc::{AllocError, Global};
 
 /// What an `include` of a name finds in a library: a name of more than 1,024 octets is that of no script. Takes no memory.
 pub fn find<'a, L: Library>(lib: &'a L, name: &ScriptName) -> Found<'a>
-    ensures { FoundAs result (found_at (library_of (L.texts lib.now)) name.now) }
+    ensures { FoundAs result (found_at (library_of (L.profile lib.now) (L.texts lib.now)) name.now) }
 {
     if name.name.as_slice().len() > MAX_NAME {
         Found::Missing

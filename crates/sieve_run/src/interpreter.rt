@@ -7,6 +7,7 @@ ghost use Rattle.sieve_run.specs.Run.{act_of, begun, delivery_to, outcome_of, ve
 ghost use Rattle.sieve_code.specs.Walk.{code_walk};
 ghost use Rattle.sieve_code.specs.view.Code.{ops_of};
 ghost use Rattle.sieve_base.specs.Limits.{action_limit, include_depth};
+ghost use Rattle.sieve_effects.specs.view.Delivery.{arrival_as};
 ghost use Rattle.sieve_effects.specs.view.Flow.{ending_by};
 ghost use Rattle.sieve_effects.specs.view.State.{state_of};
 ghost use Rattle.sieve_run.specs.view.Step.{doing};
@@ -22,7 +23,9 @@ use message_text::Message;
 use sieve_base::ScriptName;
 use sieve_base::limits::MAX_INCLUDE_DEPTH;
 use sieve_code::Code;
-use sieve_effects::{Actions, Delivery, Envelope, ErrorKind, FieldReads, Flow, RunError, State};
+use sieve_effects::{
+    Actions, Arrival, Delivery, Envelope, ErrorKind, FieldReads, Flow, RunError, State,
+};
 use sieve_variables::Values;
 use std::alloc::{AllocError, Global};
 
@@ -126,17 +129,15 @@ fn run_main<L: Library>(
     lib: &L,
     main: &ScriptName,
     code: &Code,
-    envelope: &Envelope,
-    message: &Message,
+    arrival: &Arrival<'_>,
 ) -> Result<Outcome, AllocError>
-    ensures { IfOk result (λ outcome. outcome ≡ verdict_of (doing (act_of (library_of (L.texts lib.now)) include_depth (delivery_to envelope.now message.now main.now)) (delivery_to envelope.now message.now main.now) (code_walk (ops_of code.now) (length (ops_of code.now))) (begun main.now))) }
+    ensures { IfOk result (λ outcome. outcome ≡ verdict_of (doing (act_of (library_of (L.profile lib.now) (L.texts lib.now)) include_depth (delivery_to (arrival_as arrival.now) main.now)) (delivery_to (arrival_as arrival.now) main.now) (code_walk (ops_of code.now) (length (ops_of code.now))) (begun main.now))) }
 {
     let mut state = begun(alloc, main)?;
-    let mut fields = FieldReads::new(alloc, message);
+    let mut fields = FieldReads::new(alloc, arrival);
     let delivery = Delivery {
         alloc,
-        message,
-        envelope,
+        arrival,
         script: main,
         including: &[],
     };
@@ -162,7 +163,7 @@ fn no_main(alloc: Global) -> Outcome
     }
 }
 
-/// Runs the main script on a message. The meter counts the run, also where memory runs out.
+/// Runs the main script on a message, under the library's profile. The meter counts the run, also where memory runs out.
 #[tactic(auto, using(crate::proofs::Performing::by_code), unfolding(crate::specs::Run::outcome_of))]
 pub fn run<L: Library>(
     alloc: Global,
@@ -173,16 +174,21 @@ pub fn run<L: Library>(
     meter: &mut Meter,
 ) -> Result<Outcome, AllocError>
     ensures outcome { IfOk result (λ outcome. outcome ≡
-        outcome_of (library_of (L.texts lib.now)) (option_copied main.entry) envelope.now message.now) }
+        outcome_of (library_of (L.profile lib.now) (L.texts lib.now)) (option_copied main.entry) (record { message = message.now; envelope = envelope.now; profile = L.profile lib.now })) }
     ensures meter { meter.new ≡ next_run meter.old }
 {
     meter.count();
     let Some(name) = main else {
         return Ok(no_main(alloc));
     };
+    let arrival = Arrival {
+        message,
+        envelope,
+        profile: lib.profile(),
+    };
     match find(lib, name) {
         Found::Missing => failed_at_main(alloc, name, false, ErrorKind::MissingScript),
         Found::Invalid => failed_at_main(alloc, name, true, ErrorKind::InvalidScript),
-        Found::Present(code) => run_main(alloc, lib, name, code, envelope, message),
+        Found::Present(code) => run_main(alloc, lib, name, code, &arrival),
     }
 }

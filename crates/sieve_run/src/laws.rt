@@ -6,12 +6,11 @@ ghost use Rattle.sieve_reading.specs.Script.{Commands, Condition, returns, scrip
 ghost use Rattle.sieve_reading.specs.Tree.{Node};
 ghost use Rattle.sieve_code.specs.Walk.{gone, tree_walk};
 ghost use Rattle.sieve_base.specs.Limits.{action_limit, include_limit};
-ghost use Rattle.sieve_effects.specs.Delivery.{Delivery};
+ghost use Rattle.sieve_effects.specs.Delivery.{Arrival, Delivery};
 ghost use Rattle.sieve_run.specs.Depth.{IsDeepest, depth_left, entered_within, watched_run};
 ghost use Rattle.sieve_run.specs.Distinct.{AreDistinct};
 ghost use Rattle.sieve_run.specs.Frame.{Agree, Texts, outcome_over};
 ghost use Rattle.sieve_run.specs.Library.{Lookup};
-ghost use Rattle.sieve_effects.specs.declared.envelope.Envelope.{Envelope};
 ghost use Rattle.sieve_run.specs.Perform.{answers_of, do_gone, perform};
 ghost use Rattle.sieve_effects.specs.Act.{Ending, returned, state_behind, stopped};
 ghost use Rattle.sieve_run.specs.Run as spec;
@@ -33,14 +32,14 @@ pub fn return_ends_the_commands()
 
 /// A run enters at most 256 scripts beside the main one. A script that was entered stays among those that were, whatever is done then.
 pub fn a_run_enters_so_many_scripts()
-    ensures many { (find : names.ScriptName → Lookup) (envelope : Envelope) (message : List ℕ) (main : names.ScriptName) (tree : List Node) → length (state_behind (spec.run_of find envelope message main tree)).entered ≤ suc include_limit }
+    ensures many { (find : names.ScriptName → Lookup) (arrival : Arrival) (main : names.ScriptName) (tree : List Node) → length (state_behind (spec.run_of find arrival main tree)).entered ≤ suc include_limit }
     ensures kept { (find : names.ScriptName → Lookup) (depth : ℕ) (delivery : Delivery) (tree : List Node) (state : RunState) → (more : List names.ScriptName) × ((state_behind (spec.running find depth delivery tree state)).entered ≡ state.entered ++ more) }
 {}
 
 /// Scripts include one another 10 deep at most, counted by those that include the running one: the main script runs with none
 /// above it; an include runs its script with one more above it, and enters none where 10 are.
 pub fn scripts_include_one_another_so_deep()
-    ensures main { (find : names.ScriptName → Lookup) (envelope : Envelope) (message : List ℕ) (main : names.ScriptName) (tree : List Node) → spec.run_of find envelope message main tree ≡ spec.running find (depth_left (spec.delivery_to envelope message main)) (spec.delivery_to envelope message main) tree (spec.begun main) }
+    ensures main { (find : names.ScriptName → Lookup) (arrival : Arrival) (main : names.ScriptName) (tree : List Node) → spec.run_of find arrival main tree ≡ spec.running find (depth_left (spec.delivery_to arrival main)) (spec.delivery_to arrival main) tree (spec.begun main) }
     ensures within { (find : names.ScriptName → Lookup) (delivery : Delivery) (name : names.ScriptName) (once optional : Bool) (line : ℕ) (state : RunState) → spec.included find (depth_left delivery) delivery name once optional line state ≡ spec.include_of find delivery (entered_within find delivery) name once optional line state }
     ensures deepest { (find : names.ScriptName → Lookup) (delivery : Delivery) (name : names.ScriptName) (once optional : Bool) (line : ℕ) (state : RunState) → IsDeepest delivery → (state_behind (spec.included find (depth_left delivery) delivery name once optional line state)).entered ≡ state.entered }
 {}
@@ -48,14 +47,14 @@ pub fn scripts_include_one_another_so_deep()
 /// At no moment of a run do more than 10 scripts run below the main one (RFC 6609, section 3.1): whatever is done in place of a
 /// script that more include, the run is the same.
 pub fn no_run_comes_to_a_deeper_script()
-    ensures { (beyond : Delivery → List Node → RunState → Ending) (find : names.ScriptName → Lookup) (envelope : Envelope) (message : List ℕ) (main : names.ScriptName) (tree : List Node) → watched_run beyond find envelope message main tree ≡ spec.run_of find envelope message main tree }
+    ensures { (beyond : Delivery → List Node → RunState → Ending) (find : names.ScriptName → Lookup) (arrival : Arrival) (main : names.ScriptName) (tree : List Node) → watched_run beyond find arrival main tree ≡ spec.run_of find arrival main tree }
 {}
 
-/// The frame: a verdict, with the names that it looked up, is the same over each library that has the same text, or none, at each of
-/// these names.
+/// The frame: a verdict, with the names that it looked up, is the same over each library of the same profile that has the same text,
+/// or none, at each of these names.
 #[tactic(auto, using(crate::proofs::Frame::frame))]
 pub fn a_verdict_depends_on_what_it_looked_up()
-    ensures { (texts others : Texts) (main : Option names.ScriptName) (envelope : Envelope) (message : List ℕ) → Agree texts others (outcome_over texts main envelope message).reads → outcome_over others main envelope message ≡ outcome_over texts main envelope message }
+    ensures { (texts others : Texts) (main : Option names.ScriptName) (arrival : Arrival) → Agree texts others (outcome_over texts main arrival).reads → outcome_over others main arrival ≡ outcome_over texts main arrival }
 {}
 
 /// Tests set match variables at most (RFC 5229, section 3.2): neither the actions of a run nor whether the implicit keep is
@@ -74,15 +73,15 @@ pub fn a_run_does_its_walk()
     ensures met { (ask : Ask → RunState → spec.Answer) (act : Leaf → ℕ → RunState → Ending) (tree : List Node) (state : RunState) → spec.exec ask act (script_of tree) state ≡ do_gone ask act (gone (tree_walk tree) (answers_of ask act (tree_walk tree) state)) state }
 {}
 
-/// Whatever the scripts, the message and the envelope: no verdict has more actions than a run may perform (RFC 5228, section 2.10.4).
+/// Whatever the scripts, the message, the envelope and the profile: no verdict has more actions than a run may perform (RFC 5228, section 2.10.4).
 #[tactic(auto, using(crate::proofs::Bounds::outcome_bounded))]
 pub fn no_run_acts_too_often()
-    ensures { (find : names.ScriptName → Lookup) (main : Option names.ScriptName) (envelope : Envelope) (message : List ℕ) → length (spec.outcome_of find main envelope message).actions ≤ action_limit }
+    ensures { (find : names.ScriptName → Lookup) (main : Option names.ScriptName) (arrival : Arrival) → length (spec.outcome_of find main arrival).actions ≤ action_limit }
 {}
 
 /// No two actions of a verdict are one: it has no two stores into one mailbox, no two redirects to one address, and no two discards
 /// (RFC 5228, section 2.10.3).
 #[tactic(auto, using(crate::proofs::Distinct::outcome_distinct))]
 pub fn no_run_acts_twice_alike()
-    ensures { (find : names.ScriptName → Lookup) (main : Option names.ScriptName) (envelope : Envelope) (message : List ℕ) → AreDistinct (spec.outcome_of find main envelope message).actions }
+    ensures { (find : names.ScriptName → Lookup) (main : Option names.ScriptName) (arrival : Arrival) → AreDistinct (spec.outcome_of find main arrival).actions }
 {}

@@ -1,9 +1,11 @@
 //! Where a run finds scripts.
+ghost use Rattle.sieve_profile.specs.view.Profile.{profile_as};
 ghost use Rattle.sieve_run.specs.Library.{lookup_of};
 ghost use Rattle.sieve_run.specs.view.Found.{FoundAs};
 
 use sieve_base::ScriptName;
 use sieve_code::Code;
+use sieve_profile::Profile;
 
 /// What a library has at a name.
 #[derive(Drop)]
@@ -16,15 +18,23 @@ pub enum Found<'a> {
     Present(&'a Code),
 }
 
-/// Where a run finds scripts by their names.
+/// Where a run finds scripts by their names: what is there is by the texts and the profile.
 pub trait Library {
     ghost use Rattle.std.specs.Prelude.{◌≡◌, ℕ, List, Option};
     ghost use Rattle.sieve_base.specs.declared.name.ScriptName.{ScriptName};
+    ghost use Rattle.sieve_profile.specs.Profile as profiles;
+
+    /// What is known beyond what always is.
+    ghost profile: { Self → profiles.Profile };
 
     /// The text at each name.
     ghost texts: { Self → ScriptName → Option (List ℕ) };
 
+    /// The profile under which scripts are read, checked and run.
+    fn profile(&self) -> Profile
+        ensures { profile_as result ≡ profile self.now };
+
     /// What there is at a name. Takes no memory.
     fn find(&self, name: &ScriptName) -> Found<'_>
-        ensures { FoundAs result (lookup_of (texts self.now name.now)) };
+        ensures { FoundAs result (lookup_of (profile self.now) (texts self.now name.now)) };
 }

@@ -24,8 +24,8 @@ pub(crate) fn ask_compares(
     fields: &mut FieldReads<'_>,
     state: &mut State,
 ) -> Result<Step, AllocError>
-    requires { fields.old ≡ (delivery_as turn.now.delivery.now).message }
-    ensures message { fields.new ≡ fields.old }
+    requires { fields.old ≡ (delivery_as turn.now.delivery.now).arrival }
+    ensures arrival { fields.new ≡ fields.old }
     ensures step { (act : Acts) → IfOk result (λ step. Carries act turn.now (Compares test values keys) (state_of state.old) step (state_of state.new)) }
 {
     let test = turn.code.test(test);

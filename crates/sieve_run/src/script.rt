@@ -1,7 +1,8 @@
-//! A script's text with its code or its first fault.
+//! A script's text with its code or its first fault, under a profile.
 ghost use Rattle.std.specs.Prelude.{◌≡◌, ◌≤◌, IfOk, Some, length};
 ghost use Rattle.sieve_base.specs.Limits.{text_limit};
 ghost use Rattle.sieve_check.specs.Judgement.{fault_of, judgement_of};
+ghost use Rattle.sieve_profile.specs.view.Profile.{profile_as};
 ghost use Rattle.sieve_run.specs.Library.{lookup_of};
 ghost use Rattle.sieve_check.specs.view.Judged.{judged_as};
 ghost use Rattle.sieve_run.specs.view.Compiled.{CompiledFrom};
@@ -11,6 +12,7 @@ use crate::library::Found;
 use sieve_base::Octets;
 use sieve_check::{FaultKind, JudgeFault, Judged, judge};
 use sieve_code::{Code, compile};
+use sieve_profile::Profile;
 use std::alloc::{AllocError, Global};
 use std::marker::Model;
 
@@ -33,34 +35,38 @@ fn without_tree(alloc: Global, judged: Judged) -> Result<Compiled, AllocError>
     }
 }
 
-/// A script's text with its code or its first fault, which are found once. Contracts see the text.
+/// A script's text with its code or its first fault, which are found once, under a profile. Contracts see the profile and the text.
 #[derive(Drop)]
 pub struct Script {
+    profile: Profile,
     text: Octets,
     compiled: Compiled,
 }
 
 impl Model for Script {
-    ghost use Rattle.std.specs.Prelude.{ℕ, List, ◌≡◌, ◌≤◌, length};
+    ghost use Rattle.std.specs.Prelude.{◌≡◌, ◌≤◌, length};
     ghost use Rattle.sieve_base.specs.Limits.{text_limit};
     ghost use Rattle.sieve_check.specs.Judgement.{judgement_of};
+    ghost use Rattle.sieve_profile.specs.view.Profile.{profile_as};
+    ghost use Rattle.sieve_run.specs.Script.{ScriptState};
     ghost use Rattle.sieve_run.specs.view.Compiled.{CompiledFrom};
 
-    ghost Value = { List ℕ };
+    ghost Value = { ScriptState };
 
-    ghost view = { λ a. a.text };
+    ghost view = { λ a. record { profile = profile_as a.profile; text = a.text } };
 
-    ghost invariant = { λ a. CompiledFrom a.compiled (judgement_of a.text) × (length a.text ≤ text_limit) };
+    ghost invariant = { λ a. CompiledFrom a.compiled (judgement_of (profile_as a.profile) a.text) × (length a.text ≤ text_limit) };
 }
 
 impl Script {
-    /// Reads and checks a text, which isn't copied. Refused for memory alone.
-    pub fn new(alloc: Global, text: Octets) -> Result<Script, AllocError>
+    /// Reads and checks a text, which isn't copied, under a profile. Refused for memory alone.
+    pub fn new(alloc: Global, profile: Profile, text: Octets) -> Result<Script, AllocError>
         requires { length text ≤ text_limit }
-        ensures { IfOk result (λ script. script ≡ text) }
+        ensures { IfOk result (λ script. script ≡ record { profile = profile_as profile; text = text }) }
     {
-        match judge(alloc, text.as_slice()) {
+        match judge(alloc, profile, text.as_slice()) {
             Ok(judged) => Ok(Script {
+                profile,
                 text,
                 compiled: without_tree(alloc, judged)?,
             }),
@@ -69,16 +75,16 @@ impl Script {
         }
     }
 
-    /// A copy, which is read and checked again. Refused for memory alone.
+    /// A copy, which is read and checked again under the same profile. Refused for memory alone.
     pub fn copy(&self, alloc: Global) -> Result<Script, AllocError>
         ensures { IfOk result (λ script. script ≡ self.now) }
     {
-        Script::new(alloc, Octets::copied(alloc, self.text())?)
+        Script::new(alloc, self.profile, Octets::copied(alloc, self.text())?)
     }
 
     /// The text.
     pub fn text(&self) -> &[u8]
-        ensures text { result.now ≡ self.now }
+        ensures text { result.now ≡ self.now.text }
         ensures limit { length result.now ≤ text_limit }
     {
         self.text.as_slice()
@@ -86,7 +92,7 @@ impl Script {
 
     /// The line and the kind of the text's first fault.
     pub fn fault(&self) -> Option<(u64, FaultKind)>
-        ensures { result ≡ fault_of (judgement_of self.now) }
+        ensures { result ≡ fault_of (judgement_of self.now.profile self.now.text) }
     {
         match self.compiled {
             Compiled::Sound(_) => None,
@@ -96,7 +102,7 @@ impl Script {
 
     /// What a run finds here.
     pub fn found(&self) -> Found<'_>
-        ensures { FoundAs result (lookup_of (Some self.now)) }
+        ensures { FoundAs result (lookup_of self.now.profile (Some self.now.text)) }
     {
         match &self.compiled {
             Compiled::Sound(code) => Found::Present(code),

@@ -1,7 +1,10 @@
 //! A plain library: scripts by their names.
 ghost use Rattle.std.specs.Prelude.{◌≡◌, ◌<◌, ◌≤◌, IfOk, Some, length};
 ghost use Rattle.sieve_base.specs.Limits.{name_limit};
+ghost use Rattle.sieve_profile.specs.view.Profile.{profile_as};
+ghost use Rattle.sieve_profile.specs.Profile as profiles;
 ghost use Rattle.sieve_run.specs.Library.{lookup_of};
+ghost use Rattle.sieve_run.specs.view.Entry.{IsEntry, entry_text};
 ghost use Rattle.sieve_run.specs.view.Found.{FoundAs};
 
 use crate::library::{Found, Library};
@@ -9,6 +12,7 @@ use crate::script::Script;
 use indexmap::IndexMap;
 use sieve_base::limits::MAX_TEXT;
 use sieve_base::{Octets, ScriptName};
+use sieve_profile::Profile;
 use std::alloc::{AllocError, Global};
 use std::marker::Model;
 
@@ -20,96 +24,85 @@ enum Shelved {
     TooLong(Octets),
 }
 
-/// A text of any length, with its judgement where it isn't too long. Contracts see the text.
-#[derive(Drop)]
-struct Kept {
-    entry: Shelved,
-}
-
-impl Model for Kept {
-    ghost use Rattle.std.specs.Prelude.{ℕ, List};
-    ghost use Rattle.sieve_run.specs.view.Entry.{IsEntry, entry_text};
-
-    ghost Value = { List ℕ };
-
-    ghost view = { λ a. entry_text a.entry };
-
-    ghost invariant = { λ a. IsEntry a.entry };
-}
-
-impl Kept {
-    /// Reads and checks a text.
-    fn new(alloc: Global, text: &[u8]) -> Result<Kept, AllocError>
-        ensures { IfOk result (λ kept. kept ≡ text.now) }
+impl Shelved {
+    /// Reads and checks a text of any length, where it isn't too long.
+    fn new(alloc: Global, profile: Profile, text: &[u8]) -> Result<Shelved, AllocError>
+        ensures entry { IfOk result (λ entry. IsEntry (profile_as profile) entry) }
+        ensures text { IfOk result (λ entry. entry_text entry ≡ text.now) }
     {
         let octets = Octets::copied(alloc, text)?;
-        let entry = if text.len() > MAX_TEXT {
-            Shelved::TooLong(octets)
+        if text.len() > MAX_TEXT {
+            Ok(Shelved::TooLong(octets))
         } else {
-            Shelved::Script(Script::new(alloc, octets)?)
-        };
-        Ok(Kept { entry })
+            Ok(Shelved::Script(Script::new(alloc, profile, octets)?))
+        }
     }
 
     /// What a run finds here.
     fn found(&self) -> Found<'_>
-        ensures { FoundAs result (lookup_of (Some self.now)) }
+        ensures { (profile : profiles.Profile) → IsEntry profile self.now → FoundAs result (lookup_of profile (Some (entry_text self.now))) }
     {
-        match &self.entry {
+        match self {
             Shelved::Script(script) => script.found(),
             Shelved::TooLong(_) => Found::Invalid,
         }
     }
 }
 
-/// Scripts by their names. Contracts see the names, each with its text.
+/// Scripts by their names, all under one profile. Contracts see the profile and the names, each with its text.
 #[derive(Drop)]
 pub struct Shelf {
     alloc: Global,
-    scripts: IndexMap<ScriptName, Kept>,
+    profile: Profile,
+    scripts: IndexMap<ScriptName, Shelved>,
 }
 
 impl Model for Shelf {
-    ghost use Rattle.std.specs.Prelude.{ℕ, List};
-    ghost use Rattle.sieve_base.specs.declared.name.ScriptName.{ScriptName};
+    ghost use Rattle.sieve_profile.specs.view.Profile.{profile_as};
+    ghost use Rattle.sieve_run.specs.Shelf.{ShelfState};
+    ghost use Rattle.sieve_run.specs.view.Entry.{AreEntries, texts_of};
 
-    ghost Value = { List (ScriptName × List ℕ) };
+    ghost Value = { ShelfState };
 
-    ghost view = { λ a. a.scripts.entries };
+    ghost view = { λ a. record { profile = profile_as a.profile; scripts = texts_of a.scripts.entries } };
+
+    ghost invariant = { λ a. AreEntries (profile_as a.profile) a.scripts.entries };
 }
 
 impl Shelf {
     ghost use Rattle.std.specs.Prelude.{[], OnErr, OnOk};
     ghost use Rattle.sieve_run.specs.Shelf.{with_text};
 
-    /// A shelf without scripts. Takes no memory.
-    pub fn new(alloc: Global) -> Shelf
-        ensures { result ≡ [] }
+    /// A shelf of a profile without scripts. Takes no memory.
+    pub fn new(alloc: Global, profile: Profile) -> Shelf
+        ensures { result ≡ record { profile = profile_as profile; scripts = [] } }
     {
         Shelf {
             alloc,
+            profile,
             scripts: IndexMap::new(alloc),
         }
     }
 
-    /// Keeps a text at a name, in place of the one there, which is given back. An error changes nothing.
-    fn replace(&mut self, name: ScriptName, kept: Kept) -> Result<Option<Kept>, AllocError>
-        ensures ok { OnOk result (self.new ≡ with_text name kept self.old) }
+    /// Keeps an entry at a name, in place of the one there, which is given back. An error changes nothing.
+    fn replace(&mut self, name: ScriptName, entry: Shelved) -> Result<Option<Shelved>, AllocError>
+        requires { IsEntry self.old.profile entry }
+        ensures ok { OnOk result (self.new ≡ record self.old { scripts = with_text name (entry_text entry) self.old.scripts }) }
         ensures err { OnErr result (self.new ≡ self.old) }
     {
-        Ok(self.scripts.insert(name, kept)?)
+        Ok(self.scripts.insert(name, entry)?)
     }
 
     /// Puts a text of any length at a name of at most 1,024 octets, in place of the one there. An error, which is a lack
     /// of memory, changes nothing.
     pub fn add(&mut self, name: &ScriptName, text: &[u8]) -> Result<(), AllocError>
         requires { length name.now.name ≤ name_limit }
-        ensures ok { OnOk result (self.new ≡ with_text name.now text.now self.old) }
+        ensures ok { OnOk result (self.new ≡ record self.old { scripts = with_text name.now text.now self.old.scripts }) }
         ensures err { OnErr result (self.new ≡ self.old) }
     {
-        let kept = Kept::new(self.alloc, text)?;
+        let entry = Shelved::new(self.alloc, self.profile, text)?;
         let name = name.copy(self.alloc)?;
-        self.replace(name, kept)?;
+        self.replace(name, entry)?;
         Ok(())
     }
 }
@@ -117,12 +110,18 @@ impl Shelf {
 impl Library for Shelf {
     ghost use Rattle.sieve_run.specs.Shelf.{text_on};
 
-    ghost texts = { text_on };
+    ghost profile = { λ shelf. shelf.profile };
+
+    ghost texts = { λ shelf. text_on shelf.scripts };
+
+    fn profile(&self) -> Profile {
+        self.profile
+    }
 
     fn find(&self, name: &ScriptName) -> Found<'_> {
         match self.scripts.get(name) {
             None => Found::Missing,
-            Some(kept) => kept.found(),
+            Some(entry) => entry.found(),
         }
     }
 }

@@ -47,10 +47,10 @@ pub(crate) fn execute<L: Library>(
     fields: &mut FieldReads<'_>,
     state: &mut State,
 ) -> Result<Flow, AllocError>
-    requires { fields.old ≡ (delivery_as running.now.delivery.now).message }
-    ensures message { fields.new ≡ fields.old }
+    requires { fields.old ≡ (delivery_as running.now.delivery.now).arrival }
+    ensures arrival { fields.new ≡ fields.old }
     ensures ending { IfOk result (λ flow.
-        doing (act_of (library_of (L.texts running.now.lib.now)) running.now.depth (delivery_as running.now.delivery.now)) (delivery_as running.now.delivery.now) (code_walk (ops_of running.now.code.now) (length (ops_of running.now.code.now))) (state_of state.old)
+        doing (act_of (library_of (L.profile running.now.lib.now) (L.texts running.now.lib.now)) running.now.depth (delivery_as running.now.delivery.now)) (delivery_as running.now.delivery.now) (code_walk (ops_of running.now.code.now) (length (ops_of running.now.code.now))) (state_of state.old)
         ≡ ending_by flow (state_of state.new)) }
 {
     let code = running.code;
@@ -92,10 +92,10 @@ fn carry_out<L: Library>(
     fields: &mut FieldReads<'_>,
     state: &mut State,
 ) -> Result<Step, AllocError>
-    requires { fields.old ≡ (delivery_as running.now.delivery.now).message }
-    ensures message { fields.new ≡ fields.old }
+    requires { fields.old ≡ (delivery_as running.now.delivery.now).arrival }
+    ensures arrival { fields.new ≡ fields.old }
     ensures step { IfOk result (λ step.
-        StepsTo (act_of (library_of (L.texts running.now.lib.now)) running.now.depth (delivery_as running.now.delivery.now)) (delivery_as running.now.delivery.now) (op_of running.now.code.now op) behind register (state_of state.old) step (state_of state.new)) }
+        StepsTo (act_of (library_of (L.profile running.now.lib.now) (L.texts running.now.lib.now)) running.now.depth (delivery_as running.now.delivery.now)) (delivery_as running.now.delivery.now) (op_of running.now.code.now op) behind register (state_of state.old) step (state_of state.new)) }
 {
     let code = running.code;
     let turn = &Turn {
@@ -158,9 +158,9 @@ fn include_named<L: Library>(
     fields: &mut FieldReads<'_>,
     state: &mut State,
 ) -> Result<Flow, AllocError>
-    requires { fields.old ≡ (delivery_as running.now.delivery.now).message }
-    ensures message { fields.new ≡ fields.old }
-    ensures ending { IfOk result (λ flow. ending_by flow (state_of state.new) ≡ included (library_of (L.texts running.now.lib.now)) running.now.depth (delivery_as running.now.delivery.now) (record { place = inclusion.place; name = slice_index_or (pool_of running.now.code.now).scripts inclusion.name [] }) inclusion.once inclusion.optional inclusion.line (state_of state.old)) }
+    requires { fields.old ≡ (delivery_as running.now.delivery.now).arrival }
+    ensures arrival { fields.new ≡ fields.old }
+    ensures ending { IfOk result (λ flow. ending_by flow (state_of state.new) ≡ included (library_of (L.profile running.now.lib.now) (L.texts running.now.lib.now)) running.now.depth (delivery_as running.now.delivery.now) (record { place = inclusion.place; name = slice_index_or (pool_of running.now.code.now).scripts inclusion.name [] }) inclusion.once inclusion.optional inclusion.line (state_of state.old)) }
 {
     let name = ScriptName {
         place: inclusion.place,
@@ -178,18 +178,17 @@ fn execute_inside<L: Library>(
     fields: &mut FieldReads<'_>,
     state: &mut State,
 ) -> Result<Flow, AllocError>
-    requires { fields.old ≡ (delivery_as running.now.delivery.now).message }
-    ensures message { fields.new ≡ fields.old }
+    requires { fields.old ≡ (delivery_as running.now.delivery.now).arrival }
+    ensures arrival { fields.new ≡ fields.old }
     ensures ending { IfOk result (λ flow.
-        doing (act_of (library_of (L.texts running.now.lib.now)) running.now.depth (inside name.now (delivery_as running.now.delivery.now))) (inside name.now (delivery_as running.now.delivery.now)) (code_walk (ops_of code.now) (length (ops_of code.now))) (state_of state.old)
+        doing (act_of (library_of (L.profile running.now.lib.now) (L.texts running.now.lib.now)) running.now.depth (inside name.now (delivery_as running.now.delivery.now))) (inside name.now (delivery_as running.now.delivery.now)) (code_walk (ops_of code.now) (length (ops_of code.now))) (state_of state.old)
         ≡ ending_by flow (state_of state.new)) }
 {
     let delivery = running.delivery;
     let including = including_next(delivery)?;
     let inner = Delivery {
         alloc: delivery.alloc,
-        message: delivery.message,
-        envelope: delivery.envelope,
+        arrival: delivery.arrival,
         script: name,
         including: including.as_slice(),
     };
@@ -211,9 +210,9 @@ fn enter<L: Library>(
     fields: &mut FieldReads<'_>,
     state: &mut State,
 ) -> Result<Flow, AllocError>
-    requires { fields.old ≡ (delivery_as running.now.delivery.now).message }
-    ensures message { fields.new ≡ fields.old }
-    ensures ending { IfOk result (λ flow. ending_by flow (state_of state.new) ≡ enters (library_of (L.texts running.now.lib.now)) running.now.depth (delivery_as running.now.delivery.now) name.now (ops_of code.now) (state_of state.old)) }
+    requires { fields.old ≡ (delivery_as running.now.delivery.now).arrival }
+    ensures arrival { fields.new ≡ fields.old }
+    ensures ending { IfOk result (λ flow. ending_by flow (state_of state.new) ≡ enters (library_of (L.profile running.now.lib.now) (L.texts running.now.lib.now)) running.now.depth (delivery_as running.now.delivery.now) name.now (ops_of code.now) (state_of state.old)) }
 {
     let own = begin_included(running.delivery.alloc, name, state)?;
     let flow = execute_inside(running, name, code, fields, state)?;
@@ -230,9 +229,9 @@ fn look_up<L: Library>(
     fields: &mut FieldReads<'_>,
     state: &mut State,
 ) -> Result<Flow, AllocError>
-    requires { fields.old ≡ (delivery_as running.now.delivery.now).message }
-    ensures message { fields.new ≡ fields.old }
-    ensures ending { IfOk result (λ flow. ending_by flow (state_of state.new) ≡ looks_up (library_of (L.texts running.now.lib.now)) running.now.depth (delivery_as running.now.delivery.now) name.now inclusion.optional inclusion.line (state_of state.old)) }
+    requires { fields.old ≡ (delivery_as running.now.delivery.now).arrival }
+    ensures arrival { fields.new ≡ fields.old }
+    ensures ending { IfOk result (λ flow. ending_by flow (state_of state.new) ≡ looks_up (library_of (L.profile running.now.lib.now) (L.texts running.now.lib.now)) running.now.depth (delivery_as running.now.delivery.now) name.now inclusion.optional inclusion.line (state_of state.old)) }
 {
     let delivery = running.delivery;
     let line = inclusion.line as u64;
@@ -260,9 +259,9 @@ fn include<L: Library>(
     fields: &mut FieldReads<'_>,
     state: &mut State,
 ) -> Result<Flow, AllocError>
-    requires { fields.old ≡ (delivery_as running.now.delivery.now).message }
-    ensures message { fields.new ≡ fields.old }
-    ensures ending { IfOk result (λ flow. ending_by flow (state_of state.new) ≡ included (library_of (L.texts running.now.lib.now)) running.now.depth (delivery_as running.now.delivery.now) name.now inclusion.once inclusion.optional inclusion.line (state_of state.old)) }
+    requires { fields.old ≡ (delivery_as running.now.delivery.now).arrival }
+    ensures arrival { fields.new ≡ fields.old }
+    ensures ending { IfOk result (λ flow. ending_by flow (state_of state.new) ≡ included (library_of (L.profile running.now.lib.now) (L.texts running.now.lib.now)) running.now.depth (delivery_as running.now.delivery.now) name.now inclusion.once inclusion.optional inclusion.line (state_of state.old)) }
 {
     let delivery = running.delivery;
     let line = inclusion.line as u64;

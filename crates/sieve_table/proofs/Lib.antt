@@ -1,4 +1,3 @@
-pub mod Each
 mod Flags
 mod Names
 mod Naming

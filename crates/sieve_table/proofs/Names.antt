@@ -1,12 +1,14 @@
 -- The names of the table and of the capabilities: each is found by its name, which no other has.
-use Rattle.std.proofs.Common.{◌≡◌, ℕ, Bool, true, false, not, ◌&&◌, cond, nat_eq, List, [], ◌∷◌, Option, None, Some, is_none, filter, find, refl, sym, ap, ◌∙◌, arith}
+use Rattle.std.proofs.Common.{◌≡◌, ℕ, Bool, true, false, not, ◌&&◌, ◌||◌, cond, nat_eq, List, [], ◌∷◌, Option, None, Some, is_none, filter, find, refl, sym, ap, ◌∙◌, arith}
 use Rattle.std.proofs.lemmas.Bool.{and_parts}
 use Rattle.std.proofs.lemmas.Bool.Decides.{nat_tests}
-use Rattle.std.specs.List.{list_all}
+use Rattle.std.specs.List.{list_all, list_any}
+use Rattle.sieve_profile.specs.Profile.{Profile}
 use lib.Pointwise.{pointwise}
 use denote.Enum.Bare.{Bare, same_true, sameb}
 use denote.Enum.Declared.{Record, declared}
-use Rattle.sieve_table.specs.Capability.{capabilities, capability_name, capability_named, is_capability, is_name_of, same_capability}
+use Rattle.sieve_table.specs.Capability.{capabilities, capability_name, capability_named, is_name_of, same_capability}
+use Rattle.sieve_table.specs.Known.{is_known, names_known}
 use Rattle.sieve_table.specs.Table.{all_tags, command_named, command_row, tag_named, tag_row, test_named, test_row}
 use Rattle.sieve_table.specs.contracts.capability.Capability as every_capability
 use Rattle.sieve_table.specs.contracts.table.CommandKind as every_command
@@ -16,7 +18,7 @@ use Rattle.sieve_table.specs.declared.capability.Capability.{Capability}
 use Rattle.sieve_table.specs.declared.table.CommandKind.{CommandKind}
 use Rattle.sieve_table.specs.declared.table.Tag.{Tag}
 use Rattle.sieve_table.specs.declared.table.TestKind.{TestKind}
-use Rattle.sieve_table.proofs.Each.{of_each}
+use Rattle.sieve_profile.proofs.Each.{of_each}
 
 abbrev is_found : (E : Record) → E.D → Option E.D → Bool
 is_found E x None = false
@@ -40,9 +42,6 @@ test_found kind = found every_test.enum tt kind (test_named (test_row kind).name
 pub tag_found : (tag : Tag) → tag_named all_tags (tag_row tag).name ≡ Some tag
 tag_found tag = found every_tag.enum tt tag (tag_named all_tags (tag_row tag).name) (of_each every_tag.enum tt (λ t. is_found every_tag.enum t (tag_named all_tags (tag_row t).name)) refl tag)
 
-pub capability_found : (capability : Capability) → is_capability (capability_name capability) ≡ true
-capability_found capability = of_each every_capability.enum tt (λ c. is_capability (capability_name c)) refl capability
-
 abbrev is_alone : Capability → List Capability → Bool
 is_alone c [] = false
 is_alone c (d ∷ []) = sameb every_capability.the_type d c
@@ -61,6 +60,25 @@ alone c (d ∷ e ∷ more) is = absurd (never is)
 
 pub capability_alone : (capability : Capability) → filter (is_name_of (capability_name capability)) capabilities ≡ capability ∷ []
 capability_alone capability = alone capability (filter (is_name_of (capability_name capability)) capabilities) (of_each every_capability.enum tt (λ c. is_alone c (filter (is_name_of (capability_name c)) capabilities)) refl capability)
+
+or_false : (b : Bool) → (b || false) ≡ b
+or_false true = refl
+or_false false = refl
+
+-- some pass both tests where some of those that pass the first pass the second
+any_both : {X : Type 0} (p q : X → Bool) (xs : List X) → list_any (λ x. p x && q x) xs ≡ list_any q (filter p xs)
+any_both p q [] = refl
+any_both p q (x ∷ xs) = by_test (p x) (any_both p q xs)
+  where
+    by_test : (is : Bool) → list_any (λ x. p x && q x) xs ≡ list_any q (filter p xs) → ((is && q x) || list_any (λ x. p x && q x) xs) ≡ list_any q (cond is (x ∷ filter p xs) (filter p xs))
+    by_test true rest = ap (λ b. q x || b) rest
+    by_test false rest = rest
+
+pub capability_found : (profile : Profile) (capability : Capability) → names_known profile (capability_name capability) ≡ is_known profile capability
+capability_found profile capability =
+    any_both (is_name_of (capability_name capability)) (is_known profile) capabilities
+    ∙ ap (list_any (is_known profile)) (capability_alone capability)
+    ∙ or_false (is_known profile capability)
 
 -- WHAT A STRING NAMES
 

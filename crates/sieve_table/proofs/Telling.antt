@@ -10,7 +10,7 @@ use Rattle.sieve_table.specs.contracts.table.Tag as tags
 use Rattle.sieve_table.specs.declared.row.Role.{Role}
 use Rattle.sieve_table.specs.declared.row.TagKind.{TagKind}
 use Rattle.sieve_table.specs.declared.table.Tag.{Tag}
-use Rattle.sieve_table.proofs.Each.{of_each}
+use Rattle.sieve_profile.proofs.Each.{of_each}
 
 pub one_role : (a b : Role) → same_role a b ≡ true → a ≡ b
 one_role a b e = same_true roles.the_type tt a b e

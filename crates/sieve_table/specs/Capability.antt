@@ -1,15 +1,15 @@
--- The capabilities that a script can require (RFC 5228, section 2.10.5).
+-- The capabilities that a script can require (RFC 5228, section 2.10.5), some of them only where they are asked for.
 use Rattle.std.specs.Prelude.{ℕ, Bool, List, [], ◌∷◌, Option, find, nat_eq, codes}
 use Rattle.std.specs.List.{list_any}
 use lib.Pointwise.{pointwise}
 use denote.Enum.Bare.{sameb}
-use Rattle.sieve_table.specs.Every.{every}
+use Rattle.sieve_profile.specs.Every.{every}
 use Rattle.sieve_table.specs.contracts.capability.Capability.{enum, the_type}
 use Rattle.sieve_table.specs.declared.capability.Capability.{Capability}
-use Rattle.sieve_table.specs.declared.capability.Capability.TheVariants.{Fileinto, Envelope, Variables, Imap4flags, Include, Copy, OctetComparator, CasemapComparator}
+use Rattle.sieve_table.specs.declared.capability.Capability.TheVariants.{Fileinto, Envelope, Variables, Imap4flags, Include, Copy, Subaddress, OctetComparator, CasemapComparator}
 
 -- the string that names one in a `require` (RFC 5228, sections 4.1 and 5.4; RFC 5229, section 2; RFC 5232, section 1; RFC
--- 6609, section 3.1; RFC 3894, section 2; comparators: RFC 5228, section 2.7.3)
+-- 6609, section 3.1; RFC 3894, section 2; RFC 5233, section 3; comparators: RFC 5228, section 2.7.3)
 abbrev pub capability_name : Capability → List ℕ
 capability_name Fileinto = codes "fileinto"
 capability_name Envelope = codes "envelope"
@@ -17,6 +17,7 @@ capability_name Variables = codes "variables"
 capability_name Imap4flags = codes "imap4flags"
 capability_name Include = codes "include"
 capability_name Copy = codes "copy"
+capability_name Subaddress = codes "subaddress"
 capability_name OctetComparator = codes "comparator-i;octet"
 capability_name CasemapComparator = codes "comparator-i;ascii-casemap"
 
@@ -38,7 +39,3 @@ is_name_of name capability = pointwise nat_eq (capability_name capability) name
 -- the one that a string names
 abbrev pub capability_named : List ℕ → Option Capability
 capability_named name = find (is_name_of name) capabilities
-
--- whether a string names one that there is
-abbrev pub is_capability : List ℕ → Bool
-is_capability name = list_any (is_name_of name) capabilities

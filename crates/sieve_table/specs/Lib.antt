@@ -1,6 +1,6 @@
 pub mod Address
 pub mod Capability
-pub mod Every
+pub mod Known
 pub mod Required
 pub mod Role
 pub mod Rule

@@ -1,7 +1,7 @@
 -- The words of the rules, as a report prints them, and their numbers.
 use Rattle.std.specs.Prelude.{ℕ, ◌+◌, List, codes}
 use denote.Enum.Declared.{tag_of}
-use Rattle.sieve_table.specs.Every.{every}
+use Rattle.sieve_profile.specs.Every.{every}
 use Rattle.sieve_table.specs.contracts.rule.Rule.{enum, the_type}
 use Rattle.sieve_table.specs.declared.rule.Rule.{Rule}
 use Rattle.sieve_table.specs.declared.rule.Rule.TheVariants.{RequirePlace, UnknownCapability, UnknownCommand, NotRequired, ElsePlace, BadTag, BadArguments, UnknownComparator, BadVariableName, GlobalAfterSet, BadNamespace, MatchIndex, NumberTooLarge, BadEnvelopePart, NotAddressHeader, TooManyVariables}

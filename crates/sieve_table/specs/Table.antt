@@ -2,10 +2,10 @@
 use Rattle.std.specs.Prelude.{ℕ, Bool, true, false, List, [], ◌∷◌, Option, Some, None, find, codes}
 use Rattle.std.specs.Str.{str_eq_ignore_ascii_case}
 use denote.Enum.Bare.{sameb}
-use Rattle.sieve_table.specs.Every.{every}
+use Rattle.sieve_profile.specs.Every.{every}
 use Rattle.sieve_table.specs.contracts.row.TagKind as kinds
 use Rattle.sieve_table.specs.contracts.table.CommandKind as command_kinds
-use Rattle.sieve_table.specs.contracts.table.Tag as all
+use Rattle.sieve_table.specs.contracts.table.Tag as tag_kinds
 use Rattle.sieve_table.specs.contracts.table.TestKind as test_kinds
 use Rattle.sieve_table.specs.declared.capability.Capability.{Capability}
 use Rattle.sieve_table.specs.declared.capability.Capability.TheVariants as capability
@@ -62,7 +62,7 @@ abbrev pub same_command : CommandKind → CommandKind → Bool
 same_command a b = sameb command_kinds.the_type a b
 
 abbrev pub same_tag : Tag → Tag → Bool
-same_tag a b = sameb all.the_type a b
+same_tag a b = sameb tag_kinds.the_type a b
 
 abbrev pub same_kind : TagKind → TagKind → Bool
 same_kind a b = sameb kinds.the_type a b
@@ -96,6 +96,9 @@ tag_row tag.Matches = bare_tag (codes "matches") kind.MatchType
 tag_row tag.All = bare_tag (codes "all") kind.AddressPart
 tag_row tag.LocalPart = bare_tag (codes "localpart") kind.AddressPart
 tag_row tag.Domain = bare_tag (codes "domain") kind.AddressPart
+-- RFC 5233, section 4
+tag_row tag.User = record (bare_tag (codes "user") kind.AddressPart) { needs = Some capability.Subaddress }
+tag_row tag.Detail = record (bare_tag (codes "detail") kind.AddressPart) { needs = Some capability.Subaddress }
 -- RFC 5228, section 5.9
 tag_row tag.Over = bare_tag (codes "over") kind.Bound
 tag_row tag.Under = bare_tag (codes "under") kind.Bound
@@ -126,9 +129,9 @@ match_tags = tag.Is ∷ tag.Contains ∷ tag.Matches ∷ []
 abbrev pub comparing_tags : List Tag
 comparing_tags = tag.Comparator ∷ match_tags
 
--- the parts of an address too (RFC 5228, section 2.7.4)
+-- the parts of an address too (RFC 5228, section 2.7.4; RFC 5233, section 4)
 abbrev pub address_tags : List Tag
-address_tags = tag.All ∷ tag.LocalPart ∷ tag.Domain ∷ comparing_tags
+address_tags = tag.All ∷ tag.LocalPart ∷ tag.Domain ∷ tag.User ∷ tag.Detail ∷ comparing_tags
 
 -- the modifiers of a value; those of one precedence are of one kind (RFC 5229, section 4.1)
 abbrev pub modifier_tags : List Tag
@@ -205,7 +208,7 @@ abbrev pub tests : List TestKind
 tests = every test_kinds.enum tt
 
 abbrev pub all_tags : List Tag
-all_tags = every all.enum tt
+all_tags = every tag_kinds.enum tt
 
 -- the command of that name
 unfoldable pub command_named : List ℕ → Option CommandKind

@@ -1,6 +1,6 @@
 //! The capabilities that a script can require.
 ghost use Rattle.std.specs.Prelude.{◌≡◌};
-ghost use Rattle.sieve_table.specs.Capability.{capability_name, capability_named, is_always_there, is_capability, is_name_of};
+ghost use Rattle.sieve_table.specs.Capability.{capability_name, capability_named, is_always_there, is_name_of};
 
 /// What a command, a test, a tag or an argument may need (RFC 5228, section 2.10.5).
 #[derive(Clone, Copy, PartialEq, Eq)]
@@ -17,6 +17,8 @@ pub enum Capability {
     Include,
     /// `:copy` (RFC 3894).
     Copy,
+    /// Two parts of a local part (RFC 5233).
+    Subaddress,
     /// The comparator `i;octet` (RFC 5228, section 2.7.3).
     OctetComparator,
     /// The comparator `i;ascii-casemap` (RFC 5228, section 2.7.3).
@@ -24,13 +26,14 @@ pub enum Capability {
 }
 
 /// The capabilities that there are.
-pub(crate) const CAPABILITIES: [Capability; 8] = [
+pub(crate) const CAPABILITIES: [Capability; 9] = [
     Capability::Fileinto,
     Capability::Envelope,
     Capability::Variables,
     Capability::Imap4flags,
     Capability::Include,
     Capability::Copy,
+    Capability::Subaddress,
     Capability::OctetComparator,
     Capability::CasemapComparator,
 ];
@@ -47,6 +50,7 @@ impl Capability {
             Capability::Imap4flags => b"imap4flags",
             Capability::Include => b"include",
             Capability::Copy => b"copy",
+            Capability::Subaddress => b"subaddress",
             Capability::OctetComparator => b"comparator-i;octet",
             Capability::CasemapComparator => b"comparator-i;ascii-casemap",
         }
@@ -61,7 +65,7 @@ impl Capability {
 }
 
 /// Whether a string names it, octet for octet.
-fn is_name_of(name: &[u8], capability: Capability) -> bool
+pub(crate) fn is_name_of(name: &[u8], capability: Capability) -> bool
     ensures { result ≡ is_name_of name.now capability }
 {
     capability.name() == name
@@ -75,13 +79,4 @@ pub(crate) fn capability_named(name: &[u8]) -> Option<Capability>
         .iter()
         .copied()
         .find(|capability| is_name_of(name, *capability))
-}
-
-/// Whether a string names a capability that there is.
-pub fn is_capability(name: &[u8]) -> bool
-    ensures { result ≡ is_capability name.now }
-{
-    CAPABILITIES
-        .iter()
-        .any(|capability| is_name_of(name, *capability))
 }

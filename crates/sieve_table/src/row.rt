@@ -67,7 +67,7 @@ pub enum TagKind {
     Comparator,
     /// The match types (RFC 5228, section 2.7.1).
     MatchType,
-    /// The parts of an address (RFC 5228, section 2.7.4).
+    /// The parts of an address (RFC 5228, section 2.7.4; RFC 5233, section 4).
     AddressPart,
     /// `:over` and `:under` (RFC 5228, section 5.9).
     Bound,

@@ -90,6 +90,10 @@ pub enum Tag {
     LocalPart,
     /// `:domain` (RFC 5228, section 2.7.4).
     Domain,
+    /// `:user` (RFC 5233, section 4).
+    User,
+    /// `:detail` (RFC 5233, section 4).
+    Detail,
     /// `:over` (RFC 5228, section 5.9).
     Over,
     /// `:under` (RFC 5228, section 5.9).
@@ -191,6 +195,14 @@ impl Tag {
             Tag::All => bare_tag(b"all", TagKind::AddressPart),
             Tag::LocalPart => bare_tag(b"localpart", TagKind::AddressPart),
             Tag::Domain => bare_tag(b"domain", TagKind::AddressPart),
+            Tag::User => TagRow {
+                needs: Some(Capability::Subaddress),
+                ..bare_tag(b"user", TagKind::AddressPart)
+            },
+            Tag::Detail => TagRow {
+                needs: Some(Capability::Subaddress),
+                ..bare_tag(b"detail", TagKind::AddressPart)
+            },
             Tag::Over => bare_tag(b"over", TagKind::Bound),
             Tag::Under => bare_tag(b"under", TagKind::Bound),
             Tag::Lower => bare_tag(b"lower", TagKind::Case),

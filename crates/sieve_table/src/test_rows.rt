@@ -11,11 +11,13 @@ use crate::table::Tag;
 /// The tags that say how values are compared with keys (RFC 5228, section 2.7).
 const COMPARING_TAGS: [Tag; 4] = [Tag::Comparator, Tag::Is, Tag::Contains, Tag::Matches];
 
-/// The tags that name a part of an address (RFC 5228, section 2.7.4), and those that say how values are compared.
-const ADDRESS_TAGS: [Tag; 7] = [
+/// The tags that name a part of an address (RFC 5228, section 2.7.4; RFC 5233, section 4), and those that say how values are compared.
+const ADDRESS_TAGS: [Tag; 9] = [
     Tag::All,
     Tag::LocalPart,
     Tag::Domain,
+    Tag::User,
+    Tag::Detail,
     Tag::Comparator,
     Tag::Is,
     Tag::Contains,

@@ -105,9 +105,9 @@ dump_reply missing = refusal_line NoSuchScript
 dump_reply invalid = codes "no invalid-script\n"
 dump_reply (present tree) = script_code tree ++ codes "ok\n"
 
--- the reply to a dump of a script of a bench, as an `include` of that name finds it
+-- the reply to a dump of a script of a bench, by its profile and as an `include` of that name finds it
 abbrev pub dump_of : Content → ScriptName → List ℕ
-dump_of content name = dump_reply (found_at (library_of (text_at content.scripts)) name)
+dump_of content name = dump_reply (found_at (library_of content.profile (text_at content.scripts)) name)
 
 -- The answer to a question. A line of no words asks nothing, and its answer is empty.
 abbrev pub answer_to : Content → Question → List ℕ

@@ -10,8 +10,9 @@ mod task;
 pub use bench::{
     Bench, EditFault, ReportFault, TestEnd, TestJob, TestScript, dump_text, test_bench,
 };
-pub use command_line::{Argument, Job, TestWords, UsageFault, command_of};
+pub use command_line::{Argument, CommandLine, Job, TestWords, UsageFault, command_of};
 pub use server::session;
 pub use sieve_base::{Counted, Faults, Octets, Place, ScriptName, Sink, Source};
+pub use sieve_profile::{EXTENSIONS, Extension, Profile};
 pub use sieve_run::{Action, Meter, Outcome};
 pub use status::{End, SessionEnd, status_of};

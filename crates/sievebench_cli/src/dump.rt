@@ -5,7 +5,7 @@ use crate::files::{octets_in, script_name};
 use crate::streams::Output;
 use sieve_base::Counted;
 use sieve_base::limits::MAX_TEXT;
-use sievebench::{End, Place, ScriptName, SessionEnd, TestEnd, dump_text, status_of};
+use sievebench::{End, Place, Profile, ScriptName, SessionEnd, TestEnd, dump_text, status_of};
 use std::alloc::{AllocError, Global};
 use std::io;
 use std::io::{ErrorKind, Write};
@@ -13,7 +13,11 @@ use std::rt::Files;
 
 /// Prints the code of the script in the file at a path, or the script's line of a report where it has a fault. The script is personal,
 /// under the name of its file. Answers the status of the process.
-pub(crate) fn run_dump(rt: &(impl AllocGlobal + Files + Print + Eprint), path: &str) -> u8 {
+pub(crate) fn run_dump(
+    rt: &(impl AllocGlobal + Files + Print + Eprint),
+    profile: Profile,
+    path: &str,
+) -> u8 {
     let text = match octets_in(rt, path, MAX_TEXT) {
         Ok(text) => text,
         Err(e) if e.kind() == ErrorKind::OutOfMemory => return end_with(
@@ -26,7 +30,7 @@ pub(crate) fn run_dump(rt: &(impl AllocGlobal + Files + Print + Eprint), path: &
             return status_of(End::Session(SessionEnd::Read));
         }
     };
-    let end = dump_over(rt.alloc(), path, &text, io::writer(rt));
+    let end = dump_over(rt.alloc(), profile, path, &text, io::writer(rt));
     end_with(rt, path, end)
 }
 
@@ -42,20 +46,32 @@ fn end_with(rt: &(impl AllocGlobal + Eprint), path: &str, end: TestEnd) -> u8 {
 }
 
 /// Writes the dump of a text.
-fn dump_over<W: Write + Drop>(alloc: Global, path: &str, text: &[u8], output: W) -> TestEnd {
+fn dump_over<W: Write + Drop>(
+    alloc: Global,
+    profile: Profile,
+    path: &str,
+    text: &[u8],
+    output: W,
+) -> TestEnd {
     match named(alloc, path) {
-        Ok(name) => dump_on(alloc, &name, text, output),
+        Ok(name) => dump_on(alloc, profile, &name, text, output),
         Err(_) => TestEnd::NoMemory,
     }
 }
 
 /// Writes the dump of a text under a name, and writes out what is left of it.
-fn dump_on<W: Write + Drop>(alloc: Global, name: &ScriptName, text: &[u8], output: W) -> TestEnd {
+fn dump_on<W: Write + Drop>(
+    alloc: Global,
+    profile: Profile,
+    name: &ScriptName,
+    text: &[u8],
+    output: W,
+) -> TestEnd {
     let Ok(held) = Output::held(alloc, output) else {
         return TestEnd::NoMemory;
     };
     let mut writer = Counted::new(held);
-    let end = dump_text(alloc, name, text, &mut writer);
+    let end = dump_text(alloc, profile, name, text, &mut writer);
     match writer.into_inner().flush() {
         Ok(()) => end,
         Err(_) => TestEnd::Write,

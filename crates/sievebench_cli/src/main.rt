@@ -14,7 +14,10 @@ mod tests;
 use complaints::complain;
 use dump::run_dump;
 use sieve_base::Counted;
-use sievebench::{Bench, End, Job, Meter, SessionEnd, UsageFault, command_of, session, status_of};
+use sievebench::{
+    Bench, CommandLine, End, Job, Meter, Profile, SessionEnd, UsageFault, command_of, session,
+    status_of,
+};
 use std::alloc::Global;
 use std::cell::RefCell;
 use std::io::{ErrorKind, Read, Write};
@@ -38,22 +41,37 @@ fn main(rt: HostRuntime) -> ExitCode {
 
 // Does what the command line asks for, and answers the status of the process.
 fn run(rt: &(impl Env + AllocGlobal + Input + Print + Eprint + Files)) -> u8 {
-    match asked_job(rt) {
-        Ok(Job::Session) => {
-            let end = run_session(rt);
+    match asked(rt) {
+        Ok(
+            CommandLine {
+                profile,
+                job: Job::Session,
+            },
+        ) => {
+            let end = run_session(rt, profile);
             if let Some(complaint) = complaint_of(end) {
                 complain(rt, complaint);
             }
             status_of(End::Session(end))
         }
-        Ok(Job::Dump { script }) => run_dump(rt, script.as_str()),
-        Ok(Job::Test(words)) => run_test(rt, &words),
+        Ok(
+            CommandLine {
+                profile,
+                job: Job::Dump { script },
+            },
+        ) => run_dump(rt, profile, script.as_str()),
+        Ok(
+            CommandLine {
+                profile,
+                job: Job::Test(words),
+            },
+        ) => run_test(rt, profile, &words),
         Err(fault) => answer_usage(rt, fault),
     }
 }
 
 // What the command line asks for.
-fn asked_job(rt: &(impl Env + AllocGlobal)) -> Result<Job, UsageFault> {
+fn asked(rt: &(impl Env + AllocGlobal)) -> Result<CommandLine, UsageFault> {
     let words = words_of(rt)?;
     command_of(rt.alloc(), words.as_slice())
 }
@@ -87,6 +105,10 @@ fn answer_usage(rt: &(impl Print + Eprint), fault: UsageFault) -> u8 {
             let _ = rt.eprint(text.as_str());
             USAGE_STATUS
         }
+        UsageFault::UnknownName { .. } => {
+            let _ = rt.eprint(fault);
+            USAGE_STATUS
+        }
         UsageFault::NoMemory => {
             complain(rt, "out of memory");
             status_of(End::Session(SessionEnd::NoMemory))
@@ -94,14 +116,19 @@ fn answer_usage(rt: &(impl Print + Eprint), fault: UsageFault) -> u8 {
     }
 }
 
-// Runs a session over standard input and output.
-fn run_session(rt: &(impl AllocGlobal + Input + Print)) -> SessionEnd {
-    run_over(rt.alloc(), rt.reader(), io::writer(rt))
+// Runs a session over standard input and output, on a bench of a profile.
+fn run_session(rt: &(impl AllocGlobal + Input + Print), profile: Profile) -> SessionEnd {
+    run_over(rt.alloc(), profile, rt.reader(), io::writer(rt))
 }
 
-// Runs a session over a reader and a writer.
-fn run_over<R: Read + Drop, W: Write + Drop>(alloc: Global, input: R, output: W) -> SessionEnd {
-    match Bench::new(alloc) {
+// Runs a session over a reader and a writer, on a bench of a profile.
+fn run_over<R: Read + Drop, W: Write + Drop>(
+    alloc: Global,
+    profile: Profile,
+    input: R,
+    output: W,
+) -> SessionEnd {
+    match Bench::with_profile(alloc, profile) {
         Ok(mut bench) => run_on(alloc, &mut bench, input, output),
         Err(_) => SessionEnd::NoMemory,
     }

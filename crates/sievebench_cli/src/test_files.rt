@@ -3,7 +3,7 @@
 use crate::files::{ReadFault, octets_at, script_name};
 use crate::folder::read_folder;
 use sieve_base::limits::{MAX_ADDRESS, MAX_MAILBOX, MAX_MESSAGE, MAX_NAME, MAX_TEXT};
-use sievebench::{Argument, Octets, Place, ScriptName, TestJob, TestScript, TestWords};
+use sievebench::{Argument, Octets, Place, Profile, ScriptName, TestJob, TestScript, TestWords};
 use std::alloc::{AllocError, Global};
 use std::rt::Files;
 
@@ -22,9 +22,10 @@ pub(crate) struct TestInput {
 /// the name of its file, and goes last among the scripts.
 pub(crate) fn read_test<R: Files + AllocGlobal>(
     rt: &R,
+    profile: Profile,
     words: &TestWords,
 ) -> Result<TestInput, ReadFault> {
-    let mut input = TestInput::new(rt.alloc());
+    let mut input = TestInput::new(rt.alloc(), profile);
     read_files(rt, words, &mut input)?;
     Ok(input)
 }
@@ -92,9 +93,10 @@ fn empty(alloc: Global) -> Octets {
 }
 
 impl TestInput {
-    /// A test of nothing.
-    fn new(alloc: Global) -> TestInput {
+    /// A test of nothing, under a profile.
+    fn new(alloc: Global, profile: Profile) -> TestInput {
         let job = TestJob {
+            profile,
             from: empty(alloc),
             to: empty(alloc),
             mailbox: empty(alloc),

@@ -2,7 +2,9 @@
 
 use super::failing_reads::{Failures, LASTING, MAIN_REPORT, MESSAGE_REPORT, SCRIPT_REPORT};
 use super::{At, REPLIES, REPORT, SESSION, TURNS, check_report, holds, personal};
-use sievebench::{Bench, Counted, End, Faults, Meter, SessionEnd, TestEnd, dump_text, session};
+use sievebench::{
+    Bench, Counted, End, Faults, Meter, Profile, SessionEnd, TestEnd, dump_text, session,
+};
 use std::alloc::Global;
 use std::io;
 use std::io::{ErrorKind, Write};
@@ -113,7 +115,7 @@ impl Output {
 /// Dumps the script, and answers how that ended.
 fn dumped(alloc: Global, writer: &mut Counted<Balking>) -> TestEnd {
     match personal(alloc, b"a") {
-        Ok(name) => dump_text(alloc, &name, SCRIPT, writer),
+        Ok(name) => dump_text(alloc, Profile::new(), &name, SCRIPT, writer),
         Err(_) => TestEnd::NoMemory,
     }
 }

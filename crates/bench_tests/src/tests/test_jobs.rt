@@ -2,7 +2,8 @@
 
 use super::{holds, many, personal, same};
 use sievebench::{
-    Counted, Faults, Meter, Octets, Place, ScriptName, TestEnd, TestJob, TestScript, test_bench,
+    Counted, Extension, Faults, Meter, Octets, Place, Profile, ScriptName, TestEnd, TestJob,
+    TestScript, test_bench,
 };
 use std::alloc::{AllocError, Global};
 use std::process::Abort;
@@ -21,6 +22,7 @@ fn script_of(alloc: Global, name: &[u8], text: &[u8]) -> Result<TestScript, Allo
 /// A job of nothing but the name of a main script.
 fn bare(alloc: Global, main: ScriptName) -> TestJob {
     TestJob {
+        profile: Profile::new(),
         from: Octets::from_vec(Vec::new(alloc)),
         to: Octets::from_vec(Vec::new(alloc)),
         mailbox: Octets::from_vec(Vec::new(alloc)),
@@ -126,6 +128,23 @@ fn messages_are_tested(rt: HostRuntime) -> Result<(), AllocError> {
         TestEnd::Faulty,
         b"main personal \"main\"\nenvelope \"a@b.example\" \"\" mailbox \"INBOX\"\nmessage \"mail.txt\"\n  implicit \"INBOX\"\n  error personal \"main\" line 0 missing-script\n  read personal \"main\" missing\ntotal 1 messages 1 errors\n",
     )
+}
+
+/// The names of a profile stand behind the envelope, in their order.
+#[test]
+fn a_report_names_its_profile(rt: HostRuntime) -> Result<(), AllocError> {
+    let mut job = job_of(rt.alloc(), &[(b"main", b"discard;\n")])?;
+    job.profile = Profile::new()
+        .with(Extension::Unused)
+        .with(Extension::Charsets);
+    check_job(
+        &rt,
+        &job,
+        TestEnd::Clean,
+        1,
+        b"main personal \"main\"\nenvelope \"a@b.example\" \"\" mailbox \"INBOX\"\nwith charsets unused\nscript personal \"main\" ok\nmessage \"mail.txt\"\n  discard\n  read personal \"main\"\ntotal 1 messages 0 errors\n",
+    );
+    Ok(())
 }
 
 /// A part of a job that has a limit.

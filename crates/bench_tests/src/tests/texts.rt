@@ -1,7 +1,7 @@
 //! The dump of a text by itself.
 
 use super::{holds, many, personal, same};
-use sievebench::{Counted, Faults, Place, ScriptName, TestEnd, dump_text};
+use sievebench::{Counted, Faults, Place, Profile, ScriptName, TestEnd, dump_text};
 use std::alloc::{AllocError, Global};
 use std::process::Abort;
 
@@ -14,7 +14,7 @@ fn check_dump(
     wanted: TestEnd,
 ) {
     let mut writer = Counted::new(Vec::new(rt.alloc()));
-    let end = dump_text(rt.alloc(), name, text, &mut writer);
+    let end = dump_text(rt.alloc(), Profile::new(), name, text, &mut writer);
     let at = ("a text of so many octets", text.len() as u64, 0);
     holds(rt, at, end == wanted);
     same(rt, at, &writer.into_inner(), output);
@@ -81,7 +81,7 @@ fn names_and_texts_have_their_limits(rt: HostRuntime) -> Result<(), AllocError> 
 fn check_without_room(rt: &impl Abort, alloc: Global, name: &ScriptName, text: &[u8]) {
     let mut room = [0; 7];
     let mut writer = Counted::new(room.as_mut_slice());
-    let end = dump_text(alloc, name, text, &mut writer);
+    let end = dump_text(alloc, Profile::new(), name, text, &mut writer);
     let at = ("no room", text.len() as u64, writer.faults());
     holds(rt, at, end == TestEnd::Write && writer.faults() == 1);
 }

@@ -2,6 +2,7 @@
 
 use super::holds;
 use super::runs::outcome_of;
+use sieve_profile::Profile;
 use sieve_run::{Meter, Outcome, Shelf};
 use std::process::Abort;
 use std::test::Fail;
@@ -23,7 +24,7 @@ fn check_rows(rt: &impl Abort, outcome: &Outcome, rows: &[Row<'_>]) {
 
 #[test]
 fn texts_are_compared(rt: HostRuntime) -> Result<(), Fail> {
-    let shelf = Shelf::new(rt.alloc());
+    let shelf = Shelf::new(rt.alloc(), Profile::new());
     let outcome = outcome_of(rt.alloc(), &shelf, None, &mut Meter::new())?;
     check_rows(
         &rt,

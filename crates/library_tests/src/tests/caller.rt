@@ -7,6 +7,7 @@ ghost use Rattle.sieve_run.specs.Run.{outcome_of};
 ghost use Rattle.sieve_run.specs.Shelf.{text_on};
 
 use super::holds;
+use sieve_profile::Profile;
 use sieve_run::{Action, Envelope, Message, Meter, Octets, Outcome, Place, ScriptName, Shelf, run};
 use std::alloc::{AllocError, Global};
 use std::test::Fail;
@@ -14,6 +15,7 @@ use std::test::Fail;
 /// The verdict on a mail of a script that stands alone.
 pub(crate) fn verdict_of(
     alloc: Global,
+    profile: Profile,
     name: &ScriptName,
     text: &[u8],
     envelope: &Envelope,
@@ -21,9 +23,9 @@ pub(crate) fn verdict_of(
     meter: &mut Meter,
 ) -> Result<Outcome, AllocError>
     requires { length name.now.name ≤ name_limit }
-    ensures { IfOk result (λ verdict. verdict ≡ outcome_of (library_of (text_on ((name.now, text.now) ∷ []))) (Some name.now) envelope.now mail.now) }
+    ensures { IfOk result (λ verdict. verdict ≡ outcome_of (library_of profile (text_on ((name.now, text.now) ∷ []))) (Some name.now) (record { message = mail.now; envelope = envelope.now; profile = profile })) }
 {
-    let mut shelf = Shelf::new(alloc);
+    let mut shelf = Shelf::new(alloc, profile);
     shelf.add(name, text)?;
     run(alloc, &shelf, Some(name), envelope, mail, meter)
 }
@@ -37,7 +39,15 @@ fn discards(alloc: Global, text: &[u8], from: &[u8], octets: Vec<u8>) -> Result<
         mailbox: Octets::copied(alloc, b"INBOX")?,
     };
     let mail = Message::new(alloc, octets)?;
-    let verdict = verdict_of(alloc, &name, text, &envelope, &mail, &mut Meter::new())?;
+    let verdict = verdict_of(
+        alloc,
+        Profile::new(),
+        &name,
+        text,
+        &envelope,
+        &mail,
+        &mut Meter::new(),
+    )?;
     Ok(matches!(verdict.actions(), [Action::Discard]))
 }
 

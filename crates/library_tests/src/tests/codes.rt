@@ -4,6 +4,7 @@ use super::{holds, same};
 use sieve_base::{Counted, Sink, WriteFault};
 use sieve_check::{Checked, Judged, judge};
 use sieve_code::{Code, compile};
+use sieve_profile::Profile;
 use std::process::Abort;
 use std::test::Fail;
 
@@ -42,7 +43,7 @@ fn check_sound(rt: &(impl AllocGlobal + Abort), judged: Judged, lines: &[u8]) ->
 
 #[test]
 fn a_sound_text_is_compiled(rt: HostRuntime) -> Result<(), Fail> {
-    let judged = judge(rt.alloc(), b"stop;\nkeep;")?;
+    let judged = judge(rt.alloc(), Profile::new(), b"stop;\nkeep;")?;
     check_sound(&rt, judged, b"0: stop\n1: keep internal @2\n")
 }
 
@@ -50,6 +51,7 @@ fn a_sound_text_is_compiled(rt: HostRuntime) -> Result<(), Fail> {
 fn code_has_what_its_operations_say(rt: HostRuntime) -> Result<(), Fail> {
     let judged = judge(
         rt.alloc(),
+        Profile::new(),
         b"require [\"variables\", \"imap4flags\", \"include\", \"copy\", \"fileinto\"];
 if header \"a\" [\"b\", \"c\"] { set :lower \"d\" \"e\"; }
 addflag \"f\" \"g\";
@@ -83,7 +85,7 @@ fn check_faulty(rt: &impl Abort, judged: &Judged, word: &[u8]) {
 
 #[test]
 fn a_faulty_text_has_its_first_fault(rt: HostRuntime) -> Result<(), Fail> {
-    let judged = judge(rt.alloc(), b"kep;\nrequire \"x\";")?;
+    let judged = judge(rt.alloc(), Profile::new(), b"kep;\nrequire \"x\";")?;
     check_faulty(&rt, &judged, b"unknown-command");
     Ok(())
 }

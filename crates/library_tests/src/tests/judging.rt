@@ -2,6 +2,7 @@
 
 use super::{holds, same};
 use sieve_check::{CheckFault, Checked, Rule, check};
+use sieve_profile::Profile;
 use sieve_reading::{
     Argument, Ask, Command, CommandKind, CommandName, CommandReading, Comparison, Leaf, MatchType,
     PartRef, Test, TestKind, TestName, TestReading, Tests, Text, ValueSource, read_command,
@@ -136,7 +137,7 @@ fn check_both(rt: &impl Abort, alloc: Global, checked: Checked) {
 
 /// The tree of a text that breaks no rule.
 fn checked_text(alloc: Global, text: &[u8]) -> Result<Checked, Fail> {
-    Ok(check(alloc, parse(alloc, text)?)?)
+    Ok(check(alloc, Profile::new(), parse(alloc, text)?)?)
 }
 
 #[test]
@@ -228,7 +229,7 @@ fn a_header_test_has_its_strings(rt: HostRuntime) -> Result<(), Fail> {
 
 /// Compares the rule that a script breaks first, and its line.
 fn check_breach(rt: &(impl AllocGlobal + Abort), script: ParsedScript, line: u64, rule: Rule) {
-    match check(rt.alloc(), script) {
+    match check(rt.alloc(), Profile::new(), script) {
         Err(fault) => holds(rt, "a breach", fault == CheckFault::Breach { line, rule }),
         Ok(_) => panic!(rt; "no breach"),
     }

@@ -4,6 +4,7 @@
 ghost use Rattle.std.specs.Prelude.{◌≤◌, IfOk, length};
 
 use super::{holds, same};
+use sieve_profile::Profile;
 use sieve_run::{
     Action, Envelope, ErrorKind, Message, Meter, Octets, Outcome, Place, ScriptName, Shelf, run,
 };
@@ -239,7 +240,7 @@ fn check_all(
 #[test]
 fn scripts_are_run(rt: HostRuntime) -> Result<(), Fail> {
     let main = main_name(rt.alloc())?;
-    check_all(&rt, &mut Shelf::new(rt.alloc()), &main)
+    check_all(&rt, &mut Shelf::new(rt.alloc(), Profile::new()), &main)
 }
 
 #[test]

@@ -4,6 +4,7 @@ use Rattle.std.specs.Cow.{cow_slice_items}
 use Rattle.std.specs.declared.alloc.Global.{Global}
 use Rattle.std.specs.declared.borrow.CowSlice.{CowSlice}
 use Rattle.std.specs.declared.vec.Vec.{Vec}
+use Rattle.sieve_profile.specs.Profile.{Profile}
 use Rattle.message_text.specs.Addresses.{AddrSpec, addresses_of}
 use Rattle.message_text.specs.Fields.{decoded_values_of, values_of}
 
@@ -16,8 +17,8 @@ abbrev pub AreListed : List ℕ → List (Option (Vec AddrSpec Global)) → Type
 AreListed message lists = (i : ℕ) (listed : Vec AddrSpec Global) → slice_get lists i ≡ Some (Some listed) → slice_get (address_lists_of message) i ≡ Some listed.items
 
 -- each value is that of the field at its place, with its encoded words replaced
-abbrev pub AreDecoded : List ℕ → List (Option (CowSlice ℕ Global)) → Type 0
-AreDecoded message values = (i : ℕ) (value : CowSlice ℕ Global) → slice_get values i ≡ Some (Some value) → slice_get (decoded_values_of message) i ≡ Some (cow_slice_items value)
+abbrev pub AreDecoded : Profile → List ℕ → List (Option (CowSlice ℕ Global)) → Type 0
+AreDecoded profile message values = (i : ℕ) (value : CowSlice ℕ Global) → slice_get values i ≡ Some (Some value) → slice_get (decoded_values_of profile message) i ≡ Some (cow_slice_items value)
 
 -- whatever lies at one of these places, lay there before
 abbrev pub HasNoMore : {X : Type 0} → (before places : List (Option X)) → Type 0

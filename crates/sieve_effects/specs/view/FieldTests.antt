@@ -2,7 +2,8 @@
 use Rattle.std.specs.Prelude.{ℕ, Bool, true, false, List, map, Option, None, Some, if◌then◌else◌}
 use Rattle.std.specs.Option.{option_and_then}
 use Rattle.encoded_words.specs.Scan.{decoded_of}
-use Rattle.message_text.specs.Addresses.{AddrSpec, addresses_of, envelope_address_of, part_of_address}
+use Rattle.sieve_profile.specs.Profile.{Profile}
+use Rattle.message_text.specs.Addresses.{AddrSpec, addresses_of, part_of_address, part_of_path}
 use Rattle.message_text.specs.Fields.{Field, is_field_named}
 use Rattle.message_text.specs.declared.addressing.AddressPart.{AddressPart}
 use Rattle.sieve_reading.specs.Reading.{ValueSource, address_values, envelope_values, flag_values, header_values, string_values}
@@ -51,15 +52,17 @@ module _ (find : List ℕ → Option (List (List ℕ))) where
 
   -- a part of an envelope's address, and of the address in the envelope's part of a name
   abbrev pub path_found : AddressPart → List ℕ → Option (List (List ℕ))
-  path_found part text = part_found part (envelope_address_of text)
+  path_found part text = option_and_then find (part_of_path part text)
 
   abbrev pub path_name_found : AddressPart → Envelope → List ℕ → Option (List (List ℕ))
   path_name_found part envelope name = option_and_then (path_found part) (envelope_text envelope name)
 
+-- where the profile says besides which charsets are known
+module _ (find : List ℕ → Option (List (List ℕ))) (profile : Profile) where
   -- all of a value with its encoded words replaced, or that part of the addresses in it as it is written
   abbrev pub value_found : Option AddressPart → List ℕ → Option (List (List ℕ))
-  value_found None value = find (decoded_of value)
-  value_found (Some part) value = first_some (part_found part) (addresses_of value)
+  value_found None value = find (decoded_of profile value)
+  value_found (Some part) value = first_some (part_found find part) (addresses_of value)
 
   -- the value of a field, where it has that name
   abbrev pub field_found : Option AddressPart → List ℕ → Field → Option (List (List ℕ))

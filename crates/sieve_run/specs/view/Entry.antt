@@ -1,15 +1,25 @@
 -- What a shelf has at a name.
-use Rattle.std.specs.Prelude.{ℕ, ◌<◌, ◌≤◌, List, length}
+use Rattle.std.specs.Prelude.{◌≡◌, ⊤, ℕ, ◌<◌, List, [], ◌∷◌, length, map}
 use Rattle.sieve_base.specs.Limits.{text_limit}
+use Rattle.sieve_base.specs.declared.name.ScriptName.{ScriptName}
+use Rattle.sieve_profile.specs.Profile.{Profile}
 use Rattle.sieve_run.specs.declared.shelf.Shelved.{Shelved}
 use Rattle.sieve_run.specs.declared.shelf.Shelved.TheVariants.{Script, TooLong}
 
 -- the text of an entry
 abbrev pub entry_text : Shelved → List ℕ
-entry_text (Script text) = text
+entry_text (Script script) = script.text
 entry_text (TooLong text) = text
 
--- a text that isn't a script's is past the limit
-abbrev pub IsEntry : Shelved → Type 0
-IsEntry (Script text) = length text ≤ text_limit
-IsEntry (TooLong text) = text_limit < length text
+-- a script is of the profile, and a text that isn't a script's is past the limit
+abbrev pub IsEntry : Profile → Shelved → Type 0
+IsEntry profile (Script script) = script.profile ≡ profile
+IsEntry profile (TooLong text) = text_limit < length text
+
+-- the names of entries with their texts
+unfoldable pub texts_of : List (ScriptName × Shelved) → List (ScriptName × List ℕ)
+texts_of entries = map (λ e. (e.0, entry_text e.1)) entries
+
+unfoldable pub AreEntries : Profile → List (ScriptName × Shelved) → Type 0
+AreEntries profile [] = ⊤
+AreEntries profile (e ∷ es) = IsEntry profile e.1 × AreEntries profile es

@@ -255,3 +255,31 @@ fn a_million_octets_that_go(rt: HostRuntime) -> Result<(), AllocError> {
 fn a_million_octets_that_stay(rt: HostRuntime) -> Result<(), AllocError> {
     check_million(&rt, b"<[a@", 1)
 }
+
+/// Adds user and detail of an address, and a hyphen for each that it hasn't, on one line.
+fn push_user(text: &mut Vec<u8>, address: &Address) -> Result<(), AllocError> {
+    push_ended(text, part_of_address(address, AddressPart::User), b'|')?;
+    push_ended(text, part_of_address(address, AddressPart::Detail), b'\n')
+}
+
+/// Users and details, by the first `+` of the local part.
+#[test]
+fn users_have_their_details(rt: HostRuntime) -> Result<(), AllocError> {
+    let rows: [Row<'_>; 4] = [
+        (
+            b"stephan+@example.org, timo+spam@example.net, nico@example.com, a+b+c@d.example",
+            b"stephan|\ntimo|spam\nnico|-\na|b+c\n",
+        ),
+        (b"+a@b.example, +@b.example", b"|a\n|\n"),
+        (b"a@b+c.example, a+b, <>", b"a|-\n-|-\n"),
+        (b"\"a+b @ c\"@d.example", b"a|b @ c\n"),
+    ];
+    for (value, wanted) in &rows {
+        let mut text = Vec::new(rt.alloc());
+        for address in &addresses(rt.alloc(), *value)? {
+            push_user(&mut text, address)?;
+        }
+        same(&rt, *value, &text, *wanted);
+    }
+    Ok(())
+}

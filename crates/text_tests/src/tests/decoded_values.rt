@@ -2,27 +2,42 @@
 use super::messages::{borrowed, read};
 use super::{Row, holds, push_ended, same};
 use message_text::Message;
+use sieve_profile::{Extension, Profile};
 use std::alloc::{AllocError, Global};
 use std::process::Abort;
 use std::test::Fail;
 
-/// Adds the decoded value of each field on a line of its own.
-fn push_decoded(alloc: Global, text: &mut Vec<u8>, message: &Message) -> Result<(), AllocError> {
+/// Adds the value of each field, decoded by a profile, on a line of its own.
+fn push_decoded(
+    alloc: Global,
+    profile: Profile,
+    text: &mut Vec<u8>,
+    message: &Message,
+) -> Result<(), AllocError> {
     for i in 0..message.fields() {
-        push_ended(text, message.decoded(alloc, i)?.as_slice(), b'\n')?;
+        push_ended(text, message.decoded(alloc, profile, i)?.as_slice(), b'\n')?;
     }
     Ok(())
 }
 
-/// Compares the decoded values of each message.
-fn check_decoded(rt: &(impl AllocGlobal + Abort), rows: &[Row<'_>]) -> Result<(), Fail> {
+/// Compares the values of each message, decoded by a profile.
+fn check_decoded_by(
+    rt: &(impl AllocGlobal + Abort),
+    profile: Profile,
+    rows: &[Row<'_>],
+) -> Result<(), Fail> {
     for (octets, wanted) in rows {
         let message = read(rt.alloc(), *octets)?;
         let mut text = Vec::new(rt.alloc());
-        push_decoded(rt.alloc(), &mut text, &message)?;
+        push_decoded(rt.alloc(), profile, &mut text, &message)?;
         same(rt, *octets, &text, *wanted);
     }
     Ok(())
+}
+
+/// Compares the values of each message, decoded by the empty profile.
+fn check_decoded(rt: &(impl AllocGlobal + Abort), rows: &[Row<'_>]) -> Result<(), Fail> {
+    check_decoded_by(rt, Profile::new(), rows)
 }
 
 #[test]
@@ -180,6 +195,55 @@ fn words_of_the_standard_are_replaced(rt: HostRuntime) -> Result<(), Fail> {
     )
 }
 
+#[test]
+fn charsets_of_tables_are_known_by_their_name(rt: HostRuntime) -> Result<(), Fail> {
+    check_decoded_by(
+        &rt,
+        Profile::new().with(Extension::Charsets),
+        &[
+            // The euro sign stands in three places in these, and ISO 8859-2 and KOI8-R have none.
+            (
+                b"A: =?windows-1250?Q?=80?=\nB: =?Windows-1251?Q?=88?=\nC: =?WINDOWS-1252?Q?=80?=\nD: =?iso-8859-15?Q?=A4?=\n\n",
+                b"\xe2\x82\xac\n\xe2\x82\xac\n\xe2\x82\xac\n\xe2\x82\xac\n",
+            ),
+            (
+                b"A: =?ISO-8859-2?Q?=A3=F3d=BC?=\nB: =?KOI8-R?B?8NLJ18XU?=\nC: =?windows-1251?B?z/Do4uXy?=\n\n",
+                b"\xc5\x81\xc3\xb3d\xc5\xba\n\xd0\x9f\xd1\x80\xd0\xb8\xd0\xb2\xd0\xb5\xd1\x82\n\xd0\x9f\xd1\x80\xd0\xb8\xd0\xb2\xd0\xb5\xd1\x82\n",
+            ),
+            // Octets under 128 are themselves, and words of several charsets stand beside one another.
+            (
+                b"A: =?koi8-r?Q?=00a=7F?= =?us-ascii?Q?b?= =?windows-1250?Q?=8A?=\n\n",
+                b"\x00a\x7fb\xc5\xa0\n",
+            ),
+            // Octets that stand for nothing, alone and behind others.
+            (
+                b"A: =?windows-1250?Q?=81?=\nB: =?windows-1251?Q?a=98?=\nC: =?windows-1252?Q?=9D?=\n\n",
+                b"=?windows-1250?Q?=81?=\n=?windows-1251?Q?a=98?=\n=?windows-1252?Q?=9D?=\n",
+            ),
+            // Names that aren't those.
+            (
+                b"A: =?koi8-u?Q?a?=\nB: =?cp1252?Q?a?=\nC: =?iso-8859-16?Q?a?=\n\n",
+                b"=?koi8-u?Q?a?=\n=?cp1252?Q?a?=\n=?iso-8859-16?Q?a?=\n",
+            ),
+        ],
+    )
+}
+
+// Another name brings no charset.
+#[test]
+fn charsets_of_tables_are_not_known_without_their_name(rt: HostRuntime) -> Result<(), Fail> {
+    check_decoded_by(
+        &rt,
+        Profile::new()
+            .with(Extension::Subaddress)
+            .with(Extension::Unused),
+        &[(
+            b"A: =?windows-1250?Q?a?=\nB: =?windows-1251?Q?a?=\nC: =?windows-1252?Q?a?=\nD: =?iso-8859-2?Q?a?=\nE: =?iso-8859-15?Q?a?=\nF: =?koi8-r?Q?a?=\nG: =?iso-8859-1?Q?=A4?=\n\n",
+            b"=?windows-1250?Q?a?=\n=?windows-1251?Q?a?=\n=?windows-1252?Q?a?=\n=?iso-8859-2?Q?a?=\n=?iso-8859-15?Q?a?=\n=?koi8-r?Q?a?=\n\xc2\xa4\n",
+        )],
+    )
+}
+
 // A decoded value is borrowed where its field stands on one line and no word was replaced; a word of no octets counts.
 #[test]
 fn borrows_values_without_words(rt: HostRuntime) -> Result<(), Fail> {
@@ -189,14 +253,19 @@ fn borrows_values_without_words(rt: HostRuntime) -> Result<(), Fail> {
     )?;
     let mut found = Vec::new(rt.alloc());
     for i in 0..message.fields() {
-        found.push(borrowed(&message.decoded(rt.alloc(), i)?))?;
+        found.push(borrowed(&message.decoded(rt.alloc(), Profile::new(), i)?))?;
     }
     same(&rt, b"fields", &found, &[1, 0, 1, 0, 0, 0, 1]);
     Ok(())
 }
 
 /// The length of the decoded value of a field whose value is some octets many times.
-fn decoded_len(alloc: Global, octets: &[u8], count: usize) -> Result<usize, Fail> {
+fn decoded_len(
+    alloc: Global,
+    profile: Profile,
+    octets: &[u8],
+    count: usize,
+) -> Result<usize, Fail> {
     let mut text = Vec::from_slice(alloc, b"A: ")?;
     for _ in 0..count {
         text.extend_from_slice(octets)?;
@@ -205,21 +274,25 @@ fn decoded_len(alloc: Global, octets: &[u8], count: usize) -> Result<usize, Fail
     if message.fields() == 0 {
         return Ok(0);
     }
-    Ok(message.decoded(alloc, 0)?.as_slice().len())
+    Ok(message.decoded(alloc, profile, 0)?.as_slice().len())
 }
 
 // Each of these values would take hours if each place were read to the value's end.
 #[test]
 fn long_values_are_decoded_at_once(rt: HostRuntime) -> Result<(), Fail> {
-    let signs = decoded_len(rt.alloc(), b"=?", 1_000_000)?;
+    let none = Profile::new();
+    let charsets_too = none.with(Extension::Charsets);
+    let signs = decoded_len(rt.alloc(), none, b"=?", 1_000_000)?;
     holds(&rt, b"signs", signs == 2_000_000);
-    let charsets = decoded_len(rt.alloc(), b"=?a", 4_000_000)?;
+    let charsets = decoded_len(rt.alloc(), none, b"=?a", 4_000_000)?;
     holds(&rt, b"charsets", charsets == 12_000_000);
-    let texts = decoded_len(rt.alloc(), b"=?utf-8?Q?a", 1_000_000)?;
+    let texts = decoded_len(rt.alloc(), none, b"=?utf-8?Q?a", 1_000_000)?;
     holds(&rt, b"words without an end", texts == 11_000_000);
-    let words = decoded_len(rt.alloc(), b"=?utf-8?Q?a?= ", 1_000_000)?;
+    let words = decoded_len(rt.alloc(), none, b"=?utf-8?Q?a?= ", 1_000_000)?;
     holds(&rt, b"words with blanks between them", words == 1_000_000);
-    let unknown = decoded_len(rt.alloc(), b"=?koi8-r?Q?a?= ", 1_000_000)?;
+    let unknown = decoded_len(rt.alloc(), none, b"=?koi8-r?Q?a?= ", 1_000_000)?;
     holds(&rt, b"words that stay", unknown == 14_999_999);
+    let tabled = decoded_len(rt.alloc(), charsets_too, b"=?koi8-r?Q?=A3?= ", 500_000)?;
+    holds(&rt, b"words of a table", tabled == 1_000_000);
     Ok(())
 }

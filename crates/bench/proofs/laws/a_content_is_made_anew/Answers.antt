@@ -10,4 +10,4 @@ pub returns-clause-content : goal.returns-clause-content
 returns-clause-content c = rebuilt_content
 
 pub returns-clause-report : goal.returns-clause-report
-returns-clause-report c = λ edits. ap report_text (rebuilt_content edits)
+returns-clause-report c = λ profile edits. ap report_text (rebuilt_content profile edits)

@@ -4,4 +4,4 @@ use Rattle.bench.proofs.Within.{new_within, stays_within}
 use Rattle.bench.proofs.laws.edits_keep_the_limits.Goals as goal
 
 pub returns : goal.returns
-returns c = λ edits. stays_within new_content edits new_in_order new_within
+returns c = λ profile edits. stays_within (new_content profile) edits (new_in_order profile) (new_within profile)

@@ -11,6 +11,6 @@ pub returns-clause-messages : goal.returns-clause-messages
 returns-clause-messages c = ap messages_of (map_same_pairs _ (unread c.args.name.now) _ (λ k v b w f' t. search rules) _ _ c.retain.ensures.filtered) ∙ messages-marked c.args.name.now c.args.messages.now.entries
 
 pub returns-clause-due : goal.returns-clause-due
-returns-clause-due c = λ texts others main envelope alike kept.
+returns-clause-due c = λ site scripts alike kept.
     rw (map_same_pairs _ (unread c.args.name.now) _ (λ k v b w f' t. search rules) _ _ c.retain.ensures.filtered)
-    (due-marked c.a_verdict_depends_on_what_it_looked_up.ensures texts others main envelope c.args.name.now c.args.messages.now.entries alike kept)
+    (due-marked c.a_verdict_depends_on_what_it_looked_up.ensures site scripts c.args.name.now c.args.messages.now.entries alike kept)

@@ -4,14 +4,14 @@ use Rattle.encoded_words.proofs.Steps.{front_of, in_front, known_from, signs_alo
 use Rattle.encoded_words.proofs.values.before_sign.Goals as goal
 
 pub returns-clause-alone : goal.returns-clause-alone
-returns-clause-alone c =
+returns-clause-alone c = λ profile.
     let value = c.args.value.now in
     let front = front_of value c.memchr.result c.memchr.ensures in
-    let P : ℕ → Type 0 = λ n. in_front (take n value) (pieces_of (drop n value)) ≡ pieces_of value in
-    subst P (sym c.unwrap_or.ensures) (signs_alone value _ front.0 front.1)
+    let P : ℕ → Type 0 = λ n. in_front (take n value) (pieces_of profile (drop n value)) ≡ pieces_of profile value in
+    subst P (sym c.unwrap_or.ensures) (signs_alone profile value _ front.0 front.1)
 
 pub returns-clause-unknown : goal.returns-clause-unknown
-returns-clause-unknown c = λ none.
+returns-clause-unknown c = λ profile none.
     let value = c.args.value.now in
-    let P : ℕ → Type 0 = λ n. has_known (drop n value) ≡ false in
-    subst P (sym c.unwrap_or.ensures) (known_from value _ (front_of value c.memchr.result c.memchr.ensures).0 none)
+    let P : ℕ → Type 0 = λ n. has_known profile (drop n value) ≡ false in
+    subst P (sym c.unwrap_or.ensures) (known_from profile value _ (front_of value c.memchr.result c.memchr.ensures).0 none)

@@ -1,5 +1,6 @@
 use Rattle.std.proofs.Common.{◌+◌, ◌<◌, ◌≤◌, ◌∷◌, length, rules, arith, List, Some, map, drop, sym, ap, ◌∙◌, subst}
 use Rattle.std.proofs.lemmas.List.{at_drop_all}
+use Rattle.sieve_profile.specs.view.Profile.{profile_as}
 use Rattle.sieve_syntax.specs.Tree.{nodes}
 use Rattle.sieve_syntax.specs.view.Tree as seen
 use Rattle.sieve_syntax.specs.declared.tree.Command as commands
@@ -49,7 +50,7 @@ check_command-returns-in-Ok-clause-cut t c =
     let goes = c.in_ok-next.ensures.goes ∙ ap (λ k. behind_kind context k args) (sym c.in_ok-head.ensures.kind) in
     let is = sym (block_kept whole c.check_front.new.args c.check_front.new.tests) ∙ c.in-Some.is in
     command_cut context c.in_ok-head.head.labels.items c.check_front.new.args c.check_front.new.tests (Some c.check_commands.new.commands) whole
-    c.in_ok-next.ensures.args (c.in_ok-head.ensures.labels ∙ ap (λ k. command_labels k args) (sym c.in_ok-head.ensures.kind)) c.in_ok-next.ensures.tests
+    c.in_ok-next.ensures.args (c.in_ok-head.ensures.labels ∙ ap (λ k. command_labels (profile_as c.args.spot.profile) k args) (sym c.in_ok-head.ensures.kind)) c.in_ok-next.ensures.tests
     (block_cut _ (at_spot c.inside.result names) c.check_commands.new.commands o.block c.in-Some.commands is (within_block whole context c.in_ok-next.next c.inside.result names c.in-Some.commands goes c.inside.ensures is) c.in-Ok.ensures.cut)
 
 pub check_command-returns-in-Err-clause-found : goal.check_command-returns-in-Err-clause-found

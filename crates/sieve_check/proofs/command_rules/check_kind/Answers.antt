@@ -1,7 +1,7 @@
 use Rattle.std.proofs.Common.{◌≡◌, ◌∙◌, IfOk, ap, map, refl, subst, sym}
 use Rattle.sieve_syntax.specs.view.Tree.{argument_of}
 use Rattle.sieve_table.specs.Table.{command_row}
-use Rattle.sieve_reading.specs.Shape.{row_labels}
+use Rattle.sieve_reading.specs.Shape.{known_labels}
 use Rattle.sieve_check.specs.view.Context.{context_as}
 use Rattle.sieve_table.specs.view.Row.{row_as}
 use Rattle.sieve_check.proofs.Heads.{kind_placed}
@@ -10,7 +10,7 @@ use Rattle.sieve_check.proofs.command_rules.check_kind.Goals as goal
 pub returns-clause-labels : goal.returns-clause-labels
 returns-clause-labels c =
     subst (λ l. IfOk c.check_use.result (λ labels. labels.items ≡ l))
-    (ap (λ r. row_labels r (map argument_of c.deref.result.now)) c.row.ensures ∙ ap (λ a. row_labels (command_row c.args.kind) (map argument_of a)) c.deref.ensures.value)
+    (ap (λ r. known_labels (context_as c.args.context).profile r (map argument_of c.deref.result.now)) c.row.ensures ∙ ap (λ a. known_labels (context_as c.args.context).profile (command_row c.args.kind) (map argument_of a)) c.deref.ensures.value)
     c.check_use.ensures.labels
 
 pub returns-clause-found : goal.returns-clause-found

@@ -1,5 +1,6 @@
-use Rattle.std.proofs.Common.{◌≡◌, ℕ, List, map, subst, sym, ◌∙◌}
+use Rattle.std.proofs.Common.{◌≡◌, map, subst, sym, ◌∙◌}
 use Rattle.message_text.specs.Fields.{fields_of}
+use Rattle.sieve_effects.specs.Delivery.{Arrival}
 use Rattle.sieve_effects.specs.view.FieldTests.{found_with, name_found}
 use Rattle.sieve_variables.specs.Value.{text_value}
 use Rattle.sieve_effects.proofs.NamesInTurn.{name_gives, name_gives_none}
@@ -8,13 +9,13 @@ use Rattle.sieve_effects.proofs.field_values.find_by_names.Goals as goal
 pub returns-in-Some-clause-found : goal.returns-in-Some-clause-found
 returns-in-Some-clause-found c =
     let find = found_with c.args.matcher.now in
-    let found = subst (λ (m : List ℕ). c.in_ok-found.field-0 ≡ name_found find c.args.part (fields_of m) c.in_ok-name.name) c.loop-i.invariant.0 c.in_ok-found.ensures.found in
-    name_gives (name_found find c.args.part (fields_of c.args.fields.now)) (map (text_value c.args.values.now) c.args.names.now) c.loop-i.i c.in_ok-name.name _ c.loop-i.invariant.1 c.in_ok-name.ensures _ (sym found ∙ c.in-Some.is)
+    let found = subst (λ (a : Arrival). c.in_ok-found.field-0 ≡ name_found find a.profile c.args.part (fields_of a.message) c.in_ok-name.name) c.loop-i.invariant.0 c.in_ok-found.ensures.found in
+    name_gives (name_found find c.args.fields.now.profile c.args.part (fields_of c.args.fields.now.message)) (map (text_value c.args.values.now) c.args.names.now) c.loop-i.i c.in_ok-name.name _ c.loop-i.invariant.1 c.in_ok-name.ensures _ (sym found ∙ c.in-Some.is)
 
 pub loop-i-preserved : goal.loop-i-preserved
 loop-i-preserved c =
     let find = found_with c.args.matcher.now in
-    let found = subst (λ (m : List ℕ). c.in_ok-found.field-0 ≡ name_found find c.args.part (fields_of m) c.in_ok-name.name) c.loop-i.invariant.0 c.in_ok-found.ensures.found in (
-      c.find_by_name.ensures.message ∙ c.loop-i.invariant.0,
-      name_gives_none (name_found find c.args.part (fields_of c.args.fields.now)) (map (text_value c.args.values.now) c.args.names.now) c.loop-i.i c.in_ok-name.name _ c.loop-i.invariant.1 c.in_ok-name.ensures (sym found ∙ c.in_default.is),
+    let found = subst (λ (a : Arrival). c.in_ok-found.field-0 ≡ name_found find a.profile c.args.part (fields_of a.message) c.in_ok-name.name) c.loop-i.invariant.0 c.in_ok-found.ensures.found in (
+      c.find_by_name.ensures.arrival ∙ c.loop-i.invariant.0,
+      name_gives_none (name_found find c.args.fields.now.profile c.args.part (fields_of c.args.fields.now.message)) (map (text_value c.args.values.now) c.args.names.now) c.loop-i.i c.in_ok-name.name _ c.loop-i.invariant.1 c.in_ok-name.ensures (sym found ∙ c.in_default.is),
     )

@@ -5,9 +5,9 @@ use Rattle.sieve_effects.specs.view.FieldTests.{found_with, name_found}
 use Rattle.sieve_variables.specs.Value.{text_value}
 use Rattle.sieve_effects.proofs.field_values.find_by_names.Given as goal
 
--- the message stays, and what the names that are left give is what all names give
+-- what is delivered stays, and what the names that are left give is what all names give
 abbrev pub invariant-loop-i : goal.invariant-loop-i
 invariant-loop-i l =
-    let find = name_found (found_with l.matcher) l.part (fields_of l.initial.fields) in
+    let find = name_found (found_with l.matcher) l.initial.fields.profile l.part (fields_of l.initial.fields.message) in
     let names = map (text_value l.values) l.names in
     (l.fields ≡ l.initial.fields) × (first_some find (drop l.i names) ≡ first_some find names)

@@ -9,6 +9,6 @@ use Rattle.sieve_effects.proofs.field_values.find_in_decoded.Goals as goal
 pub returns-clause-found : goal.returns-clause-found
 returns-clause-found c =
     let find = found_with c.args.matcher.now in
-    get-mapped-twice (λ field. field.value) decoded_of find (fields_of c.args.fields.now) c.args.i (cow_slice_items c.in_ok-value.value) c.in_ok-value.ensures.decoded
+    get-mapped-twice (λ field. field.value) (decoded_of c.args.fields.now.profile) find (fields_of c.args.fields.now.message) c.args.i (cow_slice_items c.in_ok-value.value) c.in_ok-value.ensures.decoded
     ∙ ap (λ value. Some (find value)) (sym c.as_slice.ensures.value)
     ∙ ap Some (sym c.in_ok-found.ensures)

@@ -1,5 +1,6 @@
-use Rattle.std.proofs.Common.{ℕ, List, map, sym, ap, ◌∙◌}
+use Rattle.std.proofs.Common.{map, sym, ap, ◌∙◌}
 use Rattle.message_text.specs.Fields.{fields_of}
+use Rattle.sieve_effects.specs.Delivery.{Arrival}
 use Rattle.sieve_effects.specs.Matching.{first_some}
 use Rattle.sieve_effects.specs.view.Delivery.{delivery_as}
 use Rattle.sieve_effects.specs.view.FieldTests.{found_with, name_found}
@@ -14,6 +15,6 @@ returns-clause-found c =
     let state = state_of c.args.state.now in
     let names = c.args.names.now in
     answers_so c.find_by_names.result _ _
-    (ap (λ (m : List ℕ). first_some (name_found find c.args.part (fields_of m)) (map (text_value state.values) names)) c.requires
+    (ap (λ (a : Arrival). first_some (name_found find a.profile c.args.part (fields_of a.message)) (map (text_value state.values) names)) c.requires
     ∙ sym (first_of_names find c.args.part (delivery_as c.args.delivery.now) state names))
     c.find_by_names.ensures.found

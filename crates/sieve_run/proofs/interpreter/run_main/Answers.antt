@@ -5,6 +5,7 @@ use Rattle.sieve_code.specs.view.Code.{ops_of}
 use Rattle.sieve_run.specs.Library.{Lookup, library_of}
 use Rattle.sieve_run.specs.Run.{act_of, delivery_to, verdict_of}
 use Rattle.sieve_effects.specs.State.{RunState}
+use Rattle.sieve_effects.specs.view.Delivery.{arrival_as}
 use Rattle.sieve_base.specs.declared.name.ScriptName.{ScriptName}
 use Rattle.sieve_effects.specs.view.State.{state_of}
 use Rattle.sieve_run.specs.view.Step.{doing}
@@ -13,14 +14,14 @@ use Rattle.sieve_run.proofs.interpreter.run_main.Goals as goal
 
 pub ended-requires : goal.ended-requires
 ended-requires g c =
-    let find : ScriptName → Lookup = library_of (g.L.Library.texts c.args.lib.now) in
-    let d = delivery_to c.args.envelope.now c.args.message.now c.args.main.now in
+    let find : ScriptName → Lookup = library_of (g.L.Library.profile c.args.lib.now) (g.L.Library.texts c.args.lib.now) in
+    let d = delivery_to (arrival_as c.args.arrival.now) c.args.main.now in
     let ops = ops_of c.args.code.now in
     run_bounded find include_depth d (code_walk ops (length ops)) c.in_ok-flow.flow (state_of c.in_ok-state.state) (state_of c.execute.new.state) (ap (λ (s : RunState). s.actions) c.in_ok-state.ensures) c.in_ok-flow.ensures.ending
 
 pub returns : goal.returns
 returns g c =
-    let find : ScriptName → Lookup = library_of (g.L.Library.texts c.args.lib.now) in
-    let d = delivery_to c.args.envelope.now c.args.message.now c.args.main.now in
+    let find : ScriptName → Lookup = library_of (g.L.Library.profile c.args.lib.now) (g.L.Library.texts c.args.lib.now) in
+    let d = delivery_to (arrival_as c.args.arrival.now) c.args.main.now in
     let ops = ops_of c.args.code.now in
     c.ended.ensures ∙ ap verdict_of (sym c.in_ok-flow.ensures.ending ∙ ap (doing (act_of find include_depth d) d (code_walk ops (length ops))) c.in_ok-state.ensures)

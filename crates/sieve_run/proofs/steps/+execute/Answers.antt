@@ -26,37 +26,37 @@ use Rattle.sieve_run.proofs.steps.+execute.Goals.{include-else-inclusion-via-the
 
 pub carry_out-returns-in-Keep-clause-step : goal.carry_out-returns-in-Keep-clause-step
 carry_out-returns-in-Keep-clause-step g t c =
-    let find : ScriptName → Lookup = library_of (g.L.Library.texts c.args.running.now.lib.now) in
+    let find : ScriptName → Lookup = library_of (g.L.Library.profile c.args.running.now.lib.now) (g.L.Library.texts c.args.running.now.lib.now) in
     rw c.in-Keep.is (c.act_keep.ensures (included find c.args.running.now.depth (delivery_as c.args.running.now.delivery.now)))
 
 pub carry_out-returns-in-Fileinto-clause-step : goal.carry_out-returns-in-Fileinto-clause-step
 carry_out-returns-in-Fileinto-clause-step g t c =
-    let find : ScriptName → Lookup = library_of (g.L.Library.texts c.args.running.now.lib.now) in
+    let find : ScriptName → Lookup = library_of (g.L.Library.profile c.args.running.now.lib.now) (g.L.Library.texts c.args.running.now.lib.now) in
     rw c.in-Fileinto.is (c.act_fileinto.ensures (included find c.args.running.now.depth (delivery_as c.args.running.now.delivery.now)))
 
 pub carry_out-returns-in-Redirect-clause-step : goal.carry_out-returns-in-Redirect-clause-step
 carry_out-returns-in-Redirect-clause-step g t c =
-    let find : ScriptName → Lookup = library_of (g.L.Library.texts c.args.running.now.lib.now) in
+    let find : ScriptName → Lookup = library_of (g.L.Library.profile c.args.running.now.lib.now) (g.L.Library.texts c.args.running.now.lib.now) in
     rw c.in-Redirect.is (c.act_redirect.ensures (included find c.args.running.now.depth (delivery_as c.args.running.now.delivery.now)))
 
 pub carry_out-returns-in-Discard-clause-step : goal.carry_out-returns-in-Discard-clause-step
 carry_out-returns-in-Discard-clause-step g t c =
-    let find : ScriptName → Lookup = library_of (g.L.Library.texts c.args.running.now.lib.now) in
+    let find : ScriptName → Lookup = library_of (g.L.Library.profile c.args.running.now.lib.now) (g.L.Library.texts c.args.running.now.lib.now) in
     rw c.in-Discard.is (c.act_discard.ensures (included find c.args.running.now.depth (delivery_as c.args.running.now.delivery.now)))
 
 pub carry_out-returns-in-Set-clause-step : goal.carry_out-returns-in-Set-clause-step
 carry_out-returns-in-Set-clause-step g t c =
-    let find : ScriptName → Lookup = library_of (g.L.Library.texts c.args.running.now.lib.now) in
+    let find : ScriptName → Lookup = library_of (g.L.Library.profile c.args.running.now.lib.now) (g.L.Library.texts c.args.running.now.lib.now) in
     rw c.in-Set.is (c.act_set.ensures (included find c.args.running.now.depth (delivery_as c.args.running.now.delivery.now)))
 
 pub carry_out-returns-in-Flags-clause-step : goal.carry_out-returns-in-Flags-clause-step
 carry_out-returns-in-Flags-clause-step g t c =
-    let find : ScriptName → Lookup = library_of (g.L.Library.texts c.args.running.now.lib.now) in
+    let find : ScriptName → Lookup = library_of (g.L.Library.profile c.args.running.now.lib.now) (g.L.Library.texts c.args.running.now.lib.now) in
     rw c.in-Flags.is (c.act_flags.ensures (included find c.args.running.now.depth (delivery_as c.args.running.now.delivery.now)))
 
 pub carry_out-returns-in-Include-clause-step : goal.carry_out-returns-in-Include-clause-step
 carry_out-returns-in-Include-clause-step g t c =
-    let find : ScriptName → Lookup = library_of (g.L.Library.texts c.args.running.now.lib.now) in
+    let find : ScriptName → Lookup = library_of (g.L.Library.profile c.args.running.now.lib.now) (g.L.Library.texts c.args.running.now.lib.now) in
     let d = delivery_as c.args.running.now.delivery.now in
     let i = c.in-Include.inclusion in
     acts_follow (act_of find c.args.running.now.depth d) d (include_leaf i.place i.once i.optional (slice_index_or (pool_of c.args.running.now.code.now).scripts i.name [])) i.line _ _ _ _ _ _ _
@@ -65,7 +65,7 @@ carry_out-returns-in-Include-clause-step g t c =
 
 pub execute_inside-returns-clause-ending : goal.execute_inside-returns-clause-ending
 execute_inside-returns-clause-ending g t c =
-    let find : ScriptName → Lookup = library_of (g.L.Library.texts c.args.running.now.lib.now) in
+    let find : ScriptName → Lookup = library_of (g.L.Library.profile c.args.running.now.lib.now) (g.L.Library.texts c.args.running.now.lib.now) in
     let d = delivery_as c.args.running.now.delivery.now in
     let ops = ops_of c.args.code.now in
     subst (λ (inner : Delivery). IfOk c.execute.result (λ (flow : Flow). doing (act_of find c.args.running.now.depth inner) inner (code_walk ops (length ops)) (state_of c.args.state.now) ≡ ending_by flow (state_of c.execute.new.state)))
@@ -74,7 +74,7 @@ execute_inside-returns-clause-ending g t c =
 
 pub enter-returns-clause-ending : goal.enter-returns-clause-ending
 enter-returns-clause-ending g t c =
-    let find : ScriptName → Lookup = library_of (g.L.Library.texts c.args.running.now.lib.now) in
+    let find : ScriptName → Lookup = library_of (g.L.Library.profile c.args.running.now.lib.now) (g.L.Library.texts c.args.running.now.lib.now) in
     let d = delivery_as c.args.running.now.delivery.now in
     let s = state_of c.args.state.now in
     let ended = state_of c.execute_inside.new.state in
@@ -87,7 +87,7 @@ enter-returns-clause-ending g t c =
 pub execute-returns-then-place-len-clause-ending : goal.execute-returns-then-place-len-clause-ending
 execute-returns-then-place-len-clause-ending g t c =
     let d = delivery_as c.args.running.now.delivery.now in
-    let act = act_of (library_of (g.L.Library.texts c.args.running.now.lib.now)) c.args.running.now.depth d in
+    let act = act_of (library_of (g.L.Library.profile c.args.running.now.lib.now) (g.L.Library.texts c.args.running.now.lib.now)) c.args.running.now.depth d in
     let ops = ops_of c.args.running.now.code.now in
     sym c.loop-turn.invariant.1
     ∙ past_end act d ops (length ops - c.loop-turn._turn) c.loop-turn.place c.loop-turn.register (state_of c.loop-turn.state) (subst (λ n. n ≤ c.loop-turn.place) c.len.ensures c.if-place-len.true)
@@ -95,7 +95,7 @@ execute-returns-then-place-len-clause-ending g t c =
 pub execute-returns-in-Ended-clause-ending : goal.execute-returns-in-Ended-clause-ending
 execute-returns-in-Ended-clause-ending g t c =
     let d = delivery_as c.args.running.now.delivery.now in
-    let act = act_of (library_of (g.L.Library.texts c.args.running.now.lib.now)) c.args.running.now.depth d in
+    let act = act_of (library_of (g.L.Library.profile c.args.running.now.lib.now) (g.L.Library.texts c.args.running.now.lib.now)) c.args.running.now.depth d in
     let ops = ops_of c.args.running.now.code.now in
     sym c.loop-turn.invariant.1
     ∙ turns act d ops c.loop-turn._turn c.loop-turn.place c.loop-turn.register (op_of c.args.running.now.code.now c.op.result) (state_of c.loop-turn.state) c.in_ok-next.field-0 (state_of c.carry_out.new.state) (subst (λ n. c.loop-turn._turn < n) c.len-turn-end.ensures c.loop-turn-test.true) c.op.ensures c.in_ok-next.ensures.step
@@ -104,9 +104,9 @@ execute-returns-in-Ended-clause-ending g t c =
 pub execute-loop-turn-preserved : goal.execute-loop-turn-preserved
 execute-loop-turn-preserved g t c =
     let d = delivery_as c.args.running.now.delivery.now in
-    let act = act_of (library_of (g.L.Library.texts c.args.running.now.lib.now)) c.args.running.now.depth d in
+    let act = act_of (library_of (g.L.Library.profile c.args.running.now.lib.now) (g.L.Library.texts c.args.running.now.lib.now)) c.args.running.now.depth d in
     let ops = ops_of c.args.running.now.code.now in (
-      c.carry_out.ensures.message ∙ c.loop-turn.invariant.0,
+      c.carry_out.ensures.arrival ∙ c.loop-turn.invariant.0,
       sym (turns act d ops c.loop-turn._turn c.loop-turn.place c.loop-turn.register (op_of c.args.running.now.code.now c.op.result) (state_of c.loop-turn.state) c.in_ok-next.field-0 (state_of c.carry_out.new.state) (subst (λ n. c.loop-turn._turn < n) c.len-turn-end.ensures c.loop-turn-test.true) c.op.ensures c.in_ok-next.ensures.step
           ∙ ap (λ step. doing_after act d (walk_from ops (length ops - (c.loop-turn._turn + 1))) step (state_of c.carry_out.new.state)) c.in-Next.is)
           ∙ c.loop-turn.invariant.1,
@@ -115,19 +115,19 @@ execute-loop-turn-preserved g t c =
 pub execute-returns-clause-ending : goal.execute-returns-clause-ending
 execute-returns-clause-ending g t c =
     let d = delivery_as c.args.running.now.delivery.now in
-    let act = act_of (library_of (g.L.Library.texts c.args.running.now.lib.now)) c.args.running.now.depth d in
+    let act = act_of (library_of (g.L.Library.profile c.args.running.now.lib.now) (g.L.Library.texts c.args.running.now.lib.now)) c.args.running.now.depth d in
     sym c.loop-turn.invariant.1
     ∙ runs_out act d (ops_of c.args.running.now.code.now) c.loop-turn._turn c.loop-turn.place c.loop-turn.register (state_of c.loop-turn.state) (subst (λ n. n ≤ c.loop-turn._turn) c.len-turn-end.ensures c.loop-turn-test.false)
 
 pub include-returns-then-is_script-clause-ending : goal.include-returns-then-is_script-clause-ending
 include-returns-then-is_script-clause-ending g t c =
-    let find : ScriptName → Lookup = library_of (g.L.Library.texts c.args.running.now.lib.now) in
+    let find : ScriptName → Lookup = library_of (g.L.Library.profile c.args.running.now.lib.now) (g.L.Library.texts c.args.running.now.lib.now) in
     skips_included find (delivery_as c.args.running.now.delivery.now) c.args.name.now c.args.inclusion.once c.args.inclusion.optional c.args.inclusion.line (state_of c.args.state.now) c.args.running.now.depth c.if-inclusion.true
     (sym (c.is_script.ensures ∙ ap (is_script c.args.name.now) c.as_slice.ensures.value) ∙ c.if-is_script.true)
 
 pub include-returns-then-is_running-clause-ending : goal.include-returns-then-is_running-clause-ending
 include-returns-then-is_running-clause-ending g t c =
-    let find : ScriptName → Lookup = library_of (g.L.Library.texts c.args.running.now.lib.now) in
+    let find : ScriptName → Lookup = library_of (g.L.Library.profile c.args.running.now.lib.now) (g.L.Library.texts c.args.running.now.lib.now) in
     let d = delivery_as c.args.running.now.delivery.now in
     let s = state_of c.args.state.now in
     let first : (c.args.inclusion.once && is_script c.args.name.now s.entered) ≡ false = elim c.else-inclusion.branch [
@@ -141,7 +141,7 @@ include-returns-then-is_running-clause-ending g t c =
 
 pub include-returns-then-running-eq0-clause-ending : goal.include-returns-then-running-eq0-clause-ending
 include-returns-then-running-eq0-clause-ending g t c =
-    let find : ScriptName → Lookup = library_of (g.L.Library.texts c.args.running.now.lib.now) in
+    let find : ScriptName → Lookup = library_of (g.L.Library.profile c.args.running.now.lib.now) (g.L.Library.texts c.args.running.now.lib.now) in
     let d = delivery_as c.args.running.now.delivery.now in
     let s = state_of c.args.state.now in
     let first : (c.args.inclusion.once && is_script c.args.name.now s.entered) ≡ false = elim c.else-inclusion.branch [
@@ -155,7 +155,7 @@ include-returns-then-running-eq0-clause-ending g t c =
 
 pub include-returns-then-len-gt-MAX_INCLUDES-clause-ending : goal.include-returns-then-len-gt-MAX_INCLUDES-clause-ending
 include-returns-then-len-gt-MAX_INCLUDES-clause-ending g t c =
-    let find : ScriptName → Lookup = library_of (g.L.Library.texts c.args.running.now.lib.now) in
+    let find : ScriptName → Lookup = library_of (g.L.Library.profile c.args.running.now.lib.now) (g.L.Library.texts c.args.running.now.lib.now) in
     let d = delivery_as c.args.running.now.delivery.now in
     let s = state_of c.args.state.now in
     let first : (c.args.inclusion.once && is_script c.args.name.now s.entered) ≡ false = elim c.else-inclusion.branch [
@@ -170,7 +170,7 @@ include-returns-then-len-gt-MAX_INCLUDES-clause-ending g t c =
 
 pub include-returns-clause-ending : goal.include-returns-clause-ending
 include-returns-clause-ending g t c =
-    let find : ScriptName → Lookup = library_of (g.L.Library.texts c.args.running.now.lib.now) in
+    let find : ScriptName → Lookup = library_of (g.L.Library.profile c.args.running.now.lib.now) (g.L.Library.texts c.args.running.now.lib.now) in
     let d = delivery_as c.args.running.now.delivery.now in
     let s = state_of c.args.state.now in
     let first : (c.args.inclusion.once && is_script c.args.name.now s.entered) ≡ false = elim c.else-inclusion.branch [
@@ -185,7 +185,7 @@ include-returns-clause-ending g t c =
 
 pub look_up-returns-in-Present-clause-ending : goal.look_up-returns-in-Present-clause-ending
 look_up-returns-in-Present-clause-ending g t c =
-    let find : ScriptName → Lookup = library_of (g.L.Library.texts c.args.running.now.lib.now) in
+    let find : ScriptName → Lookup = library_of (g.L.Library.profile c.args.running.now.lib.now) (g.L.Library.texts c.args.running.now.lib.now) in
     let d = delivery_as c.args.running.now.delivery.now in
     let s = state_of c.args.state.now in
     let ops = ops_of c.in-Present.code.now in

@@ -14,7 +14,7 @@ invariant-execute-loop-turn g l =
     let running = l.running in
     let ops = ops_of running.code.now in
     let d = delivery_as running.delivery.now in
-    let act = act_of (library_of (g.L.Library.texts running.lib.now)) running.depth d in
+    let act = act_of (library_of (g.L.Library.profile running.lib.now) (g.L.Library.texts running.lib.now)) running.depth d in
     (l.fields ≡ l.initial.fields) × (doing act d (walk_from ops (length ops - l._turn) l.place l.register) (state_of l.state) ≡ doing act d (code_walk ops (length ops)) (state_of l.fn.state))
 
 -- how deep scripts may still be included, and within one depth the way from a script's code to the script that it includes

@@ -2,7 +2,7 @@ use Rattle.std.proofs.Common.{◌≡◌, ◌+◌, ◌-◌, ℕ, Some, slice_get,
 use denote.Enum.Declared.{tag_of}
 use Rattle.sieve_table.specs.Rule.{all_rules}
 use Rattle.sieve_table.specs.contracts.rule.Rule.{enum, the_type}
-use Rattle.sieve_table.proofs.Each.{value_at}
+use Rattle.sieve_profile.proofs.Each.{value_at}
 use Rattle.sieve_table.proofs.laws.rules_go_by_their_numbers.Goals as goal
 
 less : (n : ℕ) → n ≡ n + 1 - 1

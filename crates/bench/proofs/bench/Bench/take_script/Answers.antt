@@ -1,15 +1,16 @@
 use Rattle.std.proofs.Common.{sym}
-use Rattle.bench.specs.Content.{text_at, with_script}
+use Rattle.bench.specs.Content.{with_script}
 use Rattle.bench.specs.Report.{verdict_by}
+use Rattle.bench.specs.view.Site.{site_by}
 use Rattle.bench.proofs.Marks.{stale-marked}
 use Rattle.bench.proofs.Names.{text-with_script}
 use Rattle.bench.proofs.bench.Bench.take_script.Goals as goal
 
 pub invariant_of-self-2 : goal.invariant_of-self-2
 invariant_of-self-2 c =
-    let scripts = c.self.inside.scripts in (
+    let scripts = c.self.inside.scripts.scripts in (
       rw c.in_ok-put.ensures.ok
-          (c.forget_readers.ensures.due (text_at scripts) (text_at (with_script c.args.name.now c.args.text scripts)) c.self.inside.main c.self.inside.envelope
+          (c.forget_readers.ensures.due (site_by c.self.inside.main c.self.inside.envelope c.self.inside.scripts) (with_script c.args.name.now c.args.text scripts)
           (λ other apart. sym (text-with_script c.args.name.now c.args.text other scripts apart)) c.self.invariant.0),
       c.forget_readers.ensures.unique,
     )
@@ -17,4 +18,4 @@ invariant_of-self-2 c =
 pub returns-clause-stale : goal.returns-clause-stale
 returns-clause-stale c =
     rw (← c.self.view_is, c.forget_readers.ensures.entries)
-    (stale-marked (verdict_by c.self.inside.main c.self.inside.envelope c.self.inside.scripts) c.args.name.now c.self.inside.messages.entries c.self.invariant.0 c.self.invariant.1)
+    (stale-marked (verdict_by (site_by c.self.inside.main c.self.inside.envelope c.self.inside.scripts)) c.args.name.now c.self.inside.messages.entries c.self.invariant.0 c.self.invariant.1)

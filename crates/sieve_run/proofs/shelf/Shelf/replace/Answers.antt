@@ -1,9 +1,12 @@
-use Rattle.std.proofs.Common.{◌≡◌, List, [], ◌∷◌, if◌then◌else◌, refl, ap, ◌∙◌}
+use Rattle.std.proofs.Common.{◌≡◌, ℕ, List, [], ◌∷◌, if◌then◌else◌, refl, sym, ap, subst, ◌∙◌}
 use Rattle.indexmap.specs.IndexMap.{insert_entry}
 use Rattle.sieve_base.specs.Name.{name_eq}
 use Rattle.sieve_base.specs.contracts.name.ScriptNamePartialEq.TheImpl as equality
 use Rattle.sieve_base.specs.declared.name.ScriptName.{ScriptName}
-use Rattle.sieve_run.specs.Shelf.{with_text}
+use Rattle.sieve_profile.specs.Profile.{Profile}
+use Rattle.sieve_run.specs.Shelf.{ShelfState, with_text}
+use Rattle.sieve_run.specs.view.Entry.{AreEntries, IsEntry, entry_text, texts_of}
+use Rattle.sieve_run.proofs.Entries.{are-insert, texts-insert}
 use Rattle.sieve_run.proofs.LookedUp.{names_alike}
 use Rattle.sieve_run.proofs.shelf.Shelf.replace.Goals as goal
 
@@ -14,6 +17,21 @@ put_alike (e ∷ es) name text =
     ap (λ b. if b then (e.0, text) ∷ es else e ∷ insert_entry equality.eq-value.it es name text) (names_alike name e.0)
     ∙ ap (λ l. if name_eq name e.0 then (e.0, text) ∷ es else e ∷ l) (put_alike es name text)
 
+abbrev shelf_of : Profile → List (ScriptName × List ℕ) → ShelfState
+shelf_of profile scripts = record { profile = profile; scripts = scripts }
+
 pub returns-clause-ok : goal.returns-clause-ok
 returns-clause-ok c =
-    c.in_ok-insert.ensures.entries ∙ put_alike c.self.inside.scripts.entries c.args.name c.args.kept ∙ ap (with_text c.args.name c.args.kept) c.self.view_is
+    let es = c.self.inside.scripts.entries in
+    ap (shelf_of c.self.inside.profile)
+    (ap texts_of c.in_ok-insert.ensures.entries
+    ∙ texts-insert equality.eq-value.it es c.args.name c.args.entry
+    ∙ put_alike (texts_of es) c.args.name (entry_text c.args.entry))
+    ∙ ap (λ (s : ShelfState). shelf_of s.profile (with_text c.args.name (entry_text c.args.entry) s.scripts)) c.self.view_is
+
+pub invariant_of-self-2 : goal.invariant_of-self-2
+invariant_of-self-2 c =
+    let es = c.self.inside.scripts.entries in
+    let profile = c.self.inside.profile in
+    subst (AreEntries profile) (sym c.in_ok-insert.ensures.entries)
+    (are-insert profile equality.eq-value.it es c.args.name c.args.entry c.self.invariant (subst (λ (s : ShelfState). IsEntry s.profile c.args.entry) (sym c.self.view_is) c.requires))

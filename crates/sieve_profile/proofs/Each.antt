@@ -8,7 +8,7 @@ use denote.Struct.Field.{Field}
 use denote.Enum.Declared.{Record, Choice, declared, intoss, rowss, tag_of}
 use denote.Enum.Enum.{tag}
 use denote.Enum.Bare.{Bare}
-use Rattle.sieve_table.specs.Every.{choices, every}
+use Rattle.sieve_profile.specs.Every.{choices, every}
 
 all_mapped : {X Y : Type 0} (f : X → Y) (passes : Y → Bool) (xs : List X) → list_all passes (map f xs) ≡ list_all (λ x. passes (f x)) xs
 all_mapped f passes [] = refl

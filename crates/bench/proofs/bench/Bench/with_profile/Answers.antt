@@ -1,6 +1,6 @@
 use Rattle.std.proofs.Common.{◌≡◌, ◌∙◌, [], refl}
 use Rattle.bench.specs.view.Entry.{KeepsDue, messages_of, stale_of}
-use Rattle.bench.proofs.bench.Bench.new.Goals as goal
+use Rattle.bench.proofs.bench.Bench.with_profile.Goals as goal
 
 pub invariant_of-result : goal.invariant_of-result
 unfolding KeepsDue
@@ -11,7 +11,7 @@ unfolding messages_of
 returns-clause-content c =
     let from : c.from_vec.result ≡ [] = c.from_vec.ensures ∙ c.new.ensures.items in
     let to : c.from_vec-2.result ≡ [] = c.from_vec-2.ensures ∙ c.new-2.ensures.items in
-    rw (from, to, c.in_ok-copied.ensures, c.new-3.ensures.empty, c.new-4.ensures.empty) refl
+    rw (from, to, c.in_ok-copied.ensures, c.new-3.ensures, c.new-4.ensures.empty) refl
 
 pub returns-clause-stale : goal.returns-clause-stale
 unfolding stale_of

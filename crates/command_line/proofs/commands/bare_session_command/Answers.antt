@@ -1,0 +1,7 @@
+-- The texts about the subcommand are no part of what a parse reads.
+use Rattle.std.proofs.Common.{ap, ◌∙◌}
+use Rattle.clap.specs.Simple.{app_of_fields}
+use Rattle.command_line.proofs.commands.bare_session_command.Goals as goal
+
+pub returns-clause-shape : goal.returns-clause-shape
+returns-clause-shape c = ap app_of_fields c.after_help.ensures ∙ ap app_of_fields c.about.ensures ∙ c.new.ensures.app

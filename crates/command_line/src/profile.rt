@@ -1,0 +1,92 @@
+//! What the words of a command line say of a profile.
+ghost use Rattle.std.specs.Prelude.{map};
+ghost use Rattle.clap.specs.Words.{rows_of};
+ghost use Rattle.clap.specs.Matches.{found_of};
+ghost use Rattle.command_line.specs.Profiles.{Says, names_in, parts_of, profile_in, with_names};
+ghost use Rattle.sieve_profile.specs.Profile.{empty_profile};
+ghost use Rattle.sieve_profile.specs.view.Profile.{profile_as};
+
+use clap::ArgMatches;
+use sieve_profile::{EXTENSIONS, Extension, Profile};
+use std::alloc::{AllocError, Global};
+use std::fmt;
+
+/// The names that there are, as they are listed where a word is none of them.
+pub(crate) struct Names;
+
+impl fmt::Display for Names {
+    fn fmt<W: fmt::Write>(&self, f: &mut fmt::Formatter<W>) -> fmt::Result {
+        for (place, extension) in EXTENSIONS.iter().copied().enumerate() {
+            let between = if place == 0 { "" } else { ", " };
+            let name = name_text(extension);
+            write!(f, "{between}{name}")?;
+        }
+        Ok(())
+    }
+}
+
+// An extension's name as text.
+fn name_text(extension: Extension) -> &'static str {
+    std::str::from_utf8(extension.name()).unwrap_or("")
+}
+
+// What an extension brings, in a few words for help.
+fn brings(extension: Extension) -> &'static str {
+    match extension {
+        Extension::Charsets => "encoded words of further charsets are decoded",
+        Extension::Subaddress => "the address parts :user and :detail (RFC 5233)",
+        Extension::Unused => "a capability that is not known may be required where it is not used",
+    }
+}
+
+/// What help says of the option: a line for each name.
+pub(crate) fn names_help(alloc: Global) -> Result<String, AllocError> {
+    let mut text = String::from_str(
+        alloc,
+        "What a bench knows beyond what it always does (commas between several):",
+    )?;
+    for extension in EXTENSIONS.iter().copied() {
+        let name = name_text(extension);
+        let few_words = brings(extension);
+        text.push_str(format!(in alloc; "\n  {name:<12}  {few_words}")?.as_str())?;
+    }
+    Ok(text)
+}
+
+// A profile with what is known by the names in a word, or the first of them by which nothing is known.
+fn with_word<'a>(before: Profile, word: &'a str) -> Result<Profile, &'a str>
+    ensures { Says (with_names (profile_as before) (parts_of word.now)) result }
+{
+    let mut profile = before;
+    for name in word.split(',') {
+        match Extension::named(name.as_bytes()) {
+            Some(extension) => profile = profile.with(extension),
+            None => return Err(name),
+        }
+    }
+    Ok(profile)
+}
+
+// The profile that the words of all `--with` say, or the first name by which nothing is known.
+fn profile_by<'a>(words: &[&'a str]) -> Result<Profile, &'a str>
+    ensures { Says (with_names empty_profile (names_in (map (λ word. word.now) words.now))) result }
+{
+    let mut profile = Profile::new();
+    for word in words {
+        match with_word(profile, word) {
+            Ok(more) => profile = more,
+            Err(name) => return Err(name),
+        }
+    }
+    Ok(profile)
+}
+
+/// The profile that a subcommand's matches say, or the first name by which nothing is known.
+pub(crate) fn profile_in<'a>(matches: &ArgMatches<'a>) -> Result<Profile, &'a str>
+    ensures { Says (profile_in (rows_of (found_of matches.now))) result }
+{
+    match matches.get_strs("with") {
+        Some(words) => profile_by(words),
+        None => Ok(Profile::new()),
+    }
+}

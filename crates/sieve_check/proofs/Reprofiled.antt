@@ -1,0 +1,260 @@
+-- A script is judged alike by profiles by which the same capabilities are known, but for what may be required.
+use Rattle.std.proofs.Common.{◌≡◌, ℕ, Bool, false, List, [], ◌∷◌, ◌++◌, map, drop, Option, None, Some, refl, sym, ap, ◌∙◌}
+use Rattle.std.proofs.lemmas.List.{map-append}
+use Rattle.std.specs.List.{list_all}
+use Rattle.std.specs.Prelude.{if◌then◌else◌}
+use Rattle.std.specs.Option.{option_and_then}
+use Rattle.sieve_profile.specs.Profile.{Profile}
+use Rattle.sieve_syntax.specs.Tree.{Argument, strings, number, tag, Text, Test, test, Tests, no_tests, one_test, test_list, TestList, end_tests, more_tests, Node, node, Block, no_block, block, Nodes, end_nodes, more_nodes, nodes}
+use Rattle.sieve_check.specs.Context.{Context, behind, behind_block, behind_kind, behind_nodes, inside, script_start}
+use Rattle.sieve_check.specs.Element.{Element, argument_elements, block_elements, command_arguments, elements_of, judged_labels, labelled_elements, node_elements, nodes_elements, test_arguments, test_elements, test_list_elements, tests_elements, text_elements, the_command, the_number, the_test, the_text}
+use Rattle.sieve_check.specs.Parted.{parted, parted_argument, parted_block, parted_labelled, parted_node, parted_nodes, parted_test, parted_test_list, parted_tests, parted_text, command_labels, test_labels}
+use Rattle.sieve_check.specs.Scope.{naming_arguments}
+use Rattle.sieve_check.specs.Use.{has_block, is_well_used}
+use Rattle.sieve_reading.specs.Label.{labels_of}
+use Rattle.sieve_reading.specs.Role.{first_role}
+use Rattle.sieve_reading.specs.Shape.{known_labels, known_shape, known_shapes, shape_of}
+use Rattle.sieve_reading.specs.Tree as checked
+use Rattle.sieve_reading.specs.declared.label.Label.{Label}
+use Rattle.sieve_reading.specs.declared.label.Shape.{Shape}
+use Rattle.sieve_reading.specs.declared.label.Shape.TheVariants as shape
+use Rattle.sieve_table.specs.Known.{is_known, is_known_tag, is_need_known, known_command, known_test, only_if}
+use Rattle.sieve_table.specs.Table.{Row, command_named, command_row, tag_row, test_named, test_row}
+use Rattle.sieve_table.specs.declared.row.Role.{Role}
+use Rattle.sieve_table.specs.declared.table.CommandKind.{CommandKind}
+use Rattle.sieve_table.specs.declared.table.Tag.{Tag}
+use Rattle.sieve_table.specs.declared.table.TestKind.{TestKind}
+use Rattle.sieve_check.proofs.Profiles.{kind_profile, node_profile}
+
+-- a context, and an element, where the script is judged by another profile
+abbrev pub under : Profile → Context → Context
+under profile context = record context { profile = profile }
+
+abbrev pub reprofiled : Profile → Element → Element
+reprofiled profile (the_command context name line args ts ending) = the_command (under profile context) name line args ts ending
+reprofiled profile (the_test context name line args ts) = the_test (under profile context) name line args ts
+reprofiled profile (the_text context role text) = the_text (under profile context) role text
+reprofiled profile (the_number value line) = the_number value line
+
+module _ (p q : Profile) (same : is_known p ≡ is_known q) where
+  abbrev again : Element → Element
+  again = reprofiled p
+
+  -- WHAT IS KNOWN
+
+  pub command_again : (name : List ℕ) → known_command p name ≡ known_command q name
+  command_again name = ap (λ known. option_and_then (only_if (λ kind. list_all known (command_row kind).needs)) (command_named name)) same
+
+  pub test_again : (name : List ℕ) → known_test p name ≡ known_test q name
+  test_again name = ap (λ known. option_and_then (only_if (λ kind. list_all known (test_row kind).needs)) (test_named name)) same
+
+  tag_again : (t : Tag) → is_known_tag p t ≡ is_known_tag q t
+  tag_again t = ap (λ known. is_need_known known (tag_row t).needs) same
+
+  shape_again : (s : Shape) → known_shape p s ≡ known_shape q s
+  shape_again shape.Text = refl
+  shape_again shape.Texts = refl
+  shape_again shape.Number = refl
+  shape_again (shape.Tag None) = refl
+  shape_again (shape.Tag (Some t)) = ap (λ b. shape.Tag (if b then Some t else None)) (tag_again t)
+
+  pub shapes_again : (tags : List Tag) (args : List Argument) → known_shapes p tags args ≡ known_shapes q tags args
+  shapes_again tags [] = refl
+  shapes_again tags (a ∷ args) =
+      ap (λ s. s ∷ known_shapes p tags args) (shape_again (shape_of tags a)) ∙ ap (λ l. known_shape q (shape_of tags a) ∷ l) (shapes_again tags args)
+
+  labels_again : (row : Row) (args : List Argument) → known_labels p row args ≡ known_labels q row args
+  labels_again row args = ap (labels_of row) (shapes_again row.tags args)
+
+  -- THE ELEMENTS
+
+  module _ (c : Context) where
+    texts_again : (role : Option Role) (ts : List Text) → text_elements (under p c) role ts ≡ map again (text_elements (under q c) role ts)
+    texts_again role [] = refl
+    texts_again role (t ∷ ts) = ap (λ l. the_text (under p c) role t ∷ l) (texts_again role ts)
+
+    argument_again : (role : Option Role) (a : Argument) → argument_elements (under p c) role a ≡ map again (argument_elements (under q c) role a)
+    argument_again role (strings items bracketed) = texts_again role items
+    argument_again role (number value line) = refl
+    argument_again role (tag name line) = refl
+
+    arguments_again : (labels : List Label) (args : List Argument) → labelled_elements (under p c) labels args ≡ map again (labelled_elements (under q c) labels args)
+    arguments_again labels [] = refl
+    arguments_again labels (a ∷ args) =
+        ap (λ l. l ++ labelled_elements (under p c) (drop 1 labels) args) (argument_again (first_role labels) a)
+        ∙ ap (λ l. map again (argument_elements (under q c) (first_role labels) a) ++ l) (arguments_again (drop 1 labels) args)
+        ∙ sym (map-append again (argument_elements (under q c) (first_role labels) a) (labelled_elements (under q c) (drop 1 labels) args))
+
+    row_again : (row : Row) (args : List Argument) (ts : Tests) (ends : Bool) → labelled_elements (under p c) (judged_labels (is_well_used row (known_shapes p row.tags args) ts ends) (known_labels p row args)) args
+        ≡ map again (labelled_elements (under q c) (judged_labels (is_well_used row (known_shapes q row.tags args) ts ends) (known_labels q row args)) args)
+    row_again row args ts ends =
+        ap (λ shapes. labelled_elements (under p c) (judged_labels (is_well_used row shapes ts ends) (labels_of row shapes)) args) (shapes_again row.tags args)
+        ∙ arguments_again _ args
+
+    test_arguments_again : (k : Option TestKind) (args : List Argument) (ts : Tests) → test_arguments (under p c) k args ts ≡ map again (test_arguments (under q c) k args ts)
+    test_arguments_again None args ts = arguments_again [] args
+    test_arguments_again (Some kind) args ts = row_again (test_row kind) args ts false
+
+    command_arguments_again : (k : Option CommandKind) (args : List Argument) (ts : Tests) (ending : Block) → command_arguments (under p c) k args ts ending ≡ map again (command_arguments (under q c) k args ts ending)
+    command_arguments_again None args ts ending = arguments_again [] args
+    command_arguments_again (Some kind) args ts ending = row_again (command_row kind) args ts (has_block ending)
+
+    mutual
+      unfolding test_elements tests_elements test_list_elements
+
+      test_elements_again : (t : Test) → test_elements (under p c) t ≡ map again (test_elements (under q c) t)
+      test_elements_again (test name line args ts) =
+          ap (λ k. the_test (under p c) name line args ts ∷ (test_arguments (under p c) k args ts ++ tests_elements (under p c) ts)) (test_again name)
+          ∙ ap (λ l. the_test (under p c) name line args ts ∷ (l ++ tests_elements (under p c) ts)) (test_arguments_again (known_test q name) args ts)
+          ∙ ap (λ l. the_test (under p c) name line args ts ∷ (map again (test_arguments (under q c) (known_test q name) args ts) ++ l)) (tests_elements_again ts)
+          ∙ ap (λ l. the_test (under p c) name line args ts ∷ l) (sym (map-append again (test_arguments (under q c) (known_test q name) args ts) (tests_elements (under q c) ts)))
+
+      tests_elements_again : (ts : Tests) → tests_elements (under p c) ts ≡ map again (tests_elements (under q c) ts)
+      tests_elements_again no_tests = refl
+      tests_elements_again (one_test t) = test_elements_again t
+      tests_elements_again (test_list ts) = test_list_again ts
+
+      test_list_again : (ts : TestList) → test_list_elements (under p c) ts ≡ map again (test_list_elements (under q c) ts)
+      test_list_again end_tests = refl
+      test_list_again (more_tests t ts) =
+          ap (λ l. l ++ test_list_elements (under p c) ts) (test_elements_again t)
+          ∙ ap (λ l. map again (test_elements (under q c) t) ++ l) (test_list_again ts)
+          ∙ sym (map-append again (test_elements (under q c) t) (test_list_elements (under q c) ts))
+
+  -- a context of a profile is one under it
+  set : (x : Context) → x.profile ≡ q → under q x ≡ x
+  set x is = ap (λ r. record x { profile = r }) (sym is)
+
+  -- what stands behind a command
+  kind_again : (c : Context) (k : Option CommandKind) (args : List Argument) → behind_kind (under p c) k args ≡ under p (behind_kind (under q c) k args)
+  kind_again c None args = refl
+  kind_again c (Some kind) args = ap (λ labels. record (behind_kind (under p c) (Some kind) args) { scope = naming_arguments c.scope labels args }) (labels_again (command_row kind) args)
+
+  mutual
+    unfolding behind behind_block behind_nodes
+
+    node_behind : (n : Node) (c : Context) → behind (under p c) n ≡ under p (behind (under q c) n)
+    node_behind (node name line args ts ending) c =
+        ap (λ k. behind_block (behind_kind (under p c) k args) ending) (command_again name)
+        ∙ ap (λ x. behind_block x ending) (kind_again c (known_command q name) args)
+        ∙ block_behind ending (behind_kind (under q c) (known_command q name) args)
+        ∙ ap (λ x. under p (behind_block x ending)) (set (behind_kind (under q c) (known_command q name) args) (kind_profile (under q c) (known_command q name) args))
+
+    -- a block goes by the profile of the command that it belongs to
+    block_behind : (b : Block) (c : Context) → behind_block (under p c) b ≡ under p (behind_block (under q c) b)
+    block_behind no_block c = refl
+    block_behind (block ns) c = ap (λ x. record (under p c) { scope = x.scope }) (nodes_behind ns (inside c))
+
+    nodes_behind : (ns : Nodes) (c : Context) → behind_nodes (under p c) ns ≡ under p (behind_nodes (under q c) ns)
+    nodes_behind end_nodes c = refl
+    nodes_behind (more_nodes n ns) c =
+        ap (λ x. behind_nodes x ns) (node_behind n c)
+        ∙ nodes_behind ns (behind (under q c) n)
+        ∙ ap (λ x. under p (behind_nodes x ns)) (set (behind (under q c) n) (node_profile n (under q c)))
+
+  mutual
+    unfolding node_elements block_elements nodes_elements
+
+    node_again : (n : Node) (c : Context) → node_elements (under p c) n ≡ map again (node_elements (under q c) n)
+    node_again (node name line args ts ending) c =
+        let k = known_command q name in
+        let first = the_command (under p c) name line args ts ending in
+        let within = behind_kind (under q c) k args in
+        ap (λ k. first ∷ (command_arguments (under p c) k args ts ending ++ (tests_elements (under p c) ts ++ block_elements (behind_kind (under p c) k args) ending))) (command_again name)
+        ∙ ap (λ x. first ∷ (command_arguments (under p c) k args ts ending ++ (tests_elements (under p c) ts ++ block_elements x ending))) (kind_again c k args)
+        ∙ ap (λ l. first ∷ (l ++ (tests_elements (under p c) ts ++ block_elements (under p within) ending))) (command_arguments_again c k args ts ending)
+        ∙ ap (λ l. first ∷ (map again (command_arguments (under q c) k args ts ending) ++ (l ++ block_elements (under p within) ending))) (tests_elements_again c ts)
+        ∙ ap (λ l. first ∷ (map again (command_arguments (under q c) k args ts ending) ++ (map again (tests_elements (under q c) ts) ++ l)))
+        (block_again ending within ∙ ap (λ x. map again (block_elements x ending)) (set within (kind_profile (under q c) k args)))
+        ∙ ap (λ l. first ∷ (map again (command_arguments (under q c) k args ts ending) ++ l)) (sym (map-append again (tests_elements (under q c) ts) (block_elements within ending)))
+        ∙ ap (λ l. first ∷ l) (sym (map-append again (command_arguments (under q c) k args ts ending) (tests_elements (under q c) ts ++ block_elements within ending)))
+
+    block_again : (b : Block) (c : Context) → block_elements (under p c) b ≡ map again (block_elements (under q c) b)
+    block_again no_block c = refl
+    block_again (block ns) c = nodes_again ns (inside c)
+
+    nodes_again : (ns : Nodes) (c : Context) → nodes_elements (under p c) ns ≡ map again (nodes_elements (under q c) ns)
+    nodes_again end_nodes c = refl
+    nodes_again (more_nodes n ns) c =
+        let next = behind (under q c) n in
+        ap (λ x. node_elements (under p c) n ++ nodes_elements x ns) (node_behind n c)
+        ∙ ap (λ l. l ++ nodes_elements (under p next) ns) (node_again n c)
+        ∙ ap (λ l. map again (node_elements (under q c) n) ++ l) (nodes_again ns next ∙ ap (λ x. map again (nodes_elements x ns)) (set next (node_profile n (under q c))))
+        ∙ sym (map-append again (node_elements (under q c) n) (nodes_elements next ns))
+
+  -- the elements of a script are the same, but for the profile
+  pub elements_again : (tree : List Node) → elements_of p tree ≡ map again (elements_of q tree)
+  elements_again tree = nodes_again (nodes tree) (script_start q)
+
+  -- THE TREE
+
+  module _ (c : Context) where
+    texts_cut : (role : Option Role) (ts : List Text) → map (parted_text (under p c) role) ts ≡ map (parted_text (under q c) role) ts
+    texts_cut role [] = refl
+    texts_cut role (t ∷ ts) = ap (λ l. parted_text (under q c) role t ∷ l) (texts_cut role ts)
+
+    argument_cut : (role : Option Role) (a : Argument) → parted_argument (under p c) role a ≡ parted_argument (under q c) role a
+    argument_cut role (strings items bracketed) = ap (λ l. checked.strings l bracketed) (texts_cut role items)
+    argument_cut role (number value line) = refl
+    argument_cut role (tag name line) = refl
+
+    arguments_cut : (labels : List Label) (args : List Argument) → parted_labelled (under p c) labels args ≡ parted_labelled (under q c) labels args
+    arguments_cut labels [] = refl
+    arguments_cut labels (a ∷ args) =
+        ap (λ x. x ∷ parted_labelled (under p c) (drop 1 labels) args) (argument_cut (first_role labels) a)
+        ∙ ap (λ l. parted_argument (under q c) (first_role labels) a ∷ l) (arguments_cut (drop 1 labels) args)
+
+    test_cut_by : (k : Option TestKind) (args : List Argument) → test_labels p k args ≡ test_labels q k args
+    test_cut_by None args = refl
+    test_cut_by (Some kind) args = labels_again (test_row kind) args
+
+    command_cut_by : (k : Option CommandKind) (args : List Argument) → command_labels p k args ≡ command_labels q k args
+    command_cut_by None args = refl
+    command_cut_by (Some kind) args = labels_again (command_row kind) args
+
+    mutual
+      test_cut : (t : Test) → parted_test (under p c) t ≡ parted_test (under q c) t
+      test_cut (test name line args ts) =
+          ap (λ k. checked.test name line (parted_labelled (under p c) (test_labels p k args) args) (parted_tests (under p c) ts)) (test_again name)
+          ∙ ap (λ l. checked.test name line (parted_labelled (under p c) l args) (parted_tests (under p c) ts)) (test_cut_by (known_test q name) args)
+          ∙ ap (λ x. checked.test name line x (parted_tests (under p c) ts)) (arguments_cut (test_labels q (known_test q name) args) args)
+          ∙ ap (λ x. checked.test name line (parted_labelled (under q c) (test_labels q (known_test q name) args) args) x) (tests_cut ts)
+
+      tests_cut : (ts : Tests) → parted_tests (under p c) ts ≡ parted_tests (under q c) ts
+      tests_cut no_tests = refl
+      tests_cut (one_test t) = ap (λ x. checked.one_test x) (test_cut t)
+      tests_cut (test_list ts) = ap (λ x. checked.test_list x) (test_list_cut ts)
+
+      test_list_cut : (ts : TestList) → parted_test_list (under p c) ts ≡ parted_test_list (under q c) ts
+      test_list_cut end_tests = refl
+      test_list_cut (more_tests t ts) = ap (λ x. checked.more_tests x (parted_test_list (under p c) ts)) (test_cut t) ∙ ap (λ x. checked.more_tests (parted_test (under q c) t) x) (test_list_cut ts)
+
+  mutual
+    node_cut : (n : Node) (c : Context) → parted_node (under p c) n ≡ parted_node (under q c) n
+    node_cut (node name line args ts ending) c =
+        let k = known_command q name in
+        let within = behind_kind (under q c) k args in
+        let cut = parted_labelled (under q c) (command_labels q k args) args in
+        ap (λ k. checked.node name line (parted_labelled (under p c) (command_labels p k args) args) (parted_tests (under p c) ts) (parted_block (behind_kind (under p c) k args) ending)) (command_again name)
+        ∙ ap (λ l. checked.node name line (parted_labelled (under p c) l args) (parted_tests (under p c) ts) (parted_block (behind_kind (under p c) k args) ending)) (command_cut_by c k args)
+        ∙ ap (λ x. checked.node name line x (parted_tests (under p c) ts) (parted_block (behind_kind (under p c) k args) ending)) (arguments_cut c (command_labels q k args) args)
+        ∙ ap (λ x. checked.node name line cut x (parted_block (behind_kind (under p c) k args) ending)) (tests_cut c ts)
+        ∙ ap (λ x. checked.node name line cut (parted_tests (under q c) ts) (parted_block x ending)) (kind_again c k args)
+        ∙ ap (λ x. checked.node name line cut (parted_tests (under q c) ts) x)
+        (block_cut ending within ∙ ap (λ x. parted_block x ending) (set within (kind_profile (under q c) k args)))
+
+    block_cut : (b : Block) (c : Context) → parted_block (under p c) b ≡ parted_block (under q c) b
+    block_cut no_block c = refl
+    block_cut (block ns) c = ap (λ x. checked.block x) (nodes_cut ns (inside c))
+
+    nodes_cut : (ns : Nodes) (c : Context) → parted_nodes (under p c) ns ≡ parted_nodes (under q c) ns
+    nodes_cut end_nodes c = refl
+    nodes_cut (more_nodes n ns) c =
+        let next = behind (under q c) n in
+        ap (λ x. checked.more_nodes x (parted_nodes (behind (under p c) n) ns)) (node_cut n c)
+        ∙ ap (λ x. checked.more_nodes (parted_node (under q c) n) (parted_nodes x ns)) (node_behind n c)
+        ∙ ap (λ x. checked.more_nodes (parted_node (under q c) n) x) (nodes_cut ns next ∙ ap (λ x. parted_nodes x ns) (set next (node_profile n (under q c))))
+
+  -- the tree is cut alike
+  pub parted_again : (tree : List Node) → parted p tree ≡ parted q tree
+  parted_again tree = ap (λ ns. checked.items ns) (nodes_cut (nodes tree) (script_start q))

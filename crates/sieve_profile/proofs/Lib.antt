@@ -1,0 +1,3 @@
+pub mod Each
+mod Names
+pub mod Sets

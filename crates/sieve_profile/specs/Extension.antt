@@ -1,0 +1,28 @@
+-- What a bench may know beyond what it always does, by the names that are asked for.
+use Rattle.std.specs.Prelude.{ℕ, Bool, List, Option, find, nat_eq, codes}
+use denote.Enum.Bare.{sameb}
+use lib.Pointwise.{pointwise}
+use Rattle.sieve_profile.specs.Every.{every}
+use Rattle.sieve_profile.specs.contracts.extension.Extension.{enum, the_type}
+use Rattle.sieve_profile.specs.declared.extension.Extension.{Extension}
+use Rattle.sieve_profile.specs.declared.extension.Extension.TheVariants.{Charsets, Subaddress, Unused}
+
+abbrev pub extension_name : Extension → List ℕ
+extension_name Charsets = codes "charsets"
+extension_name Subaddress = codes "subaddress"
+extension_name Unused = codes "unused"
+
+-- all of them, in the order of their names
+abbrev pub extensions : List Extension
+extensions = every enum tt
+
+abbrev pub same_extension : Extension → Extension → Bool
+same_extension a b = sameb the_type a b
+
+-- whether octets are its name, octet for octet
+abbrev pub is_name_of : List ℕ → Extension → Bool
+is_name_of name extension = pointwise nat_eq (extension_name extension) name
+
+-- the one of a name
+abbrev pub extension_named : List ℕ → Option Extension
+extension_named name = find (is_name_of name) extensions

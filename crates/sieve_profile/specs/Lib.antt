@@ -1,0 +1,4 @@
+pub mod Every
+pub mod Extension
+pub mod Profile
+pub mod view

@@ -1,0 +1,78 @@
+-- What a bench of a profile knows: what needs a capability that it lacks isn't there.
+use Rattle.std.specs.Prelude.{ℕ, Bool, true, not, ◌&&◌, ◌||◌, List, Option, None, Some, if◌then◌else◌, codes, nat_eq}
+use Rattle.std.specs.List.{list_all, list_any}
+use Rattle.std.specs.Option.{option_and_then}
+use lib.Pointwise.{pointwise}
+use Rattle.sieve_profile.specs.Profile.{Profile, has}
+use Rattle.sieve_profile.specs.declared.extension.Extension.{Extension}
+use Rattle.sieve_profile.specs.declared.extension.Extension.TheVariants as extension
+use Rattle.sieve_table.specs.Capability.{capabilities, is_name_of}
+use Rattle.sieve_table.specs.Table.{Row, command_named, command_row, tag_row, test_named, test_row}
+use Rattle.sieve_table.specs.declared.capability.Capability.{Capability}
+use Rattle.sieve_table.specs.declared.capability.Capability.TheVariants as capability
+use Rattle.sieve_table.specs.declared.table.CommandKind.{CommandKind}
+use Rattle.sieve_table.specs.declared.table.Tag.{Tag}
+use Rattle.sieve_table.specs.declared.table.TestKind.{TestKind}
+
+-- the name that a profile needs for a capability to be known; without one it always is
+abbrev pub extension_of : Capability → Option Extension
+extension_of capability.Fileinto = None
+extension_of capability.Envelope = None
+extension_of capability.Variables = None
+extension_of capability.Imap4flags = None
+extension_of capability.Include = None
+extension_of capability.Copy = None
+extension_of capability.Subaddress = Some extension.Subaddress
+extension_of capability.OctetComparator = None
+extension_of capability.CasemapComparator = None
+
+abbrev pub is_asked_for : Profile → Option Extension → Bool
+is_asked_for profile None = true
+is_asked_for profile (Some name) = has profile name
+
+abbrev pub is_known : Profile → Capability → Bool
+is_known profile capability = is_asked_for profile (extension_of capability)
+
+-- CAPABILITIES THAT ARE REQUIRED
+
+-- whether a string names a capability that is known
+abbrev pub names_known : Profile → List ℕ → Bool
+names_known profile name = list_any (λ capability. is_name_of name capability && is_known profile capability) capabilities
+
+-- A capability whose use no word shows: what it brings are sequences in strings (RFC 5228, section 2.4.2.4). So it may not be required where it isn't
+-- known.
+abbrev pub is_shown_by_no_word : List ℕ → Bool
+is_shown_by_no_word name = pointwise nat_eq name (codes "encoded-character")
+
+-- whether a `require` may name it: with `unused` also one that isn't known, as mail clients require all that they know, used or not
+abbrev pub may_be_required : Profile → List ℕ → Bool
+may_be_required profile name = names_known profile name || (has profile extension.Unused && not (is_shown_by_no_word name))
+
+-- COMMANDS, TESTS AND TAGS
+
+-- whether all is known that a row needs
+abbrev pub is_known_row : Profile → Row → Bool
+is_known_row profile row = list_all (is_known profile) row.needs
+
+-- whether what may be needed is known
+abbrev pub is_need_known : (Capability → Bool) → Option Capability → Bool
+is_need_known known None = true
+is_need_known known (Some capability) = known capability
+
+abbrev pub is_known_tag : Profile → Tag → Bool
+is_known_tag profile tag = is_need_known (is_known profile) (tag_row tag).needs
+
+abbrev pub only_if : {A : Type 0} → (A → Bool) → A → Option A
+only_if passes x = if passes x then Some x else None
+
+-- the command of a name, where it is known
+abbrev pub known_command : Profile → List ℕ → Option CommandKind
+known_command profile written = option_and_then (only_if (λ kind. is_known_row profile (command_row kind))) (command_named written)
+
+-- the test of a name, where it is known
+abbrev pub known_test : Profile → List ℕ → Option TestKind
+known_test profile written = option_and_then (only_if (λ kind. is_known_row profile (test_row kind))) (test_named written)
+
+-- a tag, where it is known
+abbrev pub known_tag : Profile → Option Tag → Option Tag
+known_tag profile tag = option_and_then (only_if (is_known_tag profile)) tag

@@ -1,0 +1,110 @@
+//! What a bench of a profile knows: what needs a capability that it lacks isn't there.
+ghost use Rattle.std.specs.Prelude.{◌≡◌};
+ghost use Rattle.sieve_profile.specs.view.Profile.{profile_as};
+ghost use Rattle.sieve_table.specs.Known as spec;
+ghost use Rattle.std.specs.Option.{option_and_then};
+ghost use Rattle.sieve_table.specs.Table.{command_row, test_row};
+ghost use Rattle.sieve_table.specs.view.Row.{row_as};
+
+use crate::capability::{CAPABILITIES, Capability, is_name_of};
+use crate::row::Row;
+use crate::table::{CommandKind, Tag, TestKind};
+use sieve_profile::{Extension, Profile};
+
+/// The name that a profile needs for a capability to be known; without one it always is.
+fn extension_of(capability: Capability) -> Option<Extension>
+    ensures { result ≡ spec.extension_of capability }
+{
+    match capability {
+        Capability::Subaddress => Some(Extension::Subaddress),
+        Capability::Fileinto
+        | Capability::Envelope
+        | Capability::Variables
+        | Capability::Imap4flags
+        | Capability::Include
+        | Capability::Copy
+        | Capability::OctetComparator
+        | Capability::CasemapComparator => None,
+    }
+}
+
+/// Whether a capability is known.
+fn is_known(profile: Profile, capability: Capability) -> bool
+    ensures { result ≡ spec.is_known (profile_as profile) capability }
+{
+    match extension_of(capability) {
+        Some(name) => profile.has(name),
+        None => true,
+    }
+}
+
+/// Whether a string names a capability that is known.
+fn names_known(profile: Profile, name: &[u8]) -> bool
+    ensures { result ≡ spec.names_known (profile_as profile) name.now }
+{
+    CAPABILITIES.iter().any(|capability| is_name_of(name, *capability)
+        && is_known(profile, *capability))
+}
+
+/// Whether no word shows that the capability of that name is used (RFC 5228, section 2.4.2.4).
+fn is_shown_by_no_word(name: &[u8]) -> bool
+    ensures { result ≡ spec.is_shown_by_no_word name.now }
+{
+    name == b"encoded-character".as_slice()
+}
+
+/// Whether a `require` may name a capability: one that is known, or with `unused` one that isn't.
+pub fn may_be_required(profile: Profile, name: &[u8]) -> bool
+    ensures { result ≡ spec.may_be_required (profile_as profile) name.now }
+{
+    names_known(profile, name) || (profile.has(Extension::Unused) && !is_shown_by_no_word(name))
+}
+
+/// Whether all is known that a row needs.
+fn is_known_row(profile: Profile, row: &Row) -> bool
+    ensures { result ≡ spec.is_known_row (profile_as profile) (row_as row.now) }
+{
+    row.needs
+        .iter()
+        .all(|capability| is_known(profile, *capability))
+}
+
+/// Whether a tag is known.
+fn is_known_tag(profile: Profile, tag: Tag) -> bool
+    ensures { result ≡ spec.is_known_tag (profile_as profile) tag }
+{
+    match tag.row().needs {
+        Some(capability) => is_known(profile, capability),
+        None => true,
+    }
+}
+
+/// The tag, where it is known.
+pub fn known_tag(profile: Profile, tag: Option<Tag>) -> Option<Tag>
+    ensures { result ≡ spec.known_tag (profile_as profile) tag }
+{
+    match tag {
+        Some(tag) if is_known_tag(profile, tag) => Some(tag),
+        _ => None,
+    }
+}
+
+/// The command, where it is known.
+pub fn known_command(profile: Profile, kind: Option<CommandKind>) -> Option<CommandKind>
+    ensures { result ≡ option_and_then (spec.only_if (λ kind. spec.is_known_row (profile_as profile) (command_row kind))) kind }
+{
+    match kind {
+        Some(kind) if is_known_row(profile, &kind.row()) => Some(kind),
+        _ => None,
+    }
+}
+
+/// The test, where it is known.
+pub fn known_test(profile: Profile, kind: Option<TestKind>) -> Option<TestKind>
+    ensures { result ≡ option_and_then (spec.only_if (λ kind. spec.is_known_row (profile_as profile) (test_row kind))) kind }
+{
+    match kind {
+        Some(kind) if is_known_row(profile, &kind.row()) => Some(kind),
+        _ => None,
+    }
+}
