@@ -6,11 +6,13 @@ between the two, as in `@\\ A: b\\r\\n`, the octets have the escapes \\n, \\r, \
 parts.
 
 `*.rows`: what becomes of a script and a mail. `| ` a line of the script, and where there is none, the script of the case before; `@ ` a
-line of the mail, which has no octets without one; `% ` the envelope's sender and recipient; then the lines of the verdict, `> `; or the
-script's fault, `! `; or the lines of its code, `= `, with `=` alone for none.
+line of the mail, which has no octets without one; `% ` the envelope's sender and recipient; `+ ` the names of the profile in their order,
+and without such a line it is empty; then the lines of the verdict, `> `; or the script's fault, `! `; or the lines of its code, `= `, with
+`=` alone for none.
 
 `*.faults`: the faults of scripts. Behind `== FAULT`, which is `ok` for none, stands a text a line, with escapes, and `\\` alone for no
-octets. Lines `| ` stand before each text of the paragraph and of those behind it, up to other such lines; `|\\` stands for none.
+octets. Lines `| ` stand before each text of the paragraph and of those behind it, up to other such lines; `|\\` stands for none. `+ `, the
+names of the profile in their order, holds for the paragraph.
 
 `*.sessions`: `< ` a line of the input, `> ` one of the replies, `= ` the status where it isn't 0.
 
@@ -72,29 +74,32 @@ def of_scripts(path, room):
     """The cases of a `*.rows` file."""
     script = b""
     for title, paragraph in paragraphs(path):
-        case = Case(f"{path.name}, {title}", paragraph, "|@%>!=")
+        case = Case(f"{path.name}, {title}", paragraph, "|@%+>!=")
         script, mail = case.octets.get("|", script), case.octets.get("@", b"")
         envelope = case.lines.get("%", ['"" ""'])[0]
+        names = case.lines.get("+", [""])[0]
         wanted = [mark for mark in ">!=" if mark in case.lines]
         if len(wanted) != 1:
             sys.exit(f"{case.title}: a case has one of `>`, `!` and `=`: {paragraph}")
         if wanted == ["="]:
-            yield runs.dumped(room, case.title, script, [line for line in case.lines["="] if line])
+            yield runs.dumped(room, case.title, script, [line for line in case.lines["="] if line], names)
         else:
-            yield runs.reported(room, case.title, script, [mail], [case.lines.get(">")], case.lines.get("!", ["ok"])[0], envelope)
+            yield runs.reported(room, case.title, script, [mail], [case.lines.get(">")], case.lines.get("!", ["ok"])[0], envelope, names)
 
 
 def of_faults(path, room):
     """The texts of a `*.faults` file."""
     front = b""
     for fault, paragraph in paragraphs(path):
-        texts = [line for line in paragraph if not line.startswith("|")]
-        if len(texts) < len(paragraph):
-            front = Case(path.name, [line for line in paragraph if line.startswith("|")], "|").octets["|"]
-        for text in texts:
+        case = Case(path.name, [line for line in paragraph if line[:1] in ("|", "+")], "|+")
+        front = case.octets.get("|", front)
+        names = case.lines.get("+", [""])[0]
+        for text in paragraph:
+            if text[:1] in ("|", "+"):
+                continue
             script = front + unescaped(text if text != "\\" else "")
-            replies = runs.lines("ok", "main none", runs.SETTINGS, f'script personal "main" {fault}', "total 0 messages 0 errors")
-            yield runs.session(room, f"{path.name}, {text}", runs.put(b"script personal main", script) + b"report\n", replies)
+            replies = runs.lines("ok", "main none", runs.SETTINGS, *runs.with_line(names), f'script personal "main" {fault}', "total 0 messages 0 errors")
+            yield runs.session(room, f"{path.name}, {text}", runs.put(b"script personal main", script) + b"report\n", replies, names=names)
 
 
 def of_sessions(path, room):

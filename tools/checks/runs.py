@@ -55,26 +55,32 @@ def put(words, octets):
     return b"%s %d\n%s" % (words, len(octets), octets)
 
 
-def session(room, title, octets, replies, status=0):
-    """A session of its own file."""
+def with_line(names):
+    """The line of a report that tells the profile, where it isn't empty."""
+    return [f"with {names}"] if names else []
+
+
+def session(room, title, octets, replies, status=0, names=""):
+    """A session of its own file, under the profile of these names."""
     path = room / f"{len(list(room.iterdir()))}.session"
     path.write_bytes(octets)
-    return Run(title, room, f"sievebench session < {path.name}", replies, status=status)
+    words = f"session --with {names.replace(' ', ',')}" if names else "session"
+    return Run(title, room, f"sievebench {words} < {path.name}", replies, status=status)
 
 
-def reported(room, title, script, mails, verdicts, fault="ok", envelope='"" ""'):
+def reported(room, title, script, mails, verdicts, fault="ok", envelope='"" ""', names=""):
     """A session that reports what a script does with mails in an envelope: the lines of each mail's verdict, or the script's fault."""
     puts = [put(b"script personal main", script)] + [put(b"message m%d" % number, mail) for number, mail in enumerate(mails, 1)]
     octets = b"".join(puts) + b"main personal main\n" + lines(f"envelope {envelope}", "report")
     if fault != "ok":
         verdicts = [['implicit "INBOX"', 'error personal "main" line 0 invalid-script']] * len(mails)
-    told = ["ok"] * (len(mails) + 3) + ['main personal "main"', f'envelope {envelope} mailbox "INBOX"', f'script personal "main" {fault}']
+    told = ["ok"] * (len(mails) + 3) + ['main personal "main"', f'envelope {envelope} mailbox "INBOX"', *with_line(names), f'script personal "main" {fault}']
     for number, verdict in enumerate(verdicts, 1):
         told += [f'message "m{number}"', *(f"  {line}" for line in verdict), '  read personal "main"']
     errors = sum(any(line.startswith("error ") for line in verdict) for verdict in verdicts)
-    return session(room, title, octets, lines(*told, f"total {len(mails)} messages {errors} errors"))
+    return session(room, title, octets, lines(*told, f"total {len(mails)} messages {errors} errors"), names=names)
 
 
-def dumped(room, title, script, code):
+def dumped(room, title, script, code, names=""):
     """A session that prints the code of a script: its lines."""
-    return session(room, title, put(b"script personal main", script) + b"dump personal main\n", lines("ok", *code, "ok"))
+    return session(room, title, put(b"script personal main", script) + b"dump personal main\n", lines("ok", *code, "ok"), names=names)

@@ -91,6 +91,18 @@ def of_spellings(room):
     yield run("CR LF, an empty line and a name again among those of main scripts, and a mail of an odd name", room, "check names", lines(counted(1, 2, 2, 0, 0, 2, 0, 0)))
 
 
+def of_names(room):
+    """What is asked for by a site's file `with`."""
+    script = b'require ["subaddress", "fileinto", "vacation"]; if address :detail "to" "box" { fileinto "Box"; }'
+    files = {**site({"1.eml": b"To: a+box@b.example\n\n"}, main=script), "mails/1.eml.expect": b'["main"]\nstore "Box"\n'}
+    write(room / "asked", {**files, "with": b"subaddress\r\n\nunused"})
+    yield run("names of a site", room, "check --strict asked", lines(counted(1, 1, 1, 1, 0, 0, 0, 0)))
+    write(room / "unasked", files)
+    yield run("no names of a site", room, "check unasked", [b"unknown-capability"], status=1)
+    write(room / "misnamed", {**files, "with": b"sub address\n"})
+    yield run("a name that there isn't", room, "check misnamed", b"", [b"of the site's file with", b"subaddress"], 2)
+
+
 def of_refusals(room):
     """Misuse."""
     write(room / "broken", site({"1.eml": b"", "1.eml.expect": b"discard\n"}, main=b""))
@@ -291,5 +303,5 @@ def of_sites(room):
     room = room / "sites"
     room.mkdir()
     yield Run("sievebench-site: it compiles", room, f"python3 -c 'import ast, sys; ast.parse(open(sys.argv[1]).read())' {shlex.quote(str(TOOL))}")
-    for part in (of_checks, of_spellings, of_refusals, of_programs, of_broken_files, of_results, of_records, of_lints, of_sievec, of_many):
+    for part in (of_checks, of_spellings, of_names, of_refusals, of_programs, of_broken_files, of_results, of_records, of_lints, of_sievec, of_many):
         yield from part(room)
