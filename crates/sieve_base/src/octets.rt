@@ -43,8 +43,8 @@ impl Octets {
     pub fn into_vec(self) -> Vec<u8>
         ensures { result.items ≡ self }
     {
-        let Octets { bytes } = self;
-        bytes
+        let Octets { bytes: octets } = self;
+        octets
     }
 
     /// A copy of a slice.

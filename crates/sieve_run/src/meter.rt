@@ -37,6 +37,7 @@ impl Meter {
     pub(crate) fn count(&mut self)
         ensures { self.new ≡ next_run self.old }
     {
-        self.runs = self.runs.saturating_add(1);
+        let Meter { runs } = self;
+        *runs = runs.saturating_add(1);
     }
 }
