@@ -1,17 +1,18 @@
 -- What is done to the entries of a bench is done to their messages.
-use Rattle.std.proofs.Common.{◌≡◌, ℕ, zero, suc, ◌<◌, List, [], ◌∷◌, length, get_or, slice_get, Bool, true, false, Option, Some, None, is_some, cond, if◌then◌else◌, MatchOption, nat_eq, refl, sym, ap, subst, ◌∙◌, arith}
+use Rattle.std.proofs.Common.{◌≡◌, ℕ, zero, suc, ◌<◌, List, [], ◌∷◌, length, get_or, slice_get, Bool, true, false, Option, Some, None, is_some, cond, if◌then◌else◌, MatchOption, nat_eq, refl, sym, ap, ◌∙◌, arith}
 use Rattle.std.proofs.lemmas.List.{length-map}
 use Rattle.std.proofs.lemmas.Map.Made.{lookup-map_values}
 use Rattle.std.proofs.lemmas.List.Quantifiers.{position-Some}
-use Rattle.std.specs.List.{IsDistinct, position}
+use Rattle.std.specs.List.{position}
 use Rattle.std.specs.Map.{keys_of, lookup, remove_entry, values_of}
-use Rattle.std.specs.Option.{option_and_then, option_map}
+use Rattle.std.specs.Option.{option_map}
 use lib.Pointwise.{pointwise}
 use Rattle.indexmap.specs.IndexMap as ordered
 use Rattle.indexmap.specs.Layout.{set_value_at}
-use Rattle.bench.specs.Content.{expected_at, with_expected, with_message}
+use Rattle.sieve_effects.specs.declared.envelope.Addresses.{Addresses}
+use Rattle.bench.specs.Content.{Sample, changed, put_over, with_addresses, with_expected, with_message}
 use Rattle.bench.specs.declared.entry.Entry.{Entry}
-use Rattle.bench.specs.view.Entry.{changed, expected_in, expecting, fresh_entry, messages_of, put_entry, renewed, sample_of}
+use Rattle.bench.specs.view.Entry.{expecting, fresh_entry, messages_of, put_entry, readdressed, renewed, sample_in, sample_of}
 
 -- there are as many messages as entries
 pub length-messages : (es : List (List ℕ × Entry)) → length (messages_of es) ≡ length es
@@ -57,59 +58,50 @@ messages-remove_entry test ((id, entry) ∷ es) = by (test id) (messages-remove_
 
 -- AN ENTRY THAT IS CHANGED
 
-pub expected-messages : (es : List (List ℕ × Entry)) (id : List ℕ) → expected_at (messages_of es) id ≡ expected_in es id
-expected-messages es id = ap (option_and_then (λ sample. sample.expected)) (lookup-messages (pointwise nat_eq id) es) ∙ by (lookup (pointwise nat_eq id) es)
-  where
-    by : (found : Option Entry) → option_and_then (λ sample. sample.expected) (option_map sample_of found) ≡ option_and_then (λ entry. entry.expected) found
-    by None = refl
-    by (Some entry) = refl
-
--- the entry that is put is the message with the text that was expected of its id
+-- the entry that is put is the message that a put makes of the one there
 pub messages-put : (es : List (List ℕ × Entry)) (id bytes : List ℕ) → messages_of (put_entry id bytes es) ≡ with_message id bytes (messages_of es)
 messages-put es id bytes =
-    messages-insert (pointwise nat_eq) es id (fresh_entry bytes (expected_in es id))
-    ∙ ap (λ expected. ordered.insert_entry (pointwise nat_eq) (messages_of es) id (record { octets = bytes; expected = expected })) (sym (expected-messages es id))
+    messages-insert (pointwise nat_eq) es id (fresh_entry (put_over bytes (sample_in es id)))
+    ∙ ap (λ found. ordered.insert_entry (pointwise nat_eq) (messages_of es) id (put_over bytes found)) (sym (lookup-messages (pointwise nat_eq id) es))
 
 -- to put an entry at an id that has one is to change the one that is there where it stands
-renewed_is : (es : List (List ℕ × Entry)) (id bytes : List ℕ) (entry : Entry) → lookup (pointwise nat_eq id) es ≡ Some entry → changed id (renewed bytes) es ≡ ordered.insert_entry (pointwise nat_eq) es id (fresh_entry bytes entry.expected)
+renewed_is : (es : List (List ℕ × Entry)) (id bytes : List ℕ) (entry : Entry) → lookup (pointwise nat_eq id) es ≡ Some entry
+    → changed id (renewed bytes) es ≡ ordered.insert_entry (pointwise nat_eq) es id (fresh_entry (put_over bytes (Some (sample_of entry))))
 renewed_is [] id bytes entry there = absurd cc
 renewed_is (e ∷ es) id bytes entry there = by (pointwise nat_eq id e.0) there (λ h. renewed_is es id bytes entry h)
   where
-    by : (b : Bool) → cond b (Some e.1) (lookup (pointwise nat_eq id) es) ≡ Some entry → (lookup (pointwise nat_eq id) es ≡ Some entry → changed id (renewed bytes) es ≡ ordered.insert_entry (pointwise nat_eq) es id (fresh_entry bytes entry.expected))
-        → (if b then (e.0, renewed bytes e.1) ∷ es else e ∷ changed id (renewed bytes) es) ≡ (if b then (e.0, fresh_entry bytes entry.expected) ∷ es else e ∷ ordered.insert_entry (pointwise nat_eq) es id (fresh_entry bytes entry.expected))
-    by true there rest = let same : e.1 ≡ entry = cc in ap (λ (x : Entry). (e.0, fresh_entry bytes x.expected) ∷ es) same
+    over : Entry → Entry
+    over old = fresh_entry (put_over bytes (Some (sample_of old)))
+
+    by : (b : Bool) → cond b (Some e.1) (lookup (pointwise nat_eq id) es) ≡ Some entry → (lookup (pointwise nat_eq id) es ≡ Some entry → changed id (renewed bytes) es ≡ ordered.insert_entry (pointwise nat_eq) es id (over entry))
+        → (if b then (e.0, renewed bytes e.1) ∷ es else e ∷ changed id (renewed bytes) es) ≡ (if b then (e.0, over entry) ∷ es else e ∷ ordered.insert_entry (pointwise nat_eq) es id (over entry))
+    by true there rest = let same : e.1 ≡ entry = cc in ap (λ (x : Entry). (e.0, over x) ∷ es) same
     by false there rest = ap (λ l. e ∷ l) (rest there)
 
 pub put_there : (es : List (List ℕ × Entry)) (id bytes : List ℕ) → is_some (lookup (pointwise nat_eq id) es) ≡ true → changed id (renewed bytes) es ≡ put_entry id bytes es
 put_there es id bytes there = by (lookup (pointwise nat_eq id) es) refl there
   where
-    by : (found : Option Entry) → lookup (pointwise nat_eq id) es ≡ found → is_some found ≡ true → changed id (renewed bytes) es ≡ ordered.insert_entry (pointwise nat_eq) es id (fresh_entry bytes (option_and_then (λ entry. entry.expected) found))
+    by : (found : Option Entry) → lookup (pointwise nat_eq id) es ≡ found → is_some found ≡ true → changed id (renewed bytes) es ≡ ordered.insert_entry (pointwise nat_eq) es id (fresh_entry (put_over bytes (option_map sample_of found)))
     by None is there = absurd cc
     by (Some entry) is there = renewed_is es id bytes entry is
 
--- to change what is expected of the entry of an id is to change what is expected of its message
-pub messages-expecting : (es : List (List ℕ × Entry)) (id : List ℕ) (expected : Option (List ℕ)) → messages_of (changed id (expecting expected) es) ≡ with_expected id expected (messages_of es)
+-- to change an entry is to change its message
+messages-changed : (id : List ℕ) (change : Entry → Entry) (to : Sample → Sample) → ((entry : Entry) → sample_of (change entry) ≡ to (sample_of entry)) → (es : List (List ℕ × Entry))
+    → messages_of (changed id change es) ≡ changed id to (messages_of es)
 unfolding messages_of
-messages-expecting [] id expected = refl
-messages-expecting (e ∷ es) id expected = by (pointwise nat_eq id e.0) (messages-expecting es id expected)
+messages-changed id change to alike [] = refl
+messages-changed id change to alike (e ∷ es) = by (pointwise nat_eq id e.0) (messages-changed id change to alike es)
   where
-    by : (b : Bool) → messages_of (changed id (expecting expected) es) ≡ with_expected id expected (messages_of es)
-        → messages_of (if b then (e.0, expecting expected e.1) ∷ es else e ∷ changed id (expecting expected) es)
-        ≡ (if b then (e.0, record (sample_of e.1) { expected = expected }) ∷ messages_of es else (e.0, sample_of e.1) ∷ with_expected id expected (messages_of es))
-    by true rest = refl
+    by : (b : Bool) → messages_of (changed id change es) ≡ changed id to (messages_of es)
+        → messages_of (if b then (e.0, change e.1) ∷ es else e ∷ changed id change es) ≡ (if b then (e.0, to (sample_of e.1)) ∷ messages_of es else (e.0, sample_of e.1) ∷ changed id to (messages_of es))
+    by true rest = ap (λ sample. (e.0, sample) ∷ messages_of es) (alike e.1)
     by false rest = ap (λ l. (e.0, sample_of e.1) ∷ l) rest
 
--- the ids of entries stay where one of the entries is changed
-pub keys-changed : (id : List ℕ) (change : Entry → Entry) (es : List (List ℕ × Entry)) → keys_of (changed id change es) ≡ keys_of es
-keys-changed id change [] = refl
-keys-changed id change (e ∷ es) = by (pointwise nat_eq id e.0) (keys-changed id change es)
-  where
-    by : (b : Bool) → keys_of (changed id change es) ≡ keys_of es → keys_of (if b then (e.0, change e.1) ∷ es else e ∷ changed id change es) ≡ e.0 ∷ keys_of es
-    by true rest = refl
-    by false rest = ap (λ l. e.0 ∷ l) rest
+pub messages-expecting : (es : List (List ℕ × Entry)) (id : List ℕ) (expected : Option (List ℕ)) → messages_of (changed id (expecting expected) es) ≡ with_expected id expected (messages_of es)
+messages-expecting es id expected = messages-changed id (expecting expected) (λ sample. record sample { expected = expected }) (λ entry. refl) es
 
-pub distinct-changed : (id : List ℕ) (change : Entry → Entry) (es : List (List ℕ × Entry)) → IsDistinct (pointwise nat_eq) (keys_of es) → IsDistinct (pointwise nat_eq) (keys_of (changed id change es))
-distinct-changed id change es distinct = subst (IsDistinct (pointwise nat_eq)) (sym (keys-changed id change es)) distinct
+pub messages-readdressed : (es : List (List ℕ × Entry)) (id : List ℕ) (addresses : Option Addresses) → messages_of (changed id (readdressed addresses) es) ≡ with_addresses id addresses (messages_of es)
+messages-readdressed es id addresses = messages-changed id (readdressed addresses) (λ sample. record sample { addresses = addresses }) (λ entry. refl) es
 
 -- where no entry has the id nothing changes
 pub changed_absent : (id : List ℕ) (change : Entry → Entry) (es : List (List ℕ × Entry)) → is_some (lookup (pointwise nat_eq id) es) ≡ false → changed id change es ≡ es
@@ -140,4 +132,4 @@ changed_from id change es new i is there made = by (slice_get (values_of es) i) 
     by (Some entry) at there made = made ∙ changed_there id change es i entry is at
 
 -- the rules that functions' attributes name
-pub ruleset entries = (length-messages, is_some-messages, messages-put, messages-expecting, messages-remove_entry)
+pub ruleset entries = (length-messages, is_some-messages, messages-put, messages-expecting, messages-readdressed, messages-remove_entry)

@@ -4,7 +4,7 @@ use Rattle.std.proofs.Common.{◌≡◌, ℕ, ◌+◌, ◌<◌, Bool, true, fals
 use Rattle.std.proofs.lemmas.List.{drop_more}
 use Rattle.sieve_base.specs.declared.name.ScriptName.{ScriptName}
 use Rattle.bench.specs.Bench.{BenchState}
-use Rattle.bench.specs.Content.{Content, Edit, Sample, after, put_message, set_main, set_envelope, set_mailbox, Refuses, unless, script_refusal, message_refusal, main_refusal, envelope_refusal, mailbox_refusal, with_message}
+use Rattle.bench.specs.Content.{Content, Edit, Sample, after, put_message, set_main, set_envelope, set_mailbox, set_mailboxes, Refuses, unless, script_refusal, message_refusal, main_refusal, envelope_refusal, mailbox_refusal, mailboxes_refusal, with_message}
 use Rattle.bench.specs.Stale.{ids_where, stale_after, touches}
 use Rattle.bench.specs.Test.{after_all, put_of, then_edit}
 use Rattle.bench.specs.declared.fault.EditFault.{EditFault}
@@ -83,6 +83,10 @@ none_boxed : (made : Result Content EditFault) (mailbox : List ℕ) → LeavesNo
 none_boxed (Ok content) mailbox none = kept_none (mailbox_refusal mailbox) _ none
 none_boxed (Err refusal) mailbox none = tt
 
+none_listed : (made : Result Content EditFault) (text : List ℕ) → LeavesNone made → LeavesNone (then_edit made (set_mailboxes text))
+none_listed (Ok content) text none = kept_none (mailboxes_refusal text) _ none
+none_listed (Err refusal) text none = tt
+
 none_put : (made : Result Content EditFault) (script : TestScript) → LeavesNone made → LeavesNone (then_edit made (put_of script))
 none_put (Ok content) script none = kept_none (script_refusal content.scripts script.name script.text) _ none
 none_put (Err refusal) script none = tt
@@ -91,8 +95,8 @@ none_all_put : (made : Result Content EditFault) (scripts : List TestScript) →
 none_all_put made [] none = none
 none_all_put made (script ∷ scripts) none = none_all_put (then_edit made (put_of script)) scripts (none_put made script none)
 
-pub settings_leave_none : (from to mailbox : List ℕ) (old new : Content) → old.messages ≡ [] → after_all old (set_envelope from to ∷ set_mailbox mailbox ∷ []) ≡ Ok new → new.messages ≡ []
-settings_leave_none from to mailbox old new none made = subst LeavesNone made (none_boxed _ mailbox (none_set (Ok old) from to none))
+pub settings_leave_none : (from to mailbox mailboxes : List ℕ) (old new : Content) → old.messages ≡ [] → after_all old (set_envelope from to ∷ set_mailbox mailbox ∷ set_mailboxes mailboxes ∷ []) ≡ Ok new → new.messages ≡ []
+settings_leave_none from to mailbox mailboxes old new none made = subst LeavesNone made (none_listed _ mailboxes (none_boxed _ mailbox (none_set (Ok old) from to none)))
 
 pub scripts_leave_none : (scripts : List TestScript) (old new : Content) → old.messages ≡ [] → after_all old (map put_of scripts) ≡ Ok new → new.messages ≡ []
 scripts_leave_none scripts old new none made = subst LeavesNone made (none_all_put (Ok old) scripts none)
@@ -112,7 +116,7 @@ pub first_put : (old new : BenchState) (id bytes : List ℕ) (outcome : Result U
 first_put old new id bytes (Err fault) none ok stale = tt
 first_put old new id bytes (Ok done) none ok stale =
     let all : with_message id bytes old.content.messages ≡ new.content.messages = ap (λ c. c.messages) (made_is (message_refusal old.content.messages id bytes) (record old.content { messages = with_message id bytes old.content.messages }) new.content ok) in
-    let only : new.content.messages ≡ (id, record { octets = bytes; expected = None }) ∷ [] = sym all ∙ ap (with_message id bytes) none in
+    let only : new.content.messages ≡ (id, record { octets = bytes; expected = None; addresses = None }) ∷ [] = sym all ∙ ap (with_message id bytes) none in
     stale
     ∙ ap (ids_where (λ message. touches old.content (put_message id bytes) message || is_among message.0 old.stale)) only
-    ∙ one_id (λ message. touches old.content (put_message id bytes) message || is_among message.0 old.stale) id (record { octets = bytes; expected = None }) (rw (same_id id) refl)
+    ∙ one_id (λ message. touches old.content (put_message id bytes) message || is_among message.0 old.stale) id (record { octets = bytes; expected = None; addresses = None }) (rw (same_id id) refl)

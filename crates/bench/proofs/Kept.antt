@@ -15,7 +15,7 @@ use Rattle.sieve_base.specs.declared.place.Place.{Place}
 use Rattle.sieve_base.specs.declared.place.Place.TheVariants.{Personal, Global}
 use Rattle.sieve_base.specs.Name.{name_cmp, place_cmp}
 use Rattle.sieve_base.specs.declared.name.ScriptName.{ScriptName}
-use Rattle.bench.specs.Content.{Content, Edit, Sample, after, new_content, put_script, put_message, set_main, rename_script, remove_script, remove_message, clear_main, set_envelope, set_mailbox, set_expected, clear_expected, unless, text_at, message_at, expected_at, with_script, with_expected, with_renamed}
+use Rattle.bench.specs.Content.{Content, Edit, Sample, after, new_content, put_script, put_message, set_main, rename_script, remove_script, remove_message, clear_main, set_envelope, set_mailbox, set_expected, clear_expected, set_mailboxes, set_message_envelope, clear_message_envelope, unless, text_at, message_at, put_over, with_script, changed, with_renamed}
 use Rattle.bench.specs.Edits.{IsInOrder, AreOrdered, AreDistinct, behind, content_after}
 use Rattle.sieve_profile.specs.Profile.{Profile}
 use Rattle.bench.specs.declared.fault.EditFault.{EditFault}
@@ -203,40 +203,36 @@ module _ (id : List ℕ) (sample : Sample) where
       by true found rest = refl
       by false found rest = ap suc (rest found)
 
--- WHAT IS EXPECTED OF ONE
+-- ONE THAT IS CHANGED
 
-module _ (id : List ℕ) (expected : Option (List ℕ)) where
-  pub keys_expected : (es : List (List ℕ × Sample)) → keys_of (with_expected id expected es) ≡ keys_of es
-  keys_expected [] = refl
-  keys_expected (e ∷ es) = by (pointwise nat_eq id e.0) (keys_expected es)
+module _ {X : Type 0} (id : List ℕ) (change : X → X) where
+  pub keys_changed : (es : List (List ℕ × X)) → keys_of (changed id change es) ≡ keys_of es
+  keys_changed [] = refl
+  keys_changed (e ∷ es) = by (pointwise nat_eq id e.0) (keys_changed es)
     where
-      by : (b : Bool) → keys_of (with_expected id expected es) ≡ keys_of es → keys_of (if b then (e.0, record e.1 { expected = expected }) ∷ es else e ∷ with_expected id expected es) ≡ e.0 ∷ keys_of es
+      by : (b : Bool) → keys_of (changed id change es) ≡ keys_of es → keys_of (if b then (e.0, change e.1) ∷ es else e ∷ changed id change es) ≡ e.0 ∷ keys_of es
       by true rest = refl
       by false rest = ap (λ l. e.0 ∷ l) rest
 
-  pub length_expected : (es : List (List ℕ × Sample)) → length (with_expected id expected es) ≡ length es
-  length_expected [] = refl
-  length_expected (e ∷ es) = by (pointwise nat_eq id e.0) (length_expected es)
+  pub length_changed : (es : List (List ℕ × X)) → length (changed id change es) ≡ length es
+  length_changed [] = refl
+  length_changed (e ∷ es) = by (pointwise nat_eq id e.0) (length_changed es)
     where
-      by : (b : Bool) → length (with_expected id expected es) ≡ length es → length (if b then (e.0, record e.1 { expected = expected }) ∷ es else e ∷ with_expected id expected es) ≡ suc (length es)
+      by : (b : Bool) → length (changed id change es) ≡ length es → length (if b then (e.0, change e.1) ∷ es else e ∷ changed id change es) ≡ suc (length es)
       by true rest = refl
       by false rest = ap suc rest
 
-  pub octets_expected : (P : List ℕ → Type 0) (es : List (List ℕ × Sample)) → AllByRecursion (λ s. P s.octets) (values_of es) → AllByRecursion (λ s. P s.octets) (values_of (with_expected id expected es))
-  octets_expected P [] all = tt
-  octets_expected P (e ∷ es) all = by (pointwise nat_eq id e.0) (octets_expected P es all.1)
+  -- what holds of each, and still holds of one that is changed, holds of all then
+  pub all_changed : (P : X → Type 0) (es : List (List ℕ × X)) → ((x : X) → P x → P (change x)) → AllByRecursion P (values_of es) → AllByRecursion P (values_of (changed id change es))
+  all_changed P [] stays all = tt
+  all_changed P (e ∷ es) stays all = by (pointwise nat_eq id e.0) (all_changed P es stays all.1)
     where
-      by : (b : Bool) → AllByRecursion (λ s. P s.octets) (values_of (with_expected id expected es)) → AllByRecursion (λ s. P s.octets) (values_of (if b then (e.0, record e.1 { expected = expected }) ∷ es else e ∷ with_expected id expected es))
-      by true rest = all
+      by : (b : Bool) → AllByRecursion P (values_of (changed id change es)) → AllByRecursion P (values_of (if b then (e.0, change e.1) ∷ es else e ∷ changed id change es))
+      by true rest = (stays e.1 all.0, all.1)
       by false rest = (all.0, rest)
 
-  pub all_expected : (P : Option (List ℕ) → Type 0) (es : List (List ℕ × Sample)) → AllByRecursion (λ s. P s.expected) (values_of es) → P expected → AllByRecursion (λ s. P s.expected) (values_of (with_expected id expected es))
-  all_expected P [] all here = tt
-  all_expected P (e ∷ es) all here = by (pointwise nat_eq id e.0) (all_expected P es all.1 here)
-    where
-      by : (b : Bool) → AllByRecursion (λ s. P s.expected) (values_of (with_expected id expected es)) → AllByRecursion (λ s. P s.expected) (values_of (if b then (e.0, record e.1 { expected = expected }) ∷ es else e ∷ with_expected id expected es))
-      by true rest = (here, all.1)
-      by false rest = (all.0, rest)
+  pub distinct_changed : (es : List (List ℕ × X)) → AreDistinct (keys_of es) → AreDistinct (keys_of (changed id change es))
+  distinct_changed es distinct = subst AreDistinct (sym (keys_changed es)) distinct
 
 -- EDITS THAT ARE MADE
 
@@ -250,7 +246,7 @@ pub order_kept : (content : Content) (edit : Edit) (new : Content) → IsInOrder
 order_kept content (put_script name text) new order made =
     subst IsInOrder (accepted _ _ new made).1 (record { scripts = sorted_inserted name_total name text content.scripts order.scripts; ids = order.ids })
 order_kept content (put_message id bytes) new order made =
-    subst IsInOrder (accepted _ _ new made).1 (record { scripts = order.scripts; ids = distinct_put id (record { octets = bytes; expected = expected_at content.messages id }) content.messages order.ids })
+    subst IsInOrder (accepted _ _ new made).1 (record { scripts = order.scripts; ids = distinct_put id (put_over bytes (message_at content.messages id)) content.messages order.ids })
 order_kept content (set_main name) new order made =
     subst IsInOrder (accepted _ _ new made).1 (record { scripts = order.scripts; ids = order.ids })
 order_kept content (rename_script from to) new order made =
@@ -270,9 +266,16 @@ order_kept content (set_envelope from to) new order made =
 order_kept content (set_mailbox mailbox) new order made =
     subst IsInOrder (accepted _ _ new made).1 (record { scripts = order.scripts; ids = order.ids })
 order_kept content (set_expected id text) new order made =
-    subst IsInOrder (accepted _ _ new made).1 (record { scripts = order.scripts; ids = subst AreDistinct (sym (keys_expected id (Some text) content.messages)) order.ids })
+    subst IsInOrder (accepted _ _ new made).1 (record { scripts = order.scripts; ids = distinct_changed id (λ (sample : Sample). record sample { expected = Some text }) content.messages order.ids })
 order_kept content (clear_expected id) new order made =
-    subst IsInOrder (accepted _ _ new made).1 (record { scripts = order.scripts; ids = subst AreDistinct (sym (keys_expected id None content.messages)) order.ids })
+    subst IsInOrder (accepted _ _ new made).1 (record { scripts = order.scripts; ids = distinct_changed id (λ (sample : Sample). record sample { expected = None }) content.messages order.ids })
+order_kept content (set_mailboxes text) new order made =
+    subst IsInOrder (accepted _ _ new made).1 (record { scripts = order.scripts; ids = order.ids })
+order_kept content (set_message_envelope id from to) new order made =
+    subst IsInOrder (accepted _ _ new made).1
+    (record { scripts = order.scripts; ids = distinct_changed id (λ (sample : Sample). record sample { addresses = Some (record { from = from; to = to }) }) content.messages order.ids })
+order_kept content (clear_message_envelope id) new order made =
+    subst IsInOrder (accepted _ _ new made).1 (record { scripts = order.scripts; ids = distinct_changed id (λ (sample : Sample). record sample { addresses = None }) content.messages order.ids })
 
 -- EDITS IN TURN
 
@@ -304,6 +307,9 @@ profile_kept content (set_envelope from to) new made = sym (ap (λ (c : Content)
 profile_kept content (set_mailbox mailbox) new made = sym (ap (λ (c : Content). c.profile) (accepted _ _ new made).1)
 profile_kept content (set_expected id text) new made = sym (ap (λ (c : Content). c.profile) (accepted _ _ new made).1)
 profile_kept content (clear_expected id) new made = sym (ap (λ (c : Content). c.profile) (accepted _ _ new made).1)
+profile_kept content (set_mailboxes text) new made = sym (ap (λ (c : Content). c.profile) (accepted _ _ new made).1)
+profile_kept content (set_message_envelope id from to) new made = sym (ap (λ (c : Content). c.profile) (accepted _ _ new made).1)
+profile_kept content (clear_message_envelope id) new made = sym (ap (λ (c : Content). c.profile) (accepted _ _ new made).1)
 
 profile_behind : (content : Content) (edit : Edit) → (behind content (after content edit)).profile ≡ content.profile
 profile_behind content edit = by (after content edit) refl

@@ -2,25 +2,35 @@
 use Rattle.std.proofs.Common.{◌≡◌, ℕ, ◌+◌, ◌<◌, length, get_or, drop, List, [], ◌∷◌, ◌++◌, map, filter, Bool, true, false, ◌||◌, cond, refl, sym, ap, ◌∙◌, append_assoc, append-nil, Option, None, Some, codes, decimal}
 use Rattle.std.proofs.lemmas.Grind.{flat_map-append}
 use Rattle.std.proofs.lemmas.List.{at_drop_more}
-use Rattle.std.specs.List.{flat_map, list_any}
+use Rattle.std.specs.List.{flat_map, list_any, zip}
 use Rattle.sieve_base.specs.Writers.{name_text, quoted}
 use Rattle.sieve_check.specs.Judgement.{Judgement, sound, faulty, fault_of, fault_word, judgement_of}
 use Rattle.sieve_check.specs.declared.judged.FaultKind.{FaultKind}
+use Rattle.sieve_effects.specs.declared.action.Action.{Action}
+use Rattle.sieve_effects.specs.declared.action.Origin.{Origin}
+use Rattle.sieve_effects.specs.declared.envelope.Addresses.{Addresses}
 use Rattle.sieve_effects.specs.declared.envelope.Envelope.{Envelope}
 use Rattle.sieve_base.specs.declared.name.ScriptName.{ScriptName}
 use Rattle.sieve_effects.specs.declared.error.RunError.{RunError}
 use Rattle.sieve_profile.specs.Profile.{Profile, has}
 use Rattle.sieve_profile.specs.declared.extension.Extension.{Extension}
-use Rattle.sieve_run.specs.Lines.{action_line, error_line, error_lines, implicit_line, implicit_lines, read_line, read_lines, verdict_lines}
+use Rattle.sieve_profile.specs.declared.extension.Extension.TheVariants.{Lines}
+use Rattle.sieve_run.specs.Lines.{action_line, error_line, error_lines, implicit_line, implicit_lines, origin_line, read_line, read_lines}
 use Rattle.sieve_run.specs.Verdict.{Verdict}
-use Rattle.bench.specs.Report.{judgement_text, envelope_line, extension_text, extensions_line, indented, script_line, total_line, verdict_text}
-use Rattle.bench.specs.view.Lines.{action_text, error_text, implicit_text, read_text, verdict_texts}
+use Rattle.bench.specs.Report.{addresses_line, indent, judgement_text, envelope_line, extension_text, extensions_line, indented, script_line, told_lines, total_line, traced_lines, verdict_text}
+use Rattle.bench.specs.view.Lines.{action_text, action_texts, error_text, implicit_text, read_text, traced_text, verdict_texts}
 
 -- the line of the envelope
 pub envelope_pieces : (envelope : Envelope) (from to mailbox : List ℕ) → from ≡ envelope.from → to ≡ envelope.to → mailbox ≡ envelope.mailbox
     → envelope_line envelope ≡ codes "envelope " ++ (quoted from ++ (codes " " ++ (quoted to ++ (codes " mailbox " ++ (quoted mailbox ++ (codes "\n" ++ []))))))
 unfolding envelope_line
 envelope_pieces envelope from to mailbox f t m = rw (f, t, m) (simp append_assoc)
+
+-- the line of the addresses that a message has of its own
+pub addresses_pieces : (addresses : Addresses) (from to : List ℕ) → from ≡ addresses.from → to ≡ addresses.to
+    → indented (addresses_line addresses) ≡ codes "  envelope " ++ (quoted from ++ (codes " " ++ (quoted to ++ (codes "\n" ++ []))))
+unfolding addresses_line indent
+addresses_pieces addresses from to f t = rw (f, t) (simp append_assoc)
 
 -- the last line of a report, without a number of unexpected verdicts and with one
 pub total_pieces : (messages errors : ℕ) → total_line messages errors None ≡ codes "total " ++ (decimal messages ++ (codes " messages " ++ (decimal errors ++ (codes " errors\n" ++ []))))
@@ -118,14 +128,30 @@ error_is : (error : Option RunError) → flat_map indented (error_lines error) �
 error_is None = refl
 error_is (Some error) = append-nil (indented (error_line error))
 
+rest_is : (mailbox : List ℕ) (verdict : Verdict) → flat_map indented (implicit_lines mailbox verdict.implicit ++ error_lines verdict.error) ≡ implicit_text mailbox verdict.implicit ++ error_text verdict.error
+rest_is mailbox verdict =
+    flat_map-append indented (implicit_lines mailbox verdict.implicit) (error_lines verdict.error) ∙ rw (implicit_is mailbox verdict.implicit, error_is verdict.error) refl
+
+-- the lines of an action and of where it comes from, one after the other
+traced_is : (pairs : List (Action × Origin)) → flat_map indented (flat_map traced_lines pairs) ≡ flat_map traced_text pairs
+traced_is [] = refl
+traced_is (e ∷ pairs) =
+    flat_map-append indented (traced_lines e) (flat_map traced_lines pairs)
+    ∙ rw (traced_is pairs) (ap (λ l. (action_text e.0 ++ l) ++ flat_map traced_text pairs) (append-nil (indented (origin_line e.1))))
+
+told_is : (traced : Bool) (mailbox : List ℕ) (verdict : Verdict) → flat_map indented (told_lines traced mailbox verdict) ≡ action_texts traced verdict ++ (implicit_text mailbox verdict.implicit ++ error_text verdict.error)
+told_is false mailbox verdict =
+    flat_map-append indented (map action_line verdict.actions) (implicit_lines mailbox verdict.implicit ++ error_lines verdict.error)
+    ∙ rw (flat_map-map indented action_line verdict.actions, rest_is mailbox verdict) refl
+told_is true mailbox verdict =
+    flat_map-append indented (flat_map traced_lines (zip verdict.actions verdict.origins)) (implicit_lines mailbox verdict.implicit ++ error_lines verdict.error)
+    ∙ rw (traced_is (zip verdict.actions verdict.origins), rest_is mailbox verdict) refl
+
 -- the lines of a verdict in a report are those that are written in turn
-pub verdict_in_turn : (mailbox : List ℕ) (verdict : Verdict) → verdict_text mailbox verdict ≡ verdict_texts mailbox verdict
+pub verdict_in_turn : (profile : Profile) (mailbox : List ℕ) (verdict : Verdict) → verdict_text profile mailbox verdict ≡ verdict_texts (has profile Lines) mailbox verdict
 unfolding verdict_texts
-verdict_in_turn mailbox verdict =
-    flat_map-append indented (verdict_lines mailbox verdict) (read_lines verdict)
-    ∙ ap (λ l. l ++ flat_map indented (read_lines verdict))
-    (flat_map-append indented (map action_line verdict.actions) (implicit_lines mailbox verdict.implicit ++ error_lines verdict.error)
-    ∙ ap (λ l. flat_map indented (map action_line verdict.actions) ++ l) (flat_map-append indented (implicit_lines mailbox verdict.implicit) (error_lines verdict.error)))
-    ∙ rw (flat_map-map indented action_line verdict.actions, flat_map-map indented read_line verdict.reads, implicit_is mailbox verdict.implicit, error_is verdict.error)
-    (append_assoc (flat_map action_text verdict.actions) (implicit_text mailbox verdict.implicit ++ error_text verdict.error) (flat_map read_text verdict.reads)
-    ∙ ap (λ l. flat_map action_text verdict.actions ++ l) (append_assoc (implicit_text mailbox verdict.implicit) (error_text verdict.error) (flat_map read_text verdict.reads)))
+verdict_in_turn profile mailbox verdict =
+    flat_map-append indented (told_lines (has profile Lines) mailbox verdict) (read_lines verdict)
+    ∙ rw (told_is (has profile Lines) mailbox verdict, flat_map-map indented read_line verdict.reads)
+    (append_assoc (action_texts (has profile Lines) verdict) (implicit_text mailbox verdict.implicit ++ error_text verdict.error) (flat_map read_text verdict.reads)
+    ∙ ap (λ l. action_texts (has profile Lines) verdict ++ l) (append_assoc (implicit_text mailbox verdict.implicit) (error_text verdict.error) (flat_map read_text verdict.reads)))

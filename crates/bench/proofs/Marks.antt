@@ -1,6 +1,6 @@
 -- What the marks of the entries say of the stale messages, and which verdicts stay due.
 use Rattle.sieve_base.specs.Octet.{is_among}
-use Rattle.std.proofs.Common.{◌≡◌, ℕ, List, [], ◌∷◌, map, filter, Bool, true, false, cond, ◌||◌, if◌then◌else◌, Option, None, Some, IfSome, is_none, nat_eq, refl, sym, ap, ◌∙◌}
+use Rattle.std.proofs.Common.{◌≡◌, ℕ, List, [], ◌∷◌, map, filter, Bool, true, false, cond, ◌||◌, if◌then◌else◌, Option, None, Some, IfSome, is_none, nat_eq, refl, sym, ap, subst, ◌∙◌}
 use Rattle.std.proofs.lemmas.Map.Keys.{IsDistinct-head, IsDistinct-tail}
 use Rattle.std.specs.List.{AllByRecursion, IsDistinct}
 use Rattle.std.specs.Map.{keys_of, lookup, remove_entry}
@@ -10,14 +10,15 @@ use Rattle.indexmap.specs.IndexMap as ordered
 use Rattle.sieve_base.specs.Name.{name_eq}
 use Rattle.sieve_effects.specs.Delivery.{Arrival}
 use Rattle.sieve_base.specs.declared.name.ScriptName.{ScriptName}
+use Rattle.sieve_effects.specs.declared.envelope.Addresses.{Addresses}
 use Rattle.sieve_run.specs.Frame.{Agree, Texts, outcome_over}
 use Rattle.sieve_run.specs.Run.{is_read}
 use Rattle.sieve_run.specs.Verdict.{Verdict}
-use Rattle.bench.specs.Content.{Sample, text_at}
+use Rattle.bench.specs.Content.{Sample, changed, text_at}
 use Rattle.bench.specs.Report.{Site, verdict_by}
 use Rattle.bench.specs.Stale.{ids_where}
 use Rattle.bench.specs.declared.entry.Entry.{Entry}
-use Rattle.bench.specs.view.Entry.{is_stale, messages_of, sample_of, stale_of, KeepsDue, changed, expecting, forgotten, fresh_entry, kept_without, unread}
+use Rattle.bench.specs.view.Entry.{is_stale, messages_of, sample_of, stale_of, KeepsDue, expecting, forgotten, fresh_entry, kept_without, readdressed, unread}
 use Rattle.bench.specs.view.Site.{with_scripts}
 use Rattle.bench.proofs.Names.{is_id, is_name, other_id, same_id}
 
@@ -98,10 +99,10 @@ stale_for due name before (Some verdict) is tells = rw (tells, ← is) (by (is_r
     by false = refl
 
 -- behind a mark for a name those entries are stale whose runs looked the name up, and those that were stale
-pub tells-marked : (due : List ℕ → Verdict) (name : ScriptName) (test : List ℕ × Sample → Bool) (es : List (List ℕ × Entry)) → KeepsDue due es → Tells test es → Tells (λ m. is_read name (due m.1.octets).reads || test m) (marked name es)
+pub tells-marked : (due : Sample → Verdict) (name : ScriptName) (test : List ℕ × Sample → Bool) (es : List (List ℕ × Entry)) → KeepsDue due es → Tells test es → Tells (λ m. is_read name (due m.1).reads || test m) (marked name es)
 unfolding KeepsDue
 tells-marked due name test [] kept tells = tt
-tells-marked due name test (e ∷ es) kept tells = (stale_for (due e.1.message) name (test (e.0, sample_of e.1)) e.1.kept kept.0 tells.0, tells-marked due name test es kept.1 tells.1)
+tells-marked due name test (e ∷ es) kept tells = (stale_for (due (sample_of e.1)) name (test (e.0, sample_of e.1)) e.1.kept kept.0 tells.0, tells-marked due name test es kept.1 tells.1)
 
 -- the frame: a verdict is the same over each library that has the same text, or none, at each name that it looked up
 abbrev pub IsFramed : Type 0
@@ -132,7 +133,7 @@ pub due-marked : IsFramed → (site : Site) (scripts : List (ScriptName × List 
 unfolding KeepsDue
 due-marked frame site scripts name [] alike kept = tt
 due-marked frame site scripts name (e ∷ es) alike kept = (
-  still_due frame (text_at site.scripts) (text_at scripts) site.main (record { message = e.1.message; envelope = site.envelope; profile = site.profile }) name e.1.kept alike kept.0,
+  still_due frame (text_at site.scripts) (text_at scripts) site.main (record { message = e.1.message; envelope = site.envelope; own = e.1.addresses; profile = site.profile }) name e.1.kept alike kept.0,
   due-marked frame site scripts name es alike kept.1,
 )
 
@@ -145,10 +146,10 @@ kept_due due name (Some verdict) is = by (is_read name verdict.reads)
     by true = tt
     by false = is
 
-due-kept : (due : List ℕ → Verdict) (name : ScriptName) (es : List (List ℕ × Entry)) → KeepsDue due es → KeepsDue due (marked name es)
+due-kept : (due : Sample → Verdict) (name : ScriptName) (es : List (List ℕ × Entry)) → KeepsDue due es → KeepsDue due (marked name es)
 unfolding KeepsDue
 due-kept due name [] kept = tt
-due-kept due name (e ∷ es) kept = (kept_due (due e.1.message) name e.1.kept kept.0, due-kept due name es kept.1)
+due-kept due name (e ∷ es) kept = (kept_due (due (sample_of e.1)) name e.1.kept kept.0, due-kept due name es kept.1)
 
 pub messages-marked : (name : ScriptName) (es : List (List ℕ × Entry)) → messages_of (marked name es) ≡ messages_of es
 unfolding messages_of
@@ -164,7 +165,7 @@ pub tells-all_marked : (test : List ℕ × Sample → Bool) (es : List (List ℕ
 tells-all_marked test [] = tt
 tells-all_marked test (e ∷ es) = (refl, tells-all_marked test es)
 
-pub due-all_marked : (due : List ℕ → Verdict) (es : List (List ℕ × Entry)) → KeepsDue due (all_marked es)
+pub due-all_marked : (due : Sample → Verdict) (es : List (List ℕ × Entry)) → KeepsDue due (all_marked es)
 unfolding KeepsDue
 due-all_marked due [] = tt
 due-all_marked due (e ∷ es) = (tt, due-all_marked due es)
@@ -183,22 +184,22 @@ apart_from id other test (e ∷ es) is apart tells =
     let here : pointwise nat_eq id e.0 ≡ false = rw (is_id id other is) apart.0 in
     (or_false (pointwise nat_eq id e.0) (test (e.0, sample_of e.1)) here ∙ tells.0, apart_from id other test es is apart.1 tells.1)
 
-pub tells-put : (id bytes : List ℕ) (expected : Option (List ℕ)) (test : List ℕ × Sample → Bool) (es : List (List ℕ × Entry)) → IsDistinct (pointwise nat_eq) (keys_of es) → Tells test es → Tells (λ m. pointwise nat_eq id m.0 || test m) (ordered.insert_entry (pointwise nat_eq) es id (fresh_entry bytes expected))
-tells-put id bytes expected test [] distinct tells = (or_true (pointwise nat_eq id id) (test (id, sample_of (fresh_entry bytes expected))) (same_id id), tt)
-tells-put id bytes expected test (e ∷ es) distinct tells =
-    by (pointwise nat_eq id e.0) refl (IsDistinct-head (pointwise nat_eq) e.0 (keys_of es) distinct) (tells-put id bytes expected test es (IsDistinct-tail (pointwise nat_eq) e.0 (keys_of es) distinct) tells.1)
+pub tells-put : (id : List ℕ) (sample : Sample) (test : List ℕ × Sample → Bool) (es : List (List ℕ × Entry)) → IsDistinct (pointwise nat_eq) (keys_of es) → Tells test es → Tells (λ m. pointwise nat_eq id m.0 || test m) (ordered.insert_entry (pointwise nat_eq) es id (fresh_entry sample))
+tells-put id sample test [] distinct tells = (or_true (pointwise nat_eq id id) (test (id, sample_of (fresh_entry sample))) (same_id id), tt)
+tells-put id sample test (e ∷ es) distinct tells =
+    by (pointwise nat_eq id e.0) refl (IsDistinct-head (pointwise nat_eq) e.0 (keys_of es) distinct) (tells-put id sample test es (IsDistinct-tail (pointwise nat_eq) e.0 (keys_of es) distinct) tells.1)
   where
-    by : (b : Bool) → pointwise nat_eq id e.0 ≡ b → AllByRecursion (λ k. pointwise nat_eq e.0 k ≡ false) (keys_of es) → Tells (λ m. pointwise nat_eq id m.0 || test m) (ordered.insert_entry (pointwise nat_eq) es id (fresh_entry bytes expected))
-        → Tells (λ m. pointwise nat_eq id m.0 || test m) (if b then (e.0, fresh_entry bytes expected) ∷ es else e ∷ ordered.insert_entry (pointwise nat_eq) es id (fresh_entry bytes expected))
-    by true is apart rest = (or_true (pointwise nat_eq id e.0) (test (e.0, sample_of (fresh_entry bytes expected))) is, apart_from id e.0 test es is apart tells.1)
+    by : (b : Bool) → pointwise nat_eq id e.0 ≡ b → AllByRecursion (λ k. pointwise nat_eq e.0 k ≡ false) (keys_of es) → Tells (λ m. pointwise nat_eq id m.0 || test m) (ordered.insert_entry (pointwise nat_eq) es id (fresh_entry sample))
+        → Tells (λ m. pointwise nat_eq id m.0 || test m) (if b then (e.0, fresh_entry sample) ∷ es else e ∷ ordered.insert_entry (pointwise nat_eq) es id (fresh_entry sample))
+    by true is apart rest = (or_true (pointwise nat_eq id e.0) (test (e.0, sample_of (fresh_entry sample))) is, apart_from id e.0 test es is apart tells.1)
     by false is apart rest = (or_false (pointwise nat_eq id e.0) (test (e.0, sample_of e.1)) is ∙ tells.0, rest)
 
-pub due-put : (due : List ℕ → Verdict) (id bytes : List ℕ) (expected : Option (List ℕ)) (es : List (List ℕ × Entry)) → KeepsDue due es → KeepsDue due (ordered.insert_entry (pointwise nat_eq) es id (fresh_entry bytes expected))
+pub due-put : (due : Sample → Verdict) (id : List ℕ) (sample : Sample) (es : List (List ℕ × Entry)) → KeepsDue due es → KeepsDue due (ordered.insert_entry (pointwise nat_eq) es id (fresh_entry sample))
 unfolding KeepsDue
-due-put due id bytes expected [] kept = (tt, tt)
-due-put due id bytes expected (e ∷ es) kept = by (pointwise nat_eq id e.0) (due-put due id bytes expected es kept.1)
+due-put due id sample [] kept = (tt, tt)
+due-put due id sample (e ∷ es) kept = by (pointwise nat_eq id e.0) (due-put due id sample es kept.1)
   where
-    by : (b : Bool) → KeepsDue due (ordered.insert_entry (pointwise nat_eq) es id (fresh_entry bytes expected)) → KeepsDue due (if b then (e.0, fresh_entry bytes expected) ∷ es else e ∷ ordered.insert_entry (pointwise nat_eq) es id (fresh_entry bytes expected))
+    by : (b : Bool) → KeepsDue due (ordered.insert_entry (pointwise nat_eq) es id (fresh_entry sample)) → KeepsDue due (if b then (e.0, fresh_entry sample) ∷ es else e ∷ ordered.insert_entry (pointwise nat_eq) es id (fresh_entry sample))
     by true rest = (tt, kept.1)
     by false rest = (kept.0, rest)
 
@@ -212,7 +213,7 @@ tells-removed at test (e ∷ es) tells = by (at e.0) (tells-removed at test es t
     by true rest = tells.1
     by false rest = (tells.0, rest)
 
-pub due-removed : (due : List ℕ → Verdict) (at : List ℕ → Bool) (es : List (List ℕ × Entry)) → KeepsDue due es → KeepsDue due (remove_entry at es)
+pub due-removed : (due : Sample → Verdict) (at : List ℕ → Bool) (es : List (List ℕ × Entry)) → KeepsDue due es → KeepsDue due (remove_entry at es)
 unfolding KeepsDue
 due-removed due at [] kept = tt
 due-removed due at (e ∷ es) kept = by (at e.0) (due-removed due at es kept.1)
@@ -231,13 +232,39 @@ tells-expecting id expected ids (e ∷ es) tells = by (pointwise nat_eq id e.0) 
     by true rest = tells
     by false rest = (tells.0, rest)
 
-pub due-expecting : (due : List ℕ → Verdict) (id : List ℕ) (expected : Option (List ℕ)) (es : List (List ℕ × Entry)) → KeepsDue due es → KeepsDue due (changed id (expecting expected) es)
+-- verdicts that aren't by what is expected
+abbrev pub IsBlind : (Sample → Verdict) → Type 0
+IsBlind due = (sample : Sample) (expected : Option (List ℕ)) → due (record sample { expected = expected }) ≡ due sample
+
+pub due-expecting : (due : Sample → Verdict) → IsBlind due → (id : List ℕ) (expected : Option (List ℕ)) (es : List (List ℕ × Entry)) → KeepsDue due es → KeepsDue due (changed id (expecting expected) es)
 unfolding KeepsDue
-due-expecting due id expected [] kept = tt
-due-expecting due id expected (e ∷ es) kept = by (pointwise nat_eq id e.0) (due-expecting due id expected es kept.1)
+due-expecting due blind id expected [] kept = tt
+due-expecting due blind id expected (e ∷ es) kept = by (pointwise nat_eq id e.0) (due-expecting due blind id expected es kept.1)
   where
     by : (b : Bool) → KeepsDue due (changed id (expecting expected) es) → KeepsDue due (if b then (e.0, expecting expected e.1) ∷ es else e ∷ changed id (expecting expected) es)
-    by true rest = kept
+    by true rest = (subst (λ (v : Verdict). IfSome e.1.kept (λ verdict. verdict ≡ v)) (sym (blind (sample_of e.1) expected)) kept.0, kept.1)
+    by false rest = (kept.0, rest)
+
+-- AN ENTRY WITH OTHER ADDRESSES OF ITS OWN
+
+pub tells-readdressed : (id : List ℕ) (addresses : Option Addresses) (test : List ℕ × Sample → Bool) (es : List (List ℕ × Entry)) → IsDistinct (pointwise nat_eq) (keys_of es) → Tells test es
+    → Tells (λ m. pointwise nat_eq id m.0 || test m) (changed id (readdressed addresses) es)
+tells-readdressed id addresses test [] distinct tells = tt
+tells-readdressed id addresses test (e ∷ es) distinct tells =
+    by (pointwise nat_eq id e.0) refl (IsDistinct-head (pointwise nat_eq) e.0 (keys_of es) distinct) (tells-readdressed id addresses test es (IsDistinct-tail (pointwise nat_eq) e.0 (keys_of es) distinct) tells.1)
+  where
+    by : (b : Bool) → pointwise nat_eq id e.0 ≡ b → AllByRecursion (λ k. pointwise nat_eq e.0 k ≡ false) (keys_of es) → Tells (λ m. pointwise nat_eq id m.0 || test m) (changed id (readdressed addresses) es)
+        → Tells (λ m. pointwise nat_eq id m.0 || test m) (if b then (e.0, readdressed addresses e.1) ∷ es else e ∷ changed id (readdressed addresses) es)
+    by true is apart rest = (or_true (pointwise nat_eq id e.0) (test (e.0, sample_of (readdressed addresses e.1))) is, apart_from id e.0 test es is apart tells.1)
+    by false is apart rest = (or_false (pointwise nat_eq id e.0) (test (e.0, sample_of e.1)) is ∙ tells.0, rest)
+
+pub due-readdressed : (due : Sample → Verdict) (id : List ℕ) (addresses : Option Addresses) (es : List (List ℕ × Entry)) → KeepsDue due es → KeepsDue due (changed id (readdressed addresses) es)
+unfolding KeepsDue
+due-readdressed due id addresses [] kept = tt
+due-readdressed due id addresses (e ∷ es) kept = by (pointwise nat_eq id e.0) (due-readdressed due id addresses es kept.1)
+  where
+    by : (b : Bool) → KeepsDue due (changed id (readdressed addresses) es) → KeepsDue due (if b then (e.0, readdressed addresses e.1) ∷ es else e ∷ changed id (readdressed addresses) es)
+    by true rest = (tt, kept.1)
     by false rest = (kept.0, rest)
 
 -- WHAT IS KEPT
@@ -247,15 +274,15 @@ abbrev pub kept_of : Option Entry → Option Verdict
 kept_of None = None
 kept_of (Some entry) = entry.kept
 
-pub kept_at : (due : List ℕ → Verdict) (id : List ℕ) (es : List (List ℕ × Entry)) → IsDistinct (pointwise nat_eq) (keys_of es) → KeepsDue due es
-    → kept_of (lookup (pointwise nat_eq id) es) ≡ (if is_among id (stale_of es) then None else option_map (λ sample. due sample.octets) (lookup (pointwise nat_eq id) (messages_of es)))
+pub kept_at : (due : Sample → Verdict) (id : List ℕ) (es : List (List ℕ × Entry)) → IsDistinct (pointwise nat_eq) (keys_of es) → KeepsDue due es
+    → kept_of (lookup (pointwise nat_eq id) es) ≡ (if is_among id (stale_of es) then None else option_map due (lookup (pointwise nat_eq id) (messages_of es)))
 unfolding KeepsDue stale_of messages_of
 kept_at due id [] distinct kept = refl
 kept_at due id (e ∷ es) distinct kept =
     by (pointwise nat_eq id e.0) refl (unlisted e.0 es (IsDistinct-head (pointwise nat_eq) e.0 (keys_of es) distinct)) (kept_at due id es (IsDistinct-tail (pointwise nat_eq) e.0 (keys_of es) distinct) kept.1)
   where
-    found : (verdict : Option Verdict) → IfSome verdict (λ v. v ≡ due e.1.message) → is_among id (stale_of es) ≡ false
-        → verdict ≡ (if is_among id (cond (is_none verdict) (id ∷ stale_of es) (stale_of es)) then None else Some (due e.1.message))
+    found : (verdict : Option Verdict) → IfSome verdict (λ v. v ≡ due (sample_of e.1)) → is_among id (stale_of es) ≡ false
+        → verdict ≡ (if is_among id (cond (is_none verdict) (id ∷ stale_of es) (stale_of es)) then None else Some (due (sample_of e.1)))
     found None is absent = rw (or_true (pointwise nat_eq id id) (is_among id (stale_of es)) (same_id id)) refl
     found (Some verdict) is absent = rw absent (ap (λ v. Some v) is)
 
@@ -264,8 +291,8 @@ kept_at due id (e ∷ es) distinct kept =
     skip false is = refl
 
     by : (b : Bool) → pointwise nat_eq id e.0 ≡ b → is_among e.0 (stale_of es) ≡ false
-        → kept_of (lookup (pointwise nat_eq id) es) ≡ (if is_among id (stale_of es) then None else option_map (λ sample. due sample.octets) (lookup (pointwise nat_eq id) (messages_of es)))
-        → kept_of (cond b (Some e.1) (lookup (pointwise nat_eq id) es)) ≡ (if is_among id (cond (is_stale e.1) (e.0 ∷ stale_of es) (stale_of es)) then None else option_map (λ sample. due sample.octets) (cond b (Some (sample_of e.1)) (lookup (pointwise nat_eq id) (messages_of es))))
+        → kept_of (lookup (pointwise nat_eq id) es) ≡ (if is_among id (stale_of es) then None else option_map due (lookup (pointwise nat_eq id) (messages_of es)))
+        → kept_of (cond b (Some e.1) (lookup (pointwise nat_eq id) es)) ≡ (if is_among id (cond (is_stale e.1) (e.0 ∷ stale_of es) (stale_of es)) then None else option_map due (cond b (Some (sample_of e.1)) (lookup (pointwise nat_eq id) (messages_of es))))
     by true is absent rest = rw (← is_id id e.0 is) (found e.1.kept kept.0 (rw (is_id id e.0 is) absent))
     by false is absent rest = rw (skip (is_stale e.1) is) rest
 
@@ -275,30 +302,30 @@ stale-listed es distinct = passing _ es (told es distinct)
 
 -- THE STALE ONES BEHIND AN EDIT
 
-pub stale-marked : (due : List ℕ → Verdict) (name : ScriptName) (es : List (List ℕ × Entry)) → KeepsDue due es → IsDistinct (pointwise nat_eq) (keys_of es)
-    → stale_of (marked name es) ≡ ids_where (λ m. is_read name (due m.1.octets).reads || is_among m.0 (stale_of es)) (messages_of (marked name es))
+pub stale-marked : (due : Sample → Verdict) (name : ScriptName) (es : List (List ℕ × Entry)) → KeepsDue due es → IsDistinct (pointwise nat_eq) (keys_of es)
+    → stale_of (marked name es) ≡ ids_where (λ m. is_read name (due m.1).reads || is_among m.0 (stale_of es)) (messages_of (marked name es))
 stale-marked due name es kept distinct = passing _ (marked name es) (tells-marked due name (λ m. is_among m.0 (stale_of es)) es kept (told es distinct))
 
 or_assoc : (a b c : Bool) → ((a || b) || c) ≡ (a || (b || c))
 or_assoc true b c = refl
 or_assoc false b c = refl
 
-pub stale-marked_twice : (due : List ℕ → Verdict) (from to : ScriptName) (es : List (List ℕ × Entry)) → KeepsDue due es → IsDistinct (pointwise nat_eq) (keys_of es)
+pub stale-marked_twice : (due : Sample → Verdict) (from to : ScriptName) (es : List (List ℕ × Entry)) → KeepsDue due es → IsDistinct (pointwise nat_eq) (keys_of es)
     → stale_of (marked from (marked to es))
-    ≡ ids_where (λ m. (is_read from (due m.1.octets).reads || is_read to (due m.1.octets).reads) || is_among m.0 (stale_of es)) (messages_of (marked from (marked to es)))
+    ≡ ids_where (λ m. (is_read from (due m.1).reads || is_read to (due m.1).reads) || is_among m.0 (stale_of es)) (messages_of (marked from (marked to es)))
 stale-marked_twice due from to es kept distinct =
-    let first : Tells (λ m. is_read to (due m.1.octets).reads || is_among m.0 (stale_of es)) (marked to es) = tells-marked due to (λ m. is_among m.0 (stale_of es)) es kept (told es distinct) in
+    let first : Tells (λ m. is_read to (due m.1).reads || is_among m.0 (stale_of es)) (marked to es) = tells-marked due to (λ m. is_among m.0 (stale_of es)) es kept (told es distinct) in
     passing _ (marked from (marked to es))
-    (tells_too (λ m. is_read from (due m.1.octets).reads || (is_read to (due m.1.octets).reads || is_among m.0 (stale_of es))) _ (marked from (marked to es))
-    (λ m. or_assoc (is_read from (due m.1.octets).reads) (is_read to (due m.1.octets).reads) (is_among m.0 (stale_of es)))
-    (tells-marked due from (λ m. is_read to (due m.1.octets).reads || is_among m.0 (stale_of es)) (marked to es) (due-kept due to es kept) first))
+    (tells_too (λ m. is_read from (due m.1).reads || (is_read to (due m.1).reads || is_among m.0 (stale_of es))) _ (marked from (marked to es))
+    (λ m. or_assoc (is_read from (due m.1).reads) (is_read to (due m.1).reads) (is_among m.0 (stale_of es)))
+    (tells-marked due from (λ m. is_read to (due m.1).reads || is_among m.0 (stale_of es)) (marked to es) (due-kept due to es kept) first))
 
 pub stale-all_marked : (es : List (List ℕ × Entry)) → stale_of (all_marked es) ≡ ids_where (λ m. true || is_among m.0 (stale_of es)) (messages_of (all_marked es))
 stale-all_marked es = passing _ (all_marked es) (tells-all_marked (λ m. is_among m.0 (stale_of es)) es)
 
-pub stale-put : (id bytes : List ℕ) (expected : Option (List ℕ)) (es : List (List ℕ × Entry)) → IsDistinct (pointwise nat_eq) (keys_of es)
-    → stale_of (ordered.insert_entry (pointwise nat_eq) es id (fresh_entry bytes expected)) ≡ ids_where (λ m. pointwise nat_eq id m.0 || is_among m.0 (stale_of es)) (messages_of (ordered.insert_entry (pointwise nat_eq) es id (fresh_entry bytes expected)))
-stale-put id bytes expected es distinct = passing _ (ordered.insert_entry (pointwise nat_eq) es id (fresh_entry bytes expected)) (tells-put id bytes expected (λ m. is_among m.0 (stale_of es)) es distinct (told es distinct))
+pub stale-put : (id : List ℕ) (sample : Sample) (es : List (List ℕ × Entry)) → IsDistinct (pointwise nat_eq) (keys_of es)
+    → stale_of (ordered.insert_entry (pointwise nat_eq) es id (fresh_entry sample)) ≡ ids_where (λ m. pointwise nat_eq id m.0 || is_among m.0 (stale_of es)) (messages_of (ordered.insert_entry (pointwise nat_eq) es id (fresh_entry sample)))
+stale-put id sample es distinct = passing _ (ordered.insert_entry (pointwise nat_eq) es id (fresh_entry sample)) (tells-put id sample (λ m. is_among m.0 (stale_of es)) es distinct (told es distinct))
 
 pub stale-removed : (at : List ℕ → Bool) (es : List (List ℕ × Entry)) → IsDistinct (pointwise nat_eq) (keys_of es)
     → stale_of (remove_entry at es) ≡ ids_where (λ m. false || is_among m.0 (stale_of es)) (messages_of (remove_entry at es))
@@ -307,3 +334,7 @@ stale-removed at es distinct = passing _ (remove_entry at es) (tells-removed at 
 pub stale-expecting : (id : List ℕ) (expected : Option (List ℕ)) (es : List (List ℕ × Entry)) → IsDistinct (pointwise nat_eq) (keys_of es)
     → stale_of (changed id (expecting expected) es) ≡ ids_where (λ m. false || is_among m.0 (stale_of es)) (messages_of (changed id (expecting expected) es))
 stale-expecting id expected es distinct = passing _ (changed id (expecting expected) es) (tells-expecting id expected (stale_of es) es (told es distinct))
+
+pub stale-readdressed : (id : List ℕ) (addresses : Option Addresses) (es : List (List ℕ × Entry)) → IsDistinct (pointwise nat_eq) (keys_of es)
+    → stale_of (changed id (readdressed addresses) es) ≡ ids_where (λ m. pointwise nat_eq id m.0 || is_among m.0 (stale_of es)) (messages_of (changed id (readdressed addresses) es))
+stale-readdressed id addresses es distinct = passing _ (changed id (readdressed addresses) es) (tells-readdressed id addresses (λ m. is_among m.0 (stale_of es)) es distinct (told es distinct))

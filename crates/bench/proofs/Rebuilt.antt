@@ -6,16 +6,16 @@ use Rattle.std.proofs.lemmas.List.Sums.{fold-append}
 use Rattle.std.specs.List.{All, AllByRecursion, IsDistinct, flat_map}
 use Rattle.std.specs.List.Sorted.{IsStrictlySortedBy}
 use Rattle.std.specs.Map.{keys_of, values_of}
-use Rattle.std.specs.Option.{option_and_then}
 use Rattle.std.specs.Ordering.{match_ordering}
 use Rattle.std.specs.declared.cmp.Ordering.TheVariants.{Less, Greater}
 use lib.Pointwise.{pointwise}
 use Rattle.indexmap.specs.IndexMap as ordered
-use Rattle.sieve_base.specs.Limits.{address_limit, expected_limit, id_limit, mailbox_limit, message_count_limit, message_limit, name_limit, script_count_limit, text_limit}
+use Rattle.sieve_base.specs.Limits.{address_limit, expected_limit, id_limit, mailbox_limit, mailboxes_limit, message_count_limit, message_limit, name_limit, script_count_limit, text_limit}
 use Rattle.sieve_base.specs.Name.{name_cmp}
 use Rattle.sieve_base.specs.declared.name.ScriptName.{ScriptName}
-use Rattle.bench.specs.Content.{Content, Edit, Sample, after, new_content, put_script, put_message, set_envelope, set_mailbox, unless, text_at, message_at, with_script, with_message, with_expected, is_long, is_long_id, script_refusal, message_refusal}
-use Rattle.bench.specs.Edits.{IsInOrder, IsWithinLimits, AreOrdered, AreDistinct, behind, content_after, expected_edits, main_edits, message_edits, rebuild}
+use Rattle.sieve_effects.specs.declared.envelope.Addresses.{Addresses}
+use Rattle.bench.specs.Content.{Content, Edit, Sample, after, new_content, put_script, put_message, set_envelope, set_mailbox, set_mailboxes, unless, text_at, message_at, put_over, with_script, with_message, changed, with_expected, with_addresses, are_long, is_long, is_long_id, script_refusal, message_refusal}
+use Rattle.bench.specs.Edits.{IsInOrder, IsWithinLimits, AreAddressesWithin, AreOrdered, AreDistinct, addresses_edits, behind, content_after, expected_edits, main_edits, message_edits, rebuild}
 use Rattle.bench.specs.Test.{after_all, then_edit}
 use Rattle.sieve_profile.specs.Profile.{Profile}
 use Rattle.bench.specs.declared.fault.EditFault.{EditFault}
@@ -44,6 +44,10 @@ all_made content (edit ∷ edits) new made = by (after content edit) (λ next. a
 
 within_limit : (limit n : ℕ) → n ≤ limit → nat_lt limit n ≡ false
 within_limit limit n within = grind (arith, nat_tests)
+
+neither : (a b : Bool) → a ≡ false → b ≡ false → (a || b) ≡ false
+neither true b is other = absurd cc
+neither false b is other = other
 
 has_room : (limit n : ℕ) → n < limit → nat_le limit n ≡ false
 has_room limit n below = grind (arith, nat_tests)
@@ -114,9 +118,12 @@ ids_before (first ∷ done) message rest distinct = (at done distinct.0, ids_bef
     at [] all = all.0
     at (one ∷ done) all = at done all.1
 
--- a message of these octets, of which nothing is expected
+-- a message of these octets, of which nothing is expected, and which has no addresses of its own; and one of which a text is expected
 abbrev plain : List ℕ → Sample
-plain octets = record { octets = octets; expected = None }
+plain octets = put_over octets None
+
+abbrev awaited : List ℕ → Option (List ℕ) → Sample
+awaited octets expected = record { octets = octets; expected = expected; addresses = None }
 
 -- an id that is none of the messages' ids has no message
 none_there : (id : List ℕ) (messages : List (List ℕ × Sample)) → AllByRecursion (λ other. pointwise nat_eq other id ≡ false) (keys_of messages) → message_at messages id ≡ None
@@ -131,49 +138,65 @@ insert_behind id sample (e ∷ messages) apart =
 
 put_behind : (id bytes : List ℕ) (messages : List (List ℕ × Sample)) → AllByRecursion (λ other. pointwise nat_eq other id ≡ false) (keys_of messages) → with_message id bytes messages ≡ messages ++ (id, plain bytes) ∷ []
 put_behind id bytes messages apart =
-    ap (λ found. ordered.insert_entry (pointwise nat_eq) messages id (record { octets = bytes; expected = option_and_then (λ s. s.expected) found })) (none_there id messages apart)
+    ap (λ found. ordered.insert_entry (pointwise nat_eq) messages id (put_over bytes found)) (none_there id messages apart)
     ∙ insert_behind id (plain bytes) messages apart
 
--- a message that is put last is there at its id, and the text that is expected of it is set there
+-- a message that stands last is there at its id, and is changed there
 there_behind : (id : List ℕ) (sample : Sample) (messages : List (List ℕ × Sample)) → AllByRecursion (λ other. pointwise nat_eq other id ≡ false) (keys_of messages) → message_at (messages ++ (id, sample) ∷ []) id ≡ Some sample
 there_behind id sample [] apart = ap (λ b. if b then Some sample else None) (same_id id)
 there_behind id sample (e ∷ messages) apart = ap (λ b. if b then Some e.1 else message_at (messages ++ (id, sample) ∷ []) id) (other_id e.0 id apart.0) ∙ there_behind id sample messages apart.1
 
-expected_behind : (id octets text : List ℕ) (messages : List (List ℕ × Sample)) → AllByRecursion (λ other. pointwise nat_eq other id ≡ false) (keys_of messages)
-    → with_expected id (Some text) (messages ++ (id, plain octets) ∷ []) ≡ messages ++ (id, record { octets = octets; expected = Some text }) ∷ []
-expected_behind id octets text [] apart = ap (λ b. if b then (id, record { octets = octets; expected = Some text }) ∷ [] else (id, plain octets) ∷ []) (same_id id)
-expected_behind id octets text (e ∷ messages) apart =
-    ap (λ b. if b then (e.0, record e.1 { expected = Some text }) ∷ messages ++ (id, plain octets) ∷ [] else e ∷ with_expected id (Some text) (messages ++ (id, plain octets) ∷ [])) (other_id e.0 id apart.0)
-    ∙ ap (λ l. e ∷ l) (expected_behind id octets text messages apart.1)
+changed_last : (id : List ℕ) (change : Sample → Sample) (sample : Sample) (messages : List (List ℕ × Sample)) → AllByRecursion (λ other. pointwise nat_eq other id ≡ false) (keys_of messages)
+    → changed id change (messages ++ (id, sample) ∷ []) ≡ messages ++ (id, change sample) ∷ []
+changed_last id change sample [] apart = ap (λ b. if b then (id, change sample) ∷ [] else (id, sample) ∷ []) (same_id id)
+changed_last id change sample (e ∷ messages) apart =
+    ap (λ b. if b then (e.0, change e.1) ∷ messages ++ (id, sample) ∷ [] else e ∷ changed id change (messages ++ (id, sample) ∷ [])) (other_id e.0 id apart.0)
+    ∙ ap (λ l. e ∷ l) (changed_last id change sample messages apart.1)
 
-expected_unless : (long large missing : Bool) → long ≡ false → large ≡ false → missing ≡ false → (if long || large then Some TooLarge else if missing then Some NoSuchMessage else None) ≡ None
-expected_unless true large missing short small there = absurd cc
-expected_unless false true missing short small there = absurd cc
-expected_unless false false true short small there = absurd cc
-expected_unless false false false short small there = refl
+-- an edit of a message that is there isn't refused, where nothing is too large
+there_passes : (long large missing : Bool) → long ≡ false → large ≡ false → missing ≡ false → (if long || large then Some TooLarge else if missing then Some NoSuchMessage else None) ≡ None
+there_passes true large missing short small there = absurd cc
+there_passes false true missing short small there = absurd cc
+there_passes false false true short small there = absurd cc
+there_passes false false false short small there = refl
 
--- what is expected of a message is set where the message was put last
+-- what is expected of a message is set where the message stands last
 expected_again : (content : Content) (done : List (List ℕ × Sample)) (id octets : List ℕ) (expected : Option (List ℕ)) → AllByRecursion (λ other. pointwise nat_eq other id ≡ false) (keys_of done)
     → length id ≤ id_limit → IfSome expected (λ text. length text ≤ expected_limit)
-    → after_all (record content { messages = done ++ (id, plain octets) ∷ [] }) (expected_edits id expected) ≡ Ok (record content { messages = done ++ (id, record { octets = octets; expected = expected }) ∷ [] })
+    → after_all (record content { messages = done ++ (id, plain octets) ∷ [] }) (expected_edits id expected) ≡ Ok (record content { messages = done ++ (id, awaited octets expected) ∷ [] })
 expected_again content done id octets None apart short small = refl
 expected_again content done id octets (Some text) apart short small =
     ap (λ refusal. unless refusal (record content { messages = with_expected id (Some text) (done ++ (id, plain octets) ∷ []) }))
-    (expected_unless (is_long_id id) (nat_lt expected_limit (length text)) (is_none (message_at (done ++ (id, plain octets) ∷ []) id))
+    (there_passes (is_long_id id) (nat_lt expected_limit (length text)) (is_none (message_at (done ++ (id, plain octets) ∷ []) id))
     (within_limit id_limit (length id) short) (within_limit expected_limit (length text) small) (ap is_none (there_behind id (plain octets) done apart)))
-    ∙ ap (λ messages. Ok (record content { messages = messages })) (expected_behind id octets text done apart)
+    ∙ ap (λ messages. Ok (record content { messages = messages })) (changed_last id (λ sample. record sample { expected = Some text }) (plain octets) done apart)
+
+-- and so are the addresses that it has of its own
+addresses_again : (content : Content) (done : List (List ℕ × Sample)) (id octets : List ℕ) (expected : Option (List ℕ)) (addresses : Option Addresses) → AllByRecursion (λ other. pointwise nat_eq other id ≡ false) (keys_of done)
+    → length id ≤ id_limit → IfSome addresses AreAddressesWithin
+    → after_all (record content { messages = done ++ (id, awaited octets expected) ∷ [] }) (addresses_edits id addresses)
+    ≡ Ok (record content { messages = done ++ (id, record { octets = octets; expected = expected; addresses = addresses }) ∷ [] })
+addresses_again content done id octets expected None apart short small = refl
+addresses_again content done id octets expected (Some own) apart short small =
+    ap (λ refusal. unless refusal (record content { messages = with_addresses id (Some own) (done ++ (id, awaited octets expected) ∷ []) }))
+    (there_passes (is_long_id id) (are_long own.from own.to) (is_none (message_at (done ++ (id, awaited octets expected) ∷ []) id))
+    (within_limit id_limit (length id) short)
+    (neither (nat_lt address_limit (length own.from)) (nat_lt address_limit (length own.to)) (within_limit address_limit (length own.from) small.from) (within_limit address_limit (length own.to) small.to))
+    (ap is_none (there_behind id (awaited octets expected) done apart)))
+    ∙ ap (λ messages. Ok (record content { messages = messages })) (changed_last id (λ sample. record sample { addresses = Some own }) (awaited octets expected) done apart)
 
 -- putting messages in their order puts each behind those before it
 messages_again : (content : Content) (done rest : List (List ℕ × Sample)) → AreDistinct (keys_of (done ++ rest)) → length (done ++ rest) ≤ message_count_limit
     → All (λ id. length id ≤ id_limit) (keys_of rest) → All (λ sample. length sample.octets ≤ message_limit) (values_of rest) → All (λ sample. IfSome sample.expected (λ text. length text ≤ expected_limit)) (values_of rest)
+    → All (λ sample. IfSome sample.addresses AreAddressesWithin) (values_of rest)
     → after_all (record content { messages = done }) (flat_map message_edits rest) ≡ Ok (record content { messages = done ++ rest })
-messages_again content done [] distinct few ids octets texts = ap (λ messages. Ok (record content { messages = messages })) (sym (append-nil done))
-messages_again content done (message ∷ rest) distinct few ids octets texts =
+messages_again content done [] distinct few ids octets texts own = ap (λ messages. Ok (record content { messages = messages })) (sym (append-nil done))
+messages_again content done (message ∷ rest) distinct few ids octets texts own =
     fold-append then_edit (Ok (record content { messages = done })) (message_edits message) (flat_map message_edits rest)
     ∙ ap (λ made. fold then_edit made (flat_map message_edits rest)) first
     ∙ messages_again content (done ++ message ∷ []) rest (subst (λ messages. AreDistinct (keys_of messages)) (sym again) distinct) (subst (λ messages. length messages ≤ message_count_limit) (sym again) few)
     (All-tail (λ id. length id ≤ id_limit) message.0 (keys_of rest) ids) (All-tail (λ s. length s.octets ≤ message_limit) message.1 (values_of rest) octets)
-    (All-tail (λ s. IfSome s.expected (λ text. length text ≤ expected_limit)) message.1 (values_of rest) texts)
+    (All-tail (λ s. IfSome s.expected (λ text. length text ≤ expected_limit)) message.1 (values_of rest) texts) (All-tail (λ s. IfSome s.addresses AreAddressesWithin) message.1 (values_of rest) own)
     ∙ ap (λ messages. Ok (record content { messages = messages })) again
   where
     again : (done ++ message ∷ []) ++ rest ≡ done ++ message ∷ rest
@@ -202,8 +225,11 @@ messages_again content done (message ∷ rest) distinct few ids octets texts =
 
     first : after_all (record content { messages = done }) (message_edits message) ≡ Ok (record content { messages = done ++ message ∷ [] })
     first =
-        ap (λ made. fold then_edit made (expected_edits message.0 message.1.expected)) put
-        ∙ expected_again content done message.0 message.1.octets message.1.expected apart short (All-head (λ s. IfSome s.expected (λ text. length text ≤ expected_limit)) message.1 (values_of rest) texts)
+        ap (λ made. fold then_edit made (expected_edits message.0 message.1.expected ++ addresses_edits message.0 message.1.addresses)) put
+        ∙ fold-append then_edit (Ok (record content { messages = done ++ (message.0, plain message.1.octets) ∷ [] })) (expected_edits message.0 message.1.expected) (addresses_edits message.0 message.1.addresses)
+        ∙ ap (λ made. fold then_edit made (addresses_edits message.0 message.1.addresses))
+        (expected_again content done message.0 message.1.octets message.1.expected apart short (All-head (λ s. IfSome s.expected (λ text. length text ≤ expected_limit)) message.1 (values_of rest) texts))
+        ∙ addresses_again content done message.0 message.1.octets message.1.expected message.1.addresses apart short (All-head (λ s. IfSome s.addresses AreAddressesWithin) message.1 (values_of rest) own)
 
 -- SETTINGS
 
@@ -232,19 +258,24 @@ module _ (content : Content) (order : IsInOrder content) (limits : IsWithinLimit
   messages_there = record scripts_there { messages = content.messages }
 
   abbrev settings : List Edit
-  settings = set_envelope content.envelope.from content.envelope.to ∷ set_mailbox content.envelope.mailbox ∷ main_edits content.main
+  settings = set_envelope content.envelope.from content.envelope.to ∷ set_mailbox content.envelope.mailbox ∷ set_mailboxes content.envelope.mailboxes ∷ main_edits content.main
 
   set_again : after_all messages_there settings ≡ Ok content
   set_again =
-      ap (λ refusal. fold then_edit (then_edit (unless refusal envelope_there) (set_mailbox content.envelope.mailbox)) (main_edits content.main))
+      ap (λ refusal. fold then_edit (then_edit (then_edit (unless refusal envelope_there) (set_mailbox content.envelope.mailbox)) (set_mailboxes content.envelope.mailboxes)) (main_edits content.main))
       (envelope_passes (nat_lt address_limit (length content.envelope.from)) (nat_lt address_limit (length content.envelope.to))
       (within_limit address_limit (length content.envelope.from) limits.envelope.from) (within_limit address_limit (length content.envelope.to) limits.envelope.to))
-      ∙ ap (λ refusal. fold then_edit (unless refusal (record content { main = None })) (main_edits content.main))
+      ∙ ap (λ refusal. fold then_edit (then_edit (unless refusal mailbox_there) (set_mailboxes content.envelope.mailboxes)) (main_edits content.main))
       (size_passes (nat_lt mailbox_limit (length content.envelope.mailbox)) (within_limit mailbox_limit (length content.envelope.mailbox) limits.envelope.mailbox))
+      ∙ ap (λ refusal. fold then_edit (unless refusal (record content { main = None })) (main_edits content.main))
+      (size_passes (nat_lt mailboxes_limit (length content.envelope.mailboxes)) (within_limit mailboxes_limit (length content.envelope.mailboxes) limits.envelope.mailboxes))
       ∙ main_again content content.main limits.main
     where
       envelope_there : Content
       envelope_there = record messages_there { envelope = record messages_there.envelope { from = content.envelope.from; to = content.envelope.to } }
+
+      mailbox_there : Content
+      mailbox_there = record messages_there { envelope = record content.envelope { mailboxes = [] } }
 
   -- none of the edits that make the content anew is refused, and they make it
   pub made_again : after_all (new_content content.profile) (rebuild content) ≡ Ok content
@@ -255,7 +286,7 @@ module _ (content : Content) (order : IsInOrder content) (limits : IsWithinLimit
       (scripts_again (new_content content.profile) [] content.scripts order.scripts limits.scripts.count limits.scripts.names limits.scripts.texts)
       ∙ fold-append then_edit (Ok scripts_there) (flat_map message_edits content.messages) settings
       ∙ ap (λ made. fold then_edit made settings)
-      (messages_again scripts_there [] content.messages order.ids limits.messages.count limits.messages.ids limits.messages.octets limits.messages.expected)
+      (messages_again scripts_there [] content.messages order.ids limits.messages.count limits.messages.ids limits.messages.octets limits.messages.expected limits.messages.addresses)
       ∙ set_again
 
 -- the edits that build anew what edits make of a new bench's content make it again

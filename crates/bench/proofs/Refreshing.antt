@@ -8,11 +8,12 @@ use Rattle.indexmap.specs.Layout.{set_value_at}
 use Rattle.sieve_run.specs.Meter.{next_run, runs_after}
 use Rattle.sieve_run.specs.Verdict.{Verdict}
 use Rattle.bench.specs.Bench.{RefusedAmong}
+use Rattle.bench.specs.Content.{Sample}
 use Rattle.bench.specs.declared.entry.Entry.{Entry}
 use Rattle.bench.specs.view.Entry.{is_stale, messages_of, sample_of, stale_of, KeepsDue, kept_or, refreshed, runs_at}
 
 -- Between two states of the entries and the meter, the stale ones among the first so many were run.
-pub record Refreshing (due : List ℕ → Verdict) (old new : List (List ℕ × Entry)) (place before after : ℕ) : Type 0 where
+pub record Refreshing (due : Sample → Verdict) (old new : List (List ℕ × Entry)) (place before after : ℕ) : Type 0 where
   pub done : List (List ℕ)
   pub messages : messages_of new ≡ messages_of old
   pub kept : KeepsDue due new
@@ -26,23 +27,23 @@ runs_more (suc count) runs = runs_more count (next_run runs)
 
 -- AN ENTRY IN ITS PLACE
 
-module _ (due : List ℕ → Verdict) where
+module _ (due : Sample → Verdict) where
   pub messages-refreshed : (es : List (List ℕ × Entry)) (i : ℕ) (entry : Entry) → slice_get (values_of es) i ≡ Some entry → messages_of (set_value_at es i (refreshed due entry)) ≡ messages_of es
   unfolding messages_of
   messages-refreshed [] i entry at = refl
   messages-refreshed (e ∷ es) zero entry at = let same : e.1 ≡ entry = cc in ap (λ x. (e.0, sample_of x) ∷ messages_of es) (sym same)
   messages-refreshed (e ∷ es) (suc i) entry at = ap (λ l. (e.0, sample_of e.1) ∷ l) (messages-refreshed es i entry at)
 
-  due_entry : (message : List ℕ) (kept : Option Verdict) → IfSome kept (λ verdict. verdict ≡ due message) → IfSome (kept_or (due message) kept) (λ verdict. verdict ≡ due message)
-  due_entry message None is = refl
-  due_entry message (Some verdict) is = is
+  due_entry : (sample : Sample) (kept : Option Verdict) → IfSome kept (λ verdict. verdict ≡ due sample) → IfSome (kept_or (due sample) kept) (λ verdict. verdict ≡ due sample)
+  due_entry sample None is = refl
+  due_entry sample (Some verdict) is = is
 
   pub due-refreshed : (es : List (List ℕ × Entry)) (i : ℕ) (entry : Entry) → slice_get (values_of es) i ≡ Some entry → KeepsDue due es → KeepsDue due (set_value_at es i (refreshed due entry))
   unfolding KeepsDue
   due-refreshed [] i entry at kept = kept
   due-refreshed (e ∷ es) zero entry at kept =
       let same : e.1 ≡ entry = cc in
-      (due_entry entry.message entry.kept (subst (λ (x : Entry). IfSome x.kept (λ verdict. verdict ≡ due x.message)) same kept.0), kept.1)
+      (due_entry (sample_of entry) entry.kept (subst (λ (x : Entry). IfSome x.kept (λ verdict. verdict ≡ due (sample_of x))) same kept.0), kept.1)
   due-refreshed (e ∷ es) (suc i) entry at kept = (kept.0, due-refreshed es i entry at kept.1)
 
   is_fresh : (due_verdict : Verdict) (kept : Option Verdict) → is_none (kept_or due_verdict kept) ≡ false
@@ -53,7 +54,7 @@ module _ (due : List ℕ → Verdict) where
   pub fresh-refreshed : (es : List (List ℕ × Entry)) (i : ℕ) (entry : Entry) → slice_get (values_of es) i ≡ Some entry → stale_of (take i es) ≡ [] → stale_of (take (suc i) (set_value_at es i (refreshed due entry))) ≡ []
   unfolding stale_of
   fresh-refreshed [] i entry at fresh = refl
-  fresh-refreshed (e ∷ es) zero entry at fresh = ap (λ b. cond b (e.0 ∷ []) []) (is_fresh (due entry.message) entry.kept)
+  fresh-refreshed (e ∷ es) zero entry at fresh = ap (λ b. cond b (e.0 ∷ []) []) (is_fresh (due (sample_of entry)) entry.kept)
   fresh-refreshed (e ∷ es) (suc i) entry at fresh = by (is_stale e.1) fresh (λ h. fresh-refreshed es i entry at h)
     where
       by : (b : Bool) → cond b (e.0 ∷ stale_of (take i es)) (stale_of (take i es)) ≡ []
@@ -70,7 +71,7 @@ module _ (due : List ℕ → Verdict) where
   stale-refreshed (e ∷ es) zero entry at stale fresh =
       let same : e.1 ≡ entry = cc in
       let was : is_stale e.1 ≡ true = rw same stale in
-      (e.0, rw (was, is_fresh (due entry.message) entry.kept) refl)
+      (e.0, rw (was, is_fresh (due (sample_of entry)) entry.kept) refl)
   stale-refreshed (e ∷ es) (suc i) entry at stale fresh = by (is_stale e.1) fresh (λ h. stale-refreshed es i entry at stale h)
     where
       by : (b : Bool) → cond b (e.0 ∷ stale_of (take i es)) (stale_of (take i es)) ≡ []
@@ -86,7 +87,7 @@ module _ (due : List ℕ → Verdict) where
   same-refreshed (e ∷ es) zero entry at fresh =
       let same : e.1 ≡ entry = cc in
       let was : is_stale e.1 ≡ false = rw same fresh in
-      rw (was, is_fresh (due entry.message) entry.kept) refl
+      rw (was, is_fresh (due (sample_of entry)) entry.kept) refl
   same-refreshed (e ∷ es) (suc i) entry at fresh = ap (λ l. cond (is_stale e.1) (e.0 ∷ l) l) (same-refreshed es i entry at fresh)
 
 -- to put an entry in the place where it stands changes nothing
@@ -97,7 +98,7 @@ same_value (e ∷ es) (suc i) entry at = ap (λ l. e ∷ l) (same_value es i ent
 
 -- THE LOOP
 
-pub starts : (due : List ℕ → Verdict) (es : List (List ℕ × Entry)) (runs : ℕ) → KeepsDue due es → Refreshing due es es 0 runs runs
+pub starts : (due : Sample → Verdict) (es : List (List ℕ × Entry)) (runs : ℕ) → KeepsDue due es → Refreshing due es es 0 runs runs
 unfolding stale_of
 starts due es runs kept = record {
   done = [];
@@ -108,7 +109,7 @@ starts due es runs kept = record {
   runs = refl;
 }
 
-pub one_more : (due : List ℕ → Verdict) (old es : List (List ℕ × Entry)) (i before runs : ℕ) (entry : Entry)
+pub one_more : (due : Sample → Verdict) (old es : List (List ℕ × Entry)) (i before runs : ℕ) (entry : Entry)
     → Refreshing due old es i before runs → slice_get (values_of es) i ≡ Some entry → Refreshing due old (set_value_at es i (refreshed due entry)) (suc i) before (runs_at entry runs)
 one_more due old es i before runs entry so_far at = by (is_stale entry) refl
   where
@@ -135,7 +136,7 @@ one_more due old es i before runs entry so_far at = by (is_stale entry) refl
       runs = so_far.runs;
     }
 
-pub refused : (due : List ℕ → Verdict) (old es : List (List ℕ × Entry)) (i before runs : ℕ) (entry : Entry)
+pub refused : (due : Sample → Verdict) (old es : List (List ℕ × Entry)) (i before runs : ℕ) (entry : Entry)
     → Refreshing due old es i before runs → slice_get (values_of es) i ≡ Some entry → is_stale entry ≡ true → RefusedAmong (stale_of old) (stale_of es) before (next_run runs)
 refused due old es i before runs entry so_far at stale =
     let cut : (id : List ℕ) × (stale_of es ≡ id ∷ stale_of (set_value_at es i (refreshed due entry))) = stale-refreshed due es i entry at stale so_far.fresh in
@@ -168,12 +169,12 @@ take_all [] n all = take_none n
 take_all (e ∷ es) zero all = absurd (omega arith)
 take_all (e ∷ es) (suc n) all = ap (λ l. e ∷ l) (take_all es n (omega arith))
 
-pub none_left : (due : List ℕ → Verdict) (old es : List (List ℕ × Entry)) (count before runs : ℕ) → Refreshing due old es count before runs → length old ≤ count → stale_of es ≡ []
+pub none_left : (due : Sample → Verdict) (old es : List (List ℕ × Entry)) (count before runs : ℕ) → Refreshing due old es count before runs → length old ≤ count → stale_of es ≡ []
 none_left due old es count before runs so_far all =
     let same : length es ≡ length old = same_length old es so_far.messages in
     ap stale_of (sym (take_all es count (omega arith))) ∙ so_far.fresh
 
-pub all_run : (due : List ℕ → Verdict) (old es : List (List ℕ × Entry)) (count before runs : ℕ) → Refreshing due old es count before runs → length old ≤ count → runs ≡ runs_after (length (stale_of old)) before
+pub all_run : (due : Sample → Verdict) (old es : List (List ℕ × Entry)) (count before runs : ℕ) → Refreshing due old es count before runs → length old ≤ count → runs ≡ runs_after (length (stale_of old)) before
 all_run due old es count before runs so_far all =
     let none = none_left due old es count before runs so_far all in
     so_far.runs ∙ ap (λ l. runs_after (length l) before) (sym (append-nil so_far.done) ∙ ap (λ l. so_far.done ++ l) (sym none) ∙ sym so_far.whole)
@@ -183,7 +184,7 @@ no_more [] i at = sym (take_none i)
 no_more (e ∷ es) zero at = absurd cc
 no_more (e ∷ es) (suc i) at = ap (λ l. e ∷ l) (no_more es i at)
 
-pub skipped : (due : List ℕ → Verdict) (old es : List (List ℕ × Entry)) (i before runs : ℕ) → Refreshing due old es i before runs → slice_get (values_of es) i ≡ None → Refreshing due old es (suc i) before runs
+pub skipped : (due : Sample → Verdict) (old es : List (List ℕ × Entry)) (i before runs : ℕ) → Refreshing due old es i before runs → slice_get (values_of es) i ≡ None → Refreshing due old es (suc i) before runs
 skipped due old es i before runs so_far at = record {
   done = so_far.done;
   messages = so_far.messages;

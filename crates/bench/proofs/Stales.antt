@@ -11,7 +11,7 @@ use Rattle.sieve_run.specs.Run.{outcome_of, exec}
 use Rattle.sieve_base.specs.declared.name.ScriptName.{ScriptName}
 use Rattle.sieve_profile.specs.Profile.{Profile}
 use Rattle.bench.specs.Bench.{RefusedAmong}
-use Rattle.bench.specs.Content.{Content, Edit, after, put_script, put_message, set_main, rename_script, remove_script, remove_message, clear_main, set_envelope, set_mailbox, set_expected, clear_expected}
+use Rattle.bench.specs.Content.{Content, Edit, Sample, after, put_script, put_message, set_main, rename_script, remove_script, remove_message, clear_main, set_envelope, set_mailbox, set_expected, clear_expected, set_mailboxes, set_message_envelope, clear_message_envelope}
 use Rattle.bench.specs.Stale.{ids_where, stale_after, verdict_on}
 use Rattle.bench.specs.declared.fault.EditFault.{EditFault}
 
@@ -38,9 +38,9 @@ module _ (profile : Profile) where
   bench scripts = record {
     profile = profile;
     main = Some main;
-    envelope = record { from = []; to = []; mailbox = codes "INBOX" };
+    envelope = record { from = []; to = []; mailbox = codes "INBOX"; mailboxes = [] };
     scripts = scripts;
-    messages = (codes "m1", record { octets = codes "Subject: one\n\n"; expected = None }) ∷ (codes "m2", record { octets = codes "Subject: two\n\n"; expected = Some (codes "keep\n") }) ∷ [];
+    messages = (codes "m1", record { octets = codes "Subject: one\n\n"; expected = None; addresses = None }) ∷ (codes "m2", record { octets = codes "Subject: two\n\n"; expected = Some (codes "keep\n"); addresses = None }) ∷ [];
   }
 
   -- the stale messages behind an edit: where it is refused, those that were stale
@@ -97,20 +97,20 @@ module _ (profile : Profile) where
 
   -- the run on each message looks the main script up, and no other
   abbrev IsAlone : List ℕ → Type 0
-  IsAlone text = (bytes : List ℕ) → (verdict_on (present text) bytes).reads ≡ (main, true) ∷ []
+  IsAlone text = (sample : Sample) → (verdict_on (present text) sample).reads ≡ (main, true) ∷ []
 
   -- a main script whose text is past the limit, has a fault, or is one keep, looks up no other
   long_row : (text : List ℕ) → nat_lt text_limit (length text) ≡ true → IsAlone text
   unfolding outcome_of
-  long_row text long bytes = rw long refl
+  long_row text long sample = rw long refl
 
   faulty_row : (text : List ℕ) (line : ℕ) (kind : FaultKind) → nat_lt text_limit (length text) ≡ false → judgement_of profile text ≡ faulty line kind → IsAlone text
   unfolding outcome_of
-  faulty_row text line kind short judged bytes = rw (short, judged) refl
+  faulty_row text line kind short judged sample = rw (short, judged) refl
 
   keep_row : (text : List ℕ) (tree : List Node) → nat_lt text_limit (length text) ≡ false → judgement_of profile text ≡ sound tree → script_of tree ≡ acts (keep_leaf plain_settings) 1 no_commands → IsAlone text
   unfolding outcome_of exec
-  keep_row text tree short judged commands bytes = rw (short, judged, commands) refl
+  keep_row text tree short judged commands sample = rw (short, judged, commands) refl
 
   -- rows where the main script has a text that looks up no other script
   module _ (text : List ℕ) (alone : IsAlone text) where
@@ -213,6 +213,28 @@ module _ (profile : Profile) where
     not_expected_row : touched (present text) (clear_expected (codes "m2")) ≡ []
     unfolding ids_where
     not_expected_row = refl
+
+    -- an edit of the list of mailboxes touches all messages
+    mailboxes_row : touched (present text) (set_mailboxes (codes "Lists\n")) ≡ both
+    unfolding ids_where
+    mailboxes_row = refl
+
+    -- an edit of a message's own addresses touches that message alone, also where it had none and has none then
+    own_row : touched (present text) (set_message_envelope (codes "m2") (codes "a@b.example") []) ≡ codes "m2" ∷ []
+    unfolding ids_where
+    own_row = refl
+
+    no_own_row : touched (present text) (clear_message_envelope (codes "m1")) ≡ first
+    unfolding ids_where
+    no_own_row = refl
+
+    own_stays_row : marks (present text) (set_message_envelope (codes "m2") [] []) first ≡ both
+    unfolding ids_where
+    own_stays_row = refl
+
+    refused_own_row : marks (present text) (set_message_envelope (codes "m3") [] []) first ≡ first
+    unfolding ids_where
+    refused_own_row = refl
 
 -- A REPORT THAT MEMORY WAS REFUSED TO
 

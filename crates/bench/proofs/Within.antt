@@ -6,18 +6,18 @@ use Rattle.std.proofs.lemmas.Map.Views.{All-keys-insert_entry, All-values-insert
 use Rattle.std.specs.BTreeMap as tree
 use Rattle.std.specs.List.{All}
 use Rattle.std.specs.Map.{keys_of, values_of}
-use Rattle.std.specs.Option.{option_and_then}
 use lib.Pointwise.{pointwise}
-use Rattle.sieve_base.specs.Limits.{address_limit, expected_limit, id_limit, mailbox_limit, message_count_limit, message_limit, name_limit, script_count_limit, text_limit}
+use Rattle.sieve_base.specs.Limits.{address_limit, expected_limit, id_limit, mailbox_limit, mailboxes_limit, message_count_limit, message_limit, name_limit, script_count_limit, text_limit}
 use Rattle.sieve_base.specs.Name.{name_cmp, name_eq}
 use Rattle.sieve_base.specs.declared.name.ScriptName.{ScriptName}
-use Rattle.bench.specs.Content.{Content, Edit, Sample, after, new_content, put_script, put_message, set_main, rename_script, remove_script, remove_message, clear_main, set_envelope, set_mailbox, set_expected, clear_expected, text_at, message_at, expected_at, with_script, with_message, with_expected, with_renamed, without_script, without_message, is_long, is_long_id, script_refusal, message_refusal, main_refusal, rename_refusal, remove_script_refusal, absent_refusal, expected_refusal, envelope_refusal, mailbox_refusal}
-use Rattle.bench.specs.Edits.{IsInOrder, IsWithinLimits, AreScriptsWithin, AreMessagesWithin, AreOrdered, behind, content_after}
+use Rattle.sieve_effects.specs.declared.envelope.Addresses.{Addresses}
+use Rattle.bench.specs.Content.{Content, Edit, Sample, after, new_content, put_script, put_message, set_main, rename_script, remove_script, remove_message, clear_main, set_envelope, set_mailbox, set_expected, clear_expected, set_mailboxes, set_message_envelope, clear_message_envelope, text_at, message_at, put_over, with_script, with_message, changed, with_expected, with_addresses, with_renamed, without_script, without_message, is_long, is_long_id, script_refusal, message_refusal, main_refusal, rename_refusal, remove_script_refusal, absent_refusal, expected_refusal, addresses_refusal, envelope_refusal, mailbox_refusal, mailboxes_refusal, are_long}
+use Rattle.bench.specs.Edits.{IsInOrder, IsWithinLimits, AreScriptsWithin, AreMessagesWithin, AreAddressesWithin, AreOrdered, behind, content_after}
 use Rattle.sieve_profile.specs.Profile.{Profile}
 use Rattle.bench.specs.declared.fault.EditFault.{EditFault}
 use Rattle.bench.specs.declared.fault.EditFault.TheVariants.{TooLarge, Full, NoSuchScript, NameTaken, NoSuchMessage}
 use Rattle.bench.proofs.Names.{is_name, text-with_script}
-use Rattle.bench.proofs.Kept.{accepted, all_expected, all_put, all_values_put, keys_expected, length_expected, name_total, none_inserted, none_more, none_put, octets_expected, one_inserted, one_put, one_removed, order_behind}
+use Rattle.bench.proofs.Kept.{accepted, all_changed, all_put, all_values_put, keys_changed, length_changed, name_total, none_inserted, none_more, none_put, one_inserted, one_put, one_removed, order_behind}
 
 not_past : (limit n : ℕ) → nat_lt limit n ≡ false → n ≤ limit
 not_past limit n is = grind (arith, nat_tests)
@@ -45,10 +45,10 @@ rename_passes false false true taken is = absurd cc
 rename_passes false false false true is = absurd cc
 rename_passes false false false false is = (refl, refl)
 
-expected_passes : (long large missing : Bool) → (if long || large then Some TooLarge else if missing then Some NoSuchMessage else None) ≡ None → large ≡ false
-expected_passes true large missing is = absurd cc
-expected_passes false true missing is = absurd cc
-expected_passes false false missing is = refl
+found_passes : (long large missing : Bool) → (if long || large then Some TooLarge else if missing then Some NoSuchMessage else None) ≡ None → large ≡ false
+found_passes true large missing is = absurd cc
+found_passes false true missing is = absurd cc
+found_passes false false missing is = refl
 
 one_passes : (large : Bool) (fault : EditFault) → (if large then Some fault else None) ≡ None → large ≡ false
 one_passes true fault is = absurd cc
@@ -58,6 +58,11 @@ two_pass : (large other : Bool) (fault : EditFault) → (if large || other then 
 two_pass true other fault is = absurd cc
 two_pass false true fault is = absurd cc
 two_pass false false fault is = (refl, refl)
+
+both_false : (a b : Bool) → (a || b) ≡ false → (a ≡ false) × (b ≡ false)
+both_false true b is = absurd cc
+both_false false true is = absurd cc
+both_false false false is = (refl, refl)
 
 -- a script that is renamed is another than the one that it becomes
 other_name : (scripts : List (ScriptName × List ℕ)) (from to : ScriptName) (text : List ℕ) → text_at scripts from ≡ Some text → is_some (text_at scripts to) ≡ false → name_eq to from ≡ false
@@ -113,15 +118,17 @@ module _ (scripts : List (ScriptName × List ℕ)) (order : AreOrdered scripts) 
 abbrev IsTextWithin : Option (List ℕ) → Type 0
 IsTextWithin expected = IfSome expected (λ text. length text ≤ expected_limit)
 
--- messages stay within the limits where some are put and removed, and where texts are expected of them
-module _ (messages : List (List ℕ × Sample)) (limits : AreMessagesWithin messages) where
-  text_within : (id : List ℕ) → IsTextWithin (expected_at messages id)
-  text_within id = by (message_at messages id) (IfSome-lookup_from_All (λ s. IsTextWithin s.expected) (pointwise nat_eq id) messages limits.expected)
-    where
-      by : (found : Option Sample) → IfSome found (λ s. IsTextWithin s.expected) → IsTextWithin (option_and_then (λ s. s.expected) found)
-      by None within = tt
-      by (Some sample) within = within
+-- addresses of a message's own are within their limit
+abbrev AreOwnWithin : Option Addresses → Type 0
+AreOwnWithin addresses = IfSome addresses AreAddressesWithin
 
+-- what a put makes of what was there passes a test that a new message passes, and that octets don't change
+put_within : (P : Sample → Type 0) (bytes : List ℕ) (found : Option Sample) → P (put_over bytes None) → ((sample : Sample) → P sample → P (record sample { octets = bytes })) → IfSome found P → P (put_over bytes found)
+put_within P bytes None fresh stays within = fresh
+put_within P bytes (Some sample) fresh stays within = stays sample within
+
+-- messages stay within the limits where some are put, changed and removed
+module _ (messages : List (List ℕ × Sample)) (limits : AreMessagesWithin messages) where
   messages_put : (id bytes : List ℕ) → message_refusal messages id bytes ≡ None → AreMessagesWithin (with_message id bytes messages)
   messages_put id bytes none = record {
     count =
@@ -130,31 +137,38 @@ module _ (messages : List (List ℕ × Sample)) (limits : AreMessagesWithin mess
     ids =
         All-from_recursion (λ i. length i ≤ id_limit) (keys_of (with_message id bytes messages))
         (all_put id sample (λ i. length i ≤ id_limit) messages (recursion_from_All (λ i. length i ≤ id_limit) (keys_of messages) limits.ids) (not_past id_limit (length id) passed.0));
-    octets =
-        All-from_recursion (λ s. length s.octets ≤ message_limit) (values_of (with_message id bytes messages))
-        (all_values_put id sample (λ s. length s.octets ≤ message_limit) messages (recursion_from_All (λ s. length s.octets ≤ message_limit) (values_of messages) limits.octets) (not_past message_limit (length bytes) passed.1));
-    expected =
-        All-from_recursion (λ s. IsTextWithin s.expected) (values_of (with_message id bytes messages))
-        (all_values_put id sample (λ s. IsTextWithin s.expected) messages (recursion_from_All (λ s. IsTextWithin s.expected) (values_of messages) limits.expected) (text_within id));
+    octets = all (λ s. length s.octets ≤ message_limit) limits.octets small (λ s h. small);
+    expected = all (λ s. IsTextWithin s.expected) limits.expected tt (λ s h. h);
+    addresses = all (λ s. AreOwnWithin s.addresses) limits.addresses tt (λ s h. h);
   }
     where
       sample : Sample
-      sample = record { octets = bytes; expected = expected_at messages id }
+      sample = put_over bytes (message_at messages id)
 
       passed : (is_long_id id ≡ false) × (nat_lt message_limit (length bytes) ≡ false) × (is_none (message_at messages id) ≡ true → nat_le message_count_limit (length messages) ≡ false)
       passed = put_passes (is_long_id id) (nat_lt message_limit (length bytes)) (is_none (message_at messages id)) (nat_le message_count_limit (length messages)) TooLarge Full none
 
-  messages_expected : (id : List ℕ) (expected : Option (List ℕ)) → IsTextWithin expected → AreMessagesWithin (with_expected id expected messages)
-  messages_expected id expected within = record {
-    count = subst (λ n. n ≤ message_count_limit) (sym (length_expected id expected messages)) limits.count;
-    ids = subst (All (λ i. length i ≤ id_limit)) (sym (keys_expected id expected messages)) limits.ids;
-    octets =
-        All-from_recursion (λ s. length s.octets ≤ message_limit) (values_of (with_expected id expected messages))
-        (octets_expected id expected (λ o. length o ≤ message_limit) messages (recursion_from_All (λ s. length s.octets ≤ message_limit) (values_of messages) limits.octets));
-    expected =
-        All-from_recursion (λ s. IsTextWithin s.expected) (values_of (with_expected id expected messages))
-        (all_expected id expected IsTextWithin messages (recursion_from_All (λ s. IsTextWithin s.expected) (values_of messages) limits.expected) within);
+      small : length bytes ≤ message_limit
+      small = not_past message_limit (length bytes) passed.1
+
+      all : (P : Sample → Type 0) → All P (values_of messages) → P (put_over bytes None) → ((s : Sample) → P s → P (record s { octets = bytes })) → All P (values_of (with_message id bytes messages))
+      all P within fresh stays =
+          All-from_recursion P (values_of (with_message id bytes messages))
+          (all_values_put id sample P messages (recursion_from_All P (values_of messages) within)
+          (put_within P bytes (message_at messages id) fresh stays (IfSome-lookup_from_All P (pointwise nat_eq id) messages within)))
+
+  messages_changed : (id : List ℕ) (change : Sample → Sample) → ((s : Sample) → length s.octets ≤ message_limit → length (change s).octets ≤ message_limit)
+      → ((s : Sample) → IsTextWithin s.expected → IsTextWithin (change s).expected) → ((s : Sample) → AreOwnWithin s.addresses → AreOwnWithin (change s).addresses) → AreMessagesWithin (changed id change messages)
+  messages_changed id change octets expected addresses = record {
+    count = subst (λ n. n ≤ message_count_limit) (sym (length_changed id change messages)) limits.count;
+    ids = subst (All (λ i. length i ≤ id_limit)) (sym (keys_changed id change messages)) limits.ids;
+    octets = all (λ s. length s.octets ≤ message_limit) limits.octets octets;
+    expected = all (λ s. IsTextWithin s.expected) limits.expected expected;
+    addresses = all (λ s. AreOwnWithin s.addresses) limits.addresses addresses;
   }
+    where
+      all : (P : Sample → Type 0) → All P (values_of messages) → ((s : Sample) → P s → P (change s)) → All P (values_of (changed id change messages))
+      all P within stays = All-from_recursion P (values_of (changed id change messages)) (all_changed id change P messages stays (recursion_from_All P (values_of messages) within))
 
   messages_removed : (id : List ℕ) → AreMessagesWithin (without_message id messages)
   messages_removed id = record {
@@ -162,6 +176,7 @@ module _ (messages : List (List ℕ × Sample)) (limits : AreMessagesWithin mess
     ids = All-map-remove_entry (pointwise nat_eq id) (λ e. e.0) (λ i. length i ≤ id_limit) messages limits.ids;
     octets = All-map-remove_entry (pointwise nat_eq id) (λ e. e.1) (λ s. length s.octets ≤ message_limit) messages limits.octets;
     expected = All-map-remove_entry (pointwise nat_eq id) (λ e. e.1) (λ s. IsTextWithin s.expected) messages limits.expected;
+    addresses = All-map-remove_entry (pointwise nat_eq id) (λ e. e.1) (λ s. AreOwnWithin s.addresses) messages limits.addresses;
   }
 
 -- an edit that is made keeps a content within its limits
@@ -193,7 +208,7 @@ limits_kept content (set_envelope from to) new order limits made =
     let passed = two_pass (nat_lt address_limit (length from)) (nat_lt address_limit (length to)) TooLarge is.0 in
     subst IsWithinLimits is.1 (record {
       main = limits.main;
-      envelope = record { from = not_past address_limit (length from) passed.0; to = not_past address_limit (length to) passed.1; mailbox = limits.envelope.mailbox };
+      envelope = record { from = not_past address_limit (length from) passed.0; to = not_past address_limit (length to) passed.1; mailbox = limits.envelope.mailbox; mailboxes = limits.envelope.mailboxes };
       scripts = limits.scripts;
       messages = limits.messages;
     })
@@ -202,18 +217,57 @@ limits_kept content (set_mailbox mailbox) new order limits made =
     let passed = one_passes (nat_lt mailbox_limit (length mailbox)) TooLarge is.0 in
     subst IsWithinLimits is.1 (record {
       main = limits.main;
-      envelope = record { from = limits.envelope.from; to = limits.envelope.to; mailbox = not_past mailbox_limit (length mailbox) passed };
+      envelope = record { from = limits.envelope.from; to = limits.envelope.to; mailbox = not_past mailbox_limit (length mailbox) passed; mailboxes = limits.envelope.mailboxes };
       scripts = limits.scripts;
       messages = limits.messages;
     })
 limits_kept content (set_expected id text) new order limits made =
     let is = accepted (expected_refusal content.messages id text) (record content { messages = with_expected id (Some text) content.messages }) new made in
-    let passed = expected_passes (is_long_id id) (nat_lt expected_limit (length text)) (is_none (message_at content.messages id)) is.0 in
-    subst IsWithinLimits is.1
-    (record { main = limits.main; envelope = limits.envelope; scripts = limits.scripts; messages = messages_expected content.messages limits.messages id (Some text) (not_past expected_limit (length text) passed) })
+    let passed = found_passes (is_long_id id) (nat_lt expected_limit (length text)) (is_none (message_at content.messages id)) is.0 in
+    let within = not_past expected_limit (length text) passed in
+    subst IsWithinLimits is.1 (record {
+      main = limits.main;
+      envelope = limits.envelope;
+      scripts = limits.scripts;
+      messages = messages_changed content.messages limits.messages id (λ sample. record sample { expected = Some text }) (λ s h. h) (λ s h. within) (λ s h. h);
+    })
 limits_kept content (clear_expected id) new order limits made =
     let is = accepted (absent_refusal content.messages id) (record content { messages = with_expected id None content.messages }) new made in
-    subst IsWithinLimits is.1 (record { main = limits.main; envelope = limits.envelope; scripts = limits.scripts; messages = messages_expected content.messages limits.messages id None tt })
+    subst IsWithinLimits is.1 (record {
+      main = limits.main;
+      envelope = limits.envelope;
+      scripts = limits.scripts;
+      messages = messages_changed content.messages limits.messages id (λ sample. record sample { expected = None }) (λ s h. h) (λ s h. tt) (λ s h. h);
+    })
+limits_kept content (set_mailboxes text) new order limits made =
+    let is = accepted (mailboxes_refusal text) (record content { envelope = record content.envelope { mailboxes = text } }) new made in
+    let passed = one_passes (nat_lt mailboxes_limit (length text)) TooLarge is.0 in
+    subst IsWithinLimits is.1 (record {
+      main = limits.main;
+      envelope = record { from = limits.envelope.from; to = limits.envelope.to; mailbox = limits.envelope.mailbox; mailboxes = not_past mailboxes_limit (length text) passed };
+      scripts = limits.scripts;
+      messages = limits.messages;
+    })
+limits_kept content (set_message_envelope id from to) new order limits made =
+    let own : Option Addresses = Some (record { from = from; to = to }) in
+    let is = accepted (addresses_refusal content.messages id from to) (record content { messages = with_addresses id own content.messages }) new made in
+    let passed = found_passes (is_long_id id) (are_long from to) (is_none (message_at content.messages id)) is.0 in
+    let short = both_false (nat_lt address_limit (length from)) (nat_lt address_limit (length to)) passed in
+    let within : AreOwnWithin own = record { from = not_past address_limit (length from) short.0; to = not_past address_limit (length to) short.1 } in
+    subst IsWithinLimits is.1 (record {
+      main = limits.main;
+      envelope = limits.envelope;
+      scripts = limits.scripts;
+      messages = messages_changed content.messages limits.messages id (λ sample. record sample { addresses = own }) (λ s h. h) (λ s h. h) (λ s h. within);
+    })
+limits_kept content (clear_message_envelope id) new order limits made =
+    let is = accepted (absent_refusal content.messages id) (record content { messages = with_addresses id None content.messages }) new made in
+    subst IsWithinLimits is.1 (record {
+      main = limits.main;
+      envelope = limits.envelope;
+      scripts = limits.scripts;
+      messages = messages_changed content.messages limits.messages id (λ sample. record sample { addresses = None }) (λ s h. h) (λ s h. h) (λ s h. tt);
+    })
 
 -- EDITS IN TURN
 
@@ -234,7 +288,13 @@ stays_within content (edit ∷ edits) order limits = stays_within (behind conten
 pub new_within : (profile : Profile) → IsWithinLimits (new_content profile)
 new_within profile = record {
   main = tt;
-  envelope = record { from = omega arith; to = omega arith; mailbox = omega arith };
+  envelope = record { from = omega arith; to = omega arith; mailbox = omega arith; mailboxes = omega arith };
   scripts = record { count = omega arith; names = All-nil (λ n. length n.name ≤ name_limit); texts = All-nil (λ t. length t ≤ text_limit) };
-  messages = record { count = omega arith; ids = All-nil (λ i. length i ≤ id_limit); octets = All-nil (λ s. length s.octets ≤ message_limit); expected = All-nil (λ s. IsTextWithin s.expected) };
+  messages = record {
+    count = omega arith;
+    ids = All-nil (λ i. length i ≤ id_limit);
+    octets = All-nil (λ s. length s.octets ≤ message_limit);
+    expected = All-nil (λ s. IsTextWithin s.expected);
+    addresses = All-nil (λ s. AreOwnWithin s.addresses);
+  };
 }

@@ -1,11 +1,10 @@
 -- What a bench is.
 use Rattle.sieve_base.specs.Octet.{is_among}
 use Rattle.std.specs.Prelude.{◌≡◌, ℕ, suc, ◌<◌, List, ◌++◌, length, Option, None, if◌then◌else◌}
-use Rattle.std.specs.Option.{option_map}
 use Rattle.sieve_run.specs.Meter.{runs_after}
 use Rattle.sieve_run.specs.Verdict.{Verdict}
-use Rattle.bench.specs.Content.{Content, message_at}
-use Rattle.bench.specs.Stale.{verdict_on}
+use Rattle.bench.specs.Content.{Content}
+use Rattle.bench.specs.Stale.{verdict_of}
 
 -- what a bench holds, and the ids of the messages that the next report runs, in the list's order
 pub record BenchState : Type 0 where
@@ -14,7 +13,7 @@ pub record BenchState : Type 0 where
 
 -- the verdict on the message of an id that is not stale
 abbrev pub verdict_at : BenchState → List ℕ → Option Verdict
-verdict_at state id = if is_among id state.stale then None else option_map (λ sample. verdict_on state.content sample.octets) (message_at state.content.messages id)
+verdict_at state id = if is_among id state.stale then None else verdict_of state.content id
 
 -- Where memory is refused to a report, the first of the stale messages were run and are stale no more. The run on the next one was refused,
 -- and is counted too.

@@ -1,22 +1,24 @@
 -- What a bench holds, and what an edit makes of it.
 use Rattle.std.specs.Prelude.{◌≡◌, ⊤, ℕ, Bool, List, [], ◌∷◌, length, Option, None, Some, Result, Ok, Err, if◌then◌else◌, ◌||◌, ◌&&◌, is_none, is_some, nat_lt, nat_le, nat_eq, codes}
 use Rattle.std.specs.Map.{lookup, remove_entry}
-use Rattle.std.specs.Option.{option_and_then}
 use Rattle.std.specs.BTreeMap as tree
 use Rattle.indexmap.specs.IndexMap as ordered
 use lib.Pointwise.{pointwise}
-use Rattle.sieve_base.specs.Limits.{address_limit, expected_limit, id_limit, mailbox_limit, message_count_limit, message_limit, name_limit, script_count_limit, text_limit}
+use Rattle.sieve_base.specs.Limits.{address_limit, expected_limit, id_limit, mailbox_limit, mailboxes_limit, message_count_limit, message_limit, name_limit, script_count_limit, text_limit}
 use Rattle.sieve_base.specs.declared.name.ScriptName.{ScriptName}
+use Rattle.sieve_effects.specs.declared.envelope.Addresses.{Addresses}
 use Rattle.sieve_effects.specs.declared.envelope.Envelope.{Envelope}
 use Rattle.sieve_base.specs.Name.{name_cmp}
 use Rattle.sieve_profile.specs.Profile.{Profile}
 use Rattle.bench.specs.declared.fault.EditFault.{EditFault}
 use Rattle.bench.specs.declared.fault.EditFault.TheVariants.{TooLarge, NoSuchScript, NameTaken, NoSuchMessage, Full, NoMemory}
 
--- a message's octets, and the text that its verdict is expected to have, where there is one
+-- a message's octets, the text that its verdict is expected to have, where there is one, and the addresses that the message has of its own, where
+-- it has some
 pub record Sample : Type 0 where
   pub octets : List ℕ
   pub expected : Option (List ℕ)
+  pub addresses : Option Addresses
 
 -- what is known beyond what always is, the main script's name, the envelope, the scripts in printing order with their texts,
 -- and the messages in order by their ids
@@ -27,9 +29,9 @@ pub record Content : Type 0 where
   pub scripts : List (ScriptName × List ℕ)
   pub messages : List (List ℕ × Sample)
 
--- what a new bench of a profile holds: mail is kept in the INBOX
+-- what a new bench of a profile holds: mail is kept in the INBOX, and there are no other mailboxes
 abbrev pub new_content : Profile → Content
-new_content profile = record { profile = profile; main = None; envelope = record { from = []; to = []; mailbox = codes "INBOX" }; scripts = []; messages = [] }
+new_content profile = record { profile = profile; main = None; envelope = record { from = []; to = []; mailbox = codes "INBOX"; mailboxes = [] }; scripts = []; messages = [] }
 
 pub data Edit : Type 0 where
   put_script : (name : ScriptName) (text : List ℕ) → Edit
@@ -43,6 +45,9 @@ pub data Edit : Type 0 where
   set_mailbox : (mailbox : List ℕ) → Edit
   set_expected : (id text : List ℕ) → Edit
   clear_expected : (id : List ℕ) → Edit
+  set_mailboxes : (text : List ℕ) → Edit
+  set_message_envelope : (id from to : List ℕ) → Edit
+  clear_message_envelope : (id : List ℕ) → Edit
 
 -- the text of the script of that name
 abbrev pub text_at : List (ScriptName × List ℕ) → ScriptName → Option (List ℕ)
@@ -52,22 +57,31 @@ text_at scripts name = lookup (tree.is_at (name_cmp name)) scripts
 abbrev pub message_at : List (List ℕ × Sample) → List ℕ → Option Sample
 message_at messages id = lookup (pointwise nat_eq id) messages
 
--- the text that is expected of it, where it is there and there is one
-abbrev pub expected_at : List (List ℕ × Sample) → List ℕ → Option (List ℕ)
-expected_at messages id = option_and_then (λ sample. sample.expected) (message_at messages id)
+-- what a put of octets makes of the message that was there, if one was: of that one is expected what was, and its addresses stay
+abbrev pub put_over : List ℕ → Option Sample → Sample
+put_over bytes None = record { octets = bytes; expected = None; addresses = None }
+put_over bytes (Some sample) = record sample { octets = bytes }
 
 -- the scripts with this text at the name: in the place of the one there, or where it belongs in the order
 abbrev pub with_script : ScriptName → List ℕ → List (ScriptName × List ℕ) → List (ScriptName × List ℕ)
 with_script name text scripts = tree.insert_entry name_cmp scripts name text
 
--- the messages with these octets at the id: in the place of the one there, of which is expected what was, or last
+-- the messages with these octets at the id: in the place of the one there, or last
 abbrev pub with_message : List ℕ → List ℕ → List (List ℕ × Sample) → List (List ℕ × Sample)
-with_message id bytes messages = ordered.insert_entry (pointwise nat_eq) messages id (record { octets = bytes; expected = expected_at messages id })
+with_message id bytes messages = ordered.insert_entry (pointwise nat_eq) messages id (put_over bytes (message_at messages id))
 
--- the messages with this text expected of the one at the id, or with none; the others stay as they are
+-- what is told by ids, with what is at the id changed; the others stay as they are
+abbrev pub changed : {X : Type 0} → List ℕ → (X → X) → List (List ℕ × X) → List (List ℕ × X)
+changed id change [] = []
+changed id change (m ∷ ms) = if pointwise nat_eq id m.0 then (m.0, change m.1) ∷ ms else m ∷ changed id change ms
+
+-- the messages with this text expected of the one at the id, or with none
 abbrev pub with_expected : List ℕ → Option (List ℕ) → List (List ℕ × Sample) → List (List ℕ × Sample)
-with_expected id expected [] = []
-with_expected id expected (m ∷ ms) = if pointwise nat_eq id m.0 then (m.0, record m.1 { expected = expected }) ∷ ms else m ∷ with_expected id expected ms
+with_expected id expected messages = changed id (λ sample. record sample { expected = expected }) messages
+
+-- the messages with these addresses as those that the one at the id has of its own, or with none
+abbrev pub with_addresses : List ℕ → Option Addresses → List (List ℕ × Sample) → List (List ℕ × Sample)
+with_addresses id addresses messages = changed id (λ sample. record sample { addresses = addresses }) messages
 
 -- the scripts without the one at the name
 abbrev pub without_script : ScriptName → List (ScriptName × List ℕ) → List (ScriptName × List ℕ)
@@ -135,13 +149,28 @@ expected_refusal messages id text =
     else if is_none (message_at messages id) then Some NoSuchMessage
     else None
 
+-- whether one of two addresses has too many octets
+abbrev pub are_long : List ℕ → List ℕ → Bool
+are_long from to = nat_lt address_limit (length from) || nat_lt address_limit (length to)
+
+-- the id and the addresses have their limits, and the message must be there
+abbrev pub addresses_refusal : List (List ℕ × Sample) → (id from to : List ℕ) → Option EditFault
+addresses_refusal messages id from to =
+    if is_long_id id || are_long from to then Some TooLarge
+    else if is_none (message_at messages id) then Some NoSuchMessage
+    else None
+
 -- each address of the envelope has a limit
 abbrev pub envelope_refusal : List ℕ → List ℕ → Option EditFault
-envelope_refusal from to = if nat_lt address_limit (length from) || nat_lt address_limit (length to) then Some TooLarge else None
+envelope_refusal from to = if are_long from to then Some TooLarge else None
 
 -- a mailbox's name has a limit
 abbrev pub mailbox_refusal : List ℕ → Option EditFault
 mailbox_refusal mailbox = if nat_lt mailbox_limit (length mailbox) then Some TooLarge else None
+
+-- the text of the list of mailboxes has one
+abbrev pub mailboxes_refusal : List ℕ → Option EditFault
+mailboxes_refusal text = if nat_lt mailboxes_limit (length text) then Some TooLarge else None
 
 -- the first refusal, or else the content
 abbrev pub unless : Option EditFault → Content → Result Content EditFault
@@ -161,6 +190,9 @@ after content (set_envelope from to) = unless (envelope_refusal from to) (record
 after content (set_mailbox mailbox) = unless (mailbox_refusal mailbox) (record content { envelope = record content.envelope { mailbox = mailbox } })
 after content (set_expected id text) = unless (expected_refusal content.messages id text) (record content { messages = with_expected id (Some text) content.messages })
 after content (clear_expected id) = unless (absent_refusal content.messages id) (record content { messages = with_expected id None content.messages })
+after content (set_mailboxes text) = unless (mailboxes_refusal text) (record content { envelope = record content.envelope { mailboxes = text } })
+after content (set_message_envelope id from to) = unless (addresses_refusal content.messages id from to) (record content { messages = with_addresses id (Some (record { from = from; to = to })) content.messages })
+after content (clear_message_envelope id) = unless (absent_refusal content.messages id) (record content { messages = with_addresses id None content.messages })
 
 -- an edit that takes no memory answers as it must
 abbrev pub Answers : Result Content EditFault → Result Unit EditFault → Type 0

@@ -4,11 +4,12 @@ use Rattle.std.specs.List.{All, IsDistinct, flat_map}
 use Rattle.std.specs.List.Sorted.{IsStrictlySortedBy}
 use Rattle.std.specs.Map.{keys_of, values_of}
 use lib.Pointwise.{pointwise}
-use Rattle.sieve_base.specs.Limits.{address_limit, expected_limit, id_limit, mailbox_limit, message_count_limit, message_limit, name_limit, script_count_limit, text_limit}
+use Rattle.sieve_base.specs.Limits.{address_limit, expected_limit, id_limit, mailbox_limit, mailboxes_limit, message_count_limit, message_limit, name_limit, script_count_limit, text_limit}
 use Rattle.sieve_base.specs.Name.{name_cmp}
+use Rattle.sieve_effects.specs.declared.envelope.Addresses.{Addresses}
 use Rattle.sieve_effects.specs.declared.envelope.Envelope.{Envelope}
 use Rattle.sieve_base.specs.declared.name.ScriptName.{ScriptName}
-use Rattle.bench.specs.Content.{Content, Edit, Sample, after, put_script, put_message, set_main, set_envelope, set_mailbox, set_expected}
+use Rattle.bench.specs.Content.{Content, Edit, Sample, after, put_script, put_message, set_main, set_envelope, set_mailbox, set_expected, set_mailboxes, set_message_envelope}
 use Rattle.bench.specs.declared.fault.EditFault.{EditFault}
 
 -- EDITS IN TURN
@@ -38,11 +39,17 @@ pub record IsInOrder (content : Content) : Type 0 where
   pub scripts : AreOrdered content.scripts
   pub ids : AreDistinct (keys_of content.messages)
 
--- no address of the envelope is longer than it may be, nor the mailbox
+-- no address of the envelope is longer than it may be, nor the mailbox, nor the list of mailboxes
 pub record IsEnvelopeWithin (envelope : Envelope) : Type 0 where
   pub from : length envelope.from ≤ address_limit
   pub to : length envelope.to ≤ address_limit
   pub mailbox : length envelope.mailbox ≤ mailbox_limit
+  pub mailboxes : length envelope.mailboxes ≤ mailboxes_limit
+
+-- neither of two addresses is longer than it may be
+pub record AreAddressesWithin (addresses : Addresses) : Type 0 where
+  pub from : length addresses.from ≤ address_limit
+  pub to : length addresses.to ≤ address_limit
 
 -- there are no more scripts than there may be, and no name and no text is longer than it may be
 pub record AreScriptsWithin (scripts : List (ScriptName × List ℕ)) : Type 0 where
@@ -50,12 +57,14 @@ pub record AreScriptsWithin (scripts : List (ScriptName × List ℕ)) : Type 0 w
   pub names : All (λ name. length name.name ≤ name_limit) (keys_of scripts)
   pub texts : All (λ text. length text ≤ text_limit) (values_of scripts)
 
--- there are no more messages than there may be, and no id, no message and no text that is expected of one is longer than it may be
+-- there are no more messages than there may be, and no id, no message, no text that is expected of one and no address that one has of its own is
+-- longer than it may be
 pub record AreMessagesWithin (messages : List (List ℕ × Sample)) : Type 0 where
   pub count : length messages ≤ message_count_limit
   pub ids : All (λ id. length id ≤ id_limit) (keys_of messages)
   pub octets : All (λ sample. length sample.octets ≤ message_limit) (values_of messages)
   pub expected : All (λ sample. IfSome sample.expected (λ text. length text ≤ expected_limit)) (values_of messages)
+  pub addresses : All (λ sample. IfSome sample.addresses AreAddressesWithin) (values_of messages)
 
 -- a content is within all its limits
 pub record IsWithinLimits (content : Content) : Type 0 where
@@ -76,14 +85,19 @@ abbrev pub expected_edits : List ℕ → Option (List ℕ) → List Edit
 expected_edits id None = []
 expected_edits id (Some text) = set_expected id text ∷ []
 
--- a message is put, and then what is expected of it
-abbrev pub message_edits : List ℕ × Sample → List Edit
-message_edits message = put_message message.0 message.1.octets ∷ expected_edits message.0 message.1.expected
+-- the edit that sets the addresses that a message has of its own, where it has some
+abbrev pub addresses_edits : List ℕ → Option Addresses → List Edit
+addresses_edits id None = []
+addresses_edits id (Some addresses) = set_message_envelope id addresses.from addresses.to ∷ []
 
--- all that a content has, as edits of a new bench: the scripts in their order, the messages in theirs, the envelope, the mailbox and the
--- main script
+-- a message is put, and then what is expected of it, and its own addresses
+abbrev pub message_edits : List ℕ × Sample → List Edit
+message_edits message = put_message message.0 message.1.octets ∷ (expected_edits message.0 message.1.expected ++ addresses_edits message.0 message.1.addresses)
+
+-- all that a content has, as edits of a new bench: the scripts in their order, the messages in theirs, the envelope, the mailbox, the list of
+-- mailboxes and the main script
 unfoldable pub rebuild : Content → List Edit
 rebuild content =
     map (λ script. put_script script.0 script.1) content.scripts
     ++ (flat_map message_edits content.messages
-    ++ (set_envelope content.envelope.from content.envelope.to ∷ set_mailbox content.envelope.mailbox ∷ main_edits content.main))
+    ++ (set_envelope content.envelope.from content.envelope.to ∷ set_mailbox content.envelope.mailbox ∷ set_mailboxes content.envelope.mailboxes ∷ main_edits content.main))

@@ -1,17 +1,22 @@
 -- The text of a report.
 use Rattle.std.specs.Prelude.{ℕ, Bool, true, false, not, List, [], ◌∷◌, ◌++◌, length, map, filter, Option, None, Some, is_some, if◌then◌else◌, count_by, codes, decimal}
-use Rattle.std.specs.List.{flat_map, list_any}
+use Rattle.std.specs.List.{flat_map, list_any, zip}
 use Rattle.sieve_base.specs.Writers.{name_text, quoted}
 use Rattle.sieve_check.specs.Judgement.{Judgement, judgement_of, sound, faulty, fault_word}
 use Rattle.sieve_base.specs.declared.name.ScriptName.{ScriptName}
+use Rattle.sieve_effects.specs.Delivery.{mailbox_count}
+use Rattle.sieve_effects.specs.declared.action.Action.{Action}
+use Rattle.sieve_effects.specs.declared.action.Origin.{Origin}
+use Rattle.sieve_effects.specs.declared.envelope.Addresses.{Addresses}
 use Rattle.sieve_effects.specs.declared.envelope.Envelope.{Envelope}
 use Rattle.sieve_run.specs.Library.{library_of}
-use Rattle.sieve_run.specs.Lines.{agrees, read_lines, verdict_lines}
+use Rattle.sieve_run.specs.Lines.{action_line, agrees, error_lines, implicit_lines, origin_line, read_lines, verdict_lines}
 use Rattle.sieve_run.specs.Run.{outcome_of}
 use Rattle.sieve_run.specs.Verdict.{Verdict}
 use Rattle.sieve_profile.specs.Extension.{extension_name, extensions}
 use Rattle.sieve_profile.specs.Profile.{Profile, has}
 use Rattle.sieve_profile.specs.declared.extension.Extension.{Extension}
+use Rattle.sieve_profile.specs.declared.extension.Extension.TheVariants.{Lines, Mailbox}
 use Rattle.bench.specs.Content.{Content, Sample, text_at}
 
 -- the first line: the main script
@@ -37,33 +42,57 @@ unfoldable pub extensions_line : List Extension → List ℕ
 extensions_line [] = []
 extensions_line (extension ∷ more) = codes "with" ++ flat_map extension_text (extension ∷ more) ++ codes "\n"
 
--- behind the second line: the names of what a profile has, in their order
+-- after the second line: the names of what a profile has, in their order
 abbrev pub profile_line : Profile → List ℕ
 profile_line profile = extensions_line (filter (has profile) extensions)
+
+-- after that, with `mailbox`: how many names the list of mailboxes has
+abbrev pub mailboxes_line : Profile → List ℕ → List ℕ
+mailboxes_line profile mailboxes = if has profile Mailbox then codes "mailboxes " ++ decimal (mailbox_count mailboxes) ++ codes "\n" else []
 
 -- the line of a script, whose text is this
 unfoldable pub script_line : Profile → ScriptName × List ℕ → List ℕ
 script_line profile (name, text) = codes "script " ++ name_text name ++ codes " " ++ judgement_text (judgement_of profile text) ++ codes "\n"
 
--- what stands before each line of a verdict
+-- what stands before each line of a message but its first
 unfoldable pub indent : List ℕ
 indent = codes "  "
 
--- a line of a verdict in a report
+-- a line of a message in a report
 abbrev pub indented : List ℕ → List ℕ
 indented line = indent ++ line ++ codes "\n"
 
--- the lines of a verdict, and of the names that it looked up
-abbrev pub verdict_text : (mailbox : List ℕ) → Verdict → List ℕ
-verdict_text mailbox verdict = flat_map indented (verdict_lines mailbox verdict ++ read_lines verdict)
+-- the line of an action, and that of the command that entered it first
+abbrev pub traced_lines : Action × Origin → List (List ℕ)
+traced_lines e = action_line e.0 ∷ origin_line e.1 ∷ []
+
+-- the lines of what becomes of a message, as they are expected, or told line by line where each action comes from
+abbrev pub told_lines : (traced : Bool) → (mailbox : List ℕ) → Verdict → List (List ℕ)
+told_lines false mailbox verdict = verdict_lines mailbox verdict
+told_lines true mailbox verdict = flat_map traced_lines (zip verdict.actions verdict.origins) ++ (implicit_lines mailbox verdict.implicit ++ error_lines verdict.error)
+
+-- the lines of a verdict, with `lines` also of where each action comes from, and of the names that were looked up
+abbrev pub verdict_text : Profile → (mailbox : List ℕ) → Verdict → List ℕ
+verdict_text profile mailbox verdict = flat_map indented (told_lines (has profile Lines) mailbox verdict ++ read_lines verdict)
 
 -- the first line of a message
 unfoldable pub message_line : List ℕ → List ℕ
 message_line id = codes "message " ++ quoted id ++ codes "\n"
 
--- a message that is judged: its id, the verdict on it, and the text that is expected of it, where there is one
+-- the line of the addresses that a message has of its own
+unfoldable pub addresses_line : Addresses → List ℕ
+addresses_line addresses = codes "envelope " ++ quoted addresses.from ++ codes " " ++ quoted addresses.to
+
+-- the second line of a message that has some
+abbrev pub addresses_text : Option Addresses → List ℕ
+addresses_text None = []
+addresses_text (Some addresses) = indented (addresses_line addresses)
+
+-- a message that is judged: its id, the addresses that it has of its own, where it has some, the verdict on it, and the text that is expected of it,
+-- where there is one
 pub record Judged : Type 0 where
   pub id : List ℕ
+  pub addresses : Option Addresses
   pub verdict : Verdict
   pub expected : Option (List ℕ)
 
@@ -77,10 +106,6 @@ abbrev pub expectation_text : (mailbox : List ℕ) → Verdict → Option (List 
 expectation_text mailbox verdict None = []
 expectation_text mailbox verdict (Some text) = indented (expectation_line (agrees mailbox verdict text))
 
--- the lines of a message with its verdict
-abbrev pub message_lines : (mailbox : List ℕ) → Judged → List ℕ
-message_lines mailbox judged = message_line judged.id ++ (verdict_text mailbox judged.verdict ++ expectation_text mailbox judged.verdict judged.expected)
-
 -- what all messages are judged with
 pub record Site : Type 0 where
   pub profile : Profile
@@ -88,17 +113,25 @@ pub record Site : Type 0 where
   pub envelope : Envelope
   pub scripts : List (ScriptName × List ℕ)
 
+-- the lines of a message with its verdict
+abbrev pub message_lines : Site → Judged → List ℕ
+message_lines site judged =
+    message_line judged.id
+    ++ (addresses_text judged.addresses
+    ++ (verdict_text site.profile site.envelope.mailbox judged.verdict ++ expectation_text site.envelope.mailbox judged.verdict judged.expected))
+
 abbrev pub site_of : Content → Site
 site_of content = record { profile = content.profile; main = content.main; envelope = content.envelope; scripts = content.scripts }
 
--- the verdict on a message
-abbrev pub verdict_by : Site → List ℕ → Verdict
-verdict_by site bytes =
-    outcome_of (library_of site.profile (text_at site.scripts)) site.main (record { message = bytes; envelope = site.envelope; profile = site.profile })
+-- the verdict on a message, by its octets and its own addresses
+abbrev pub verdict_by : Site → Sample → Verdict
+verdict_by site sample =
+    outcome_of (library_of site.profile (text_at site.scripts)) site.main
+    (record { message = sample.octets; envelope = site.envelope; own = sample.addresses; profile = site.profile })
 
 -- each message, judged
 unfoldable pub verdicts : Site → List (List ℕ × Sample) → List Judged
-verdicts site messages = map (λ e. record { id = e.0; verdict = verdict_by site e.1.octets; expected = e.1.expected }) messages
+verdicts site messages = map (λ e. record { id = e.0; addresses = e.1.addresses; verdict = verdict_by site e.1; expected = e.1.expected }) messages
 
 -- how many verdicts have an error
 abbrev pub error_count : List Judged → ℕ
@@ -120,13 +153,16 @@ total_line messages errors (Some unexpected) = codes "total " ++ decimal message
 
 -- the lines in front of the messages
 unfoldable pub site_lines : Site → List ℕ
-site_lines site = main_line site.main ++ (envelope_line site.envelope ++ (profile_line site.profile ++ flat_map (script_line site.profile) site.scripts))
+site_lines site =
+    main_line site.main
+    ++ (envelope_line site.envelope
+    ++ (profile_line site.profile ++ (mailboxes_line site.profile site.envelope.mailboxes ++ flat_map (script_line site.profile) site.scripts)))
 
 -- the report with these verdicts
 unfoldable pub report_with : Site → List Judged → List ℕ
 report_with site judged =
     site_lines site
-    ++ (flat_map (message_lines site.envelope.mailbox) judged
+    ++ (flat_map (message_lines site) judged
     ++ total_line (length judged) (error_count judged) (unexpected_count site.envelope.mailbox judged))
 
 -- the report of a content

@@ -1,34 +1,42 @@
 -- Which messages are stale: the next report runs these. An edit makes those stale whose verdict it may change.
 use Rattle.sieve_base.specs.Octet.{is_among}
-use Rattle.std.specs.Prelude.{ℕ, Bool, true, false, ◌||◌, List, map, filter, nat_eq}
+use Rattle.std.specs.Prelude.{ℕ, Bool, true, false, ◌||◌, List, map, filter, nat_eq, Option}
+use Rattle.std.specs.Option.{option_map}
 use lib.Pointwise.{pointwise}
 use Rattle.sieve_base.specs.declared.name.ScriptName.{ScriptName}
 use Rattle.sieve_run.specs.Run.{is_read}
 use Rattle.sieve_run.specs.Verdict.{Verdict}
-use Rattle.bench.specs.Content.{Content, Edit, Sample, put_script, put_message, set_main, rename_script, remove_script, remove_message, clear_main, set_envelope, set_mailbox, set_expected, clear_expected}
+use Rattle.bench.specs.Content.{Content, Edit, Sample, message_at, put_script, put_message, set_main, rename_script, remove_script, remove_message, clear_main, set_envelope, set_mailbox, set_expected, clear_expected, set_mailboxes, set_message_envelope, clear_message_envelope}
 use Rattle.bench.specs.Report.{site_of, verdict_by}
 
 -- the verdict on a message of a content
-abbrev pub verdict_on : Content → List ℕ → Verdict
-verdict_on content bytes = verdict_by (site_of content) bytes
+abbrev pub verdict_on : Content → Sample → Verdict
+verdict_on content sample = verdict_by (site_of content) sample
+
+-- the verdict on the message of an id, where it is there
+abbrev pub verdict_of : Content → List ℕ → Option Verdict
+verdict_of content id = option_map (verdict_on content) (message_at content.messages id)
 
 -- whether the run on a message looks a name up, present or missing
-abbrev pub looks_up : Content → ScriptName → List ℕ → Bool
-looks_up content name bytes = is_read name (verdict_on content bytes).reads
+abbrev pub looks_up : Content → ScriptName → Sample → Bool
+looks_up content name sample = is_read name (verdict_on content sample).reads
 
--- whether an edit of a content touches a message, told by its id and its octets; what is expected of it is no part of the run
+-- whether an edit of a content touches a message; what is expected of one is no part of the run
 abbrev pub touches : Content → Edit → List ℕ × Sample → Bool
-touches content (put_script name text) message = looks_up content name message.1.octets
+touches content (put_script name text) message = looks_up content name message.1
 touches content (put_message id bytes) message = pointwise nat_eq id message.0
 touches content (set_main name) message = true
-touches content (rename_script from to) message = looks_up content from message.1.octets || looks_up content to message.1.octets
-touches content (remove_script name) message = looks_up content name message.1.octets
+touches content (rename_script from to) message = looks_up content from message.1 || looks_up content to message.1
+touches content (remove_script name) message = looks_up content name message.1
 touches content (remove_message id) message = false
 touches content clear_main message = true
 touches content (set_envelope from to) message = true
 touches content (set_mailbox mailbox) message = true
 touches content (set_expected id text) message = false
 touches content (clear_expected id) message = false
+touches content (set_mailboxes text) message = true
+touches content (set_message_envelope id from to) message = pointwise nat_eq id message.0
+touches content (clear_message_envelope id) message = pointwise nat_eq id message.0
 
 -- the ids of the messages that pass a test, in their order
 unfoldable pub ids_where : (List ℕ × Sample → Bool) → List (List ℕ × Sample) → List (List ℕ)

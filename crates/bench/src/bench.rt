@@ -23,8 +23,8 @@ use crate::marking::{forget_all, forget_readers};
 use crate::message::message_of;
 use crate::messages::{expect, put};
 use crate::refusal::{
-    refuse_absent, refuse_envelope, refuse_expected, refuse_mailbox, refuse_main, refuse_message,
-    refuse_remove_script, refuse_rename, refuse_script,
+    refuse_absent, refuse_expected, refuse_main, refuse_message, refuse_remove_script,
+    refuse_rename, refuse_script,
 };
 use crate::report::{is_clean, run_stale, write_report};
 use crate::scripts::Scripts;
@@ -42,11 +42,11 @@ use std::marker::Model;
 /// which messages are stale.
 #[derive(Drop)]
 pub struct Bench {
-    alloc: Global,
+    pub(crate) alloc: Global,
     main: Option<ScriptName>,
-    envelope: Envelope,
+    pub(crate) envelope: Envelope,
     scripts: Scripts,
-    messages: IndexMap<Octets, Entry>,
+    pub(crate) messages: IndexMap<Octets, Entry>,
 }
 
 impl Model for Bench {
@@ -71,6 +71,13 @@ impl Bench {
     /// The allocator of all that the bench holds.
     pub fn allocator(&self) -> Global {
         self.alloc
+    }
+
+    /// The profile that the bench was made with. Takes no memory.
+    pub fn profile(&self) -> Profile
+        ensures { result ≡ self.now.content.profile }
+    {
+        self.scripts.profile()
     }
 
     /// Keeps a script's text at a name. The text needn't be copied.
@@ -150,7 +157,8 @@ impl Bench {
         expect(&mut self.messages, SoughtId { octets: id }, Some(text));
     }
 
-    /// A bench of the empty profile with no scripts, no messages, no main script, an empty envelope, and the mailbox `INBOX`.
+    /// A bench of the empty profile with no scripts, no messages, no main script, an empty envelope, the mailbox `INBOX`, and no other
+    /// mailboxes.
     pub fn new(alloc: Global) -> Result<Bench, AllocError>
         ensures content { IfOk result (λ bench. bench.content ≡ new_content empty_profile) }
         ensures stale { IfOk result (λ bench. bench.stale ≡ []) }
@@ -158,7 +166,8 @@ impl Bench {
         Bench::with_profile(alloc, Profile::new())
     }
 
-    /// A bench of a profile with no scripts, no messages, no main script, an empty envelope, and the mailbox `INBOX`. It keeps its profile.
+    /// A bench of a profile with no scripts, no messages, no main script, an empty envelope, the mailbox `INBOX`, and no
+    /// other mailboxes. It keeps its profile.
     #[tactic(auto, unfolding(crate::specs::view::Entry::messages_of))]
     pub fn with_profile(alloc: Global, profile: Profile) -> Result<Bench, AllocError>
         ensures content { IfOk result (λ bench. bench.content ≡ new_content profile) }
@@ -168,6 +177,7 @@ impl Bench {
             from: Octets::from_vec(Vec::new(alloc)),
             to: Octets::from_vec(Vec::new(alloc)),
             mailbox: Octets::copied(alloc, b"INBOX")?,
+            mailboxes: Octets::from_vec(Vec::new(alloc)),
         };
         Ok(Bench {
             alloc,
@@ -192,8 +202,8 @@ impl Bench {
         self.take_script(name, text)
     }
 
-    /// Puts a message's octets at an id: a new id goes last, and nothing is expected of its verdict; a present one keeps its place, and the text that is
-    /// expected.
+    /// Puts a message's octets at an id: a new id goes last, nothing is expected of its verdict, and it has no addresses of its own; a present one keeps
+    /// its place, the text that is expected, and its own addresses.
     pub fn put_message(&mut self, id: &Octets, bytes: &[u8]) -> Result<(), EditFault>
         ensures ok { OnOk result (after self.old.content (edit.put_message id.now bytes.now) ≡ Ok self.new.content) }
         ensures stale { OnOk result (self.new.stale ≡ stale_after self.old.content (edit.put_message id.now bytes.now) self.old.stale self.new.content) }
@@ -255,7 +265,7 @@ impl Bench {
         Ok(())
     }
 
-    /// Removes a message, and what is expected of it. The others stay in their order. Takes no memory.
+    /// Removes a message, what is expected of it, and its own addresses. The others stay in their order. Takes no memory.
     #[tactic(auto, using(crate::proofs::Entries::entries))]
     pub fn remove_message(&mut self, id: &[u8]) -> Result<(), EditFault>
         ensures ok { OnOk result (after self.old.content (edit.remove_message id.now) ≡ Ok self.new.content) }
@@ -308,40 +318,6 @@ impl Bench {
     {
         self.main = None;
         forget_all(&mut self.messages);
-    }
-
-    /// Sets the addresses of the sender and of the recipient.
-    pub fn set_envelope(&mut self, from: &[u8], to: &[u8]) -> Result<(), EditFault>
-        ensures ok { OnOk result (after self.old.content (edit.set_envelope from.now to.now) ≡ Ok self.new.content) }
-        ensures stale { OnOk result (self.new.stale ≡ stale_after self.old.content (edit.set_envelope from.now to.now) self.old.stale self.new.content) }
-        ensures err { OnErr result (self.new ≡ self.old) }
-        ensures refused { Refuses (after self.old.content (edit.set_envelope from.now to.now)) result }
-    {
-        if let Some(fault) = refuse_envelope(from, to) {
-            return Err(fault);
-        }
-        let from = Octets::copied(self.alloc, from)?;
-        let to = Octets::copied(self.alloc, to)?;
-        self.envelope.from = from;
-        self.envelope.to = to;
-        forget_all(&mut self.messages);
-        Ok(())
-    }
-
-    /// Sets the mailbox that mail is kept in.
-    pub fn set_mailbox(&mut self, mailbox: &[u8]) -> Result<(), EditFault>
-        ensures ok { OnOk result (after self.old.content (edit.set_mailbox mailbox.now) ≡ Ok self.new.content) }
-        ensures stale { OnOk result (self.new.stale ≡ stale_after self.old.content (edit.set_mailbox mailbox.now) self.old.stale self.new.content) }
-        ensures err { OnErr result (self.new ≡ self.old) }
-        ensures refused { Refuses (after self.old.content (edit.set_mailbox mailbox.now)) result }
-    {
-        if let Some(fault) = refuse_mailbox(mailbox) {
-            return Err(fault);
-        }
-        let mailbox = Octets::copied(self.alloc, mailbox)?;
-        self.envelope.mailbox = mailbox;
-        forget_all(&mut self.messages);
-        Ok(())
     }
 
     /// The verdict on the message of an id, as a report found it; none exactly where there is no such message or it is stale. Takes no

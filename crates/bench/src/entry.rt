@@ -4,19 +4,21 @@ ghost use Rattle.std.specs.Option.{option_copied};
 ghost use Rattle.sieve_run.specs.Meter.{next_run};
 ghost use Rattle.sieve_run.specs.Run.{is_read};
 ghost use Rattle.bench.specs.Report.{is_unlike, verdict_by};
-ghost use Rattle.bench.specs.view.Entry.{disagrees, expecting, forgotten, has_error, refreshed, renewed, runs_at, unread};
+ghost use Rattle.bench.specs.view.Entry.{disagrees, expecting, forgotten, has_error, readdressed, refreshed, renewed, runs_at, unread};
 ghost use Rattle.bench.specs.view.Site.{site_as};
 
 use crate::site::Site;
 use sieve_base::{Octets, ScriptName};
-use sieve_run::{Message, Meter, Outcome, run};
+use sieve_run::{Addresses, Message, Meter, Outcome, run};
 use std::alloc::{AllocError, Global};
 
-/// A message with the text that its verdict is expected to have, where there is one, and with the verdict on it, unless it is stale.
+/// A message with the text that its verdict is expected to have, where there is one, with the addresses that it has of its own, where it has some,
+/// and with the verdict on it, unless it is stale.
 #[derive(Drop)]
 pub(crate) struct Entry {
     pub(crate) message: Message,
     pub(crate) expected: Option<Octets>,
+    pub(crate) addresses: Option<Addresses>,
     pub(crate) kept: Option<Outcome>,
 }
 
@@ -45,7 +47,7 @@ impl Entry {
         self.kept = None;
     }
 
-    /// Takes another message's place, of which is expected what was. It is stale.
+    /// Takes another message's place, of which is expected what was, and which keeps its own addresses. It is stale.
     pub(crate) fn renew(&mut self, message: Message)
         ensures { self.new ≡ renewed message self.old }
     {
@@ -58,6 +60,14 @@ impl Entry {
         ensures { self.new ≡ expecting text self.old }
     {
         self.expected = text;
+    }
+
+    /// Gives the message these addresses of its own, or none. It is stale.
+    pub(crate) fn readdress(&mut self, addresses: Option<Addresses>)
+        ensures { self.new ≡ readdressed addresses self.old }
+    {
+        self.addresses = addresses;
+        self.kept = None;
     }
 
     /// Marks the message stale if its run looked the name up.
@@ -90,6 +100,7 @@ impl Entry {
                 site.scripts,
                 site.main,
                 site.envelope,
+                self.addresses.as_ref(),
                 &self.message,
                 meter,
             )?;

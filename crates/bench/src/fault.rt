@@ -21,8 +21,8 @@ pub enum EditFault {
     /// There are 4,096 scripts, or 65,536 messages, and this is one more.
     #[error("the bench is full")]
     Full = 4,
-    /// A text of more than 1,048,576 octets, a message of more than 16,777,216, an expected text of more than 65,536, a
-    /// name, an id or an address of more than 1,024, or a mailbox of more than 255.
+    /// A text or a list of mailboxes of more than 1,048,576 octets, a message of more than 16,777,216, an expected text of
+    /// more than 65,536, a name, an id or an address of more than 1,024, or a mailbox of more than 255.
     #[error("too large")]
     TooLarge = 5,
     /// Memory was refused.

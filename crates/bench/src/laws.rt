@@ -1,11 +1,17 @@
 //! Laws over the definitions. Each of these functions does nothing: its contract is the law.
 
-ghost use Rattle.std.specs.Prelude.{◌≡◌, List, ◌∷◌, Ok, Err};
-ghost use Rattle.bench.specs.Content.{Content, Edit, after, new_content};
+ghost use Rattle.std.specs.Prelude.{◌≡◌, ℕ, List, ◌∷◌, ◌++◌, Ok, Err, false, nat_eq};
+ghost use Rattle.std.specs.List.{flat_map};
+ghost use lib.Pointwise.{pointwise};
+ghost use Rattle.bench.specs.Content.{Content, Edit, after, clear_message_envelope, new_content, set_message_envelope};
 ghost use Rattle.bench.specs.Edits.{IsInOrder, IsWithinLimits, content_after, rebuild};
-ghost use Rattle.bench.specs.Report.{report_text};
+ghost use Rattle.bench.specs.Report.{indented, report_text, verdict_text};
+ghost use Rattle.bench.specs.Stale.{verdict_of};
 ghost use Rattle.bench.specs.Test.{after_all};
-ghost use Rattle.sieve_profile.specs.Profile.{Profile};
+ghost use Rattle.sieve_profile.specs.Profile.{Profile, has};
+ghost use Rattle.sieve_profile.specs.declared.extension.Extension.TheVariants.{Lines};
+ghost use Rattle.sieve_run.specs.Lines.{read_lines, verdict_lines};
+ghost use Rattle.sieve_run.specs.Verdict.{Verdict};
 ghost use Rattle.bench.specs.declared.fault.EditFault as faults;
 
 /// A refused edit leaves a content as it was, and those behind it are made of that. Where none is refused, each is made of what the one
@@ -40,4 +46,15 @@ pub fn a_content_is_made_anew()
     ensures made { (profile : Profile) (edits : List Edit) → after_all (new_content profile) (rebuild (content_after (new_content profile) edits)) ≡ Ok (content_after (new_content profile) edits) }
     ensures content { (profile : Profile) (edits : List Edit) → content_after (new_content profile) (rebuild (content_after (new_content profile) edits)) ≡ content_after (new_content profile) edits }
     ensures report { (profile : Profile) (edits : List Edit) → report_text (content_after (new_content profile) (rebuild (content_after (new_content profile) edits))) ≡ report_text (content_after (new_content profile) edits) }
+{}
+
+/// No other message is judged otherwise where one is given addresses of its own, or is left none.
+pub fn own_addresses_are_one_messages()
+    ensures given { (content : Content) (id from to other : List ℕ) (new : Content) → after content (set_message_envelope id from to) ≡ Ok new → pointwise nat_eq id other ≡ false → verdict_of new other ≡ verdict_of content other }
+    ensures cleared { (content : Content) (id other : List ℕ) (new : Content) → after content (clear_message_envelope id) ≡ Ok new → pointwise nat_eq id other ≡ false → verdict_of new other ≡ verdict_of content other }
+{}
+
+/// Where it isn't asked for by `lines`, a report has of a verdict the lines that are expected of it, and those of the names that it looked up.
+pub fn origins_are_told_where_they_are_asked_for()
+    ensures { (profile : Profile) (mailbox : List ℕ) (verdict : Verdict) → has profile Lines ≡ false → verdict_text profile mailbox verdict ≡ flat_map indented (verdict_lines mailbox verdict ++ read_lines verdict) }
 {}

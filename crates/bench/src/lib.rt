@@ -5,6 +5,7 @@
 mod bench;
 mod dump;
 mod entry;
+mod envelope_edits;
 mod fault;
 pub mod laws;
 mod marking;

@@ -4,13 +4,14 @@ ghost use Rattle.std.specs.Map.{values_of};
 ghost use Rattle.indexmap.specs.IndexMap.{IsUnique};
 ghost use Rattle.indexmap.specs.Layout.{set_value_at};
 ghost use lib.Pointwise.{pointwise};
-ghost use Rattle.bench.specs.view.Entry.{changed, expecting, put_entry, renewed};
+ghost use Rattle.bench.specs.Content.{changed};
+ghost use Rattle.bench.specs.view.Entry.{expecting, put_entry, readdressed, renewed};
 
 use crate::entry::Entry;
 use crate::sought::SoughtId;
 use indexmap::IndexMap;
 use sieve_base::Octets;
-use sieve_run::Message;
+use sieve_run::{Addresses, Message};
 use std::alloc::AllocError;
 
 /// Puts a message in the place of the one there.
@@ -33,6 +34,16 @@ fn expect_at(messages: &mut IndexMap<Octets, Entry>, index: usize, text: Option<
     }
 }
 
+/// Gives the message there these addresses of its own, or none.
+fn readdress_at(messages: &mut IndexMap<Octets, Entry>, index: usize, addresses: Option<Addresses>)
+    ensures entries { MatchOption (slice_get (values_of messages.old.entries) index) (messages.new.entries ≡ messages.old.entries)
+        (λ entry. messages.new.entries ≡ set_value_at messages.old.entries index (readdressed addresses entry)) }
+{
+    if let Some(entry) = messages.get_index_mut(index) {
+        entry.readdress(addresses);
+    }
+}
+
 /// Puts a message in the place of the one of its id. Takes no memory.
 fn renew(messages: &mut IndexMap<Octets, Entry>, id: &Octets, message: Message)
     ensures entries { messages.new.entries ≡ changed id.now (renewed message) messages.old.entries }
@@ -43,7 +54,8 @@ fn renew(messages: &mut IndexMap<Octets, Entry>, id: &Octets, message: Message)
     }
 }
 
-/// Puts a message at an id: in the place of the one there, of which is expected what was, or last. An error changes nothing.
+/// Puts a message at an id: in the place of the one there, which keeps what is expected of it and its own addresses, or last. An error changes
+/// nothing.
 pub(crate) fn put(
     messages: &mut IndexMap<Octets, Entry>,
     id: Octets,
@@ -60,6 +72,7 @@ pub(crate) fn put(
     let entry = Entry {
         message,
         expected: None,
+        addresses: None,
         kept: None,
     };
     match messages.insert(id, entry) {
@@ -79,5 +92,19 @@ pub(crate) fn expect(
 {
     if let Some(index) = messages.get_index_of(sought) {
         expect_at(messages, index, text);
+    }
+}
+
+/// Gives the message of an id these addresses of its own, or none. It is stale. Takes no memory.
+pub(crate) fn readdress(
+    messages: &mut IndexMap<Octets, Entry>,
+    sought: SoughtId<'_>,
+    addresses: Option<Addresses>,
+)
+    ensures entries { messages.new.entries ≡ changed sought.entry.octets.now (readdressed addresses) messages.old.entries }
+    ensures unique { IsUnique (pointwise nat_eq) messages.new }
+{
+    if let Some(index) = messages.get_index_of(sought) {
+        readdress_at(messages, index, addresses);
     }
 }

@@ -9,8 +9,8 @@ use crate::scripts::Scripts;
 use crate::sought::SoughtId;
 use indexmap::IndexMap;
 use sieve_base::limits::{
-    MAX_ADDRESS, MAX_EXPECTED, MAX_ID, MAX_MAILBOX, MAX_MESSAGE, MAX_MESSAGES, MAX_NAME,
-    MAX_SCRIPTS, MAX_TEXT,
+    MAX_ADDRESS, MAX_EXPECTED, MAX_ID, MAX_MAILBOX, MAX_MAILBOXES, MAX_MESSAGE, MAX_MESSAGES,
+    MAX_NAME, MAX_SCRIPTS, MAX_TEXT,
 };
 use sieve_base::{Octets, ScriptName};
 
@@ -52,7 +52,7 @@ pub(crate) fn refuse_message(
     None
 }
 
-/// Why a message isn't removed, or why what is expected of it isn't.
+/// Why a message isn't removed, or why what is expected of it or its own addresses aren't.
 #[tactic(auto, using(crate::proofs::Entries::entries))]
 pub(crate) fn refuse_absent(messages: &IndexMap<Octets, Entry>, id: &[u8]) -> Option<EditFault>
     ensures { result ≡ spec.absent_refusal (messages_of messages.now.entries) id.now }
@@ -127,11 +127,37 @@ pub(crate) fn refuse_remove_script(scripts: &Scripts, name: &ScriptName) -> Opti
     }
 }
 
+/// Whether one of two addresses is past its limit.
+fn are_long(from: &[u8], to: &[u8]) -> bool
+    ensures { result ≡ spec.are_long from.now to.now }
+{
+    from.len() > MAX_ADDRESS || to.len() > MAX_ADDRESS
+}
+
+/// Why a message isn't given addresses of its own, apart from memory.
+#[tactic(auto, using(crate::proofs::Entries::entries))]
+pub(crate) fn refuse_addresses(
+    messages: &IndexMap<Octets, Entry>,
+    id: &[u8],
+    from: &[u8],
+    to: &[u8],
+) -> Option<EditFault>
+    ensures { result ≡ spec.addresses_refusal (messages_of messages.now.entries) id.now from.now to.now }
+{
+    if id.len() > MAX_ID || are_long(from, to) {
+        Some(EditFault::TooLarge)
+    } else if !messages.contains_key(SoughtId { octets: id }) {
+        Some(EditFault::NoSuchMessage)
+    } else {
+        None
+    }
+}
+
 /// Why an envelope isn't taken, apart from memory.
 pub(crate) fn refuse_envelope(from: &[u8], to: &[u8]) -> Option<EditFault>
     ensures { result ≡ spec.envelope_refusal from.now to.now }
 {
-    if from.len() > MAX_ADDRESS || to.len() > MAX_ADDRESS {
+    if are_long(from, to) {
         Some(EditFault::TooLarge)
     } else {
         None
@@ -143,6 +169,17 @@ pub(crate) fn refuse_mailbox(mailbox: &[u8]) -> Option<EditFault>
     ensures { result ≡ spec.mailbox_refusal mailbox.now }
 {
     if mailbox.len() > MAX_MAILBOX {
+        Some(EditFault::TooLarge)
+    } else {
+        None
+    }
+}
+
+/// Why a list of mailboxes isn't taken, apart from memory.
+pub(crate) fn refuse_mailboxes(text: &[u8]) -> Option<EditFault>
+    ensures { result ≡ spec.mailboxes_refusal text.now }
+{
+    if text.len() > MAX_MAILBOXES {
         Some(EditFault::TooLarge)
     } else {
         None

@@ -1,13 +1,12 @@
 //! What a report runs, and what it writes (docs/FORMATS.md).
 ghost use Rattle.std.specs.Prelude.{◌≡◌, [], ◌∷◌, OnOk, OnErr, count_by, is_some, length, nat_eq};
-ghost use Rattle.std.specs.List.{flat_map, list_any};
-ghost use Rattle.std.specs.Option.{option_copied};
+ghost use Rattle.std.specs.List.{flat_map, list_any, zip};
 ghost use Rattle.indexmap.specs.IndexMap.{IsUnique};
 ghost use lib.Pointwise.{pointwise};
 ghost use Rattle.sieve_base.specs.Writers.{Writes};
 ghost use Rattle.bench.specs.Bench.{RefusedAmong};
 ghost use Rattle.bench.specs.Report.{script_line, verdict_by, message_lines, error_count, unexpected_count, site_lines, total_line, report_with};
-ghost use Rattle.bench.specs.view.Lines.{action_text, read_text, verdict_texts};
+ghost use Rattle.bench.specs.view.Lines.{action_text, action_texts, read_text, traced_text, verdict_texts};
 ghost use Rattle.bench.specs.view.Site.{site_as};
 ghost use Rattle.sieve_run.specs.Meter.{runs_after};
 ghost use Rattle.bench.specs.Test.{is_clean_with};
@@ -15,14 +14,15 @@ ghost use Rattle.bench.specs.view.Entry.{KeepsDue, disagrees, judged_of, message
 
 use crate::entry::Entry;
 use crate::report_lines::{
-    write_action_line, write_envelope, write_error_line, write_expectation, write_implicit_line,
-    write_main, write_message, write_profile, write_read_line, write_script, write_total,
+    write_action_line, write_addresses, write_envelope, write_error_line, write_expectation,
+    write_implicit_line, write_mailboxes, write_main, write_message, write_profile,
+    write_read_line, write_script, write_total, write_traced_line,
 };
 use crate::scripts::Scripts;
 use crate::site::Site;
 use indexmap::IndexMap;
 use sieve_base::{Octets, Sink, WriteFault};
-use sieve_run::{Envelope, Meter, Outcome};
+use sieve_run::{Action, Envelope, Meter, Origin, Outcome};
 use std::alloc::{AllocError, Global};
 
 /// Runs the main script on the stale messages, in their order.
@@ -61,6 +61,35 @@ fn write_actions<W: Sink>(outcome: &Outcome, writer: &mut W) -> Result<(), Write
     Ok(())
 }
 
+/// Writes the lines of the actions, each with that of where it comes from.
+fn write_traced_actions<W: Sink>(
+    actions: &[Action],
+    origins: &[Origin],
+    writer: &mut W,
+) -> Result<(), WriteFault>
+    ensures { Writes W.contents W.fault_count result writer.old writer.new (flat_map traced_text (zip actions.now origins.now)) }
+{
+    for (action, origin) in actions.iter().zip(origins) {
+        write_traced_line(action, origin, writer)?;
+    }
+    Ok(())
+}
+
+/// Writes the lines of the actions, and of where each comes from if that is told.
+fn write_told_actions<W: Sink>(
+    traced: bool,
+    outcome: &Outcome,
+    writer: &mut W,
+) -> Result<(), WriteFault>
+    ensures { Writes W.contents W.fault_count result writer.old writer.new (action_texts traced outcome.now) }
+{
+    if traced {
+        write_traced_actions(outcome.actions(), outcome.origins(), writer)
+    } else {
+        write_actions(outcome, writer)
+    }
+}
+
 /// Writes the lines of the looked-up names.
 #[tactic(auto, using(crate::proofs::Writing::writing))]
 fn write_reads<W: Sink>(outcome: &Outcome, writer: &mut W) -> Result<(), WriteFault>
@@ -86,13 +115,14 @@ fn write_scripts<W: Sink>(scripts: &Scripts, writer: &mut W) -> Result<(), Write
 
 /// Writes the lines of a verdict.
 fn write_verdict<W: Sink>(
+    traced: bool,
     envelope: &Envelope,
     outcome: &Outcome,
     writer: &mut W,
 ) -> Result<(), WriteFault>
-    ensures { Writes W.contents W.fault_count result writer.old writer.new (verdict_texts envelope.now.mailbox outcome.now) }
+    ensures { Writes W.contents W.fault_count result writer.old writer.new (verdict_texts traced envelope.now.mailbox outcome.now) }
 {
-    write_actions(outcome, writer)?;
+    write_told_actions(traced, outcome, writer)?;
     write_implicit_line(envelope, outcome, writer)?;
     write_error_line(outcome, writer)?;
     write_reads(outcome, writer)
@@ -100,45 +130,47 @@ fn write_verdict<W: Sink>(
 
 /// Writes the lines of a message, where its verdict is kept.
 fn write_entry<W: Sink>(
-    envelope: &Envelope,
+    site: &Site<'_>,
     id: &Octets,
     entry: &Entry,
     writer: &mut W,
 ) -> Result<(), WriteFault>
-    ensures { Writes W.contents W.fault_count result writer.old writer.new (flat_map (message_lines envelope.now.mailbox) (judged_of ((id.now, entry.now) ∷ []))) }
+    ensures { Writes W.contents W.fault_count result writer.old writer.new (flat_map (message_lines (site_as site.now)) (judged_of ((id.now, entry.now) ∷ []))) }
 {
     match &entry.kept {
-        Some(outcome) => write_judged(envelope, id, outcome, entry.expected.as_ref(), writer),
+        Some(outcome) => write_judged(site, id, entry, outcome, writer),
         None => Ok(()),
     }
 }
 
 /// Writes the lines of a message with the verdict on it, and whether that is as it is expected to be.
 fn write_judged<W: Sink>(
-    envelope: &Envelope,
+    site: &Site<'_>,
     id: &Octets,
+    entry: &Entry,
     outcome: &Outcome,
-    expected: Option<&Octets>,
     writer: &mut W,
 ) -> Result<(), WriteFault>
-    ensures { Writes W.contents W.fault_count result writer.old writer.new (message_lines envelope.now.mailbox (record { id = id.now; verdict = outcome.now; expected = option_copied expected.entry })) }
+    ensures { Writes W.contents W.fault_count result writer.old writer.new (message_lines (site_as site.now)
+        (record { id = id.now; addresses = entry.now.addresses; verdict = outcome.now; expected = entry.now.expected })) }
 {
     write_message(id, writer)?;
-    write_verdict(envelope, outcome, writer)?;
-    write_expectation(envelope, outcome, expected, writer)
+    write_addresses(entry.addresses.as_ref(), writer)?;
+    write_verdict(site.is_traced(), site.envelope, outcome, writer)?;
+    write_expectation(site.envelope, outcome, entry.expected.as_ref(), writer)
 }
 
 /// Writes the lines of all messages whose verdicts are kept.
 #[tactic(auto, using(crate::proofs::Writing::writing))]
 fn write_kept<W: Sink>(
-    envelope: &Envelope,
+    site: &Site<'_>,
     messages: &IndexMap<Octets, Entry>,
     writer: &mut W,
 ) -> Result<(), WriteFault>
-    ensures { Writes W.contents W.fault_count result writer.old writer.new (flat_map (message_lines envelope.now.mailbox) (judged_of messages.now.entries)) }
+    ensures { Writes W.contents W.fault_count result writer.old writer.new (flat_map (message_lines (site_as site.now)) (judged_of messages.now.entries)) }
 {
     for (id, entry) in messages {
-        write_entry(envelope, id, entry, writer)?;
+        write_entry(site, id, entry, writer)?;
     }
     Ok(())
 }
@@ -196,6 +228,11 @@ fn write_site<W: Sink>(site: &Site<'_>, writer: &mut W) -> Result<(), WriteFault
     write_main(site.main, writer)?;
     write_envelope(site.envelope, writer)?;
     write_profile(site.scripts.profile(), writer)?;
+    write_mailboxes(
+        site.scripts.profile(),
+        site.envelope.mailboxes.as_slice(),
+        writer,
+    )?;
     write_scripts(site.scripts, writer)
 }
 
@@ -209,7 +246,7 @@ pub(crate) fn write_report<W: Sink>(
     ensures { Writes W.contents W.fault_count result writer.old writer.new (report_with (site_as site.now) (judged_of messages.now.entries)) }
 {
     write_site(site, writer)?;
-    write_kept(site.envelope, messages, writer)?;
+    write_kept(site, messages, writer)?;
     write_totals(site.envelope, messages, writer)
 }
 

@@ -3,17 +3,17 @@ ghost use Rattle.std.specs.Prelude.{◌≡◌, [], ◌∷◌, ◌++◌, codes, f
 ghost use Rattle.std.specs.List.{flat_map, list_any};
 ghost use Rattle.std.specs.Option.{option_copied};
 ghost use Rattle.sieve_base.specs.Writers.{Writes};
-ghost use Rattle.bench.specs.Report.{main_line, envelope_line, extension_text, profile_line, script_line, indent, indented, message_line, expectation_line, expectation_text, total_line};
-ghost use Rattle.bench.specs.view.Lines.{action_text, error_text, implicit_text, read_text};
+ghost use Rattle.bench.specs.Report.{addresses_line, addresses_text, main_line, envelope_line, extension_text, mailboxes_line, profile_line, script_line, indent, indented, message_line, expectation_line, expectation_text, total_line};
+ghost use Rattle.bench.specs.view.Lines.{action_text, error_text, implicit_text, read_text, traced_text};
 ghost use Rattle.sieve_profile.specs.Extension.{extensions};
 ghost use Rattle.sieve_profile.specs.Profile.{has};
-ghost use Rattle.sieve_run.specs.Lines.{error_line, implicit_line};
+ghost use Rattle.sieve_run.specs.Lines.{error_line, implicit_line, origin_line};
 
 use sieve_base::{Octets, Piece, ScriptName, Sink, WriteFault, write_out, write_pieces};
 use sieve_profile::{EXTENSIONS, Extension, Profile};
 use sieve_run::{
-    Action, Envelope, FlagList, Outcome, RunError, Script, write_action, write_error,
-    write_implicit, write_read,
+    Action, Addresses, Envelope, FlagList, Origin, Outcome, RunError, Script, mailbox_count,
+    write_action, write_error, write_implicit, write_origin, write_read,
 };
 
 /// Writes the line of the main script.
@@ -108,6 +108,28 @@ pub(crate) fn write_profile<W: Sink>(profile: Profile, writer: &mut W) -> Result
     }
 }
 
+/// Writes how many names the list of mailboxes has, where a profile asks for it.
+pub(crate) fn write_mailboxes<W: Sink>(
+    profile: Profile,
+    mailboxes: &[u8],
+    writer: &mut W,
+) -> Result<(), WriteFault>
+    ensures { Writes W.contents W.fault_count result writer.old writer.new (mailboxes_line profile mailboxes.now) }
+{
+    if profile.has(Extension::Mailbox) {
+        write_pieces(
+            &[
+                Piece::Raw(b"mailboxes "),
+                Piece::Number(mailbox_count(mailboxes)),
+                Piece::Raw(b"\n"),
+            ],
+            writer,
+        )
+    } else {
+        write_out(b"", writer)
+    }
+}
+
 /// Writes the line of a script.
 pub(crate) fn write_script<W: Sink>(
     name: &ScriptName,
@@ -155,7 +177,36 @@ pub(crate) fn write_message<W: Sink>(id: &Octets, writer: &mut W) -> Result<(), 
     )
 }
 
-/// Writes what stands before each line of a verdict.
+/// Writes the line of the addresses that a message has of its own.
+fn write_own_addresses<W: Sink>(addresses: &Addresses, writer: &mut W) -> Result<(), WriteFault>
+    ensures { Writes W.contents W.fault_count result writer.old writer.new (indented (addresses_line addresses.now)) }
+{
+    write_pieces(
+        &[
+            Piece::Raw(b"  envelope "),
+            Piece::Quoted(addresses.from.as_slice()),
+            Piece::Raw(b" "),
+            Piece::Quoted(addresses.to.as_slice()),
+            Piece::Raw(b"\n"),
+        ],
+        writer,
+    )
+}
+
+/// Writes the line of the addresses that a message has of its own, where it has some.
+pub(crate) fn write_addresses<W: Sink>(
+    addresses: Option<&Addresses>,
+    writer: &mut W,
+) -> Result<(), WriteFault>
+    ensures { Writes W.contents W.fault_count result writer.old writer.new (addresses_text (option_copied addresses.entry)) }
+{
+    match addresses {
+        Some(addresses) => write_own_addresses(addresses, writer),
+        None => write_out(b"", writer),
+    }
+}
+
+/// Writes what stands before each line of a message but its first.
 #[tactic(auto, unfolding(crate::specs::Report::indent))]
 fn write_indent<W: Sink>(writer: &mut W) -> Result<(), WriteFault>
     ensures { Writes W.contents W.fault_count result writer.old writer.new indent }
@@ -171,6 +222,29 @@ pub(crate) fn write_action_line<W: Sink>(action: &Action, writer: &mut W) -> Res
     write_indent(writer)?;
     write_action(action, writer)?;
     write_out(b"\n", writer)
+}
+
+/// Writes the line of where an action comes from.
+#[tactic(auto, using(crate::proofs::Writing::lines))]
+fn write_origin_line<W: Sink>(origin: &Origin, writer: &mut W) -> Result<(), WriteFault>
+    ensures { Writes W.contents W.fault_count result writer.old writer.new (indented (origin_line origin.now)) }
+{
+    write_indent(writer)?;
+    write_origin(origin, writer)?;
+    write_out(b"\n", writer)
+}
+
+/// Writes the line of an action, and that of where it comes from.
+#[tactic(auto, using(sieve_base::proofs::Writing::writing))]
+pub(crate) fn write_traced_line<W: Sink>(
+    action: &Action,
+    origin: &Origin,
+    writer: &mut W,
+) -> Result<(), WriteFault>
+    ensures { Writes W.contents W.fault_count result writer.old writer.new (traced_text (action.now, origin.now)) }
+{
+    write_action_line(action, writer)?;
+    write_origin_line(origin, writer)
 }
 
 /// Writes the line of the implicit keep with its flags.

@@ -22,6 +22,8 @@ pub struct TestJob {
     pub to: Octets,
     /// The mailbox that `keep` stores into, of at most 255 octets.
     pub mailbox: Octets,
+    /// The list of mailboxes that `mailboxexists` asks, a name a line, of at most 1,048,576 octets.
+    pub mailboxes: Octets,
     /// The scripts in the order in which they are put, 4,096 names at most. A later one takes the place of one of its name.
     pub scripts: Vec<TestScript>,
     /// The script that is run, which need not be among the others.

@@ -2,7 +2,7 @@
 ghost use Rattle.std.specs.Prelude.{◌≡◌, [], ◌∷◌, IfErr, IfOk, Ok, OnOk, length, map};
 ghost use Rattle.sieve_base.specs.Writers.{Wrote, WroteFront};
 ghost use Rattle.sieve_run.specs.Meter.{next_run};
-ghost use Rattle.bench.specs.Content.{put_message, set_envelope, set_mailbox, set_main};
+ghost use Rattle.bench.specs.Content.{put_message, set_envelope, set_mailbox, set_mailboxes, set_main};
 ghost use Rattle.bench.specs.Test.{TestEnds, TestRuns, after_all, edits_of, made_by, put_of};
 ghost use Rattle.bench.specs.view.Refused.{Refused};
 ghost use Rattle.bench.specs.view.Tested.{ReportEnds};
@@ -15,13 +15,14 @@ use sieve_base::Sink;
 use sieve_run::Meter;
 use std::alloc::Global;
 
-/// Makes the settings of a job: the addresses, then the mailbox.
+/// Makes the settings of a job: the addresses, then the mailbox, then the list of mailboxes.
 fn set_delivery(bench: &mut Bench, job: &TestJob) -> Result<(), EditFault>
-    ensures ok { OnOk result (after_all bench.old.content (set_envelope job.now.from job.now.to ∷ set_mailbox job.now.mailbox ∷ []) ≡ Ok bench.new.content) }
-    ensures err { IfErr result (λ fault. Refused fault (after_all bench.old.content (set_envelope job.now.from job.now.to ∷ set_mailbox job.now.mailbox ∷ []))) }
+    ensures ok { OnOk result (after_all bench.old.content (set_envelope job.now.from job.now.to ∷ set_mailbox job.now.mailbox ∷ set_mailboxes job.now.mailboxes ∷ []) ≡ Ok bench.new.content) }
+    ensures err { IfErr result (λ fault. Refused fault (after_all bench.old.content (set_envelope job.now.from job.now.to ∷ set_mailbox job.now.mailbox ∷ set_mailboxes job.now.mailboxes ∷ []))) }
 {
     bench.set_envelope(job.from.as_slice(), job.to.as_slice())?;
-    bench.set_mailbox(job.mailbox.as_slice())
+    bench.set_mailbox(job.mailbox.as_slice())?;
+    bench.set_mailboxes(job.mailboxes.as_slice())
 }
 
 /// Puts the scripts of a job, in their order.
@@ -83,7 +84,8 @@ fn report_end<W: Sink>(bench: &mut Bench, meter: &mut Meter, writer: &mut W) -> 
     }
 }
 
-/// Makes the edits of a job on a new bench of its profile, in the order envelope, mailbox, scripts, main script, message, and writes the report of that bench.
+/// Makes the edits of a job on a new bench of its profile, in the order envelope, mailbox, list of mailboxes, scripts,
+/// main script, message, and writes the report of that bench.
 ///
 /// `Clean` says that the report was written, that no script has a fault, and that the message has no error; `Faulty` that it was written and one of them has.
 /// `TooLarge` and `Full` are the refusal of the first edit that is refused; nothing was written. `Write`: the writer failed, and a front of the report was

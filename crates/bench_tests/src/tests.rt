@@ -10,8 +10,11 @@ mod failing_writes;
 mod faults;
 mod kept;
 mod limits;
+mod mailboxes;
 mod memory;
+mod message_envelopes;
 mod meters;
+mod origins;
 mod test_jobs;
 mod texts;
 mod usage;
@@ -58,6 +61,22 @@ fn check_report(
     let mut writer = Counted::new(Vec::new(rt.alloc()));
     bench.report(&mut Meter::new(), &mut writer)?;
     same(rt, ("a report", 0, 0), &writer.into_inner(), text);
+    Ok(())
+}
+
+/// Reports, and compares how many runs that makes, and the text.
+fn check_runs(
+    rt: &(impl AllocGlobal + Abort),
+    bench: &mut Bench,
+    runs: u64,
+    text: &[u8],
+) -> Result<(), Fail> {
+    let mut meter = Meter::new();
+    let mut writer = Counted::new(Vec::new(rt.alloc()));
+    bench.report(&mut meter, &mut writer)?;
+    let at = ("a report of so many runs", runs, meter.runs());
+    holds(rt, at, meter.runs() == runs);
+    same(rt, at, &writer.into_inner(), text);
     Ok(())
 }
 

@@ -1,5 +1,6 @@
 -- What the words of a command line ask for.
 use Rattle.std.specs.Prelude.{◌≡◌, ◌≢◌, ℕ, Bool, true, false, List, [], ◌∷◌, Option, Some, None, Result, Ok, Err, codes, if◌then◌else◌, unwrap_or}
+use Rattle.std.specs.Option.{option_map}
 use Prim.Native.Char.{code}
 use Rattle.std.specs.Str.{bytes_eq}
 use Rattle.clap.specs.Words.{App, IsAmong, Kinds, Row, Shape, Text, app_of, fault_of, new_app, subcommand_of, with_rule, with_subcommand}
@@ -14,9 +15,11 @@ use Rattle.command_line.specs.declared.words.Job.{Job}
 use Rattle.command_line.specs.declared.words.Job.TheVariants as job
 use Rattle.command_line.specs.declared.words.TestWords.{TestWords}
 use Rattle.command_line.specs.declared.words.UsageFault.{UsageFault}
-use Rattle.command_line.specs.declared.words.UsageFault.TheVariants.{Usage, UnknownName, NoMemory}
+use Rattle.command_line.specs.declared.words.UsageFault.TheVariants.{Usage, UnknownName, NeedsMailbox, NoMemory}
 use Rattle.clap.specs.declared.builder.action.ArgAction.TheVariants.{Append}
-use Rattle.sieve_profile.specs.Profile.{Profile, empty_profile}
+use Rattle.sieve_profile.specs.Profile.{Profile, empty_profile, has}
+use Rattle.sieve_profile.specs.declared.extension.Extension.{Extension}
+use Rattle.sieve_profile.specs.declared.extension.Extension.TheVariants as extension
 use Rattle.sieve_profile.specs.view.Profile.{profile_as}
 use Rattle.command_line.specs.Profiles.{profile_in}
 
@@ -48,21 +51,21 @@ session_shape = record (new_shape (codes "session")) { rules = profile_rules }
 unfoldable pub dump_shape : Shape
 dump_shape = record (new_shape (codes "dump")) { rules = names_rule (codes "with") ∷ path_rule (codes "script") ∷ [] }
 
--- `test [-f ADDRESS] [--to ADDRESS] [-m BOX] [--personal DIR] [--global DIR] [--with NAME].. SCRIPT MAIL`
+-- `test [-f ADDRESS] [--to ADDRESS] [-m BOX] [--mailboxes FILE] [--personal DIR] [--global DIR] [--with NAME].. SCRIPT MAIL`
 unfoldable pub test_shape : Shape
 test_shape = record (new_shape (codes "test")) {
   rules = letter_rule (codes "from") (code "f") ∷ name_rule (codes "to") ∷ letter_rule (codes "mailbox") (code "m")
-      ∷ name_rule (codes "personal") ∷ name_rule (codes "global") ∷ names_rule (codes "with") ∷ path_rule (codes "script")
-      ∷ path_rule (codes "mail") ∷ [];
+      ∷ name_rule (codes "mailboxes") ∷ name_rule (codes "personal") ∷ name_rule (codes "global") ∷ names_rule (codes "with")
+      ∷ path_rule (codes "script") ∷ path_rule (codes "mail") ∷ [];
 }
 
 -- the options of `test` for the envelope
 abbrev pub envelope_rules : List Rule
 envelope_rules = letter_rule (codes "from") (code "f") ∷ name_rule (codes "to") ∷ []
 
--- the option of a test for the mailbox
+-- the options of a test for the mailbox that mail is kept in and for the list of mailboxes
 abbrev pub mailbox_rules : List Rule
-mailbox_rules = letter_rule (codes "mailbox") (code "m") ∷ []
+mailbox_rules = letter_rule (codes "mailbox") (code "m") ∷ name_rule (codes "mailboxes") ∷ []
 
 -- the options of a test for folders of scripts
 abbrev pub folder_rules : List Rule
@@ -99,6 +102,7 @@ test_words rows = record {
   from = first_of (codes "from") rows;
   to = first_of (codes "to") rows;
   mailbox = first_of (codes "mailbox") rows;
+  mailboxes = first_of (codes "mailboxes") rows;
   personal = first_of (codes "personal") rows;
   global = first_of (codes "global") rows;
   script = value_in rows (codes "script");
@@ -135,6 +139,22 @@ profile_met (Some (name, rows)) = profile_in rows
 unfoldable pub said_profile : List Text → Result Profile Text
 said_profile words = profile_met (subcommand_of the_app words)
 
+-- the name that a job needs: a test with a list of mailboxes needs `mailbox`
+abbrev pub name_needed : Job → Option Extension
+name_needed job.Session = None
+name_needed (job.Dump script) = None
+name_needed (job.Test words) = option_map (λ file. extension.Mailbox) words.mailboxes
+
+-- whether a profile has the name that a job needs
+abbrev pub allows : Profile → Job → Bool
+allows profile asked = unwrap_or (option_map (has profile) (name_needed asked)) true
+
+-- the profile that is said lacks the name that the job needs
+abbrev pub Lacks : Result Profile Text → Option Job → Type 0
+Lacks (Ok profile) (Some asked) = allows profile asked ≡ false
+Lacks (Ok profile) None = ⊥
+Lacks (Err name) asked = ⊥
+
 -- whether an answer of this kind is what was asked for, and no mistake
 abbrev pub is_help : ErrorKind → Bool
 is_help DisplayHelp = true
@@ -145,23 +165,29 @@ is_help _ = false
 abbrev pub IsFaultFor : ErrorKind → UsageFault → Type 0
 IsFaultFor kind NoMemory = Unit {0}
 IsFaultFor kind (UnknownName name) = ⊥
+IsFaultFor kind NeedsMailbox = ⊥
 IsFaultFor kind (Usage help text) = (kind ≢ OutOfMemory) × (help ≡ is_help kind)
 
--- the refusal is for one of these mistakes, or is the help that was asked for; where there is none, it is for the name that is said in place of a profile
-abbrev pub IsRefusalFor : Kinds → Result Profile Text → UsageFault → Type 0
-IsRefusalFor kinds said NoMemory = Unit {0}
-IsRefusalFor kinds said (UnknownName name) = (kinds ≡ []) × (said ≡ Err name)
-IsRefusalFor kinds said (Usage help text) = (kind : ErrorKind) × IsAmong kind kinds × (help ≡ is_help kind)
+-- The refusal is for one of these mistakes, or is the help that was asked for. Where there is none, it is for the name that is said in place of a
+-- profile; and where one is said, because it lacks the name that the job needs.
+abbrev pub IsRefusalFor : Kinds → Result Profile Text → Option Job → UsageFault → Type 0
+IsRefusalFor kinds said asked NoMemory = Unit {0}
+IsRefusalFor kinds said asked (UnknownName name) = (kinds ≡ []) × (said ≡ Err name)
+IsRefusalFor kinds said asked NeedsMailbox = (kinds ≡ []) × Lacks said asked
+IsRefusalFor kinds said asked (Usage help text) = (kind : ErrorKind) × IsAmong kind kinds × (help ≡ is_help kind)
 
 -- the fault for a name by which nothing is known
 abbrev pub IsUnknown : Text → UsageFault → Type 0
 IsUnknown unknown NoMemory = Unit {0}
 IsUnknown unknown (UnknownName name) = name ≡ unknown
+IsUnknown unknown NeedsMailbox = ⊥
 IsUnknown unknown (Usage help text) = ⊥
 
--- the answer has the profile that is said, or is for the name that is said in place of one
-abbrev pub SaysOf : Result Profile Text → Result CommandLine UsageFault → Type 0
-SaysOf said (Ok line) = said ≡ Ok (profile_as line.profile)
-SaysOf said (Err NoMemory) = Unit {0}
-SaysOf said (Err (UnknownName name)) = said ≡ Err name
-SaysOf said (Err (Usage help text)) = ⊥
+-- the answer has the profile that is said, which has the name that the job needs; or is for the name that is said in place of one, or for the one
+-- that it lacks
+abbrev pub SaysOf : Result Profile Text → Job → Result CommandLine UsageFault → Type 0
+SaysOf said asked (Ok line) = (said ≡ Ok (profile_as line.profile)) × (allows (profile_as line.profile) asked ≡ true)
+SaysOf said asked (Err NoMemory) = Unit {0}
+SaysOf said asked (Err (UnknownName name)) = said ≡ Err name
+SaysOf said asked (Err NeedsMailbox) = Lacks said (Some asked)
+SaysOf said asked (Err (Usage help text)) = ⊥

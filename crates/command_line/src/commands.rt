@@ -133,12 +133,15 @@ fn with_envelope<'a>(alloc: Global, command: Command<'a>) -> Result<Command<'a>,
         .arg(name_option(alloc, "to", "ADDRESS", to))
 }
 
-// The command with the option for the mailbox.
+// The command with the options for the mailbox that mail is kept in and for the list of mailboxes.
 fn with_mailbox<'a>(alloc: Global, command: Command<'a>) -> Result<Command<'a>, AllocError>
     ensures { IfOk result (spec.HasMore command.entry spec.mailbox_rules) }
 {
     let mailbox = "The mailbox that mail is kept in; INBOX where it is not given";
-    command.arg(letter_option(alloc, "mailbox", 'm', "BOX", mailbox))
+    let mailboxes = "A list of the mailboxes that there are, a name a line; needs --with mailbox";
+    command
+        .arg(letter_option(alloc, "mailbox", 'm', "BOX", mailbox))?
+        .arg(name_option(alloc, "mailboxes", "FILE", mailboxes))
 }
 
 // The command with the options for folders of scripts.

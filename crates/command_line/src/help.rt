@@ -45,6 +45,11 @@ A line of the input is a command; each is answered by a reply:
   no-expect ID                    expect nothing of it
   envelope FROM TO                set the addresses of the sender and of the recipient
   mailbox BOX                     set the mailbox that mail is kept in
+  mailboxes N                     with mailbox: the N octets after the line's end are the mailboxes
+                                  that there are, a name a line
+  message-envelope ID FROM TO     with envelopes: give a message addresses of its own, which a line
+                                  \"  envelope FROM TO\" of the report shows after its line message
+  no-message-envelope ID          with envelopes: take its own addresses from it
   report                          print the report, as 'sievebench help test' shows it, of all
                                   messages; its first line is \"main none\" where no script is run,
                                   a message of which a verdict is expected ends by \"  expected\" or
@@ -52,7 +57,8 @@ A line of the input is a command; each is answered by a reply:
   dump PLACE NAME                 print a script's code, and then ok
 
 PLACE is personal or global. Words stand between spaces; a name, an id, an address or a mailbox
-may stand in \"..\" with \\\", \\\\ and \\xHH for \", \\ and any octet. N is one to nine digits.
+may stand in \"..\" with \\\", \\\\ and \\xHH for \", \\ and any octet. N is one to nine digits. A
+command that says \"with\" is there only where --with gives that name.
 
 A reply is ok, or no and why, and the session goes on: no-such-script, invalid-script, name-taken,
 no-such-message, full, too-large, no-memory. Any other line is answered \"no syntax\", and an input
@@ -97,12 +103,14 @@ Standard output is the report:
   main personal \"NAME\"
   envelope \"FROM\" \"TO\" mailbox \"BOX\"
   with NAME..                            where --with gives names: these, in their order
+  mailboxes N                            with mailbox: how many names the list of mailboxes has
   script PLACE \"NAME\" ok                 for each script, PLACE being personal or global
   script PLACE \"NAME\" line N KIND        or its first fault: syntax, or the broken rule's word
   message \"MAIL\"
     store \"BOX\" \"FLAG\"..                for each action: mail is stored, with these flags,
     redirect \"ADDRESS\"                   sent on
     discard                              or dropped
+    at PLACE \"NAME\" line N               with lines, after each action: the command that entered it
     implicit \"BOX\" \"FLAG\"..             no action took the mail over: it is kept
     error PLACE \"NAME\" line N KIND       the run failed there, and the mail is kept; on line 0 the
                                          main script is missing or has a fault
@@ -112,8 +120,8 @@ Standard output is the report:
 Names, addresses, mailboxes and flags are quoted: \\ before \" and \\, and \\xHH for each octet
 outside 32 to 126.
 
-Limits: 1048576 octets a script, 16777216 the mail; 1024 a name, an address and the word MAIL; 255
-the mailbox; 4096 scripts.
+Limits: 1048576 octets a script and the list of mailboxes, 16777216 the mail; 1024 a name, an
+address and the word MAIL; 255 the mailbox; 4096 scripts.
 
 Exit status: 0 done, 1 a script has a fault or the verdict is an error, 2 a mistake in the command
 line, something too large or too many scripts, 3 something could not be read or written, 4 out of

@@ -34,6 +34,11 @@ fn name_text(extension: Extension) -> &'static str {
 fn brings(extension: Extension) -> &'static str {
     match extension {
         Extension::Charsets => "encoded words of further charsets are decoded",
+        Extension::Duplicate => "the test duplicate, which is false (RFC 7352)",
+        Extension::Envelopes => "a message may have an envelope of its own",
+        Extension::Lines => "a report says which line entered each action",
+        Extension::Mailbox => "fileinto :create, and the test mailboxexists (RFC 5490)",
+        Extension::SpecialUse => "fileinto :specialuse (RFC 8579)",
         Extension::Subaddress => "the address parts :user and :detail (RFC 5233)",
         Extension::Unused => "a capability that is not known may be required where it is not used",
     }

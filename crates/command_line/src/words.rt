@@ -2,8 +2,9 @@
 ghost use Rattle.std.specs.Prelude.{◌≡◌, ◌↔◌, IfOk, IfErr, IsOk, Ok, Some, false, true, map, IsSome, IsOkUnless};
 ghost use Rattle.clap.specs.Words.{fault_of, first_of, kind_of, rows_of, subcommand_rows_of};
 ghost use Rattle.clap.specs.Matches.{found_of};
-ghost use Rattle.command_line.specs.CommandLine.{the_app, job_named, job_of, named_job, profile_met, said_profile, test_words, value_in, IsFaultFor, IsRefusalFor, IsUnknown, SaysOf};
+ghost use Rattle.command_line.specs.CommandLine.{allows, the_app, job_named, job_of, name_needed, named_job, profile_met, said_profile, test_words, value_in, IsFaultFor, IsRefusalFor, IsUnknown, SaysOf};
 ghost use Rattle.command_line.specs.Profiles.{Says};
+ghost use Rattle.sieve_profile.specs.Profile.{Profile};
 ghost use Rattle.sieve_profile.specs.view.Profile.{profile_as};
 
 use crate::argument::Argument;
@@ -11,7 +12,7 @@ use crate::commands::program;
 use crate::profile::{Names, names_help, profile_in};
 use clap::error::ErrorKind;
 use clap::{ArgMatches, Error};
-use sieve_profile::Profile;
+use sieve_profile::{Extension, Profile};
 use std::alloc::{AllocError, Global};
 use std::convert::AsStr;
 
@@ -47,6 +48,8 @@ pub struct TestWords {
     pub to: Option<Argument>,
     /// The mailbox that mail is kept in.
     pub mailbox: Option<Argument>,
+    /// The path of the list of mailboxes, a name a line (RFC 5490). Needs `mailbox`.
+    pub mailboxes: Option<Argument>,
     /// The path of a folder of personal scripts (RFC 6609, 3.2).
     pub personal: Option<Argument>,
     /// The path of a folder of global scripts.
@@ -70,6 +73,9 @@ pub enum UsageFault {
     /// A name in the words of `--with` is none of those that there are.
     #[error("error: invalid value '{name}' for '--with <NAME>'\n  [possible values: {}]\n\nFor more information, try '--help'.\n", Names)]
     UnknownName { name: Argument },
+    /// A list of mailboxes is given, and `mailbox` isn't among the names of `--with`.
+    #[error("error: '--mailboxes <FILE>' needs '--with mailbox'\n\nFor more information, try '--help'.\n")]
+    NeedsMailbox,
 }
 
 impl From<AllocError> for UsageFault {
@@ -128,6 +134,7 @@ fn test_words(alloc: Global, matches: &ArgMatches<'_>) -> Result<TestWords, Allo
         from: option_in(alloc, matches, "from")?,
         to: option_in(alloc, matches, "to")?,
         mailbox: option_in(alloc, matches, "mailbox")?,
+        mailboxes: option_in(alloc, matches, "mailboxes")?,
         personal: option_in(alloc, matches, "personal")?,
         global: option_in(alloc, matches, "global")?,
         script: required_in(alloc, matches, "script")?,
@@ -159,6 +166,43 @@ fn job_in(alloc: Global, matches: &ArgMatches<'_>) -> Result<Option<Job>, AllocE
     }
 }
 
+// The name that a job needs.
+fn name_needed(job: &Job) -> Option<Extension>
+    ensures { result ≡ name_needed job.now }
+{
+    match job {
+        Job::Test(
+            TestWords {
+                mailboxes: Some(_),
+                ..
+            },
+        ) => Some(Extension::Mailbox),
+        Job::Test(_) | Job::Session | Job::Dump { .. } => None,
+    }
+}
+
+// Whether a profile has the name that a job needs.
+fn allows(profile: Profile, job: &Job) -> bool
+    ensures { result ≡ allows (profile_as profile) job.now }
+{
+    match name_needed(job) {
+        Some(name) => profile.has(name),
+        None => true,
+    }
+}
+
+// What is asked for by a job and a profile, which must have the name that the job needs.
+fn where_allowed(profile: Profile, job: Job) -> Result<CommandLine, UsageFault>
+    ensures job { IfOk result (λ line. line.job ≡ job) }
+    ensures profile { SaysOf (Ok (profile_as profile)) job result }
+{
+    if allows(profile, &job) {
+        Ok(CommandLine { profile, job })
+    } else {
+        Err(UsageFault::NeedsMailbox)
+    }
+}
+
 // What is asked for by a job and the profile of the subcommand that was met.
 fn with_profile(
     alloc: Global,
@@ -166,10 +210,10 @@ fn with_profile(
     job: Job,
 ) -> Result<CommandLine, UsageFault>
     ensures job { IfOk result (λ line. line.job ≡ job) }
-    ensures profile { SaysOf (profile_met (subcommand_rows_of matches.now)) result }
+    ensures profile { SaysOf (profile_met (subcommand_rows_of matches.now)) job result }
 {
     match profile_met(matches) {
-        Ok(profile) => Ok(CommandLine { profile, job }),
+        Ok(profile) => where_allowed(profile, job),
         Err(name) => Err(unknown_name(alloc, name)),
     }
 }
@@ -196,17 +240,20 @@ fn profile_met<'a>(matches: &'a ArgMatches<'_>) -> Result<Profile, &'a str>
 
 /// What the words ask for. The first word is the program's name, as in `std::env::args`.
 /// `Usage` is for a mistake in the words, or for the help that they ask for; `UnknownName` is for the first name of a `--with` by which nothing
-/// is known, where there is no other mistake; `NoMemory` is for want of memory.
+/// is known, where there is no other mistake; `NeedsMailbox` is for a list of mailboxes without the name `mailbox`, where there is no mistake else;
+/// `NoMemory` is for want of memory.
 pub fn command_of<'a, S: AsStr>(alloc: Global, words: &'a [S]) -> Result<CommandLine, UsageFault>
     // The job is the one that the words name.
     ensures ok { IfOk result (λ line. named_job (map S.text words.entry.now) ≡ Some line.job) }
     // The profile is the one that they say.
     ensures profile { IfOk result (λ line. said_profile (map S.text words.entry.now) ≡ Ok (profile_as line.profile)) }
-    // Words that name a job and say a profile are refused only for want of memory.
-    ensures named { IsSome (named_job (map S.text words.entry.now)) → IsOk (said_profile (map S.text words.entry.now))
-        → IsOkUnless result UsageFault.NoMemory }
-    // Any other refusal is for a mistake in the words, or for a name by which nothing is known, or it is the help that they ask for.
-    ensures refused { IfErr result (IsRefusalFor (fault_of the_app (map S.text words.entry.now)) (said_profile (map S.text words.entry.now))) }
+    // It has the name that the job needs.
+    ensures allowed { IfOk result (λ line. allows (profile_as line.profile) line.job ≡ true) }
+    // Words that name a job and say a profile which has the name that the job needs are refused only for want of memory.
+    ensures named { (asked : Job) (profile : Profile) → named_job (map S.text words.entry.now) ≡ Some asked → said_profile (map S.text words.entry.now) ≡ Ok profile
+        → allows profile asked ≡ true → IsOkUnless result UsageFault.NoMemory }
+    // Any other refusal is for a mistake in the words, for a name by which nothing is known, or for one that is lacking, or it is the help that they ask for.
+    ensures refused { IfErr result (IsRefusalFor (fault_of the_app (map S.text words.entry.now)) (said_profile (map S.text words.entry.now)) (named_job (map S.text words.entry.now))) }
 {
     let names = names_help(alloc)?;
     let matches = match program(alloc, names.as_str())?.try_get_matches_from(&*words) {

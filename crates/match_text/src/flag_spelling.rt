@@ -43,8 +43,8 @@ fn is_system_flag(text: &[u8]) -> bool
         || is::<AsciiCasemap>(text, b"\\Draft")
 }
 
-// Whether a text is an atom.
-fn is_keyword(text: &[u8]) -> bool
+/// Whether a text is an atom, as a keyword is (RFC 3501, section 9). Takes no memory.
+pub fn is_keyword(text: &[u8]) -> bool
     ensures { result ≡ is_keyword text.now }
 {
     !text.is_empty() && are_flag_octets(text)

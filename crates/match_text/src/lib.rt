@@ -16,7 +16,7 @@ mod wildcards;
 pub use crate::comparators::{
     AsciiCasemap, Collation, Comparator, Octet, collation_named, contains, contains_in, is,
 };
-pub use crate::flag_spelling::next_flag;
+pub use crate::flag_spelling::{is_keyword, next_flag};
 pub use crate::flags::{FlagList, flag_text, flags_of, flags_of_texts, union, without};
 pub use crate::sought_flags::{flag_keys, flag_keys_of_texts};
 pub use crate::wildcards::{Captures, matches};

@@ -99,3 +99,18 @@ line_to_feed text start len line within nowhere short feed is_line =
           ∙ ap (λ (l : List ℕ). l ∷ lines (drop (len + 1) rest)) (sym stripped ∙ sym front)
           ∙ ap (λ (end : List ℕ). slice_range text start (start + length line) ∷ lines end) tail;
     }
+
+-- THE FIRST LINE
+
+pub first_to_end : (text : List ℕ) → 0 < length text → Nowhere (Passes (is_byte (octet_of "\n")) text) 0 (length text) → lines text ≡ text ∷ lines (drop (length text) text)
+first_to_end text some nowhere =
+    let plain : All (λ b. (b == octet_of "\n") ≡ false) text = subst (All (λ b. (b == octet_of "\n") ≡ false)) (take_all (length text) text (omega arith)) (plain_before text (length text) (omega arith) nowhere) in
+    lines-last text some plain ∙ ap (λ (end : List ℕ). text ∷ lines end) (sym (drop_all (length text) text (omega arith)))
+
+pub first_to_feed : (text : List ℕ) (len : ℕ) (line : List ℕ) → Nowhere (Passes (is_byte (octet_of "\n")) text) 0 len → len < length text → Passes (is_byte (octet_of "\n")) text len → line ≡ strip_carriage_return (take len text)
+    → lines text ≡ line ∷ lines (drop (len + 1) text)
+first_to_feed text len line nowhere short feed is =
+    let at_feed : get_or text len 0 ≡ octet_of "\n" = eqb-true (get_or text len 0) (octet_of "\n") feed in
+    let cut : text ≡ take len text ++ octet_of "\n" ∷ drop (len + 1) text =
+    sym (take-append-drop len text) ∙ ap (λ (end : List ℕ). take len text ++ end) (drop_more text len 0 short) ∙ ap (λ b. take len text ++ b ∷ drop (len + 1) text) at_feed in
+    ap lines cut ∙ lines-feed (take len text) (drop (len + 1) text) (plain_before text len (omega arith) nowhere) ∙ ap (λ (l : List ℕ). l ∷ lines (drop (len + 1) text)) (sym is)

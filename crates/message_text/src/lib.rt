@@ -16,5 +16,6 @@ mod pieces;
 mod values;
 
 pub use crate::addressing::{Address, AddressPart, addresses};
+pub use crate::lines::next_line;
 pub use crate::messages::{Message, MessageFault};
 pub use crate::names::{FieldName, name_hash};

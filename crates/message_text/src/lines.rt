@@ -1,5 +1,6 @@
-//! Where the lines of a text end.
-ghost use Rattle.std.specs.Prelude.{◌<◌, length};
+//! The lines of a text.
+ghost use Rattle.std.specs.Prelude.{◌≡◌, ◌<◌, ◌∷◌, IfSome, MatchOption, [], length};
+ghost use Rattle.std.specs.Str.Lines.{lines};
 ghost use Rattle.message_text.specs.view.Positions.{IsLineAt};
 
 use memchr::memchr;
@@ -29,5 +30,20 @@ pub(crate) fn line_at(text: &[u8], start: usize) -> LineSpan
     LineSpan {
         end: start + without_return(&text[start..feed]).len(),
         next: feed + 1,
+    }
+}
+
+/// The first line of a text, without its line feed and a carriage return directly before that, and what follows the line; none where the
+/// text is empty. Takes no memory.
+pub fn next_line(text: &[u8]) -> Option<(&[u8], &[u8])>
+    ensures lines { MatchOption result (text.now ≡ []) (λ cut. lines text.now ≡ cut.0.now ∷ lines cut.1.now) }
+    ensures shorter { IfSome result (λ cut. length cut.1.now < length text.now) }
+{
+    if text.is_empty() {
+        return None;
+    }
+    match memchr(b'\n', text) {
+        Some(len) => Some((without_return(&text[..len]), &text[len + 1..])),
+        None => Some((text, &text[text.len()..])),
     }
 }

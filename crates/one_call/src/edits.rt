@@ -19,6 +19,8 @@ const FAULTY: &[u8] = b"keep;\nkep;";
 
 const MAIL: &[u8] = b"A: b\n\n";
 
+const BOXES: &[u8] = b"Lists\n\nWork\n";
+
 const IMPLICIT: &[u8] = b"implicit \"INBOX\"\n";
 
 /// Makes the edit that a word names, on a bench of which no verdict is stale.
@@ -55,12 +57,16 @@ fn edit(rt: &impl Host, word: &str, bench: &mut Bench) -> Edited {
         "set_main" => set_main(rt, bench),
         "set_envelope" => set_envelope(rt, bench),
         "set_mailbox" => set_mailbox(rt, bench),
+        "set_mailboxes" => set_mailboxes(rt, bench),
+        "keep_mailboxes" => keep_mailboxes(rt, bench),
+        "set_message_envelope" => set_message_envelope(rt, bench),
         "set_expected" => set_expected(rt, bench),
         "keep_expected" => keep_expected(rt, bench),
         "remove_script" => remove_script(rt, bench),
         "remove_message" => remove_message(rt, bench),
         "clear_main" => clear_main(rt, bench),
         "clear_expected" => clear_expected(rt, bench),
+        "clear_message_envelope" => clear_message_envelope(rt, bench),
         _ => Err(io::Error::from(ErrorKind::InvalidInput)),
     }
 }
@@ -132,6 +138,28 @@ fn set_mailbox(rt: &impl Host, bench: &mut Bench) -> Edited {
     Ok(answer)
 }
 
+fn set_mailboxes(rt: &impl Host, bench: &mut Bench) -> Edited {
+    mark(rt);
+    let answer = bench.set_mailboxes(BOXES);
+    mark(rt);
+    Ok(answer)
+}
+
+fn keep_mailboxes(rt: &impl Host, bench: &mut Bench) -> Edited {
+    let text = Octets::copied(rt.alloc(), BOXES)?;
+    mark(rt);
+    let answer = bench.keep_mailboxes(text);
+    mark(rt);
+    Ok(answer)
+}
+
+fn set_message_envelope(rt: &impl Host, bench: &mut Bench) -> Edited {
+    mark(rt);
+    let answer = bench.set_message_envelope(ID, b"a@b.example", b"c@d.example");
+    mark(rt);
+    Ok(answer)
+}
+
 fn set_expected(rt: &impl Host, bench: &mut Bench) -> Edited {
     mark(rt);
     let answer = bench.set_expected(ID, IMPLICIT);
@@ -172,6 +200,13 @@ fn clear_main(rt: &impl Host, bench: &mut Bench) -> Edited {
 fn clear_expected(rt: &impl Host, bench: &mut Bench) -> Edited {
     mark(rt);
     let answer = bench.clear_expected(ID);
+    mark(rt);
+    Ok(answer)
+}
+
+fn clear_message_envelope(rt: &impl Host, bench: &mut Bench) -> Edited {
+    mark(rt);
+    let answer = bench.clear_message_envelope(ID);
     mark(rt);
     Ok(answer)
 }

@@ -111,6 +111,7 @@ fn job_of(rt: &impl Host) -> Result<TestJob, AllocError> {
         from: Octets::copied(rt.alloc(), b"a@b.example")?,
         to: Octets::from_vec(Vec::new(rt.alloc())),
         mailbox: Octets::copied(rt.alloc(), b"Box")?,
+        mailboxes: Octets::from_vec(Vec::new(rt.alloc())),
         scripts,
         main: personal(rt, b"main")?,
         id: Octets::copied(rt.alloc(), ID)?,
@@ -146,6 +147,7 @@ pub(crate) fn read_words(rt: &impl Host, words: &[&str]) -> io::Result<()> {
         Ok(line) => tell_job(rt, &line.job),
         Err(UsageFault::Usage { text, .. }) => rt.print(text.as_str()),
         Err(UsageFault::UnknownName { name }) => println!(rt; "unknown {}", name.as_str()),
+        Err(UsageFault::NeedsMailbox) => println!(rt; "needs mailbox"),
         Err(UsageFault::NoMemory) => tell_refused(rt),
     }
 }

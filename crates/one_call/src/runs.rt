@@ -89,6 +89,7 @@ fn envelope_of(rt: &impl Host) -> Result<Envelope, AllocError> {
         from: Octets::copied(rt.alloc(), b"s@x.example")?,
         to: Octets::from_vec(Vec::new(rt.alloc())),
         mailbox: Octets::from_vec(Vec::new(rt.alloc())),
+        mailboxes: Octets::from_vec(Vec::new(rt.alloc())),
     })
 }
 
@@ -101,7 +102,15 @@ fn tell_run(
 ) -> io::Result<()> {
     let mut meter = Meter::new();
     mark(rt);
-    let made = run(rt.alloc(), shelf, Some(main), envelope, mail, &mut meter);
+    let made = run(
+        rt.alloc(),
+        shelf,
+        Some(main),
+        envelope,
+        None,
+        mail,
+        &mut meter,
+    );
     mark(rt);
     match made {
         Ok(outcome) => tell_outcome(rt, &outcome)?,
@@ -126,7 +135,7 @@ fn outcome_of(rt: &impl Host) -> io::Result<Outcome> {
     let mail = prepared(Message::new(rt.alloc(), Vec::new(rt.alloc())))?;
     let shelf = Shelf::new(rt.alloc(), Profile::new());
     let mut meter = Meter::new();
-    Ok(run(rt.alloc(), &shelf, None, &envelope, &mail, &mut meter)?)
+    Ok(run(rt.alloc(), &shelf, None, &envelope, None, &mail, &mut meter)?)
 }
 
 /// How many actions and names there are, and whether the implicit keep stands, there is an error, and a text agrees.

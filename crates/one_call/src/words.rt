@@ -13,8 +13,8 @@ const WORDS: &str = "is contains contains_in contains_in/short matches Captures 
     parts_of_text Values::set Values::expanded_string Values \
     Shelf::add run/tests run/variables run/flags run/includes run/error Shelf Outcome \
     put_script put_script/new keep_script put_message put_message/new keep_message rename_script \
-    set_main set_envelope set_mailbox set_expected \
-    keep_expected remove_script remove_message clear_main clear_expected \
+    set_main set_envelope set_mailbox set_mailboxes keep_mailboxes set_message_envelope set_expected \
+    keep_expected remove_script remove_message clear_main clear_expected clear_message_envelope \
     Bench::new report test_bench session command_of command_of/mistake \
     report/kept verdict code status_of";
 

@@ -1,4 +1,5 @@
 pub mod Lines
+pub mod Needed
 pub mod Plain
 pub mod Quoting
 pub mod Ranges

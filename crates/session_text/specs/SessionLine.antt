@@ -1,8 +1,11 @@
 -- The lines of a session: where they end, and what they say.
-use Rattle.std.specs.Prelude.{ℕ, suc, ◌+◌, ◌-◌, ◌*◌, Bool, true, false, ◌&&◌, ◌||◌, ◌==◌, not, nat_le, nat_lt, if◌then◌else◌, List, [], ◌∷◌, length, filter, Option, None, Some, codes, nat_eq}
+use Rattle.std.specs.Prelude.{ℕ, suc, ◌+◌, ◌-◌, ◌*◌, Bool, true, false, ◌&&◌, ◌||◌, ◌==◌, not, nat_le, nat_lt, if◌then◌else◌, List, [], ◌∷◌, length, filter, Option, None, Some, unwrap_or, codes, nat_eq}
 use Rattle.std.specs.List.{list_all}
 use Rattle.std.specs.Option.{option_map, option_and_then}
 use lib.Pointwise.{pointwise}
+use Rattle.sieve_profile.specs.Profile.{Profile, has}
+use Rattle.sieve_profile.specs.declared.extension.Extension.{Extension}
+use Rattle.sieve_profile.specs.declared.extension.Extension.TheVariants as extension
 use Rattle.sieve_base.specs.declared.place.Place.{Place}
 use Rattle.sieve_base.specs.declared.place.Place.TheVariants.{Personal, Global}
 use Rattle.sieve_base.specs.Limits.{line_limit}
@@ -133,6 +136,9 @@ pub data SessionCommand : Type 0 where
   dump : (place : Place) (name : List ℕ) → SessionCommand
   expect : (id : List ℕ) (count : ℕ) → SessionCommand
   no_expect : (id : List ℕ) → SessionCommand
+  mailboxes : (count : ℕ) → SessionCommand
+  message_envelope : (id from to : List ℕ) → SessionCommand
+  no_message_envelope : (id : List ℕ) → SessionCommand
 
 -- whether a word is this text
 unfoldable pub is_text : List ℕ → List ℕ → Bool
@@ -204,12 +210,26 @@ drop_script_command words = option_map (λ n. drop_script n.0 n.1) (last_name wo
 abbrev pub dump_command : List (List ℕ) → Option SessionCommand
 dump_command words = option_map (λ n. dump n.0 n.1) (last_name words)
 
--- a command that says what is expected of a message
+abbrev pub message_envelope_command : List (List ℕ) → Option SessionCommand
+message_envelope_command [] = None
+message_envelope_command (id ∷ []) = None
+message_envelope_command (id ∷ from ∷ words) =
+    option_and_then (λ i. option_and_then (λ f. option_map (λ t. message_envelope i f t) (last_value words)) (word_value from)) (word_value id)
+
+-- a command that needs a name of the profile
+abbrev pub extension_command : List ℕ → List (List ℕ) → Option SessionCommand
+extension_command word words =
+    if is_text (codes "mailboxes") word then option_map (λ count. mailboxes count) (last_count words)
+    else if is_text (codes "message-envelope") word then message_envelope_command words
+    else if is_text (codes "no-message-envelope") word then option_map (λ id. no_message_envelope id) (last_value words)
+    else None
+
+-- a command that says what is expected of a message, or one of those
 abbrev pub expecting_command : List ℕ → List (List ℕ) → Option SessionCommand
 expecting_command word words =
     if is_text (codes "expect") word then expect_command words
     else if is_text (codes "no-expect") word then option_map (λ id. no_expect id) (last_value words)
-    else None
+    else extension_command word words
 
 -- a command that prints what there is at a place and a name, or one of those
 abbrev pub print_command : List ℕ → List (List ℕ) → Option SessionCommand
@@ -254,6 +274,25 @@ abbrev pub command_of_words : List (List ℕ) → Option SessionCommand
 command_of_words [] = Some nothing
 command_of_words (word ∷ words) = command_by word words
 
--- what a line asks for, if it is one of the lines that there are: of visible octets of ASCII and spaces alone
-unfoldable pub command_of_line : List ℕ → Option SessionCommand
-command_of_line line = if list_all is_printable line then command_of_words (line_words line) else None
+-- what a line asks for by its words, whichever names the profile has: a line of visible octets of ASCII and spaces alone
+unfoldable pub command_in : List ℕ → Option SessionCommand
+command_in line = if list_all is_printable line then command_of_words (line_words line) else None
+
+-- WHAT IS ASKED FOR BY NAME
+
+-- the name that a profile needs for a command to be there; without one it always is
+abbrev pub extension_of : SessionCommand → Option Extension
+extension_of (mailboxes count) = Some extension.Mailbox
+extension_of (message_envelope id from to) = Some extension.Envelopes
+extension_of (no_message_envelope id) = Some extension.Envelopes
+extension_of _ = None
+
+abbrev pub is_there : Profile → SessionCommand → Bool
+is_there profile command = unwrap_or (option_map (has profile) (extension_of command)) true
+
+abbrev pub where_there : Profile → SessionCommand → Option SessionCommand
+where_there profile command = if is_there profile command then Some command else None
+
+-- what a line asks for, if it is one of the lines that there are under a profile
+unfoldable pub command_of_line : Profile → List ℕ → Option SessionCommand
+command_of_line profile line = option_and_then (where_there profile) (command_in line)

@@ -1,9 +1,10 @@
 //! Laws over the definitions. Each of these functions does nothing: its contract is the law.
-ghost use Rattle.std.specs.Prelude.{◌≡◌, ◌<◌, ℕ, List, Some, map, true};
+ghost use Rattle.std.specs.Prelude.{◌≡◌, ◌<◌, ℕ, List, None, Some, IfSome, map, true};
 ghost use Rattle.std.specs.List.{All, list_all};
 ghost use Rattle.sieve_base.specs.Writers.{quoted};
 ghost use Rattle.session_text.specs.LineOf.{IsLineOf, IsWord, joined};
-ghost use Rattle.session_text.specs.SessionLine.{line_words, word_value};
+ghost use Rattle.session_text.specs.SessionLine.{SessionCommand, command_of_line, extension_of, line_words, word_value};
+ghost use Rattle.sieve_profile.specs.Profile.{Profile, empty_profile, has};
 ghost use Rattle.sieve_base.specs.Octet.{is_printable};
 
 /// The quoted form of octets, as reports print it, is a word that stands for these octets.
@@ -21,4 +22,13 @@ pub fn words_stand_between_spaces()
 pub fn a_line_gives_back_its_values()
     ensures plain { (values : List (List ℕ)) → All (All (λ octet. octet < 256)) values → list_all is_printable (joined (map quoted values)) ≡ true }
     ensures values { (values : List (List ℕ)) → All (All (λ octet. octet < 256)) values → map word_value (line_words (joined (map quoted values))) ≡ map Some values }
+{}
+
+/// No line asks for what needs a name that the profile lacks. What needs none is asked for under each profile alike.
+pub fn what_needs_a_name_is_there_by_it()
+    ensures named { (profile : Profile) (line : List ℕ) → IfSome (command_of_line profile line) (λ command. IfSome (extension_of command) (λ name. has profile name ≡ true)) }
+    ensures nameless { (profile other : Profile) (line : List ℕ) (command : SessionCommand) → extension_of command ≡ None
+        → command_of_line profile line ≡ Some command → command_of_line other line ≡ Some command }
+    ensures empty { (profile : Profile) (line : List ℕ) (command : SessionCommand)
+        → command_of_line empty_profile line ≡ Some command → command_of_line profile line ≡ Some command }
 {}

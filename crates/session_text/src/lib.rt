@@ -4,6 +4,7 @@
 
 mod cutting;
 mod input;
+mod known_line;
 pub mod laws;
 mod line;
 mod payload;
@@ -11,7 +12,8 @@ mod session_line;
 mod word;
 
 pub use input::Input;
+pub use known_line::command_of_line;
 pub use line::Line;
 pub use payload::{Taken, take_octets};
-pub use session_line::{SessionCommand, command_of_line};
+pub use session_line::SessionCommand;
 pub use word::Word;

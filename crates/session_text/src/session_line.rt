@@ -1,4 +1,4 @@
-//! The lines of a session: what their words ask for. None of it takes memory.
+//! The lines of a session: what their words ask for, whichever names the profile has. None of it takes memory.
 ghost use Rattle.std.specs.Prelude.{◌≡◌, ◌<◌, None, Some, IsTrue, ◌↔◌, []};
 ghost use Rattle.std.specs.List.{list_all};
 ghost use Rattle.std.specs.Option.{option_map};
@@ -73,6 +73,20 @@ pub enum SessionCommand<'a> {
     },
     /// To expect no text of a message's verdict.
     NoExpect {
+        id: Word<'a>,
+    },
+    /// To set the list of mailboxes, which is the next `count` octets (RFC 5490). Needs `mailbox`.
+    Mailboxes {
+        count: u64,
+    },
+    /// To give a message addresses of its own. Needs `envelopes`.
+    MessageEnvelope {
+        id: Word<'a>,
+        from: Word<'a>,
+        to: Word<'a>,
+    },
+    /// To take a message's own addresses from it. Needs `envelopes`.
+    NoMessageEnvelope {
         id: Word<'a>,
     },
 }
@@ -241,6 +255,35 @@ fn dump_command(line: &[u8]) -> Option<SessionCommand<'_>>
     Some(SessionCommand::Dump { place, name })
 }
 
+/// What `message-envelope ID FROM TO` asks for, behind its first word.
+fn message_envelope_command(line: &[u8]) -> Option<SessionCommand<'_>>
+    ensures { option_map command_as result ≡ spec.message_envelope_command (spec.line_words line.now) }
+{
+    let (id, line) = next_word(line)?;
+    let (from, line) = next_word(line)?;
+    let id = Word::new(id)?;
+    let from = Word::new(from)?;
+    let to = last_value(line)?;
+    Some(SessionCommand::MessageEnvelope { id, from, to })
+}
+
+/// What a line that needs a name of the profile asks for.
+fn extension_command<'a>(word: &[u8], line: &'a [u8]) -> Option<SessionCommand<'a>>
+    ensures { option_map command_as result ≡ spec.extension_command word.now (spec.line_words line.now) }
+{
+    if is_text(word, b"mailboxes") {
+        let count = last_count(line)?;
+        Some(SessionCommand::Mailboxes { count })
+    } else if is_text(word, b"message-envelope") {
+        message_envelope_command(line)
+    } else if is_text(word, b"no-message-envelope") {
+        let id = last_value(line)?;
+        Some(SessionCommand::NoMessageEnvelope { id })
+    } else {
+        None
+    }
+}
+
 /// What a line that says what is expected of a message asks for.
 fn expecting_command<'a>(word: &[u8], line: &'a [u8]) -> Option<SessionCommand<'a>>
     ensures { option_map command_as result ≡ spec.expecting_command word.now (spec.line_words line.now) }
@@ -251,7 +294,7 @@ fn expecting_command<'a>(word: &[u8], line: &'a [u8]) -> Option<SessionCommand<'
         let id = last_value(line)?;
         Some(SessionCommand::NoExpect { id })
     } else {
-        None
+        extension_command(word, line)
     }
 }
 
@@ -332,12 +375,10 @@ fn command_by<'a>(word: &[u8], line: &'a [u8]) -> Option<SessionCommand<'a>>
     }
 }
 
-/// What a line, without its LF and the CR before it, asks for. `None` where it is none of the lines that there are: for
-/// an octet that is neither a visible one of ASCII nor a space, an unknown first word, a word that is ill quoted, too
-/// few words or too many, or a count that isn't one to nine digits. Takes no memory.
-#[tactic(auto, unfolding(crate::specs::SessionLine::command_of_line))]
-pub fn command_of_line(line: &[u8]) -> Option<SessionCommand<'_>>
-    ensures { option_map command_as result ≡ spec.command_of_line line.now }
+/// What a line asks for by its words, whichever names the profile has.
+#[tactic(auto, unfolding(crate::specs::SessionLine::command_in))]
+pub(crate) fn command_in(line: &[u8]) -> Option<SessionCommand<'_>>
+    ensures { option_map command_as result ≡ spec.command_in line.now }
 {
     if !is_plain(line) {
         return None;

@@ -51,6 +51,10 @@ address_limit = 1024
 abbrev pub mailbox_limit : ℕ
 mailbox_limit = 255
 
+-- the most octets of the list of mailboxes that there are: 2 ^ 20
+abbrev pub mailboxes_limit : ℕ
+mailboxes_limit = 1048576
+
 -- RUNS
 
 -- the most actions of a run (RFC 5228, section 2.10.4)

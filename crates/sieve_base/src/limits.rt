@@ -25,6 +25,8 @@ pub const MAX_MESSAGES: usize = 65_536;
 pub const MAX_ADDRESS: usize = 1_024;
 /// The most octets of the name of a mailbox.
 pub const MAX_MAILBOX: usize = 255;
+/// The most octets of the list of mailboxes that there are.
+pub const MAX_MAILBOXES: usize = 1_048_576;
 /// The most actions of a run.
 pub const MAX_ACTIONS: usize = 32;
 /// How many scripts may include one another below the main script.
@@ -55,6 +57,7 @@ pub fn constants_are_limits()
     ensures messages { MAX_MESSAGES ≡ spec.message_count_limit }
     ensures address { MAX_ADDRESS ≡ spec.address_limit }
     ensures mailbox { MAX_MAILBOX ≡ spec.mailbox_limit }
+    ensures mailboxes { MAX_MAILBOXES ≡ spec.mailboxes_limit }
     ensures actions { MAX_ACTIONS ≡ spec.action_limit }
     ensures depth { MAX_INCLUDE_DEPTH ≡ spec.include_depth }
     ensures includes { MAX_INCLUDES ≡ spec.include_limit }

@@ -1,26 +1,25 @@
 -- A script without a breach has nothing that isn't known.
 use Rattle.std.proofs.Common.{◌≡◌, ℕ, Bool, true, false, not, ◌&&◌, ◌||◌, List, [], ◌∷◌, map, Option, None, Some, refl, sym, ap, ◌∙◌, subst, arith}
+use Rattle.std.proofs.lemmas.Bool.{or_parts}
 use Rattle.std.proofs.lemmas.List.Elements.{All-cons}
 use Rattle.std.specs.List.{All, list_any}
 use Rattle.std.specs.Option.{option_and_then}
 use Rattle.std.specs.Prelude.{if◌then◌else◌}
-use Rattle.sieve_profile.specs.Profile.{Profile, has}
-use Rattle.sieve_profile.specs.declared.extension.Extension.TheVariants.{Unused}
+use Rattle.sieve_profile.specs.Profile.{Profile}
 use Rattle.sieve_syntax.specs.Tree.{Argument, Block, Node, Tests}
-use Rattle.sieve_check.specs.Absent.{command_lacks, is_absent_tag, lacks, row_lacks, test_lacks}
+use Rattle.sieve_check.specs.Absent.{command_lacks, comparator_lacks, is_absent_tag, lacks, row_lacks, test_lacks}
 use Rattle.sieve_check.specs.Breach.{breaches_in, breaches_of, breaks, command_breaks, test_breaks}
 use Rattle.sieve_check.specs.Context.{Context}
 use Rattle.sieve_check.specs.Element.{Element, elements_of, the_command, the_number, the_test, the_text}
-use Rattle.sieve_check.specs.Use.{has_bad_tag}
+use Rattle.sieve_check.specs.Use.{has_bad_tag, has_late_tag, has_repeated, is_other_tag}
+use Rattle.sieve_reading.specs.Label.{Expected, expected_behind, expecting, label_at, labels_from, slots_of}
 use Rattle.sieve_reading.specs.Shape.{known_labels, known_shape, known_shapes, shape_of, shapes_of}
 use Rattle.sieve_reading.specs.declared.label.Shape.{Shape}
 use Rattle.sieve_reading.specs.declared.label.Shape.TheVariants as shape
-use Rattle.sieve_table.specs.Known.{is_known_row, is_known_tag, is_shown_by_no_word, may_be_required, names_known, only_if}
-use Rattle.sieve_table.specs.Role.{has_role}
+use Rattle.sieve_table.specs.Known.{is_known_row, is_known_tag, only_if}
 use Rattle.sieve_table.specs.Table.{Row, command_named, command_row, test_named, test_row}
-use Rattle.sieve_table.specs.declared.row.Role.TheVariants.{Capabilities}
 use Rattle.sieve_table.specs.declared.rule.Rule.{Rule}
-use Rattle.sieve_table.specs.declared.rule.Rule.TheVariants.{BadTag, UnknownCapability, UnknownCommand}
+use Rattle.sieve_table.specs.declared.rule.Rule.TheVariants.{BadTag, UnknownCapability, UnknownCommand, UnknownComparator}
 use Rattle.sieve_table.specs.declared.table.CommandKind.{CommandKind}
 use Rattle.sieve_table.specs.declared.table.Tag.{Tag}
 use Rattle.sieve_table.specs.declared.table.TestKind.{TestKind}
@@ -32,33 +31,38 @@ use Rattle.sieve_check.proofs.Unbroken.{keeps, none_in_front}
 module _ (p : Profile) where
   -- TAGS
 
-  tag_there : (t : Tag) (known : Bool) → is_known_tag p t ≡ known → is_absent_tag p (shape.Tag (if known then Some t else None)) ≡ false
-  tag_there t true is = ap not is
-  tag_there t false is = refl
+  tag_there : (expected : Expected) (t : Tag) (known : Bool) → is_known_tag p t ≡ known → is_other_tag (label_at expected (shape.Tag (if known then Some t else None))) ≡ false → is_absent_tag p (shape.Tag (if known then Some t else None)) ≡ false
+  tag_there expected t true is taken = ap not is
+  tag_there expected t false is taken = absurd (never_both taken)
 
-  shape_there : (s : Shape) → is_absent_tag p (known_shape p s) ≡ false
-  shape_there shape.Text = refl
-  shape_there shape.Texts = refl
-  shape_there shape.Number = refl
-  shape_there (shape.Tag None) = refl
-  shape_there (shape.Tag (Some t)) = tag_there t (is_known_tag p t) refl
+  shape_there : (expected : Expected) (s : Shape) → is_other_tag (label_at expected (known_shape p s)) ≡ false → is_absent_tag p (known_shape p s) ≡ false
+  shape_there expected shape.Text taken = refl
+  shape_there expected shape.Texts taken = refl
+  shape_there expected shape.Number taken = refl
+  shape_there expected (shape.Tag None) taken = absurd (never_both taken)
+  shape_there expected (shape.Tag (Some t)) taken = tag_there expected t (is_known_tag p t) refl taken
 
-  shapes_there : (row : Row) (args : List Argument) → list_any (is_absent_tag p) (known_shapes p row.tags args) ≡ false
-  shapes_there row [] = refl
-  shapes_there row (a ∷ args) =
-      ap (λ b. b || list_any (is_absent_tag p) (known_shapes p row.tags args)) (shape_there (shape_of row.tags a)) ∙ shapes_there row args
+  -- where no argument is a tag that isn't taken
+  shapes_there : (tags : List Tag) (args : List Argument) (expected : Expected) → list_any is_other_tag (labels_from expected (known_shapes p tags args)) ≡ false → list_any (is_absent_tag p) (known_shapes p tags args) ≡ false
+  shapes_there tags [] expected taken = refl
+  shapes_there tags (a ∷ args) expected taken =
+      let seen = known_shape p (shape_of tags a) in
+      let parts = or_parts (is_other_tag (label_at expected seen)) (list_any is_other_tag (labels_from (expected_behind expected seen) (known_shapes p tags args))) taken in
+      ap (λ b. b || list_any (is_absent_tag p) (known_shapes p tags args)) (shape_there expected (shape_of tags a) parts.0)
+      ∙ shapes_there tags args (expected_behind expected seen) parts.1
 
   row_there : (row : Row) (args : List Argument) → is_known_row p row ≡ true → has_bad_tag (known_labels p row args) ≡ false → row_lacks p row args ≡ false
   row_there row args known fine =
       ap (λ b. not b || list_any (is_absent_tag p) (shapes_of row.tags args)) known
       ∙ ap (list_any (is_absent_tag p)) (sym (row_known p row args fine))
-      ∙ shapes_there row args
+      ∙ shapes_there row.tags args (expecting (slots_of row (known_shapes p row.tags args)))
+      (or_parts (list_any is_other_tag (known_labels p row args)) (has_repeated (known_labels p row args) || has_late_tag (known_labels p row args)) fine).0
 
   -- COMMANDS AND TESTS
 
   command_there : (c : Context) (k : Option CommandKind) (args : List Argument) (ts : Tests) (ending : Block)
       → ((rule : Rule) → command_breaks (under p c) (option_and_then (only_if (λ kind. is_known_row p (command_row kind))) k) args ts ending rule ≡ false) → command_lacks p k args ≡ false
-  command_there c None args ts ending unbroken = refl
+  command_there c None args ts ending unbroken = absurd (never_both (unbroken UnknownCommand))
   command_there c (Some kind) args ts ending unbroken = by_known (is_known_row p (command_row kind)) refl unbroken
     where
       by_known : (known : Bool) → is_known_row p (command_row kind) ≡ known → ((rule : Rule) → command_breaks (under p c) (if known then Some kind else None) args ts ending rule ≡ false) → row_lacks p (command_row kind) args ≡ false
@@ -67,31 +71,21 @@ module _ (p : Profile) where
 
   test_there : (c : Context) (k : Option TestKind) (args : List Argument) (ts : Tests)
       → ((rule : Rule) → test_breaks (under p c) (option_and_then (only_if (λ kind. is_known_row p (test_row kind))) k) args ts rule ≡ false) → test_lacks p k args ≡ false
-  test_there c None args ts unbroken = refl
+  test_there c None args ts unbroken = absurd (never_both (unbroken UnknownCommand))
   test_there c (Some kind) args ts unbroken = by_known (is_known_row p (test_row kind)) refl unbroken
     where
       by_known : (known : Bool) → is_known_row p (test_row kind) ≡ known → ((rule : Rule) → test_breaks (under p c) (if known then Some kind else None) args ts rule ≡ false) → row_lacks p (test_row kind) args ≡ false
       by_known true is unbroken = row_there (test_row kind) args is (unbroken BadTag)
       by_known false is unbroken = absurd (never_both (unbroken UnknownCommand))
 
-  -- CAPABILITIES
-
-  text_there : (r l u : Bool) (name : List ℕ) → has p Unused ≡ u → (r && (l && not (may_be_required p name))) ≡ false → (r && (l && (not (has p Unused) && not (names_known p name)))) ≡ false
-  text_there false l u name is fine = refl
-  text_there true false u name is fine = refl
-  text_there true true true name is fine = ap (λ b. not b && not (names_known p name)) is
-  text_there true true false name is fine =
-      ap (λ b. not b && not (names_known p name)) is
-      ∙ by_names (names_known p name) (is_shown_by_no_word name) (ap (λ b. not (names_known p name || (b && not (is_shown_by_no_word name)))) (sym is) ∙ fine)
-    where
-      by_names : (k n : Bool) → not (k || (false && not n)) ≡ false → not k ≡ false
-      by_names true n e = refl
-      by_names false n e = e
+  -- CAPABILITIES AND COMPARATORS
 
   element_there : (e : Element) → ((rule : Rule) → breaks (reprofiled p e) rule ≡ false) → lacks p (reprofiled p e) ≡ false
   element_there (the_command c name line args ts ending) unbroken = command_there c (command_named name) args ts ending unbroken
   element_there (the_test c name line args ts) unbroken = test_there c (test_named name) args ts unbroken
-  element_there (the_text c role text) unbroken = text_there (has_role Capabilities role) c.leads (has p Unused) text.string refl (unbroken UnknownCapability)
+  element_there (the_text c role text) unbroken =
+      ap (λ b. b || comparator_lacks role text.string) (unbroken UnknownCapability)
+      ∙ unbroken UnknownComparator
   element_there (the_number value line) unbroken = refl
 
   all_there : (es : List Element) → breaches_in (map (reprofiled p) es) ≡ [] → All (λ e. lacks p e ≡ false) (map (reprofiled p) es)

@@ -3,8 +3,8 @@ use Rattle.std.proofs.Common.{◌≡◌, true, List, refl, ap, ◌∙◌}
 use Rattle.match_text.specs.Comparator.{collation_named}
 use Rattle.sieve_check.specs.Asked.{AreAlike, asked_by_command, asked_by_test, changing_flags, comparing, gives_all}
 use Rattle.sieve_reading.specs.CommandReading as commands
-use Rattle.sieve_reading.specs.Given.{address_part_of, collation_or_casemap, given_texts, has_tag, in_role, match_type_of, tags_of}
-use Rattle.sieve_reading.specs.Reading.{ValueSource, address_values, compares, envelope_values, exists_ask, fileinto_leaf, flag_leaf, flag_values, header_values, include_leaf, keep_leaf, reads_act, reads_ask, redirect_leaf, set_leaf, string_values}
+use Rattle.sieve_reading.specs.Given.{address_part_of, collation_or_casemap, given_text, given_texts, has_tag, in_role, match_type_of, tags_of}
+use Rattle.sieve_reading.specs.Reading.{ValueSource, address_values, compares, envelope_values, exists_ask, fileinto_leaf, flag_leaf, flag_values, header_values, include_leaf, keep_leaf, mailboxes_ask, reads_act, reads_ask, redirect_leaf, set_leaf, string_values}
 use Rattle.sieve_reading.specs.TestReading as tests
 use Rattle.sieve_reading.specs.Tree.{Argument}
 use Rattle.sieve_reading.specs.declared.label.Label.{Label}
@@ -52,9 +52,12 @@ module _ (labels others : List Label) (args arguments : List Argument) (same_tag
   tests_alike test.False alike = refl
   tests_alike test.String alike = compare_alike _ _ (ap string_values alike.0) alike.1
   tests_alike test.HasFlag alike = compare_alike _ _ (ap flag_values alike.0) alike.1
+  tests_alike test.MailboxExists alike = ap (λ names. reads_ask (mailboxes_ask names)) alike.0
+  tests_alike test.Duplicate alike = refl
 
-  settings_alike : given_texts (in_role role.Flags labels args) ≡ given_texts (in_role role.Flags others arguments) → commands.settings_by labels args ≡ commands.settings_by others arguments
-  settings_alike alike = two (λ t flags. record { flags = flags; copy = has_tag tag_kind.Copy t }) same_tags alike
+  settings_alike : given_texts (in_role role.Flags labels args) ≡ given_texts (in_role role.Flags others arguments) → given_text (in_role role.Text labels args) ≡ given_text (in_role role.Text others arguments)
+      → commands.settings_by labels args ≡ commands.settings_by others arguments
+  settings_alike flags special_use = three (λ t f u. record { flags = f; copy = has_tag tag_kind.Copy t; create = has_tag tag_kind.Create t; special_use = u }) same_tags flags special_use
 
   flags_alike : (how : FlagChange) → AreAlike changing_flags labels others args arguments → reads_act (commands.flags_by how labels args) ≡ reads_act (commands.flags_by how others arguments)
   flags_alike how alike = two (λ variable flags. reads_act (flag_leaf how variable flags)) alike.0 alike.1.0
@@ -64,9 +67,9 @@ module _ (labels others : List Label) (args arguments : List Argument) (same_tag
   commands_alike command.If alike = refl
   commands_alike command.Elsif alike = refl
   commands_alike command.Else alike = refl
-  commands_alike command.Keep alike = ap (λ s. reads_act (keep_leaf s)) (settings_alike alike.0)
-  commands_alike command.Fileinto alike = two (λ mailbox s. reads_act (fileinto_leaf mailbox s)) alike.0 (settings_alike alike.1.0)
-  commands_alike command.Redirect alike = two (λ address s. reads_act (redirect_leaf address s)) alike.0 (settings_alike alike.1.0)
+  commands_alike command.Keep alike = ap (λ s. reads_act (keep_leaf s)) (settings_alike alike.0 alike.1.0)
+  commands_alike command.Fileinto alike = two (λ mailbox s. reads_act (fileinto_leaf mailbox s)) alike.0 (settings_alike alike.1.0 alike.1.1.0)
+  commands_alike command.Redirect alike = two (λ address s. reads_act (redirect_leaf address s)) alike.0 (settings_alike alike.1.0 alike.1.1.0)
   commands_alike command.Discard alike = refl
   commands_alike command.Stop alike = refl
   commands_alike command.Set alike = three (λ variable t value. reads_act (set_leaf variable (commands.modifiers_of t) value)) alike.0 same_tags alike.1.0

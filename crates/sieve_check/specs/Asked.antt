@@ -1,9 +1,9 @@
 -- Which arguments the reading of a command or a test asks for (RFC 5228, sections 4 and 5; RFC 5229, sections 4 and 5; RFC 5232, sections 3 to
--- 5; RFC 6609, section 3).
+-- 5; RFC 6609, section 3; RFC 5490, section 3; RFC 8579, section 4).
 use Rattle.std.specs.Prelude.{◌≡◌, Bool, true, false, not, ◌&&◌, List, [], ◌∷◌, ◌++◌, Option, Some, None}
 use Rattle.std.specs.List.{filter, flat_map, list_all, list_any}
 use denote.Enum.Bare.{sameb}
-use Rattle.sieve_reading.specs.Given.{given_texts, given_variable, in_role, literal_in, number_in, text_in, texts_in, variable_in}
+use Rattle.sieve_reading.specs.Given.{given_text, given_texts, given_variable, in_role, literal_in, number_in, text_in, texts_in, variable_in}
 use Rattle.sieve_reading.specs.Tree.{Argument}
 use Rattle.sieve_reading.specs.declared.label.Label.{Label}
 use Rattle.sieve_table.specs.Role.{is_expanded, names_variable, same_role}
@@ -66,6 +66,9 @@ asked_by_test test.True = []
 asked_by_test test.False = []
 asked_by_test test.String = must texts role.Text ∷ comparing
 asked_by_test test.HasFlag = may variables role.NamesToRead ∷ comparing
+asked_by_test test.MailboxExists = must texts role.Mailbox ∷ []
+-- by what a message would be known that came before is not asked, since none came (RFC 7352, section 3)
+asked_by_test test.Duplicate = []
 
 -- a command that changes flags
 abbrev pub changing_flags : List Asked
@@ -76,9 +79,9 @@ asked_by_command command.Require = []
 asked_by_command command.If = []
 asked_by_command command.Elsif = []
 asked_by_command command.Else = []
-asked_by_command command.Keep = may texts role.Flags ∷ []
-asked_by_command command.Fileinto = must one_text role.Mailbox ∷ may texts role.Flags ∷ []
-asked_by_command command.Redirect = must one_text role.Address ∷ never_is texts role.Flags ∷ []
+asked_by_command command.Keep = may texts role.Flags ∷ never_is one_text role.Text ∷ []
+asked_by_command command.Fileinto = must one_text role.Mailbox ∷ may texts role.Flags ∷ may one_text role.Text ∷ []
+asked_by_command command.Redirect = must one_text role.Address ∷ never_is texts role.Flags ∷ never_is one_text role.Text ∷ []
 asked_by_command command.Discard = []
 asked_by_command command.Stop = []
 asked_by_command command.Set = must one_variable role.NameToSet ∷ must one_text role.Text ∷ []
@@ -150,7 +153,9 @@ abbrev pub ReadsSame : Sort → Presence → (argument other : Option Argument) 
 ReadsSame texts always argument other = texts_in argument ≡ texts_in other
 ReadsSame texts perhaps argument other = given_texts argument ≡ given_texts other
 ReadsSame texts never argument other = given_texts argument ≡ given_texts other
-ReadsSame one_text presence argument other = text_in argument ≡ text_in other
+ReadsSame one_text always argument other = text_in argument ≡ text_in other
+ReadsSame one_text perhaps argument other = given_text argument ≡ given_text other
+ReadsSame one_text never argument other = given_text argument ≡ given_text other
 ReadsSame one_literal presence argument other = literal_in argument ≡ literal_in other
 ReadsSame variables presence argument other = given_texts argument ≡ given_texts other
 ReadsSame one_variable always argument other = variable_in argument ≡ variable_in other

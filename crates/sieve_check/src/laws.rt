@@ -95,8 +95,8 @@ pub fn without_a_breach_no_rule_is_broken()
     ensures { (profile : Profile) (tree : List Node) → first_breach profile tree ≡ None → All (λ e. (rule : Rule) → breaks e rule ≡ false) (elements_of profile tree) }
 {}
 
-/// A script without a breach has no command, test or tag that needs a capability which isn't known by the profile, and without `unused` no leading
-/// `require` names one. So by the empty profile it has only what each bench knows.
+/// A script without a breach has no command, test, tag or comparator that isn't known by the profile, be it known by another or by none, and no leading
+/// `require` names what may not be required. So by the empty profile it has only what each bench knows.
 pub fn what_is_not_known_is_in_no_script()
     ensures { (profile : Profile) (tree : List Node) → breaches_of profile tree ≡ [] → All (λ e. lacks profile e ≡ false) (elements_of profile tree) }
 {}

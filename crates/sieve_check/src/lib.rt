@@ -8,6 +8,7 @@ mod context;
 mod cutting;
 mod judged;
 pub mod laws;
+pub mod profile_laws;
 mod role;
 mod scope;
 mod test_rules;

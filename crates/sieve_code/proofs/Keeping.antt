@@ -10,7 +10,7 @@ use Rattle.sieve_variables.specs.Part.{Part}
 use Rattle.sieve_code.specs.declared.op.PackedSettings.{PackedSettings}
 use Rattle.sieve_code.specs.declared.op.PackedTest.{PackedTest}
 use Rattle.sieve_code.specs.declared.pools.Target.{Target}
-use Rattle.sieve_code.specs.Pool.{Grows, Keeps, Kept, Pool, given_list, given_variable, no_pool, no_test, nowhere, packed_in, plain_packed, plus, test_in}
+use Rattle.sieve_code.specs.Pool.{Grows, Keeps, Kept, Pool, given_list, given_string, given_variable, no_pool, no_test, nowhere, packed_in, plain_packed, plus, test_in}
 use Rattle.sieve_code.specs.Operation.{Operation}
 use Rattle.sieve_code.specs.view.Op.{is_plain, op_in, plain_as}
 use Rattle.sieve_code.specs.declared.op.Op.{Op}
@@ -139,6 +139,12 @@ given_kept p q place texts below kept = record {
   keeps = λ more. ap (λ b. if b then None else Some (list_in (plus q more).lists place)) (somewhere place below) ∙ ap Some (kept.keeps more);
 }
 
+pub given_string_kept : (p q : Pool) (place : ℕ) (string : List Part) → place < nowhere → Kept p q (λ r. get_or r.strings place []) string → Kept p q (λ r. given_string r place) (Some string)
+given_string_kept p q place string below kept = record {
+  grows = kept.grows;
+  keeps = λ more. ap (λ b. if b then None else Some (get_or (plus q more).strings place [])) (somewhere place below) ∙ ap Some (kept.keeps more);
+}
+
 pub variable_kept : (p q : Pool) (place : ℕ) (target : Target) → place < nowhere → Kept p q (λ r. slice_get r.targets place) (Some target) → Kept p q (λ r. given_variable r place) (Some target.variable)
 variable_kept p q place target below kept = record {
   grows = kept.grows;
@@ -165,6 +171,8 @@ plain_in pool (op.Compares test values keys) plain = absurd (no_plain plain)
 plain_in pool (op.Exists names) plain = absurd (no_plain plain)
 plain_in pool (op.Over limit) plain = absurd (no_plain plain)
 plain_in pool (op.Under limit) plain = absurd (no_plain plain)
+plain_in pool (op.MailboxExists names) plain = absurd (no_plain plain)
+plain_in pool op.Duplicate plain = absurd (no_plain plain)
 plain_in pool (op.Keep line settings) plain = absurd (no_plain plain)
 plain_in pool (op.Fileinto line mailbox settings) plain = absurd (no_plain plain)
 plain_in pool (op.Redirect line address settings) plain = absurd (no_plain plain)

@@ -8,7 +8,7 @@ use Rattle.sieve_base.specs.Writers.{quoted}
 use Rattle.sieve_base.specs.declared.place.Place.{Place}
 use Rattle.message_text.specs.declared.addressing.AddressPart.{AddressPart}
 use Rattle.message_text.specs.declared.addressing.AddressPart.TheVariants as address_part
-use Rattle.sieve_reading.specs.Reading.{header_values, address_values, envelope_values, string_values, flag_values, ValueSource, Ask, compares, exists_ask, over_ask, under_ask, Settings, Leaf, keep_leaf, fileinto_leaf, redirect_leaf, discard_leaf, set_leaf, flag_leaf, include_leaf}
+use Rattle.sieve_reading.specs.Reading.{header_values, address_values, envelope_values, string_values, flag_values, ValueSource, Ask, compares, exists_ask, over_ask, under_ask, mailboxes_ask, duplicate_ask, Settings, Leaf, keep_leaf, fileinto_leaf, redirect_leaf, discard_leaf, set_leaf, flag_leaf, include_leaf}
 use Rattle.sieve_reading.specs.declared.reading.Comparison.{Comparison}
 use Rattle.sieve_reading.specs.declared.reading.FlagChange.{FlagChange}
 use Rattle.sieve_reading.specs.declared.reading.FlagChange.TheVariants as change
@@ -95,6 +95,8 @@ ask_text (compares source comparison keys) = source_text source comparison ++ fu
 ask_text (exists_ask names) = codes "exists " ++ list_text names
 ask_text (over_ask limit) = codes "size over " ++ decimal limit
 ask_text (under_ask limit) = codes "size under " ++ decimal limit
+ask_text (mailboxes_ask names) = codes "mailboxexists " ++ list_text names
+ask_text duplicate_ask = codes "duplicate"
 
 -- a string behind a command's word
 unfoldable pub worded_text : List ℕ → List Part → List ℕ
@@ -114,9 +116,26 @@ given_word true word = word
 unfoldable pub copy_word : Bool → List ℕ
 copy_word copy = given_word copy (codes " copy")
 
+-- the word that says that a mailbox is made which isn't there
+unfoldable pub create_word : Bool → List ℕ
+create_word create = given_word create (codes " create")
+
+-- the use of the mailbox to store into, where one is named
+unfoldable pub use_words : Option (List Part) → List ℕ
+use_words None = []
+use_words (Some special_use) = codes " special-use " ++ string_text special_use
+
+-- what a command says of the mailbox that it stores into
+unfoldable pub filing_words : Settings → List ℕ
+filing_words settings = create_word settings.create ++ use_words settings.special_use
+
+-- what a command says of the store, beside its flags
+unfoldable pub store_words : Settings → List ℕ
+store_words settings = filing_words settings ++ copy_word settings.copy
+
 -- what a command that stores says beside
 unfoldable pub stored_text : Settings → List ℕ
-stored_text settings = stored_flags settings.flags ++ copy_word settings.copy
+stored_text settings = stored_flags settings.flags ++ store_words settings
 
 -- what a command says beside, behind its word
 unfoldable pub worded_settings : List ℕ → Settings → List ℕ

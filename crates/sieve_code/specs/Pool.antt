@@ -43,9 +43,12 @@ plus pool more = record {
 abbrev pub nowhere : ℕ
 nowhere = 4294967295
 
--- a list that may be left out, and the variable of a target that may be left out
+-- a list, a string, and the variable of a target, each of which may be left out
 abbrev pub given_list : Pool → ℕ → Option (List (List Part))
 given_list pool place = if place == nowhere then None else Some (list_in pool.lists place)
+
+abbrev pub given_string : Pool → ℕ → Option (List Part)
+given_string pool place = if place == nowhere then None else Some (slice_index_or pool.strings place [])
 
 abbrev pub given_variable : Pool → ℕ → Option Variable
 given_variable pool place = if place == nowhere then None else option_map (λ target. target.variable) (slice_get pool.targets place)
@@ -59,13 +62,13 @@ test_in pool place = slice_index_or pool.tests place no_test
 
 -- what a command that stores or redirects says beside its strings; a plain one says nothing
 abbrev pub plain_packed : PackedSettings
-plain_packed = record { flags = nowhere; copy = false }
+plain_packed = record { flags = nowhere; copy = false; create = false; special_use = nowhere }
 
 abbrev pub packed_in : Pool → ℕ → PackedSettings
 packed_in pool place = if place == nowhere then plain_packed else slice_index_or pool.settings place plain_packed
 
 abbrev pub unpacked : Pool → PackedSettings → Settings
-unpacked pool packed = record { flags = given_list pool packed.flags; copy = packed.copy }
+unpacked pool packed = record { flags = given_list pool packed.flags; copy = packed.copy; create = packed.create; special_use = given_string pool packed.special_use }
 
 abbrev pub settings_in : Pool → ℕ → Settings
 settings_in pool place = unpacked pool (packed_in pool place)

@@ -7,7 +7,7 @@ ghost use Rattle.sieve_effects.specs.view.Ops.{settings_op_as, source_op_as};
 ghost use Rattle.sieve_code.specs.Choice.{AllGoForward};
 ghost use Rattle.sieve_code.specs.Compiles.{IsCode};
 ghost use Rattle.sieve_code.specs.Dump.{line_at};
-ghost use Rattle.sieve_code.specs.Pool.{given_list, given_variable, no_test, packed_in, plain_packed, settings_in, test_in};
+ghost use Rattle.sieve_code.specs.Pool.{given_list, given_string, given_variable, no_test, packed_in, plain_packed, settings_in, test_in};
 ghost use Rattle.sieve_code.specs.view.Op.{ops_in, source_in};
 ghost use Rattle.sieve_code.specs.view.Pools.{pool_as};
 
@@ -50,6 +50,8 @@ fn plain_packed() -> PackedSettings
     PackedSettings {
         flags: NOWHERE,
         copy: false,
+        create: false,
+        special_use: NOWHERE,
     }
 }
 
@@ -83,6 +85,17 @@ impl Code {
         ensures { result.now ≡ slice_index_or (pool_of self.now).strings place [] }
     {
         self.pools.strings.get(place as usize)
+    }
+
+    /// The string at a place, where one is given. Takes no memory.
+    fn given_string(&self, place: u32) -> Option<&[Part]>
+        ensures { option_copied result ≡ given_string (pool_of self.now) place }
+    {
+        if place == NOWHERE {
+            None
+        } else {
+            Some(self.string(place))
+        }
     }
 
     /// The list at a place. Takes no memory.
@@ -166,6 +179,8 @@ impl Code {
         SettingsOp {
             flags: self.given(packed.flags),
             copy: packed.copy,
+            create: packed.create,
+            special_use: self.given_string(packed.special_use),
         }
     }
 

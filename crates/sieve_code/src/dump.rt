@@ -3,7 +3,7 @@ ghost use Rattle.std.specs.Prelude.{◌++◌, codes, decimal};
 ghost use Rattle.sieve_base.specs.Writers.{Writes};
 ghost use Rattle.sieve_reading.specs.Reading.{discard_leaf};
 ghost use Rattle.sieve_code.specs.Dump.{at_line, leaf_text, line_text, operation_text};
-ghost use Rattle.sieve_code.specs.declared.op.Op.TheVariants.{Compares, Fileinto, Flags, Include, Keep, Redirect, Set};
+ghost use Rattle.sieve_code.specs.declared.op.Op.TheVariants.{Compares, Fileinto, Flags, Include, Keep, MailboxExists, Redirect, Set};
 ghost use Rattle.sieve_code.specs.view.Code.{jump_place_of, op_of};
 
 use crate::code::Code;
@@ -31,6 +31,14 @@ fn write_matching<W: Sink>(
     let test = code.test(test);
     let source = code.source(test.source, values);
     write_compares(&source, test.comparison, &code.list(keys), writer)
+}
+
+/// Writes a test that asks for mailboxes.
+#[tactic(auto, unfolding(crate::specs::Dump::operation_text, crate::specs::Dump::ask_text))]
+fn write_mailboxes<W: Sink>(code: &Code, names: u32, writer: &mut W) -> Result<(), WriteFault>
+    ensures { Writes W.contents W.fault_count result writer.old writer.new (operation_text (op_of code.now (MailboxExists names))) }
+{
+    write_list(b"mailboxexists ", &code.list(names), writer)
 }
 
 /// Writes a jump of this word.
@@ -167,6 +175,8 @@ fn write_op<W: Sink>(code: &Code, op: Op, writer: &mut W) -> Result<(), WriteFau
         Op::Exists { names } => write_list(b"exists ", code.names(names).strings(), writer),
         Op::Over { limit } => write_number(b"size over ", limit, writer),
         Op::Under { limit } => write_number(b"size under ", limit, writer),
+        Op::MailboxExists { names } => write_mailboxes(code, names, writer),
+        Op::Duplicate => write_out(b"duplicate", writer),
         Op::Jump(left) => write_jump(b"jump ", code, left, writer),
         Op::JumpIfFalse(left) => write_jump(b"jump-if-false ", code, left, writer),
         Op::JumpIfTrue(left) => write_jump(b"jump-if-true ", code, left, writer),

@@ -45,13 +45,50 @@ fn write_copy<W: Sink>(settings: &SettingsOp<'_>, writer: &mut W) -> Result<(), 
     write_out(given_word(settings.copy, b" copy"), writer)
 }
 
+/// Writes that a mailbox is made which isn't there, where a command says so.
+#[tactic(auto, unfolding(crate::specs::Dump::create_word))]
+fn write_create<W: Sink>(settings: &SettingsOp<'_>, writer: &mut W) -> Result<(), WriteFault>
+    ensures { Writes W.contents W.fault_count result writer.old writer.new (spec.create_word (settings_op_as settings.now).create) }
+{
+    write_out(given_word(settings.create, b" create"), writer)
+}
+
+/// Writes the use of the mailbox to store into, where a command names one.
+#[tactic(auto, unfolding(crate::specs::Dump::use_words))]
+fn write_use<W: Sink>(settings: &SettingsOp<'_>, writer: &mut W) -> Result<(), WriteFault>
+    ensures { Writes W.contents W.fault_count result writer.old writer.new (spec.use_words (settings_op_as settings.now).special_use) }
+{
+    match settings.special_use {
+        Some(special_use) => write_string(b" special-use ", special_use, writer),
+        None => write_out(b"", writer),
+    }
+}
+
+/// Writes what a command says of the mailbox that it stores into.
+#[tactic(auto, using(sieve_base::proofs::Writing::writing), unfolding(crate::specs::Dump::filing_words))]
+fn write_filing_words<W: Sink>(settings: &SettingsOp<'_>, writer: &mut W) -> Result<(), WriteFault>
+    ensures { Writes W.contents W.fault_count result writer.old writer.new (spec.filing_words (settings_op_as settings.now)) }
+{
+    write_create(settings, writer)?;
+    write_use(settings, writer)
+}
+
+/// Writes what a command says of the store, beside its flags.
+#[tactic(auto, using(sieve_base::proofs::Writing::writing), unfolding(crate::specs::Dump::store_words))]
+fn write_store_words<W: Sink>(settings: &SettingsOp<'_>, writer: &mut W) -> Result<(), WriteFault>
+    ensures { Writes W.contents W.fault_count result writer.old writer.new (spec.store_words (settings_op_as settings.now)) }
+{
+    write_filing_words(settings, writer)?;
+    write_copy(settings, writer)
+}
+
 /// Writes what a command that stores says beside.
 #[tactic(auto, using(sieve_base::proofs::Writing::writing), unfolding(crate::specs::Dump::stored_text))]
 fn write_stored<W: Sink>(settings: &SettingsOp<'_>, writer: &mut W) -> Result<(), WriteFault>
     ensures { Writes W.contents W.fault_count result writer.old writer.new (spec.stored_text (settings_op_as settings.now)) }
 {
     write_stored_flags(settings, writer)?;
-    write_copy(settings, writer)
+    write_store_words(settings, writer)
 }
 
 /// Writes a command's word and then what it says beside.

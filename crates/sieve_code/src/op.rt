@@ -38,6 +38,10 @@ pub(crate) struct PackedSettings {
     pub(crate) flags: u32,
     /// Whether the implicit keep stays as it is (RFC 3894, section 3).
     pub(crate) copy: bool,
+    /// Whether a mailbox that isn't there is to be made (RFC 5490, section 3.2).
+    pub(crate) create: bool,
+    /// The place of the use of a mailbox, if one is named (RFC 8579, section 4).
+    pub(crate) special_use: u32,
 }
 
 /// What an `include` says (RFC 6609, section 3.2).
@@ -90,6 +94,13 @@ pub enum Op {
         /// The number of octets.
         limit: u64,
     },
+    /// Sets it to whether all named mailboxes are there (RFC 5490, section 3.1).
+    MailboxExists {
+        /// The place of the names.
+        names: u32,
+    },
+    /// Sets it to whether the message came before (RFC 7352, section 3).
+    Duplicate,
     /// Goes on so many operations in front of the end.
     Jump(usize),
     /// Goes on there where the register is false, and else behind this operation.

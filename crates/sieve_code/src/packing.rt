@@ -1,6 +1,6 @@
 //! The operations of tests that ask and of commands that act, with what they say in pools.
 ghost use Rattle.std.specs.Prelude.{◌≡◌, IfOk};
-ghost use Rattle.sieve_reading.specs.Reading.{compares, exists_ask, fileinto_leaf, flag_leaf, include_leaf, keep_leaf, redirect_leaf, set_leaf};
+ghost use Rattle.sieve_reading.specs.Reading.{compares, exists_ask, fileinto_leaf, flag_leaf, include_leaf, keep_leaf, mailboxes_ask, redirect_leaf, set_leaf};
 ghost use Rattle.sieve_reading.specs.view.Reading.{ask_as, leaf_as, settings_as, source_as, texts_as};
 ghost use Rattle.sieve_code.specs.Operation.{act_op, test_op};
 ghost use Rattle.sieve_code.specs.Pool.{Kept};
@@ -66,6 +66,14 @@ impl Pools {
         Ok(Op::Compares { test, values, keys })
     }
 
+    /// The operation of a `mailboxexists`.
+    fn pack_mailboxes(&mut self, names: Vec<Text>) -> Result<Op, AllocError>
+        ensures { IfOk result (λ op. Kept (pool_as self.old) (pool_as self.new) (λ p. op_in p op) (test_op (mailboxes_ask (texts_as names.items)))) }
+    {
+        let names = self.keep_list(names)?;
+        Ok(Op::MailboxExists { names })
+    }
+
     /// The operation of a test that asks.
     pub(crate) fn pack_ask(&mut self, ask: Ask) -> Result<Op, AllocError>
         ensures { IfOk result (λ op. Kept (pool_as self.old) (pool_as self.new) (λ p. op_in p op) (test_op (ask_as ask))) }
@@ -79,6 +87,8 @@ impl Pools {
             Ask::Exists { names } => self.pack_exists(names),
             Ask::Over { limit } => Ok(Op::Over { limit }),
             Ask::Under { limit } => Ok(Op::Under { limit }),
+            Ask::MailboxExists { names } => self.pack_mailboxes(names),
+            Ask::Duplicate => Ok(Op::Duplicate),
         }
     }
 

@@ -5,7 +5,7 @@ ghost use Rattle.std.specs.Option.{option_map};
 ghost use Rattle.sieve_reading.specs.Reading.{plain_settings};
 ghost use Rattle.sieve_reading.specs.view.Reading.{settings_as, texts_as};
 ghost use Rattle.sieve_effects.specs.Joined.{list_in};
-ghost use Rattle.sieve_code.specs.Pool.{Kept, given_list, given_variable, no_pool, packed_in, settings_in, test_in};
+ghost use Rattle.sieve_code.specs.Pool.{Kept, given_list, given_string, given_variable, no_pool, packed_in, settings_in, test_in};
 ghost use Rattle.sieve_code.specs.view.Pools.{pool_as};
 
 use crate::op::{NOWHERE, PackedSettings, PackedTest};
@@ -60,9 +60,9 @@ fn unmodified() -> Modifiers {
 fn are_plain(settings: &Settings) -> bool
     ensures { result ≡ true → settings_as settings.now ≡ plain_settings }
 {
-    match settings.flags {
-        Some(_) => false,
-        None => !settings.copy,
+    match (&settings.flags, &settings.special_use) {
+        (None, None) => !settings.copy && !settings.create,
+        (_, _) => false,
     }
 }
 
@@ -97,11 +97,25 @@ impl Pools {
 
     /// Keeps a string. Answers its place.
     pub(crate) fn keep_string(&mut self, string: Parts) -> Result<u32, AllocError>
-        ensures { IfOk result (λ place. Kept (pool_as self.old) (pool_as self.new) (λ p. slice_index_or p.strings place []) string) }
+        ensures string { IfOk result (λ place. Kept (pool_as self.old) (pool_as self.new) (λ p. slice_index_or p.strings place []) string) }
+        ensures given { IfOk result (λ place. place < 4294967295) }
     {
         let place = place_of(self.strings.len())?;
         self.strings.push(string)?;
         Ok(place)
+    }
+
+    /// Keeps a string that may be left out. Answers its place.
+    fn keep_given_string(&mut self, string: Option<Parts>) -> Result<u32, AllocError>
+        ensures { IfOk result (λ place. Kept (pool_as self.old) (pool_as self.new) (λ p. given_string p place) string) }
+    {
+        match string {
+            Some(string) => {
+                let place = self.keep_string(string)?;
+                Ok(place)
+            }
+            None => Ok(NOWHERE),
+        }
     }
 
     /// Keeps a list. Answers its place.
@@ -181,7 +195,7 @@ impl Pools {
         Ok(place)
     }
 
-    /// Keeps what a command says beside its mailbox or its address, whose flags lie at their place. Answers its place.
+    /// Keeps what a command says beside its mailbox or its address, whose strings lie at their places. Answers its place.
     fn put_settings(&mut self, settings: PackedSettings) -> Result<u32, AllocError>
         ensures { IfOk result (λ place. Kept (pool_as self.old) (pool_as self.new) (λ p. packed_in p place) settings) }
     {
@@ -198,7 +212,14 @@ impl Pools {
             return Ok(NOWHERE);
         }
         let copy = settings.copy;
+        let create = settings.create;
         let flags = self.keep_given(settings.flags)?;
-        self.put_settings(PackedSettings { flags, copy })
+        let special_use = self.keep_given_string(settings.special_use)?;
+        self.put_settings(PackedSettings {
+            flags,
+            copy,
+            create,
+            special_use,
+        })
     }
 }

@@ -9,26 +9,29 @@ use Rattle.std.proofs.lemmas.List.Folds.{list_any-append}
 use Rattle.std.proofs.lemmas.Bool.Decides.{nat_tests}
 use Rattle.match_text.specs.Comparator.{ascii_casemap, same}
 use Rattle.match_text.specs.Flags.{distinct, flag_union, flags_without, has_flag}
-use Rattle.sieve_effects.specs.Act.{ends_with, fails_at, goes_on, joined_with, performs, same_action, with_action, with_flags_of}
+use Rattle.sieve_effects.specs.Act.{brought_by, cancelled_by, ends_with, fails_at, goes_on, joined_with, origin_at, performs, same_action, with_action}
 use Rattle.sieve_effects.specs.Delivery.{Delivery}
 use Rattle.sieve_effects.specs.State.{RunState}
 use Rattle.sieve_effects.specs.declared.action.Deed.{Deed}
 use Rattle.sieve_effects.specs.declared.error.ErrorKind.TheVariants.{TooManyActions}
 use Rattle.sieve_effects.specs.declared.action.Action.{Action}
 use Rattle.sieve_effects.specs.declared.action.Action.TheVariants.{Store, Redirect, Discard}
+use Rattle.sieve_effects.specs.declared.action.Filing.{Filing}
+use Rattle.sieve_effects.specs.declared.actions.Added.{Added}
+use Rattle.sieve_effects.specs.declared.actions.Added.TheVariants.{Entered, Joined, NoRoom}
 use Rattle.sieve_effects.specs.view.Actions.{ActionsAndFlags, AreAmong, AreKnown, IsKnown, lowered, performed_as, stores_into}
 
 -- STORES
 
--- a store is the same as a store into its mailbox, whatever its flags
-same_store : (mailbox : List ℕ) (flags : List (List ℕ)) (action : Action) → same_action (Store mailbox flags) action ≡ stores_into mailbox action
-same_store mailbox flags (Store other there) = refl
-same_store mailbox flags (Redirect address) = refl
-same_store mailbox flags Discard = refl
+-- a store is the same as a store into its mailbox, whatever its flags and what it asks for
+same_store : (mailbox : List ℕ) (flags : List (List ℕ)) (filing : Filing) (action : Action) → same_action (Store mailbox flags filing) action ≡ stores_into mailbox action
+same_store mailbox flags filing (Store other there kept) = refl
+same_store mailbox flags filing (Redirect address) = refl
+same_store mailbox flags filing Discard = refl
 
-pub any_store : (mailbox : List ℕ) (flags : List (List ℕ)) (actions : List Action) → list_any (same_action (Store mailbox flags)) actions ≡ list_any (stores_into mailbox) actions
-any_store mailbox flags [] = refl
-any_store mailbox flags (action ∷ actions) = λ j. same_store mailbox flags action j || any_store mailbox flags actions j
+pub any_store : (mailbox : List ℕ) (flags : List (List ℕ)) (filing : Filing) (actions : List Action) → list_any (same_action (Store mailbox flags filing)) actions ≡ list_any (stores_into mailbox) actions
+any_store mailbox flags filing [] = refl
+any_store mailbox flags filing (action ∷ actions) = λ j. same_store mailbox flags filing action j || any_store mailbox flags filing actions j
 
 -- WHAT IS KNOWN
 
@@ -37,17 +40,17 @@ own_grows : (own flags : List (List ℕ)) (x : List ℕ) → has_flag own x ≡ 
 unfolding flag_union
 own_grows own flags x there = list_any-append (same ascii_casemap x) own (flags_without (distinct flags) own) ∙ ap (λ b. b || has_flag (flags_without (distinct flags) own) x) there
 
-among_joined : (flags : List (List ℕ)) (n : ℕ) (action there : Action) → AreAmong flags n there → AreAmong flags n (with_flags_of action there)
-among_joined flags n (Store mailbox more) (Store other own) among = All-weaker (λ x. has_flag own x ≡ true) (λ x. has_flag (flag_union own more) x ≡ true) (own_grows own more) (take n flags) among
-among_joined flags n (Store mailbox more) (Redirect address) among = among
-among_joined flags n (Store mailbox more) Discard among = among
+among_joined : (flags : List (List ℕ)) (n : ℕ) (action there : Action) → AreAmong flags n there → AreAmong flags n (brought_by action there)
+among_joined flags n (Store mailbox more filing) (Store other own kept) among = All-weaker (λ x. has_flag own x ≡ true) (λ x. has_flag (flag_union own more) x ≡ true) (own_grows own more) (take n flags) among
+among_joined flags n (Store mailbox more filing) (Redirect address) among = among
+among_joined flags n (Store mailbox more filing) Discard among = among
 among_joined flags n (Redirect address) there among = among
 among_joined flags n Discard there among = among
 
 known_joined : (flags : List (List ℕ)) (n : ℕ) (action there : Action) → IsKnown flags n there → IsKnown flags n (joined_with action there)
 known_joined flags n action there known = record { within = known.within; among = by (same_action action there) }
   where
-    by : (b : Bool) → AreAmong flags n (if b then with_flags_of action there else there)
+    by : (b : Bool) → AreAmong flags n (if b then brought_by action there else there)
     by true = among_joined flags n action there known.among
     by false = known.among
 
@@ -65,7 +68,7 @@ are_known_pushed flags (n ∷ numbers) (there ∷ actions) action known = (known
 -- FLAGS THAT ARE ADDED
 
 among_longer : (flags more : List (List ℕ)) (n : ℕ) (action : Action) → n ≤ length flags → AreAmong flags n action → AreAmong (flags ++ more) n action
-among_longer flags more n (Store mailbox own) within among = subst (λ (l : List (List ℕ)). All (λ (x : List ℕ). has_flag own x ≡ true) l) (sym (take-append-le n flags more within)) among
+among_longer flags more n (Store mailbox own filing) within among = subst (λ (l : List (List ℕ)). All (λ (x : List ℕ). has_flag own x ≡ true) l) (sym (take-append-le n flags more within)) among
 among_longer flags more n (Redirect address) within among = among
 among_longer flags more n Discard within among = among
 
@@ -102,7 +105,7 @@ all_lowered P (x ∷ flags) (suc i) (suc n) below all =
     (All-cons P x (take (lowered i n) (remove flags i)) (All-head P x (take n flags) all) (all_lowered P flags i n (omega arith) (All-tail P x (take n flags) all)))
 
 among_lowered : (flags : List (List ℕ)) (i n : ℕ) (action : Action) → i < length flags → AreAmong flags n action → AreAmong (remove flags i) (lowered i n) action
-among_lowered flags i n (Store mailbox own) below among = all_lowered (λ x. has_flag own x ≡ true) flags i n below among
+among_lowered flags i n (Store mailbox own filing) below among = all_lowered (λ x. has_flag own x ≡ true) flags i n below among
 among_lowered flags i n (Redirect address) below among = among
 among_lowered flags i n Discard below among = among
 
@@ -178,10 +181,12 @@ module _ (change : List (List ℕ) → List (List ℕ) → List (List ℕ)) wher
 
 -- HOW A COMMAND ENDS THAT PERFORMS AN ACTION
 
--- a command that performs an action ends by whether there was room for the action, where without room the actions are as they were
-pub ended_so : (delivery : Delivery) (line : ℕ) (deed : Deed) (old new : RunState) (has_room : Bool) → (has_room ≡ false → new.actions ≡ old.actions) → performed_as has_room new.actions ≡ with_action deed.action old.actions
-    → new ≡ record old { actions = new.actions } → ends_with delivery line deed (performed_as has_room new.actions) new ≡ performs delivery line deed old
-ended_so delivery line deed old new true kept value is =
-    ap (λ (s : RunState). goes_on (record s { actions = new.actions; cancelled = not deed.copy || s.cancelled })) is ∙ ap (λ p. ends_with delivery line deed p old) value
-ended_so delivery line deed old new false kept value is =
+-- a command that performs an action ends by what became of the action, where without room the actions are as they were
+pub ended_so : (delivery : Delivery) (line : ℕ) (deed : Deed) (old new : RunState) (added : Added) → (added ≡ NoRoom → new.actions ≡ old.actions) → performed_as added new.actions ≡ with_action deed.action old.actions
+    → new ≡ record old { actions = new.actions } → ends_with delivery line deed (performed_as added new.actions) new ≡ performs delivery line deed old
+ended_so delivery line deed old new Entered kept value is =
+    ap (λ (s : RunState). goes_on (record s { actions = new.actions; origins = s.origins ++ origin_at delivery line ∷ []; cancelled = cancelled_by deed s })) is ∙ ap (λ p. ends_with delivery line deed p old) value
+ended_so delivery line deed old new Joined kept value is =
+    ap (λ (s : RunState). goes_on (record s { actions = new.actions; cancelled = cancelled_by deed s })) is ∙ ap (λ p. ends_with delivery line deed p old) value
+ended_so delivery line deed old new NoRoom kept value is =
     ap (λ (s : RunState). fails_at delivery line TooManyActions s) (is ∙ ap (λ (l : List Action). record old { actions = l }) (kept refl)) ∙ ap (λ p. ends_with delivery line deed p old) value

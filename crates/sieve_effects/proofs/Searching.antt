@@ -15,7 +15,7 @@ use Rattle.sieve_variables.specs.Part.{Part}
 use Rattle.sieve_variables.specs.Value.{text_value}
 use Rattle.sieve_reading.specs.declared.reading.Comparison.{Comparison}
 use Rattle.sieve_table.specs.Address.{is_address_field}
-use Rattle.sieve_effects.specs.Delivery.{Delivery}
+use Rattle.sieve_effects.specs.Delivery.{Delivery, envelope_of}
 use Rattle.match_text.specs.Flags.{flag_keys_of_texts, flag_list}
 use Rattle.sieve_effects.specs.State.{RunState}
 use Rattle.sieve_effects.specs.Matching.{envelope_named, envelope_text, first_match, first_some, match_found, match_of, pairs_with, address_parts, decoded_named, parts_named, parts_of_envelope, parts_of_value, values_named, values_of, keys_from, keys_of}
@@ -222,10 +222,10 @@ module _ (find : List ℕ → Option (List (List ℕ))) where
       first_of_one None = refl
       first_of_one (Some x) = or_none (find x)
 
-  pub first_of_paths : (part : AddressPart) (delivery : Delivery) (state : RunState) (names : List (List Part)) → first_some find (values_of delivery state (envelope_values part names)) ≡ first_some (path_name_found find part delivery.arrival.envelope) (map (text_value state.values) names)
+  pub first_of_paths : (part : AddressPart) (delivery : Delivery) (state : RunState) (names : List (List Part)) → first_some find (values_of delivery state (envelope_values part names)) ≡ first_some (path_name_found find part (envelope_of delivery.arrival)) (map (text_value state.values) names)
   first_of_paths part delivery state names =
-      first_flat find (envelope_named part delivery.arrival.envelope) (map (text_value state.values) names)
-      ∙ first_same (λ name. first_some find (envelope_named part delivery.arrival.envelope name)) (path_name_found find part delivery.arrival.envelope) (λ name. first_of_path part (envelope_text delivery.arrival.envelope name)) (map (text_value state.values) names)
+      first_flat find (envelope_named part (envelope_of delivery.arrival)) (map (text_value state.values) names)
+      ∙ first_same (λ name. first_some find (envelope_named part (envelope_of delivery.arrival) name)) (path_name_found find part (envelope_of delivery.arrival)) (λ name. first_of_path part (envelope_text (envelope_of delivery.arrival) name)) (map (text_value state.values) names)
 
 -- the flags in the texts of a flag test's variables give what the values of the test's source give
 module _ (find : List ℕ → Option (List (List ℕ))) (delivery : Delivery) (state : RunState) where

@@ -1,8 +1,10 @@
--- What commands do that act (RFC 5228, sections 2.10 and 4; RFC 5229, section 4; RFC 5232, sections 3 and 5; RFC 3894, section 3).
-use Rattle.std.specs.Prelude.{ℕ, List, [], ◌∷◌, ◌++◌, length, map, take, Bool, true, false, not, ◌&&◌, ◌||◌, Option, None, Some, is_some, if◌then◌else◌, nat_eq, nat_lt, nat_le}
+-- What commands do that act (RFC 5228, sections 2.10 and 4; RFC 5229, section 4; RFC 5232, sections 3 and 5; RFC 3894, section 3; RFC
+-- 5490, section 3.2; RFC 8579, section 4).
+use Rattle.std.specs.Prelude.{◌==◌, ℕ, List, [], ◌∷◌, ◌++◌, length, map, take, Bool, true, false, not, ◌&&◌, ◌||◌, Option, None, Some, is_some, if◌then◌else◌, nat_eq, nat_lt, nat_le}
 use Rattle.std.specs.List.{list_all, list_any}
+use Rattle.std.specs.Option.{option_map, option_or}
 use lib.Pointwise.{pointwise}
-use Rattle.match_text.specs.Flags.{flag_list, flag_text, flag_union, flags_of_texts, flags_without}
+use Rattle.match_text.specs.Flags.{flag_list, is_keyword, flag_text, flag_union, flags_of_texts, flags_without}
 use Rattle.message_text.specs.Addresses.{AddrSpec, addresses_of}
 use Rattle.sieve_base.specs.Limits.{action_limit, mailbox_limit, value_limit}
 use Rattle.sieve_base.specs.Octet.{octet_of}
@@ -12,6 +14,8 @@ use Rattle.sieve_reading.specs.declared.reading.FlagChange.TheVariants as change
 use Rattle.sieve_base.specs.declared.name.ScriptName.{ScriptName}
 use Rattle.sieve_effects.specs.declared.action.Action.{Action}
 use Rattle.sieve_effects.specs.declared.action.Deed.{Deed}
+use Rattle.sieve_effects.specs.declared.action.Filing.{Filing}
+use Rattle.sieve_effects.specs.declared.action.Origin.{Origin}
 use Rattle.sieve_effects.specs.declared.action.Action.TheVariants.{Store, Redirect, Discard}
 use Rattle.sieve_effects.specs.declared.error.RunError.{RunError}
 use Rattle.sieve_effects.specs.declared.error.ErrorKind.{ErrorKind}
@@ -21,7 +25,7 @@ use Rattle.sieve_effects.specs.State.{RunState}
 use Rattle.sieve_variables.specs.Modifier.{modified}
 use Rattle.sieve_variables.specs.declared.modifier.Modifiers.{Modifiers}
 use Rattle.sieve_variables.specs.Part.{Part}
-use Rattle.sieve_variables.specs.Value.{has_room_for, text_value, variable_value, with_variable}
+use Rattle.sieve_variables.specs.Value.{Values, has_room_for, text_value, variable_value, with_variable}
 use Rattle.sieve_variables.specs.Variable.{Variable}
 
 -- How a list of commands ends: it goes on behind it, its script ended by `return` (RFC 6609, section 3.3), or the run ended, by
@@ -44,40 +48,47 @@ state_behind (failed error state) = state
 -- whether two actions are one: stores into one mailbox (RFC 5228, section 2.10.3), redirects to one address, octet for octet, and
 -- discards
 abbrev pub same_action : Action → Action → Bool
-same_action (Store mailbox flags) (Store other there) = pointwise nat_eq mailbox other
-same_action (Store mailbox flags) (Redirect other) = false
-same_action (Store mailbox flags) Discard = false
-same_action (Redirect address) (Store other there) = false
+same_action (Store mailbox flags filing) (Store other there kept) = pointwise nat_eq mailbox other
+same_action (Store mailbox flags filing) (Redirect other) = false
+same_action (Store mailbox flags filing) Discard = false
+same_action (Redirect address) (Store other there kept) = false
 same_action (Redirect address) (Redirect other) = pointwise nat_eq address other
 same_action (Redirect address) Discard = false
-same_action Discard (Store other there) = false
+same_action Discard (Store other there kept) = false
 same_action Discard (Redirect other) = false
 same_action Discard Discard = true
 
--- A store into a mailbox that is stored into already brings its flags to that store; other actions bring nothing. RFC 5232, section
--- 5, lets the last list of flags stand in place of the union.
-abbrev pub with_flags_of : Action → Action → Action
-with_flags_of (Store mailbox flags) (Store other there) = Store other (flag_union there flags)
-with_flags_of (Store mailbox flags) (Redirect other) = Redirect other
-with_flags_of (Store mailbox flags) Discard = Discard
-with_flags_of (Redirect address) other = other
-with_flags_of Discard other = other
+-- How a mailbox is filed into, where another store into it asks for this: it is made where either asks for it (RFC 5490, section 3.2), and the
+-- first use that is named stands (RFC 8579, section 4).
+abbrev pub filing_with : Filing → Filing → Filing
+filing_with brought there = record { create = there.create || brought.create; special_use = option_or there.special_use brought.special_use }
+
+-- A store into a mailbox that is stored into already brings its flags to that store, and what it asks for; other actions bring nothing. RFC
+-- 5232, section 5, lets the last list of flags stand in place of the union.
+abbrev pub brought_by : Action → Action → Action
+brought_by (Store mailbox flags filing) (Store other there kept) = Store other (flag_union there flags) (filing_with filing kept)
+brought_by (Store mailbox flags filing) (Redirect other) = Redirect other
+brought_by (Store mailbox flags filing) Discard = Discard
+brought_by (Redirect address) other = other
+brought_by Discard other = other
 
 -- an action that is there, joined with one that is performed, where the two are one
 abbrev pub joined_with : Action → Action → Action
-joined_with action there = if same_action action there then with_flags_of action there else there
+joined_with action there = if same_action action there then brought_by action there else there
 
--- what becomes of the actions of a run where one is performed: they are then these, or there is one too many
+-- what becomes of the actions of a run where one is performed: they are then these, the last of which is the new one, or they are these,
+-- which it joined, or there is one too many
 pub data Performed : Type 0 where
-  performed : (actions : List Action) → Performed
+  entered : (actions : List Action) → Performed
+  joined : (actions : List Action) → Performed
   one_too_many : Performed
 
 -- an action that is there already adds no entry, and none is taken away (RFC 5228, sections 2.10.1 and 2.10.3); past so many there is one
 -- too many (section 2.10.4)
 abbrev pub with_action : Action → List Action → Performed
 with_action action actions =
-    if list_any (same_action action) actions then performed (map (joined_with action) actions) else
-    if nat_lt (length actions) action_limit then performed (actions ++ action ∷ []) else one_too_many
+    if list_any (same_action action) actions then joined (map (joined_with action) actions) else
+    if nat_lt (length actions) action_limit then entered (actions ++ action ∷ []) else one_too_many
 
 -- WHAT COMMANDS DO
 
@@ -89,9 +100,18 @@ fails_at delivery line kind state = failed (record { script = delivery.script; l
 abbrev pub deed_of : Action → Settings → Deed
 deed_of action settings = record { action = action; copy = settings.copy }
 
+-- the command at a line of the script that runs
+abbrev pub origin_at : Delivery → ℕ → Origin
+origin_at delivery line = record { script = delivery.script; line = line }
+
 -- an action takes the place of the implicit keep (RFC 5228, section 2.10.2), but for a copy (RFC 3894, section 3)
+abbrev pub cancelled_by : Deed → RunState → Bool
+cancelled_by deed state = not deed.copy || state.cancelled
+
+-- a new action is entered by its command; one that joined others leaves them with the commands that entered them
 abbrev pub ends_with : Delivery → ℕ → Deed → Performed → RunState → Ending
-ends_with delivery line deed (performed actions) state = goes_on (record state { actions = actions; cancelled = not deed.copy || state.cancelled })
+ends_with delivery line deed (entered actions) state = goes_on (record state { actions = actions; origins = state.origins ++ origin_at delivery line ∷ []; cancelled = cancelled_by deed state })
+ends_with delivery line deed (joined actions) state = goes_on (record state { actions = actions; cancelled = cancelled_by deed state })
 ends_with delivery line deed one_too_many state = fails_at delivery line TooManyActions state
 
 -- a command performs an action
@@ -106,6 +126,16 @@ is_no_control b = nat_le (octet_of " ") b && not (nat_eq b 127)
 abbrev pub is_mailbox : List ℕ → Bool
 is_mailbox name = nat_lt 0 (length name) && (nat_le (length name) mailbox_limit && list_all is_no_control name)
 
+-- the use of a mailbox: `\` and an atom (RFC 6154, section 6)
+abbrev pub is_special_use : List ℕ → Bool
+is_special_use [] = false
+is_special_use (b ∷ text) = b == octet_of "\\" && is_keyword text
+
+-- whether a mailbox may be sought by what a command names, if it names a use
+abbrev pub may_be_used : Option (List ℕ) → Bool
+may_be_used None = true
+may_be_used (Some used) = is_special_use used
+
 -- the one address, where it has a local part and a domain (RFC 5228, section 2.4.2.3)
 abbrev pub whole_address : AddrSpec → Option (List ℕ)
 whole_address address = if is_some address.local_part && is_some address.domain then Some address.all else None
@@ -115,9 +145,9 @@ only_address [] = None
 only_address (one ∷ []) = whole_address one
 only_address (one ∷ two ∷ more) = None
 
--- a store is performed where a mailbox may have that name (RFC 5228, section 4.1); else the command fails
-abbrev pub files : Delivery → ℕ → (name : List ℕ) → Deed → RunState → Ending
-files delivery line name deed state = if is_mailbox name then performs delivery line deed state else fails_at delivery line BadMailbox state
+-- a store is performed where a mailbox may have that name (RFC 5228, section 4.1) and that use; else the command fails
+abbrev pub files : Delivery → ℕ → (name : List ℕ) → (used : Option (List ℕ)) → Deed → RunState → Ending
+files delivery line name used deed state = if is_mailbox name && may_be_used used then performs delivery line deed state else fails_at delivery line BadMailbox state
 
 -- a redirect is performed where there is an address (RFC 5228, section 4.2); else the command fails
 abbrev pub redirects : Delivery → ℕ → Option (List ℕ) → Settings → RunState → Ending
@@ -159,9 +189,13 @@ changes delivery line how (Some variable) texts state = gives delivery line vari
 
 -- WHAT COMMANDS DO THAT ACT
 
--- a store into a mailbox, with the flags that are said beside
+-- what a command says of the mailbox that it stores into (RFC 5490, section 3.2; RFC 8579, section 4)
+abbrev pub filing_of : Values → Settings → Filing
+filing_of values settings = record { create = settings.create; special_use = option_map (text_value values) settings.special_use }
+
+-- a store into a mailbox, with what is said beside
 abbrev pub store_deed : RunState → List ℕ → Settings → Deed
-store_deed state mailbox settings = deed_of (Store mailbox (stored_flags state settings.flags)) settings
+store_deed state mailbox settings = deed_of (Store mailbox (stored_flags state settings.flags) (filing_of state.values settings)) settings
 
 -- keep stores into the delivery's mailbox (RFC 5228, section 4.3)
 abbrev pub keeps : Delivery → Settings → ℕ → RunState → Ending
@@ -169,7 +203,7 @@ keeps delivery settings line state = performs delivery line (store_deed state de
 
 -- fileinto stores into the mailbox that it names (RFC 5228, section 4.1)
 abbrev pub files_into : Delivery → List Part → Settings → ℕ → RunState → Ending
-files_into delivery mailbox settings line state = files delivery line (text_value state.values mailbox) (store_deed state (text_value state.values mailbox) settings) state
+files_into delivery mailbox settings line state = files delivery line (text_value state.values mailbox) (filing_of state.values settings).special_use (store_deed state (text_value state.values mailbox) settings) state
 
 -- redirect sends the message on to an address (RFC 5228, section 4.2)
 abbrev pub sends : Delivery → List Part → Settings → ℕ → RunState → Ending

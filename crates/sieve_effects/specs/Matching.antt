@@ -1,9 +1,10 @@
 -- What tests find in a delivery: fields, addresses and parts of the envelope by name, and whether a value matches a key (RFC 5228,
 -- sections 2.7 and 5).
-use Rattle.std.specs.Prelude.{ℕ, Bool, List, [], ◌∷◌, Option, None, Some, is_some, map, filter, length, nat_lt, if◌then◌else◌, codes, option_to_list}
+use Rattle.std.specs.Prelude.{ℕ, Bool, false, ◌||◌, List, [], ◌∷◌, Option, None, Some, is_some, map, filter, length, nat_eq, nat_lt, if◌then◌else◌, codes, option_to_list}
 use Rattle.std.specs.List.{filter_map, flat_map, list_any, list_all}
 use Rattle.std.specs.Option.{option_or}
 use Rattle.std.specs.Str.{str_eq_ignore_ascii_case}
+use lib.Pointwise.{pointwise}
 use Rattle.encoded_words.specs.Scan.{decoded_of}
 use Rattle.sieve_profile.specs.Profile.{Profile}
 use Rattle.match_text.specs.Comparator.{same, is_part, fold_of}
@@ -12,12 +13,12 @@ use Rattle.match_text.specs.Wildcard.{matched}
 use Rattle.message_text.specs.Addresses.{AddrSpec, part_of_address, addresses_of, part_of_path}
 use Rattle.message_text.specs.Fields.{Field, fields_of, is_field_named}
 use Rattle.message_text.specs.declared.addressing.AddressPart.{AddressPart}
-use Rattle.sieve_reading.specs.Reading.{ValueSource, header_values, address_values, envelope_values, string_values, flag_values, Ask, compares, exists_ask, over_ask, under_ask}
+use Rattle.sieve_reading.specs.Reading.{ValueSource, header_values, address_values, envelope_values, string_values, flag_values, Ask, compares, exists_ask, over_ask, under_ask, mailboxes_ask, duplicate_ask}
 use Rattle.sieve_reading.specs.declared.reading.Comparison.{Comparison}
 use Rattle.sieve_reading.specs.declared.reading.MatchType.{MatchType}
 use Rattle.sieve_reading.specs.declared.reading.MatchType.TheVariants.{Is, Contains, Matches}
 use Rattle.sieve_table.specs.Address.{is_address_field}
-use Rattle.sieve_effects.specs.Delivery.{Delivery}
+use Rattle.sieve_effects.specs.Delivery.{Delivery, envelope_of, mailbox_names}
 use Rattle.sieve_effects.specs.State.{RunState}
 use Rattle.sieve_effects.specs.declared.envelope.Envelope.{Envelope}
 use Rattle.sieve_variables.specs.Part.{Part}
@@ -82,7 +83,7 @@ envelope_named part envelope name = parts_of_envelope part (envelope_text envelo
 abbrev pub values_of : Delivery → RunState → ValueSource → List (List ℕ)
 values_of delivery state (header_values names) = flat_map (decoded_named delivery.arrival.profile (fields_of delivery.arrival.message)) (map (text_value state.values) names)
 values_of delivery state (address_values part names) = flat_map (parts_named part (fields_of delivery.arrival.message)) (map (text_value state.values) names)
-values_of delivery state (envelope_values part names) = flat_map (envelope_named part delivery.arrival.envelope) (map (text_value state.values) names)
+values_of delivery state (envelope_values part names) = flat_map (envelope_named part (envelope_of delivery.arrival)) (map (text_value state.values) names)
 values_of delivery state (string_values texts) = map (text_value state.values) texts
 values_of delivery state (flag_values None) = state.flags
 values_of delivery state (flag_values (Some variables)) = flat_map flag_list (map (text_value state.values) variables)
@@ -101,6 +102,14 @@ keys_of state source keys = keys_from source (map (text_value state.values) keys
 -- each value with each key, in this order, which is this project's choice (RFC 5229, section 3.2, leaves it open)
 abbrev pub pairs_of : List (List ℕ) → List (List ℕ) → List Pair
 pairs_of values keys = flat_map (pairs_with keys) values
+
+-- whether a name is that of the INBOX, which is written in any case (RFC 3501, section 5.1)
+abbrev pub is_inbox : List ℕ → Bool
+is_inbox name = str_eq_ignore_ascii_case (codes "INBOX") name
+
+-- whether a mailbox of that name is there: the INBOX, the one that mail is kept in, and each that is listed
+abbrev pub has_mailbox : Envelope → List ℕ → Bool
+has_mailbox envelope name = is_inbox name || list_any (pointwise nat_eq name) (envelope.mailbox ∷ mailbox_names envelope.mailboxes)
 
 -- whether a field of that name is there (RFC 5228, section 5.5)
 abbrev pub has_field : List Field → List ℕ → Bool
@@ -121,12 +130,15 @@ match_found delivery state source comparison keys = first_match comparison (pair
 
 -- Whether what a test asks is so: header, address, envelope, string and hasflag, where some pair matches (RFC 5228, sections 5.7, 5.1
 -- and 5.4; RFC 5229, section 5; RFC 5232, section 4), exists (RFC 5228, section 5.5), size (section 5.9), where a message of exactly
--- the limit's octets is neither over nor under it.
+-- the limit's octets is neither over nor under it, mailboxexists (RFC 5490, section 3.1), and duplicate (RFC 7352, section 3), which is false,
+-- since no message was seen before.
 unfoldable pub truth_of : Delivery → RunState → Ask → Bool
 truth_of delivery state (compares source comparison keys) = is_some (match_found delivery state source comparison keys)
 truth_of delivery state (exists_ask names) = list_all (has_field (fields_of delivery.arrival.message)) (map (text_value state.values) names)
 truth_of delivery state (over_ask limit) = nat_lt limit (length delivery.arrival.message)
 truth_of delivery state (under_ask limit) = nat_lt (length delivery.arrival.message) limit
+truth_of delivery state (mailboxes_ask names) = list_all (has_mailbox delivery.arrival.envelope) (map (text_value state.values) names)
+truth_of delivery state duplicate_ask = false
 
 -- under `:matches`, the match variables are what the first pair that matches gives; where none does, and under the other match
 -- types, they stay (RFC 5229, section 3.2)
@@ -142,6 +154,8 @@ values_behind delivery state (compares source comparison keys) = with_found comp
 values_behind delivery state (exists_ask names) = state.values
 values_behind delivery state (over_ask limit) = state.values
 values_behind delivery state (under_ask limit) = state.values
+values_behind delivery state (mailboxes_ask names) = state.values
+values_behind delivery state duplicate_ask = state.values
 
 -- the state behind what a test asks: match variables are set at most
 abbrev pub behind_test : Delivery → Ask → RunState → RunState

@@ -3,10 +3,13 @@ use Rattle.std.specs.Prelude.{ℕ, Bool, List}
 use Rattle.sieve_variables.specs.Value.{Values}
 use Rattle.sieve_base.specs.declared.name.ScriptName.{ScriptName}
 use Rattle.sieve_effects.specs.declared.action.Action.{Action}
+use Rattle.sieve_effects.specs.declared.action.Origin.{Origin}
 
 pub record RunState : Type 0 where
   -- the actions in order
   pub actions : List Action
+  -- of each action the command that entered it first
+  pub origins : List Origin
   -- whether an action that was performed cancelled the implicit keep, be it one that added no entry (RFC 5228, section 2.10.2; RFC
   -- 3894, section 3)
   pub cancelled : Bool

@@ -14,13 +14,15 @@ ghost use Rattle.sieve_effects.specs.view.State.{state_of};
 ghost use Rattle.sieve_variables.specs.Modifier.{modified};
 ghost use Rattle.sieve_variables.specs.Value.{text_value};
 
-use crate::action::{Action, Deed};
+use crate::action::{Action, Deed, Filing, Origin};
+use crate::actions::Added;
 use crate::delivery::Delivery;
 use crate::error::ErrorKind;
 use crate::flagging::flags_named;
 use crate::flow::{Flow, fail};
 use crate::ops::SettingsOp;
 use crate::state::State;
+use match_text::is_keyword;
 use message_text::{Address, AddressPart, addresses};
 use sieve_base::Octets;
 use sieve_base::limits::MAX_MAILBOX;
@@ -36,48 +38,79 @@ fn perform(
 ) -> Result<Flow, AllocError>
     ensures { IfOk result (λ flow. ending_by flow (state_of state.new) ≡ spec.performs (delivery_as delivery.now) line deed (state_of state.old)) }
 {
-    let has_room = state.actions.add(delivery.alloc, deed.action)?;
-    end_with(delivery, has_room, deed.copy, line, state)
+    let added = state.actions.add(delivery.alloc, deed.action)?;
+    end_with(delivery, added, deed.copy, line, state)
 }
 
-/// Ends a command that performed an action, where there was room for it.
+/// Ends a command that performed an action, where there was room for it. One that is new is entered by the command.
 fn end_with(
     delivery: &Delivery<'_>,
-    has_room: bool,
+    added: Added,
     copy: bool,
     line: u64,
     state: &mut State,
 ) -> Result<Flow, AllocError>
-    ensures { (performed : spec.Performed) (deed : deeds.Deed) → performed_as has_room (state_of state.old).actions ≡ performed → deed.copy ≡ copy → IfOk result (λ flow. ending_by flow (state_of state.new) ≡ spec.ends_with (delivery_as delivery.now) line deed performed (state_of state.old)) }
+    ensures { (performed : spec.Performed) (deed : deeds.Deed) → performed_as added (state_of state.old).actions ≡ performed → deed.copy ≡ copy → IfOk result (λ flow. ending_by flow (state_of state.new) ≡ spec.ends_with (delivery_as delivery.now) line deed performed (state_of state.old)) }
 {
-    if has_room {
-        state.cancelled = !copy || state.cancelled;
-        Ok(Flow::GoesOn)
-    } else {
-        fail(delivery, line, ErrorKind::TooManyActions)
+    match added {
+        Added::Entered => {
+            let script = delivery.script.copy(delivery.alloc)?;
+            state.origins.push(Origin { script, line })?;
+        }
+        Added::Joined => {}
+        Added::NoRoom => return fail(delivery, line, ErrorKind::TooManyActions),
     }
+    state.cancelled = !copy || state.cancelled;
+    Ok(Flow::GoesOn)
+}
+
+/// What a command says of the mailbox that it stores into (RFC 5490, section 3.2; RFC 8579, section 4).
+fn filing_of(
+    delivery: &Delivery<'_>,
+    values: &Values,
+    settings: &SettingsOp<'_>,
+) -> Result<Filing, AllocError>
+    ensures { IfOk result (λ filing. filing ≡ spec.filing_of values.now (settings_op_as settings.now)) }
+{
+    let special_use = match settings.special_use {
+        Some(parts) => {
+            let text = values.expanded_string(delivery.alloc, parts)?;
+            Some(Octets::copied(delivery.alloc, text.as_slice())?)
+        }
+        None => None,
+    };
+    Ok(Filing {
+        create: settings.create,
+        special_use,
+    })
 }
 
 /// Stores into a mailbox, with the flags that are named or else the internal ones (RFC 5232, section 5).
 fn store(
     delivery: &Delivery<'_>,
     mailbox: Octets,
+    filing: Filing,
     settings: &SettingsOp<'_>,
     line: u64,
     state: &mut State,
 ) -> Result<Flow, AllocError>
+    requires { filing ≡ spec.filing_of (state_of state.old).values (settings_op_as settings.now) }
     ensures { IfOk result (λ flow. ending_by flow (state_of state.new) ≡ spec.performs (delivery_as delivery.now) line (spec.store_deed (state_of state.old) mailbox (settings_op_as settings.now)) (state_of state.old)) }
 {
     let copy = settings.copy;
     match &settings.flags {
         Some(texts) => {
             let flags = flags_named(delivery, &*state, texts)?;
-            let action = Action::Store { mailbox, flags };
+            let action = Action::Store {
+                mailbox,
+                flags,
+                filing,
+            };
             perform(delivery, Deed { action, copy }, line, state)
         }
         None => {
-            let has_room = state.actions.store(delivery.alloc, mailbox)?;
-            end_with(delivery, has_room, copy, line, state)
+            let added = state.actions.store(delivery.alloc, mailbox, filing)?;
+            end_with(delivery, added, copy, line, state)
         }
     }
 }
@@ -93,7 +126,8 @@ pub fn keep(
     ensures { IfOk result (λ flow. ending_by flow (state_of state.new) ≡ spec.keeps (delivery_as delivery.now) (settings_op_as settings.now) line (state_of state.old)) }
 {
     let mailbox = Octets::copied(delivery.alloc, delivery.arrival.envelope.mailbox.as_slice())?;
-    store(delivery, mailbox, settings, line, state)
+    let filing = filing_of(delivery, &state.values, settings)?;
+    store(delivery, mailbox, filing, settings, line, state)
 }
 
 /// Discards the message (RFC 5228, section 4.4). One action too many is an error of the script (section 2.10.4). Fails where memory is refused.
@@ -142,9 +176,30 @@ fn mailbox_named(
     }
 }
 
+/// Whether a text is the use of a mailbox (RFC 6154, section 6).
+fn is_special_use(text: &[u8]) -> bool
+    ensures { result ≡ spec.is_special_use text.now }
+{
+    match text {
+        [b'\\', keyword @ ..] => is_keyword(keyword),
+        _ => false,
+    }
+}
+
+/// Whether a mailbox may be sought by what a store asks for.
+fn may_be_used(filing: &Filing) -> bool
+    ensures { result ≡ spec.may_be_used filing.now.special_use }
+{
+    match &filing.special_use {
+        Some(used) => is_special_use(used.as_slice()),
+        None => true,
+    }
+}
+
 /// Stores into the mailbox of that name (RFC 5228, section 4.1), with the flags that are named or else the internal ones (RFC 5232,
 /// section 5). Under `:copy` the implicit keep stays as it is (RFC 3894, section 3). A name that no mailbox may have is an error of the
-/// script, and so is one action too many (RFC 5228, section 2.10.4). Fails where memory is refused.
+/// script, and so are a use that none may have (RFC 8579, section 4) and one action too many (RFC 5228, section 2.10.4). Fails where memory
+/// is refused.
 #[tactic(auto, using(crate::proofs::Named::filing))]
 pub fn file_into(
     delivery: &Delivery<'_>,
@@ -155,10 +210,14 @@ pub fn file_into(
 ) -> Result<Flow, AllocError>
     ensures { IfOk result (λ flow. ending_by flow (state_of state.new) ≡ spec.files_into (delivery_as delivery.now) mailbox.now (settings_op_as settings.now) line (state_of state.old)) }
 {
-    match mailbox_named(delivery, &state.values, mailbox)? {
-        Some(mailbox) => store(delivery, mailbox, settings, line, state),
-        None => fail(delivery, line, ErrorKind::BadMailbox),
+    let Some(mailbox) = mailbox_named(delivery, &state.values, mailbox)? else {
+        return fail(delivery, line, ErrorKind::BadMailbox);
+    };
+    let filing = filing_of(delivery, &state.values, settings)?;
+    if !may_be_used(&filing) {
+        return fail(delivery, line, ErrorKind::BadMailbox);
     }
+    store(delivery, mailbox, filing, settings, line, state)
 }
 
 /// All of an address that has a local part and a domain.

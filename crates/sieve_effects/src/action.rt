@@ -1,16 +1,40 @@
 //! Actions (RFC 5228, section 2.10).
 use match_text::FlagList;
-use sieve_base::Octets;
+use sieve_base::{Octets, ScriptName};
 
 /// What is done with a message (RFC 5228, section 2.10).
 #[derive(Drop)]
 pub enum Action {
     /// The message is stored into a mailbox (RFC 5228, sections 4.1 and 4.3), with flags (RFC 5232, section 5).
-    Store { mailbox: Octets, flags: FlagList },
+    Store {
+        mailbox: Octets,
+        flags: FlagList,
+        filing: Filing,
+    },
     /// The message is sent on to an address (RFC 5228, section 4.2).
-    Redirect { address: Octets },
+    Redirect {
+        address: Octets,
+    },
     /// The message is discarded (RFC 5228, section 4.4).
     Discard,
+}
+
+/// What a store asks for beside its mailbox.
+#[derive(Drop)]
+pub struct Filing {
+    /// Whether the mailbox is made where it isn't there (RFC 5490, section 3.2).
+    pub create: bool,
+    /// The use of the mailbox to store into where there is one of that use (RFC 8579, section 4).
+    pub special_use: Option<Octets>,
+}
+
+/// The command that entered an action.
+#[derive(Drop)]
+pub struct Origin {
+    /// The script that it stands in.
+    pub script: ScriptName,
+    /// The line on which it begins, from 1 on.
+    pub line: u64,
 }
 
 /// An action that a command performs, and what the command says of it.

@@ -1,13 +1,14 @@
 //! The actions of a run (RFC 5228, section 2.10), and the internal flags that its stores take (RFC 5232, section 5).
 ghost use Rattle.std.specs.Prelude.{◌≡◌, ◌∷◌, List, ℕ, ◌++◌, IfOk, OnErr, OnOk, false, map, []};
 ghost use Rattle.std.specs.List.{list_any};
-ghost use Rattle.sieve_effects.specs.Act.{joined_with, same_action, with_action};
+ghost use Rattle.sieve_effects.specs.Act.{filing_with, joined_with, same_action, with_action};
 ghost use Rattle.sieve_effects.specs.declared.action.Action as acts;
 ghost use Rattle.sieve_effects.specs.declared.action.Action.TheVariants.{Store};
+ghost use Rattle.sieve_effects.specs.declared.actions.Added.TheVariants.{NoRoom};
 ghost use Rattle.sieve_effects.specs.view.Actions.{AreKnown, IsKnown, lowered, performed_as, stores_into};
 ghost use Rattle.match_text.specs.Flags.{flag_union, flags_in, flags_without};
 
-use crate::action::Action;
+use crate::action::{Action, Filing};
 use match_text::laws::flags_are_taken_out_in_turn;
 use match_text::{FlagList, next_flag};
 use sieve_base::Octets;
@@ -15,6 +16,17 @@ use sieve_base::limits::MAX_ACTIONS;
 use std::alloc::{AllocError, Global};
 use std::marker::Model;
 use std::mem;
+
+/// What became of an action that was performed.
+#[derive(Clone, Copy, PartialEq, Eq)]
+pub(crate) enum Added {
+    /// It was added to the others.
+    Entered,
+    /// It joined one that is there.
+    Joined,
+    /// There was no room for it (RFC 5228, section 2.10.4).
+    NoRoom,
+}
 
 /// The actions of a run in their order, and the internal flags. Contracts see both.
 #[derive(Drop)]
@@ -63,30 +75,30 @@ impl Actions {
         (self.actions, self.flags)
     }
 
-    /// Adds an action, or joins it with the one that is there already. Answers whether there is room for it.
-    pub(crate) fn add(&mut self, alloc: Global, action: Action) -> Result<bool, AllocError>
-        ensures kept { IfOk result (λ has_room. has_room ≡ false → self.new.actions ≡ self.old.actions) }
-        ensures value { IfOk result (λ has_room. performed_as has_room self.new.actions ≡ with_action action self.old.actions) }
+    /// Adds an action, or joins it with the one that is there already. Answers what became of it.
+    pub(crate) fn add(&mut self, alloc: Global, action: Action) -> Result<Added, AllocError>
+        ensures kept { IfOk result (λ added. added ≡ NoRoom → self.new.actions ≡ self.old.actions) }
+        ensures value { IfOk result (λ added. performed_as added self.new.actions ≡ with_action action self.old.actions) }
         ensures flags { OnOk result (self.new.flags ≡ self.old.flags) }
     {
         if has_action(&action, &self.actions) {
             self.join(alloc, &action)?;
-            return Ok(true);
+            return Ok(Added::Joined);
         }
         self.push(action)
     }
 
     /// Adds an action that isn't there, where there is room for it.
-    fn push(&mut self, action: Action) -> Result<bool, AllocError>
-        ensures kept { IfOk result (λ has_room. has_room ≡ false → self.new.actions ≡ self.old.actions) }
-        ensures value { IfOk result (λ has_room. list_any (same_action action) self.old.actions ≡ false → performed_as has_room self.new.actions ≡ with_action action self.old.actions) }
+    fn push(&mut self, action: Action) -> Result<Added, AllocError>
+        ensures kept { IfOk result (λ added. added ≡ NoRoom → self.new.actions ≡ self.old.actions) }
+        ensures value { IfOk result (λ added. list_any (same_action action) self.old.actions ≡ false → performed_as added self.new.actions ≡ with_action action self.old.actions) }
         ensures flags { OnOk result (self.new.flags ≡ self.old.flags) }
     {
         if self.actions.len() >= MAX_ACTIONS {
-            return Ok(false);
+            return Ok(Added::NoRoom);
         }
         push_action(&mut self.actions, action)?;
-        Ok(true)
+        Ok(Added::Entered)
     }
 
     /// Joins each of the actions that are there with one that is performed.
@@ -101,28 +113,42 @@ impl Actions {
         Ok(())
     }
 
-    /// Stores into a mailbox with the internal flags, or joins them to the store that is there already. Answers whether there is room.
-    pub(crate) fn store(&mut self, alloc: Global, mailbox: Octets) -> Result<bool, AllocError>
-        ensures kept { IfOk result (λ has_room. has_room ≡ false → self.new.actions ≡ self.old.actions) }
-        ensures value { IfOk result (λ has_room. performed_as has_room self.new.actions ≡ with_action (Store mailbox self.old.flags) self.old.actions) }
+    /// Stores into a mailbox with the internal flags, or joins them to the store that is there already. Answers what became of the store.
+    pub(crate) fn store(
+        &mut self,
+        alloc: Global,
+        mailbox: Octets,
+        filing: Filing,
+    ) -> Result<Added, AllocError>
+        ensures kept { IfOk result (λ added. added ≡ NoRoom → self.new.actions ≡ self.old.actions) }
+        ensures value { IfOk result (λ added. performed_as added self.new.actions ≡ with_action (Store mailbox self.old.flags filing) self.old.actions) }
         ensures flags { OnOk result (self.new.flags ≡ self.old.flags) }
     {
         if has_store(mailbox.as_slice(), &self.actions) {
-            self.join_flags(alloc, mailbox.as_slice())?;
-            return Ok(true);
+            self.join_flags(alloc, mailbox.as_slice(), &filing)?;
+            return Ok(Added::Joined);
         }
         let flags = self.flags.copied(alloc)?;
-        self.push(Action::Store { mailbox, flags })
+        self.push(Action::Store {
+            mailbox,
+            flags,
+            filing,
+        })
     }
 
-    /// Joins the internal flags to each of the stores into a mailbox.
-    fn join_flags(&mut self, alloc: Global, mailbox: &[u8]) -> Result<(), AllocError>
-        ensures actions { OnOk result (self.new.actions ≡ map (joined_with (Store mailbox.now self.old.flags)) self.old.actions) }
+    /// Joins the internal flags, and what a store asks for, to each of the stores into a mailbox.
+    fn join_flags(
+        &mut self,
+        alloc: Global,
+        mailbox: &[u8],
+        filing: &Filing,
+    ) -> Result<(), AllocError>
+        ensures actions { OnOk result (self.new.actions ≡ map (joined_with (Store mailbox.now self.old.flags filing.now)) self.old.actions) }
         ensures flags { OnOk result (self.new.flags ≡ self.old.flags) }
     {
         let known = mem::replace(&mut self.known, Vec::new(alloc));
         let held = mem::replace(&mut self.actions, Vec::new(alloc));
-        let (actions, known) = all_with_flags(alloc, mailbox, &self.flags, held, &known)?;
+        let (actions, known) = all_with_flags(alloc, mailbox, &self.flags, filing, held, &known)?;
         self.actions = actions;
         self.known = known;
         Ok(())
@@ -236,7 +262,23 @@ fn has_store(mailbox: &[u8], actions: &[Action]) -> bool
     actions.iter().any(|action| stores_into(mailbox, action))
 }
 
-/// An action that is there, joined with one that is performed, where the two are one: a store then has the flags of both.
+/// How a mailbox is filed into, where another store into it asks for this too (RFC 5490, section 3.2; RFC 8579, section 4).
+fn filing_with(alloc: Global, brought: &Filing, there: Filing) -> Result<Filing, AllocError>
+    ensures { IfOk result (λ filing. filing ≡ filing_with brought.now there) }
+{
+    let create = there.create || brought.create;
+    let special_use = match (there.special_use, &brought.special_use) {
+        (Some(first), _) => Some(first),
+        (None, Some(other)) => Some(Octets::copied(alloc, other.as_slice())?),
+        (None, None) => None,
+    };
+    Ok(Filing {
+        create,
+        special_use,
+    })
+}
+
+/// An action that is there, joined with one that is performed, where the two are one: a store then has the flags of both, and what both ask for.
 fn joined_with(alloc: Global, action: &Action, there: Action) -> Result<Action, AllocError>
     ensures { IfOk result (λ joined. joined ≡ joined_with action.now there) }
 {
@@ -245,10 +287,11 @@ fn joined_with(alloc: Global, action: &Action, there: Action) -> Result<Action, 
     }
     match (action, there) {
         (
-            Action::Store { flags, .. },
+            Action::Store { flags, filing, .. },
             Action::Store {
                 mailbox,
                 flags: held,
+                filing: kept,
             },
         ) => {
             let mut joined = held;
@@ -256,6 +299,7 @@ fn joined_with(alloc: Global, action: &Action, there: Action) -> Result<Action, 
             Ok(Action::Store {
                 mailbox,
                 flags: joined,
+                filing: filing_with(alloc, filing, kept)?,
             })
         }
         (_, other) => Ok(other),
@@ -277,17 +321,18 @@ fn all_joined(
     Ok(joined)
 }
 
-/// An action that is there, with the internal flags where it stores into a mailbox, and how many of them are among its own then. The first
-/// ones, as many as `known`, were among its own already.
+/// An action that is there, with the internal flags and what a store asks for where it stores into a mailbox, and how many of the flags are
+/// among its own then. The first ones, as many as `known`, were among its own already.
 fn with_flags(
     alloc: Global,
     mailbox: &[u8],
     flags: &FlagList,
+    filing: &Filing,
     there: Action,
     known: usize,
 ) -> Result<(Action, usize), AllocError>
     requires { IsKnown flags.now known there }
-    ensures action { IfOk result (λ made. made.0 ≡ joined_with (Store mailbox.now flags.now) there) }
+    ensures action { IfOk result (λ made. made.0 ≡ joined_with (Store mailbox.now flags.now filing.now) there) }
     ensures known { IfOk result (λ made. IsKnown flags.now made.1 made.0) }
 {
     if !stores_into(mailbox, &there) {
@@ -297,12 +342,14 @@ fn with_flags(
         Action::Store {
             mailbox,
             flags: held,
+            filing: kept,
         } => {
             let mut joined = held;
             joined.add(alloc, flags, known)?;
             let action = Action::Store {
                 mailbox,
                 flags: joined,
+                filing: filing_with(alloc, filing, kept)?,
             };
             Ok((action, flags.len()))
         }
@@ -311,16 +358,18 @@ fn with_flags(
     }
 }
 
-/// The actions that are there, each with the internal flags where it stores into a mailbox, and of each how many of them are among its own.
+/// The actions that are there, each with the internal flags and what a store asks for where it stores into a mailbox, and of each how many of
+/// the flags are among its own.
 fn all_with_flags(
     alloc: Global,
     mailbox: &[u8],
     flags: &FlagList,
+    filing: &Filing,
     actions: Vec<Action>,
     known: &[usize],
 ) -> Result<(Vec<Action>, Vec<usize>), AllocError>
     requires { AreKnown flags.now known.now actions.items }
-    ensures actions { IfOk result (λ made. made.0.items ≡ map (joined_with (Store mailbox.now flags.now)) actions.items) }
+    ensures actions { IfOk result (λ made. made.0.items ≡ map (joined_with (Store mailbox.now flags.now filing.now)) actions.items) }
     ensures known { IfOk result (λ made. AreKnown flags.now made.1.items made.0.items) }
 {
     let mut joined = Vec::with_capacity(alloc, actions.len())?;
@@ -329,7 +378,7 @@ fn all_with_flags(
     for there in actions {
         let (number, further) = next_known(rest);
         rest = further;
-        let (action, number) = with_flags(alloc, mailbox, flags, there, number)?;
+        let (action, number) = with_flags(alloc, mailbox, flags, filing, there, number)?;
         joined.push(action)?;
         numbers.push(number)?;
     }

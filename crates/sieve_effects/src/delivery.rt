@@ -1,5 +1,5 @@
 //! A delivery, as tests and commands know it.
-use crate::envelope::Envelope;
+use crate::envelope::{Addresses, Envelope};
 use message_text::Message;
 use sieve_base::ScriptName;
 use sieve_profile::Profile;
@@ -10,8 +10,10 @@ use std::alloc::Global;
 pub struct Arrival<'a> {
     /// The message.
     pub message: &'a Message,
-    /// The message's envelope, and the mailbox that `keep` stores into.
+    /// The message's envelope, the mailbox that `keep` stores into, and those that there are beside it.
     pub envelope: &'a Envelope,
+    /// The message's own addresses, where it has its own.
+    pub own: Option<&'a Addresses>,
     /// What is known beyond what always is.
     pub profile: Profile,
 }

@@ -10,4 +10,15 @@ pub struct Envelope {
     pub to: Octets,
     /// The mailbox that `keep` stores into.
     pub mailbox: Octets,
+    /// The names of the mailboxes that there are beside it, one a line (RFC 5490, section 3.1).
+    pub mailboxes: Octets,
+}
+
+/// The addresses of one message, in place of those of the envelope (RFC 5228, section 5.4), each of any octets.
+#[derive(Drop)]
+pub struct Addresses {
+    /// The sender's address, empty where there is none.
+    pub from: Octets,
+    /// The recipient's address, empty where it isn't known.
+    pub to: Octets,
 }

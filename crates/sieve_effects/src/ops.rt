@@ -3,6 +3,7 @@
 use crate::field_names::FieldNames;
 use crate::strings::Strings;
 use message_text::AddressPart;
+use sieve_variables::Part;
 
 /// Where a test takes values from.
 #[derive(Drop)]
@@ -45,4 +46,8 @@ pub struct SettingsOp<'a> {
     pub flags: Option<Strings<'a>>,
     /// Whether the command's action leaves the implicit keep as it is (RFC 3894, section 3).
     pub copy: bool,
+    /// Whether a mailbox that isn't there is to be made (RFC 5490, section 3.2).
+    pub create: bool,
+    /// The use of the mailbox to store into, where it is named (RFC 8579, section 4).
+    pub special_use: Option<&'a [Part]>,
 }

@@ -1,16 +1,17 @@
 //! What a test finds in an envelope (RFC 5228, section 5.4).
 ghost use Rattle.std.specs.Prelude.{◌≡◌, None, map, IfOk};
-ghost use Rattle.std.specs.Option.{option_map};
+ghost use Rattle.std.specs.Option.{option_copied, option_map};
 ghost use Rattle.message_text.specs.Addresses.{is_null_path, part_of_address};
 ghost use Rattle.sieve_reading.specs.Reading.{envelope_values};
 ghost use Rattle.sieve_effects.specs.Matching.{envelope_text, first_some, values_of};
-ghost use Rattle.sieve_effects.specs.view.Delivery.{delivery_as};
+ghost use Rattle.sieve_effects.specs.Delivery.{envelope_of, recipient_of, sender_of};
+ghost use Rattle.sieve_effects.specs.view.Delivery.{arrival_as, delivery_as};
 ghost use Rattle.sieve_effects.specs.view.FieldTests.{found_with, path_found, path_name_found};
 ghost use Rattle.sieve_effects.specs.view.State.{state_of};
 ghost use Rattle.sieve_variables.specs.Value.{text_value};
 
-use crate::delivery::Delivery;
-use crate::envelope::Envelope;
+use crate::delivery::{Arrival, Delivery};
+use crate::envelope::{Addresses, Envelope};
 use crate::field_values::find_in_part;
 use crate::matcher::{MatchValues, Matcher};
 use crate::state::State;
@@ -19,14 +20,34 @@ use message_text::{AddressPart, addresses};
 use sieve_variables::Values;
 use std::alloc::{AllocError, Global};
 
+/// The sender: a message's own, where it has its own.
+fn sender_of<'a>(own: Option<&'a Addresses>, envelope: &'a Envelope) -> &'a [u8]
+    ensures { result.now ≡ sender_of (option_copied own.entry) envelope.now }
+{
+    match own {
+        Some(own) => own.from.as_slice(),
+        None => envelope.from.as_slice(),
+    }
+}
+
+/// The recipient: a message's own, where it has its own.
+fn recipient_of<'a>(own: Option<&'a Addresses>, envelope: &'a Envelope) -> &'a [u8]
+    ensures { result.now ≡ recipient_of (option_copied own.entry) envelope.now }
+{
+    match own {
+        Some(own) => own.to.as_slice(),
+        None => envelope.to.as_slice(),
+    }
+}
+
 /// The address of the envelope's part of that name.
-fn envelope_text<'a>(envelope: &'a Envelope, name: &[u8]) -> Option<&'a [u8]>
-    ensures { option_map (λ octets. octets.now) result ≡ envelope_text envelope.now name.now }
+fn envelope_text<'a>(arrival: &'a Arrival<'a>, name: &[u8]) -> Option<&'a [u8]>
+    ensures { option_map (λ octets. octets.now) result ≡ envelope_text (envelope_of (arrival_as arrival.now)) name.now }
 {
     if b"from".eq_ignore_ascii_case(name) {
-        Some(envelope.from.as_slice())
+        Some(sender_of(arrival.own, arrival.envelope))
     } else if b"to".eq_ignore_ascii_case(name) {
-        Some(envelope.to.as_slice())
+        Some(recipient_of(arrival.own, arrival.envelope))
     } else {
         None
     }
@@ -72,14 +93,14 @@ fn find_in_path(
 /// What that part of the address gives in the envelope's part of that name.
 fn find_by_path_name(
     alloc: Global,
-    envelope: &Envelope,
+    arrival: &Arrival<'_>,
     part: AddressPart,
     name: &[u8],
     matcher: &Matcher<'_>,
 ) -> Result<Option<MatchValues>, AllocError>
-    ensures { IfOk result (λ found. found ≡ path_name_found (found_with matcher.now) part envelope.now name.now) }
+    ensures { IfOk result (λ found. found ≡ path_name_found (found_with matcher.now) part (envelope_of (arrival_as arrival.now)) name.now) }
 {
-    match envelope_text(envelope, name) {
+    match envelope_text(arrival, name) {
         Some(text) => find_in_path(alloc, part, text, matcher),
         None => Ok(None),
     }
@@ -88,18 +109,18 @@ fn find_by_path_name(
 /// What the first named part of the envelope gives whose address matches.
 fn find_by_path_names(
     alloc: Global,
-    envelope: &Envelope,
+    arrival: &Arrival<'_>,
     part: AddressPart,
     values: &Values,
     names: &Strings<'_>,
     matcher: &Matcher<'_>,
 ) -> Result<Option<MatchValues>, AllocError>
-    ensures { IfOk result (λ found. found ≡ first_some (path_name_found (found_with matcher.now) part envelope.now) (map (text_value values.now) names.now)) }
+    ensures { IfOk result (λ found. found ≡ first_some (path_name_found (found_with matcher.now) part (envelope_of (arrival_as arrival.now))) (map (text_value values.now) names.now)) }
 {
     let mut buffer = Vec::new(alloc);
     for i in 0..names.len() {
         let name = names.text_in(i, values, &mut buffer)?;
-        if let Some(found) = find_by_path_name(alloc, envelope, part, name, matcher)? {
+        if let Some(found) = find_by_path_name(alloc, arrival, part, name, matcher)? {
             return Ok(Some(found));
         }
     }
@@ -118,7 +139,7 @@ pub(crate) fn find_in_paths(
 {
     find_by_path_names(
         delivery.alloc,
-        delivery.arrival.envelope,
+        delivery.arrival,
         part,
         &state.values,
         names,

@@ -1,5 +1,6 @@
 //! The state of a run (RFC 5228, section 2.10; RFC 5229; RFC 5232, section 2; RFC 6609).
 
+use crate::action::Origin;
 use crate::actions::Actions;
 use indexmap::IndexMap;
 use sieve_base::ScriptName;
@@ -10,6 +11,8 @@ use sieve_variables::Values;
 pub struct State {
     /// The actions in their order (RFC 5228, section 2.10), and the internal flags (RFC 5232, section 2).
     pub actions: Actions,
+    /// Of each action the command that entered it first.
+    pub origins: Vec<Origin>,
     /// Whether an action took the place of the implicit keep (RFC 5228, section 2.10.2).
     pub cancelled: bool,
     /// The names looked up so far, and whether each was there.

@@ -5,10 +5,15 @@ use lib.Pointwise.{pointwise}
 use Rattle.sieve_profile.specs.Every.{every}
 use Rattle.sieve_profile.specs.contracts.extension.Extension.{enum, the_type}
 use Rattle.sieve_profile.specs.declared.extension.Extension.{Extension}
-use Rattle.sieve_profile.specs.declared.extension.Extension.TheVariants.{Charsets, Subaddress, Unused}
+use Rattle.sieve_profile.specs.declared.extension.Extension.TheVariants.{Charsets, Duplicate, Envelopes, Lines, Mailbox, SpecialUse, Subaddress, Unused}
 
 abbrev pub extension_name : Extension → List ℕ
 extension_name Charsets = codes "charsets"
+extension_name Duplicate = codes "duplicate"
+extension_name Envelopes = codes "envelopes"
+extension_name Lines = codes "lines"
+extension_name Mailbox = codes "mailbox"
+extension_name SpecialUse = codes "special-use"
 extension_name Subaddress = codes "subaddress"
 extension_name Unused = codes "unused"
 

@@ -2,7 +2,7 @@
 use Rattle.std.specs.Prelude.{Bool, false, ◌||◌}
 use Rattle.sieve_profile.specs.Extension.{same_extension}
 use Rattle.sieve_profile.specs.declared.extension.Extension.{Extension}
-use Rattle.sieve_profile.specs.declared.extension.Extension.TheVariants.{Charsets, Subaddress, Unused}
+use Rattle.sieve_profile.specs.declared.extension.Extension.TheVariants.{Charsets, Duplicate, Envelopes, Lines, Mailbox, SpecialUse, Subaddress, Unused}
 use Rattle.sieve_profile.specs.declared.profile.Profile as profiles
 
 -- whether each extension is in it
@@ -11,15 +11,25 @@ Profile = profiles.Profile
 
 abbrev pub has : Profile → Extension → Bool
 has profile Charsets = profile.charsets
+has profile Duplicate = profile.duplicate
+has profile Envelopes = profile.envelopes
+has profile Lines = profile.lines
+has profile Mailbox = profile.mailbox
+has profile SpecialUse = profile.special_use
 has profile Subaddress = profile.subaddress
 has profile Unused = profile.unused
 
 abbrev pub empty_profile : Profile
-empty_profile = record { charsets = false; subaddress = false; unused = false }
+empty_profile = record { charsets = false; duplicate = false; envelopes = false; lines = false; mailbox = false; special_use = false; subaddress = false; unused = false }
 
 abbrev pub with_extension : Profile → Extension → Profile
 with_extension profile extension = record {
   charsets = profile.charsets || same_extension extension Charsets;
+  duplicate = profile.duplicate || same_extension extension Duplicate;
+  envelopes = profile.envelopes || same_extension extension Envelopes;
+  lines = profile.lines || same_extension extension Lines;
+  mailbox = profile.mailbox || same_extension extension Mailbox;
+  special_use = profile.special_use || same_extension extension SpecialUse;
   subaddress = profile.subaddress || same_extension extension Subaddress;
   unused = profile.unused || same_extension extension Unused;
 }

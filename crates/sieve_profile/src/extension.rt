@@ -7,6 +7,16 @@ ghost use Rattle.sieve_profile.specs.Extension.{extension_name, extension_named,
 pub enum Extension {
     /// `charsets`: encoded words of further charsets are decoded.
     Charsets,
+    /// `duplicate`: whether the message came before (RFC 7352).
+    Duplicate,
+    /// `envelopes`: a message may have addresses of its own.
+    Envelopes,
+    /// `lines`: which line of which script entered an action.
+    Lines,
+    /// `mailbox`: a mailbox that is made where it lacks, and which there are (RFC 5490).
+    Mailbox,
+    /// `special-use`: a mailbox by its use (RFC 8579).
+    SpecialUse,
     /// `subaddress`: the parts of a local part at its first `+` (RFC 5233).
     Subaddress,
     /// `unused`: a capability that isn't known may be required.
@@ -14,8 +24,13 @@ pub enum Extension {
 }
 
 /// All of them, in the order of their names.
-pub const EXTENSIONS: [Extension; 3] = [
+pub const EXTENSIONS: [Extension; 8] = [
     Extension::Charsets,
+    Extension::Duplicate,
+    Extension::Envelopes,
+    Extension::Lines,
+    Extension::Mailbox,
+    Extension::SpecialUse,
     Extension::Subaddress,
     Extension::Unused,
 ];
@@ -34,6 +49,11 @@ impl Extension {
     {
         match self {
             Extension::Charsets => b"charsets",
+            Extension::Duplicate => b"duplicate",
+            Extension::Envelopes => b"envelopes",
+            Extension::Lines => b"lines",
+            Extension::Mailbox => b"mailbox",
+            Extension::SpecialUse => b"special-use",
             Extension::Subaddress => b"subaddress",
             Extension::Unused => b"unused",
         }

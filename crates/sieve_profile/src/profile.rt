@@ -9,6 +9,11 @@ use crate::extension::Extension;
 #[derive(Clone, Copy)]
 pub struct Profile {
     pub charsets: bool,
+    pub duplicate: bool,
+    pub envelopes: bool,
+    pub lines: bool,
+    pub mailbox: bool,
+    pub special_use: bool,
     pub subaddress: bool,
     pub unused: bool,
 }
@@ -20,6 +25,11 @@ impl Profile {
     {
         Profile {
             charsets: false,
+            duplicate: false,
+            envelopes: false,
+            lines: false,
+            mailbox: false,
+            special_use: false,
             subaddress: false,
             unused: false,
         }
@@ -31,6 +41,11 @@ impl Profile {
     {
         match extension {
             Extension::Charsets => self.charsets,
+            Extension::Duplicate => self.duplicate,
+            Extension::Envelopes => self.envelopes,
+            Extension::Lines => self.lines,
+            Extension::Mailbox => self.mailbox,
+            Extension::SpecialUse => self.special_use,
             Extension::Subaddress => self.subaddress,
             Extension::Unused => self.unused,
         }
@@ -42,6 +57,11 @@ impl Profile {
     {
         Profile {
             charsets: self.charsets || extension == Extension::Charsets,
+            duplicate: self.duplicate || extension == Extension::Duplicate,
+            envelopes: self.envelopes || extension == Extension::Envelopes,
+            lines: self.lines || extension == Extension::Lines,
+            mailbox: self.mailbox || extension == Extension::Mailbox,
+            special_use: self.special_use || extension == Extension::SpecialUse,
             subaddress: self.subaddress || extension == Extension::Subaddress,
             unused: self.unused || extension == Extension::Unused,
         }

@@ -1,5 +1,5 @@
 -- How a command is read (RFC 5228, sections 3 and 4; RFC 5229, section 4; RFC 5232, sections 3 and 5; RFC 6609, section 3; RFC 3894,
--- section 3), by its arguments and their labels.
+-- section 3; RFC 5490, section 3.2; RFC 8579, section 4), by its arguments and their labels.
 use Rattle.std.specs.Prelude.{List, Option, Some, None}
 use Rattle.std.specs.Option.{option_map}
 use Rattle.sieve_base.specs.declared.place.Place.{Place}
@@ -18,13 +18,19 @@ use Rattle.sieve_table.specs.declared.table.Tag.TheVariants as tag
 use Rattle.sieve_variables.specs.declared.modifier.LetterCase.{LetterCase}
 use Rattle.sieve_variables.specs.declared.modifier.LetterCase.TheVariants as letter_case
 use Rattle.sieve_variables.specs.declared.modifier.Modifiers.{Modifiers}
-use Rattle.sieve_reading.specs.Given.{Tags, tags_of, in_role, texts_in, given_texts, text_in, variable_in, given_variable, literal_in, has_tag}
+use Rattle.sieve_reading.specs.Given.{Tags, tags_of, in_role, texts_in, given_texts, text_in, given_text, variable_in, given_variable, literal_in, has_tag}
 use Rattle.sieve_reading.specs.Shape.{row_labels}
 use Rattle.sieve_reading.specs.Reading.{Settings, Leaf, keep_leaf, fileinto_leaf, redirect_leaf, discard_leaf, set_leaf, flag_leaf, include_leaf, CommandReading, reads_if, reads_elsif, reads_else, reads_stop, reads_return, reads_nothing, reads_act}
 
--- what a command says beside its mailbox or its address (RFC 5232, section 5; RFC 3894, section 3)
+-- what a command says beside its mailbox or its address (RFC 5232, section 5; RFC 3894, section 3; RFC 5490, section 3.2; RFC 8579,
+-- section 4)
 abbrev pub settings_by : List Label → List Argument → Settings
-settings_by labels args = record { flags = given_texts (in_role role.Flags labels args); copy = has_tag kind.Copy (tags_of labels) }
+settings_by labels args = record {
+  flags = given_texts (in_role role.Flags labels args);
+  copy = has_tag kind.Copy (tags_of labels);
+  create = has_tag kind.Create (tags_of labels);
+  special_use = given_text (in_role role.Text labels args);
+}
 
 -- what a `keep` does (RFC 5228, section 4.3)
 abbrev pub keep_by : List Label → List Argument → Leaf

@@ -50,6 +50,11 @@ first_text (text ∷ texts) = text
 abbrev pub text_in : Option Argument → List Part
 text_in argument = first_text (texts_in argument)
 
+-- the string of an argument that may be left out
+abbrev pub given_text : Option Argument → Option (List Part)
+given_text None = None
+given_text (Some a) = Some (text_in (Some a))
+
 -- The variable that parts name. What is set is such a variable, and no match variable (RFC 5229, section 4; RFC 5232, section 3). Other
 -- parts name the one without a name, which no script has.
 abbrev pub variable_in_parts : List Part → Variable

@@ -18,22 +18,29 @@ pub data ValueSource : Type 0 where
   string_values : (texts : List (List Part)) → ValueSource
   flag_values : (variables : Option (List (List Part))) → ValueSource
 
--- a test without tests in it (RFC 5228, section 5): it compares values with keys (section 2.7), or looks at the message
+-- A test without tests in it (RFC 5228, section 5): it compares values with keys (section 2.7), looks at the message, or asks what the
+-- server has: mailboxes (RFC 5490, section 3.1), or the message before (RFC 7352, section 3). By what it would know that one isn't read:
+-- a bench has seen none.
 pub data Ask : Type 0 where
   compares : (source : ValueSource) (comparison : Comparison) (keys : List (List Part)) → Ask
   exists_ask : (names : List (List Part)) → Ask
   over_ask : (limit : ℕ) → Ask
   under_ask : (limit : ℕ) → Ask
+  mailboxes_ask : (names : List (List Part)) → Ask
+  duplicate_ask : Ask
 
 -- What a command that stores or redirects says beside its mailbox or its address: the flags of what it stores, where it names them (RFC
--- 5232, section 5), and whether it says `:copy` (RFC 3894, section 3).
+-- 5232, section 5), whether it says `:copy` (RFC 3894, section 3), whether it says `:create` (RFC 5490, section 3.2), and the use of a
+-- mailbox, where it names one (RFC 8579, section 4).
 pub record Settings : Type 0 where
   pub flags : Option (List (List Part))
   pub copy : Bool
+  pub create : Bool
+  pub special_use : Option (List Part)
 
 -- the settings of a command that says nothing beside
 abbrev pub plain_settings : Settings
-plain_settings = record { flags = None; copy = false }
+plain_settings = record { flags = None; copy = false; create = false; special_use = None }
 
 -- A command that acts. One that changes flags changes those that a variable holds, or else the internal ones (RFC 5232, section 3).
 -- One that includes a script names its place and its name, and says whether the script runs once at most, and whether it may be

@@ -1,4 +1,4 @@
--- How a test is read (RFC 5228, section 5; RFC 5229, section 5; RFC 5232, section 4), by its arguments and their labels.
+-- How a test is read (RFC 5228, section 5; RFC 5229, section 5; RFC 5232, section 4; RFC 5490, section 3.1; RFC 7352, section 3), by its arguments and their labels.
 use Rattle.std.specs.Prelude.{ℕ, List, Option, Some}
 use Rattle.std.specs.Option.{option_map}
 use Rattle.sieve_table.specs.Table.{test_named, test_row}
@@ -13,7 +13,7 @@ use Rattle.sieve_table.specs.declared.table.TestKind.{TestKind}
 use Rattle.sieve_table.specs.declared.table.TestKind.TheVariants as test_kind
 use Rattle.sieve_reading.specs.Given.{Tags, tags_of, in_role, texts_in, given_texts, number_in, collation_by, match_type_of, address_part_of}
 use Rattle.sieve_reading.specs.Shape.{row_labels}
-use Rattle.sieve_reading.specs.Reading.{ValueSource, header_values, address_values, envelope_values, string_values, flag_values, Ask, compares, exists_ask, over_ask, under_ask, TestReading, reads_always, reads_never, reads_ask, reads_all, reads_any, reads_not}
+use Rattle.sieve_reading.specs.Reading.{ValueSource, header_values, address_values, envelope_values, string_values, flag_values, Ask, compares, exists_ask, over_ask, under_ask, mailboxes_ask, duplicate_ask, TestReading, reads_always, reads_never, reads_ask, reads_all, reads_any, reads_not}
 
 -- how a test compares (RFC 5228, section 2.7)
 abbrev pub comparison_by : List Label → List Argument → Comparison
@@ -58,6 +58,10 @@ bound_ask tags limit = bound_by (tags kind.Bound) limit
 abbrev pub size_by : List Label → List Argument → Ask
 size_by labels args = bound_ask (tags_of labels) (number_in (in_role role.Limit labels args))
 
+-- what a `mailboxexists` test asks (RFC 5490, section 3.1)
+abbrev pub mailboxes_by : List Label → List Argument → Ask
+mailboxes_by labels args = mailboxes_ask (texts_in (in_role role.Mailbox labels args))
+
 abbrev pub test_reading_by : TestKind → List Label → List Argument → TestReading
 test_reading_by test_kind.Header labels args = reads_ask (compares_by (header_source labels args) labels args)
 test_reading_by test_kind.Address labels args = reads_ask (compares_by (address_source labels args) labels args)
@@ -71,6 +75,8 @@ test_reading_by test_kind.True labels args = reads_always
 test_reading_by test_kind.False labels args = reads_never
 test_reading_by test_kind.String labels args = reads_ask (compares_by (string_source labels args) labels args)
 test_reading_by test_kind.HasFlag labels args = reads_ask (compares_by (flag_source labels args) labels args)
+test_reading_by test_kind.MailboxExists labels args = reads_ask (mailboxes_by labels args)
+test_reading_by test_kind.Duplicate labels args = reads_ask duplicate_ask
 
 -- what a test of a kind is with these arguments
 abbrev pub test_kind_reading : TestKind → List Argument → TestReading

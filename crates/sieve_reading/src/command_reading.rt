@@ -1,4 +1,5 @@
-//! How a command is read (RFC 5228, sections 3 and 4; RFC 5229, section 4; RFC 5232, section 3; RFC 6609, section 3).
+//! How a command is read (RFC 5228, sections 3 and 4; RFC 5229, section 4; RFC 5232, section 3; RFC 6609, section 3; RFC 5490,
+//! section 3.2; RFC 8579, section 4).
 ghost use Rattle.std.specs.Prelude.{◌≡◌, false, map};
 ghost use Rattle.std.specs.Option.{option_map};
 ghost use Rattle.sieve_reading.specs.CommandReading as spec;
@@ -10,8 +11,10 @@ ghost use Rattle.sieve_reading.specs.view.Tree.{argument_of};
 ghost use Rattle.sieve_table.specs.Role.{same_role};
 ghost use Rattle.sieve_table.specs.declared.row.Role.TheVariants as role;
 
-use crate::given::{given_texts, given_variable, name_in, text_in, texts_in, variable_in};
-use crate::labelled::{into_argument, into_arguments};
+use crate::given::{
+    given_text, given_texts, given_variable, name_in, text_in, texts_in, variable_in,
+};
+use crate::labelled::{into_argument, into_arguments, into_three};
 use crate::reading::{CommandReading, FlagChange, Leaf, Settings};
 use crate::tags::Tags;
 use sieve_base::Place;
@@ -27,14 +30,20 @@ fn with_settings(
     wanted: Role,
     args: Vec<Argument>,
 ) -> (Option<Argument>, Settings)
-    requires { same_role role.Flags wanted ≡ false }
+    requires flags { same_role role.Flags wanted ≡ false }
+    requires text { same_role role.Text wanted ≡ false }
     ensures argument { option_map argument_of result.0 ≡ in_role wanted (labels_in row.now args.items) (map argument_of args.items) }
     ensures settings { settings_as result.1 ≡ spec.settings_by (labels_in row.now args.items) (map argument_of args.items) }
 {
-    let copy = Tags::among(row, &args).has(TagKind::Copy);
-    let (argument, flags) = into_arguments(row, wanted, Role::Flags, args);
-    let flags = given_texts(alloc, flags);
-    (argument, Settings { flags, copy })
+    let tags = Tags::among(row, &args);
+    let (argument, flags, special_use) = into_three(row, wanted, Role::Flags, Role::Text, args);
+    let settings = Settings {
+        flags: given_texts(alloc, flags),
+        copy: tags.has(TagKind::Copy),
+        create: tags.has(TagKind::Create),
+        special_use: given_text(special_use),
+    };
+    (argument, settings)
 }
 
 /// What a `keep` does, none of whose arguments names a mailbox.

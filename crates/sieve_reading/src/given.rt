@@ -60,6 +60,16 @@ pub(crate) fn text_in(argument: Option<Argument>) -> Parts
     }
 }
 
+/// The string of an argument that may be left out.
+pub(crate) fn given_text(argument: Option<Argument>) -> Option<Parts>
+    ensures { result ≡ spec.given_text (option_map argument_of argument) }
+{
+    match argument {
+        Some(argument) => Some(text_in(Some(argument))),
+        None => None,
+    }
+}
+
 /// The variable that parts name.
 fn variable_in_parts(parts: Parts) -> Variable
     ensures { result ≡ spec.variable_in_parts parts }

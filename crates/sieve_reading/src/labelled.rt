@@ -62,9 +62,27 @@ pub(crate) fn into_arguments(
     ensures wanted { option_map argument_of result.0 ≡ in_role wanted (labels_in row.now args.items) (map argument_of args.items) }
     ensures other { option_map argument_of result.1 ≡ in_role other (labels_in row.now args.items) (map argument_of args.items) }
 {
+    let (in_wanted, in_other, _) = into_three(row, wanted, other, other, args);
+    (in_wanted, in_other)
+}
+
+/// The first arguments in each of three roles, to be kept; the last may be one of the others, and then has none.
+pub(crate) fn into_three(
+    row: &Row,
+    wanted: Role,
+    other: Role,
+    third: Role,
+    args: Vec<Argument>,
+) -> (Option<Argument>, Option<Argument>, Option<Argument>)
+    requires { same_role other wanted ≡ false }
+    ensures wanted { option_map argument_of result.0 ≡ in_role wanted (labels_in row.now args.items) (map argument_of args.items) }
+    ensures other { option_map argument_of result.1 ≡ in_role other (labels_in row.now args.items) (map argument_of args.items) }
+    ensures third { same_role third wanted ≡ false → same_role third other ≡ false → option_map argument_of result.2 ≡ in_role third (labels_in row.now args.items) (map argument_of args.items) }
+{
     let mut expected = row_expected::<AsParts>(row, None, &args);
     let mut in_wanted = None;
     let mut in_other = None;
+    let mut in_third = None;
     for argument in args {
         let shape = shape_of::<AsParts>(None, row.tags, &argument);
         let role = role_of(expected.label(shape));
@@ -73,7 +91,9 @@ pub(crate) fn into_arguments(
             in_wanted = first_or(in_wanted, argument);
         } else if has_role(other, role) {
             in_other = first_or(in_other, argument);
+        } else if has_role(third, role) {
+            in_third = first_or(in_third, argument);
         }
     }
-    (in_wanted, in_other)
+    (in_wanted, in_other, in_third)
 }

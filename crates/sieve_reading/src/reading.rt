@@ -88,6 +88,13 @@ pub enum Ask {
         /// The number of octets.
         limit: u64,
     },
+    /// Whether all named mailboxes are there (RFC 5490, section 3.1).
+    MailboxExists {
+        /// The names of mailboxes.
+        names: Vec<Text>,
+    },
+    /// Whether the message came before (RFC 7352, section 3).
+    Duplicate,
 }
 
 /// What a test is, apart from the tests in it.
@@ -125,6 +132,10 @@ pub struct Settings {
     pub flags: Option<Vec<Text>>,
     /// Whether the command's action leaves the implicit keep as it is (RFC 3894, section 3).
     pub copy: bool,
+    /// Whether a mailbox that isn't there is to be made (RFC 5490, section 3.2).
+    pub create: bool,
+    /// The use of the mailbox to store into, where the command names one (RFC 8579, section 4).
+    pub special_use: Option<Parts>,
 }
 
 /// What a command does that acts.

@@ -1,4 +1,5 @@
-//! How a test is read (RFC 5228, section 5; RFC 5229, section 5; RFC 5232, section 4).
+//! How a test is read (RFC 5228, section 5; RFC 5229, section 5; RFC 5232, section 4; RFC 5490, section 3.1; RFC 7352,
+//! section 3).
 ghost use Rattle.std.specs.Prelude.{◌≡◌, map};
 ghost use Rattle.sieve_reading.specs.Given.{tags_of};
 ghost use Rattle.sieve_reading.specs.TestReading as spec;
@@ -141,6 +142,14 @@ fn size_ask(row: &Row, args: Vec<Argument>) -> Ask
     bound_ask(Tags::among(row, &args), limit)
 }
 
+/// What a `mailboxexists` test asks.
+fn mailboxes_ask(alloc: Global, row: &Row, args: Vec<Argument>) -> Ask
+    ensures { ask_as result ≡ spec.mailboxes_by (labels_in row.now args.items) (map argument_of args.items) }
+{
+    let names = texts_in(alloc, into_argument(row, Role::Mailbox, args));
+    Ask::MailboxExists { names }
+}
+
 /// What a test of a kind is, by its row.
 fn reading_by(alloc: Global, kind: TestKind, row: &Row, args: Vec<Argument>) -> TestReading
     ensures { test_reading_as result ≡ spec.test_reading_by kind (labels_in row.now args.items) (map argument_of args.items) }
@@ -158,6 +167,8 @@ fn reading_by(alloc: Global, kind: TestKind, row: &Row, args: Vec<Argument>) -> 
         TestKind::False => return TestReading::Never,
         TestKind::String => string_ask(alloc, row, args),
         TestKind::HasFlag => flag_ask(alloc, row, args),
+        TestKind::MailboxExists => mailboxes_ask(alloc, row, args),
+        TestKind::Duplicate => Ask::Duplicate,
     };
     TestReading::Asks(ask)
 }

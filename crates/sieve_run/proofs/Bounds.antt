@@ -1,5 +1,5 @@
 -- What holds of the state of a run from its start to its end: it has no more actions, and no more scripts were entered, than there may be.
-use Rattle.std.proofs.Common.{◌≡◌, ℕ, zero, suc, ◌≤◌, Bool, true, false, ◌&&◌, Option, None, Some, List, [], ◌∷◌, ◌++◌, length, map, nat_lt, refl, ap, subst, sym, ◌∙◌, append-nil, append_assoc, arith}
+use Rattle.std.proofs.Common.{◌≡◌, ℕ, zero, suc, ◌+◌, ◌≤◌, Bool, true, false, ◌&&◌, Option, None, Some, List, [], ◌∷◌, ◌++◌, length, map, nat_lt, refl, ap, subst, sym, ◌∙◌, append-nil, append_assoc, arith}
 use Rattle.std.proofs.lemmas.Bool.Decides.{nat_tests}
 use Rattle.std.proofs.lemmas.List.{length_push, length-map}
 use Rattle.std.specs.Prelude.{if◌then◌else◌}
@@ -15,7 +15,7 @@ use Rattle.sieve_effects.specs.Delivery.{Arrival, Delivery, inside}
 use Rattle.sieve_run.specs.Library.{Lookup, missing, invalid, present, found_at}
 use Rattle.sieve_effects.specs.Matching.{behind_test, truth_of}
 use Rattle.sieve_run.specs.Perform.{perform}
-use Rattle.sieve_effects.specs.Act.{deed_of, store_deed, Ending, goes_on, returned, stopped, failed, performed, one_too_many, same_action, joined_with, changes, ends_with, gives, performs, fails_at, is_mailbox, only_address, redirects, held_flags, changed_flags, flags_named, state_behind}
+use Rattle.sieve_effects.specs.Act.{deed_of, store_deed, Ending, goes_on, returned, stopped, failed, entered, joined, one_too_many, same_action, joined_with, changes, ends_with, gives, origin_at, performs, fails_at, filing_of, is_mailbox, may_be_used, only_address, redirects, held_flags, changed_flags, flags_named, state_behind}
 use Rattle.sieve_run.specs.Run.{entering, included, include_of, includes, is_running, is_script, is_there, looked_up, act_of, and_then, answer_of, begun, chosen, delivery_to, exec, resumed, run_of, running, verdict_at, verdict_of, outcome_of, with_found_script, with_read}
 use Rattle.sieve_effects.specs.State.{RunState}
 use Rattle.sieve_effects.specs.declared.flow.Flow.{Flow}
@@ -136,7 +136,7 @@ module _ (Holds : RunState → Type 0) (kept : IsKept Holds) where
     acts_hold : (depth : ℕ) (delivery : Delivery) → ((name : ScriptName) (once optional : Bool) (line : ℕ) (s : RunState) → Holds s → Ends (included find depth delivery name once optional line s))
         → (leaf : Leaf) (line : ℕ) (s : RunState) → Holds s → Ends (act_of find depth delivery leaf line s)
     acts_hold depth delivery inner (keep_leaf settings) line s h = kept.acts delivery line (store_deed s delivery.arrival.envelope.mailbox settings) s h
-    acts_hold depth delivery inner (fileinto_leaf mailbox settings) line s h = filed delivery line (store_deed s (text_value s.values mailbox) settings) s h (is_mailbox (text_value s.values mailbox))
+    acts_hold depth delivery inner (fileinto_leaf mailbox settings) line s h = filed delivery line (store_deed s (text_value s.values mailbox) settings) s h (is_mailbox (text_value s.values mailbox) && may_be_used (filing_of s.values settings).special_use)
     acts_hold depth delivery inner (redirect_leaf address settings) line s h = redirected delivery line (only_address (addresses_of (text_value s.values address))) settings s h
     acts_hold depth delivery inner discard_leaf line s h = kept.acts delivery line (deed_of Discard plain_settings) s h
     acts_hold depth delivery inner (set_leaf variable modifiers value) line s h = given delivery line variable (modified modifiers (text_value s.values value)) s h
@@ -171,7 +171,7 @@ abbrev pub IsBounded : RunState → Type 0
 IsBounded state = length state.actions ≤ action_limit
 
 with_room : (delivery : Delivery) (deed : Deed) (line : ℕ) (s : RunState) → IsBounded s → (there room : Bool) → nat_lt (length s.actions) action_limit ≡ room
-    → IsBounded (state_behind (ends_with delivery line deed (if there then performed (map (joined_with deed.action) s.actions) else if room then performed (s.actions ++ deed.action ∷ []) else one_too_many) s))
+    → IsBounded (state_behind (ends_with delivery line deed (if there then joined (map (joined_with deed.action) s.actions) else if room then entered (s.actions ++ deed.action ∷ []) else one_too_many) s))
 with_room delivery deed line s bound true room is = subst (λ n. n ≤ action_limit) (sym (length-map s.actions (joined_with deed.action))) bound
 with_room delivery deed line s bound false true is = grind (arith, nat_tests, length_push s.actions deed.action)
 with_room delivery deed line s bound false false is = bound
@@ -215,6 +215,44 @@ unfolding outcome_of
 outcome_bounded find None arrival = omega arith
 outcome_bounded find (Some main) arrival = found_bounded find arrival main (found_at find main)
 
+-- WHO ENTERED THEM
+
+-- each action of a state has the command that entered it
+abbrev IsOriginated : RunState → Type 0
+IsOriginated state = length state.origins ≡ length state.actions
+
+originated_by : (delivery : Delivery) (deed : Deed) (line : ℕ) (s : RunState) → IsOriginated s → (there room : Bool)
+    → IsOriginated (state_behind (ends_with delivery line deed (if there then joined (map (joined_with deed.action) s.actions) else if room then entered (s.actions ++ deed.action ∷ []) else one_too_many) s))
+originated_by delivery deed line s each true room = each ∙ sym (length-map s.actions (joined_with deed.action))
+originated_by delivery deed line s each false true = length_push s.origins (origin_at delivery line) ∙ ap (λ n. n + 1) each ∙ sym (length_push s.actions deed.action)
+originated_by delivery deed line s each false false = each
+
+originated : IsKept IsOriginated
+originated = record {
+  values = λ s values h. h;
+  flags = λ s flags h. h;
+  reads = λ s reads h. h;
+  acts = λ delivery line deed s h. originated_by delivery deed line s h (list_any (same_action deed.action) s.actions) (nat_lt (length s.actions) action_limit);
+  enters = λ name s few h. h;
+}
+
+verdict_originated : (e : Ending) → IsOriginated (state_behind e) → length (verdict_of e).origins ≡ length (verdict_of e).actions
+verdict_originated (goes_on s) each = each
+verdict_originated (returned s) each = each
+verdict_originated (stopped s) each = each
+verdict_originated (failed error s) each = refl
+
+found_originated : (find : ScriptName → Lookup) (arrival : Arrival) (main : ScriptName) (lookup : Lookup) → length (verdict_at find arrival main lookup).origins ≡ length (verdict_at find arrival main lookup).actions
+found_originated find arrival main missing = refl
+found_originated find arrival main invalid = refl
+found_originated find arrival main (present tree) =
+    verdict_originated (run_of find arrival main tree) (running_holds IsOriginated originated find include_depth (delivery_to arrival main) tree (begun main) refl)
+
+pub outcome_originated : (find : ScriptName → Lookup) (main : Option ScriptName) (arrival : Arrival) → length (outcome_of find main arrival).origins ≡ length (outcome_of find main arrival).actions
+unfolding outcome_of
+outcome_originated find None arrival = refl
+outcome_originated find (Some main) arrival = found_originated find arrival main (found_at find main)
+
 -- INCLUDES
 
 -- no more scripts were entered than the main one and so many others
@@ -224,7 +262,7 @@ IsShort state = length state.entered ≤ suc include_limit
 one_more : (name : ScriptName) (s : RunState) → nat_lt include_limit (length s.entered) ≡ false → length (s.entered ++ name ∷ []) ≤ suc include_limit
 one_more name s few = grind (arith, nat_tests, length_push s.entered name)
 
-performs_enters : (delivery : Delivery) (line : ℕ) (s : RunState) (there room : Bool) (deed : Deed) → (state_behind (ends_with delivery line deed (if there then performed (map (joined_with deed.action) s.actions) else if room then performed (s.actions ++ deed.action ∷ []) else one_too_many) s)).entered ≡ s.entered
+performs_enters : (delivery : Delivery) (line : ℕ) (s : RunState) (there room : Bool) (deed : Deed) → (state_behind (ends_with delivery line deed (if there then joined (map (joined_with deed.action) s.actions) else if room then entered (s.actions ++ deed.action ∷ []) else one_too_many) s)).entered ≡ s.entered
 performs_enters delivery line s true room deed = refl
 performs_enters delivery line s false true deed = refl
 performs_enters delivery line s false false deed = refl

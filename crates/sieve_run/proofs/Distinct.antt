@@ -12,7 +12,7 @@ use Rattle.sieve_effects.specs.declared.action.Action.{Action}
 use Rattle.sieve_effects.specs.declared.action.Action.TheVariants.{Store, Redirect, Discard}
 use Rattle.sieve_effects.specs.declared.action.Deed.{Deed}
 use Rattle.sieve_base.specs.declared.name.ScriptName.{ScriptName}
-use Rattle.sieve_effects.specs.Act.{Ending, goes_on, returned, stopped, failed, performed, one_too_many, ends_with, joined_with, same_action, state_behind, with_flags_of}
+use Rattle.sieve_effects.specs.Act.{Ending, goes_on, returned, stopped, failed, entered, joined, one_too_many, ends_with, joined_with, same_action, state_behind, brought_by}
 use Rattle.sieve_run.specs.Distinct.{AreDistinct}
 use Rattle.sieve_run.specs.Library.{Lookup, missing, invalid, present, found_at}
 use Rattle.sieve_run.specs.Run.{begun, delivery_to, outcome_of, run_of, verdict_at, verdict_of}
@@ -21,33 +21,33 @@ use Rattle.sieve_run.proofs.Bounds.{IsKept, running_holds}
 -- WHEN TWO ACTIONS ARE ONE
 
 same_itself : (a : Action) → same_action a a ≡ true
-same_itself (Store mailbox flags) = nat_list_eq_equiv.refl mailbox
+same_itself (Store mailbox flags filing) = nat_list_eq_equiv.refl mailbox
 same_itself (Redirect address) = nat_list_eq_equiv.refl address
 same_itself Discard = refl
 
 same_back : (a b : Action) → same_action a b ≡ same_action b a
-same_back (Store mailbox flags) (Store other there) = nat_list_eq_equiv.symm mailbox other
-same_back (Store mailbox flags) (Redirect other) = refl
-same_back (Store mailbox flags) Discard = refl
-same_back (Redirect address) (Store other there) = refl
+same_back (Store mailbox flags filing) (Store other there kept) = nat_list_eq_equiv.symm mailbox other
+same_back (Store mailbox flags filing) (Redirect other) = refl
+same_back (Store mailbox flags filing) Discard = refl
+same_back (Redirect address) (Store other there kept) = refl
 same_back (Redirect address) (Redirect other) = nat_list_eq_equiv.symm address other
 same_back (Redirect address) Discard = refl
-same_back Discard (Store other there) = refl
+same_back Discard (Store other there kept) = refl
 same_back Discard (Redirect other) = refl
 same_back Discard Discard = refl
 
 same_too : (a b c : Action) → same_action a b ≡ true → same_action a c ≡ same_action b c
-same_too (Store mailbox flags) (Store other there) (Store third more) is = nat_list_eq_equiv.congr mailbox other third is
-same_too (Store mailbox flags) (Store other there) (Redirect third) is = refl
-same_too (Store mailbox flags) (Store other there) Discard is = refl
-same_too (Store mailbox flags) (Redirect other) c is = absurd cc
-same_too (Store mailbox flags) Discard c is = absurd cc
-same_too (Redirect address) (Store other there) c is = absurd cc
-same_too (Redirect address) (Redirect other) (Store third more) is = refl
+same_too (Store mailbox flags filing) (Store other there kept) (Store third more its) is = nat_list_eq_equiv.congr mailbox other third is
+same_too (Store mailbox flags filing) (Store other there kept) (Redirect third) is = refl
+same_too (Store mailbox flags filing) (Store other there kept) Discard is = refl
+same_too (Store mailbox flags filing) (Redirect other) c is = absurd cc
+same_too (Store mailbox flags filing) Discard c is = absurd cc
+same_too (Redirect address) (Store other there kept) c is = absurd cc
+same_too (Redirect address) (Redirect other) (Store third more its) is = refl
 same_too (Redirect address) (Redirect other) (Redirect third) is = nat_list_eq_equiv.congr address other third is
 same_too (Redirect address) (Redirect other) Discard is = refl
 same_too (Redirect address) Discard c is = absurd cc
-same_too Discard (Store other there) c is = absurd cc
+same_too Discard (Store other there kept) c is = absurd cc
 same_too Discard (Redirect other) c is = absurd cc
 same_too Discard Discard c is = refl
 
@@ -56,22 +56,22 @@ same_equiv = record { refl = same_itself; symm = same_back; congr = same_too }
 
 -- ACTIONS THAT ARE JOINED
 
--- an action that flags are joined to is one with the actions that it was one with before
-with_flags_same : (action there a : Action) → same_action a (with_flags_of action there) ≡ same_action a there
-with_flags_same (Store mailbox flags) (Store other there) (Store third more) = refl
-with_flags_same (Store mailbox flags) (Store other there) (Redirect third) = refl
-with_flags_same (Store mailbox flags) (Store other there) Discard = refl
-with_flags_same (Store mailbox flags) (Redirect other) a = refl
-with_flags_same (Store mailbox flags) Discard a = refl
-with_flags_same (Redirect address) there a = refl
-with_flags_same Discard there a = refl
+-- an action that another is joined to is one with the actions that it was one with before
+brought_same : (action there a : Action) → same_action a (brought_by action there) ≡ same_action a there
+brought_same (Store mailbox flags filing) (Store other there kept) (Store third more its) = refl
+brought_same (Store mailbox flags filing) (Store other there kept) (Redirect third) = refl
+brought_same (Store mailbox flags filing) (Store other there kept) Discard = refl
+brought_same (Store mailbox flags filing) (Redirect other) a = refl
+brought_same (Store mailbox flags filing) Discard a = refl
+brought_same (Redirect address) there a = refl
+brought_same Discard there a = refl
 
 module _ (action : Action) where
   joined_same : (there a : Action) → same_action a (joined_with action there) ≡ same_action a there
   joined_same there a = by (same_action action there)
     where
-      by : (one : Bool) → same_action a (if one then with_flags_of action there else there) ≡ same_action a there
-      by true = with_flags_same action there a
+      by : (one : Bool) → same_action a (if one then brought_by action there else there) ≡ same_action a there
+      by true = brought_same action there a
       by false = refl
 
   both_joined : (a b : Action) → same_action (joined_with action a) (joined_with action b) ≡ same_action a b
@@ -93,7 +93,7 @@ abbrev ActsApart : RunState → Type 0
 ActsApart state = AreDistinct state.actions
 
 performed_apart : (delivery : Delivery) (line : ℕ) (deed : Deed) (s : RunState) → ActsApart s → (there room : Bool) → list_any (same_action deed.action) s.actions ≡ there
-    → ActsApart (state_behind (ends_with delivery line deed (if there then performed (map (joined_with deed.action) s.actions) else if room then performed (s.actions ++ deed.action ∷ []) else one_too_many) s))
+    → ActsApart (state_behind (ends_with delivery line deed (if there then joined (map (joined_with deed.action) s.actions) else if room then entered (s.actions ++ deed.action ∷ []) else one_too_many) s))
 performed_apart delivery line deed s distinct true room is = distinct_joined deed.action s.actions distinct
 performed_apart delivery line deed s distinct false true is = IsDistinct-push same_equiv s.actions deed.action distinct is
 performed_apart delivery line deed s distinct false false is = distinct

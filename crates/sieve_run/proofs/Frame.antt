@@ -17,7 +17,7 @@ use Rattle.sieve_effects.specs.Delivery.{Arrival, Delivery, inside}
 use Rattle.sieve_run.specs.Frame.{Agree, Texts, outcome_over}
 use Rattle.sieve_run.specs.Library.{Lookup, found_at, invalid, library_of, lookup_of, missing, present}
 use Rattle.sieve_base.specs.Name.{name_eq, place_eq}
-use Rattle.sieve_effects.specs.Act.{deed_of, store_deed, Ending, goes_on, returned, stopped, failed, performed, one_too_many, same_action, joined_with, changes, changed_flags, ends_with, flags_named, held_flags, performs, fails_at, is_mailbox, only_address, redirects, act_by, state_behind}
+use Rattle.sieve_effects.specs.Act.{deed_of, store_deed, Ending, goes_on, returned, stopped, failed, entered, joined, one_too_many, same_action, joined_with, changes, changed_flags, ends_with, flags_named, held_flags, performs, fails_at, filing_of, is_mailbox, may_be_used, only_address, redirects, act_by, state_behind}
 use Rattle.sieve_run.specs.Run.{entering, included, include_of, includes, is_read, is_running, is_script, is_there, looked_up, act_of, and_then, answer_of, begun, chosen, decide, delivery_to, exec, resumed, run_of, running, verdict_at, verdict_of, outcome_of, with_found_script, with_read}
 use Rattle.sieve_effects.specs.State.{RunState}
 use Rattle.sieve_base.specs.declared.name.ScriptName.{ScriptName}
@@ -98,7 +98,7 @@ reads_stay s t same name r = subst (λ reads. is_read name reads ≡ true) (sym 
 
 -- WHAT COMMANDS READ THAT INCLUDE NOTHING
 
-performed_reads : (delivery : Delivery) (line : ℕ) (deed : Deed) (s : RunState) (there room : Bool) → (state_behind (ends_with delivery line deed (if there then performed (map (joined_with deed.action) s.actions) else if room then performed (s.actions ++ deed.action ∷ []) else one_too_many) s)).reads ≡ s.reads
+performed_reads : (delivery : Delivery) (line : ℕ) (deed : Deed) (s : RunState) (there room : Bool) → (state_behind (ends_with delivery line deed (if there then joined (map (joined_with deed.action) s.actions) else if room then entered (s.actions ++ deed.action ∷ []) else one_too_many) s)).reads ≡ s.reads
 performed_reads delivery line deed s true room = refl
 performed_reads delivery line deed s false true = refl
 performed_reads delivery line deed s false false = refl
@@ -279,7 +279,7 @@ module _ (find other : ScriptName → Lookup) where
   acts_frames : (delivery : Delivery) (include include' : ScriptName → (once optional : Bool) → ℕ → RunState → Ending) → ((name : ScriptName) (once optional : Bool) (line : ℕ) → Frames (include name once optional line) (include' name once optional line))
       → (leaf : Leaf) (line : ℕ) → Frames (act_by include delivery leaf line) (act_by include' delivery leaf line)
   acts_frames delivery include include' frames (keep_leaf settings) line = own_frames _ (λ s. performs_reads delivery line (store_deed s delivery.arrival.envelope.mailbox settings) s)
-  acts_frames delivery include include' frames (fileinto_leaf mailbox settings) line = own_frames _ (λ s. filed_reads delivery line (store_deed s (text_value s.values mailbox) settings) s (is_mailbox (text_value s.values mailbox)))
+  acts_frames delivery include include' frames (fileinto_leaf mailbox settings) line = own_frames _ (λ s. filed_reads delivery line (store_deed s (text_value s.values mailbox) settings) s (is_mailbox (text_value s.values mailbox) && may_be_used (filing_of s.values settings).special_use))
   acts_frames delivery include include' frames (redirect_leaf address settings) line = own_frames _ (λ s. redirected_reads delivery line (only_address (addresses_of (text_value s.values address))) settings s)
   acts_frames delivery include include' frames discard_leaf line = own_frames _ (λ s. performs_reads delivery line (deed_of Discard plain_settings) s)
   acts_frames delivery include include' frames (set_leaf variable modifiers value) line = own_frames _ (λ s. given_reads delivery line variable (modified modifiers (text_value s.values value)) s (has_room_for variable s.values))

@@ -1,21 +1,18 @@
 -- What is left of a text behind a front, and what its lines say.
-use Rattle.sieve_base.specs.Octet.{octet_of}
 use Rattle.std.proofs.Common.{◌≡◌, ◌≢◌, ◌↔◌, ℕ, ◌+◌, ◌<◌, ◌≤◌, Bool, true, false, not, IsTrue, ◌==◌, ◌&&◌, if◌then◌else◌, nat_eq, List, [], ◌∷◌, ◌++◌, length, drop, take, get_or, Option, None, Some, MatchOption, refl, sym, ap, subst, ◌∙◌, arith}
 use Rattle.std.proofs.lemmas.Bool.{eq-eqb, eqb-true, ne_eqb}
 use Rattle.std.proofs.lemmas.Bool.Decides.{Decides-eqb}
-use Rattle.std.proofs.lemmas.List.{drop_all, drop_more, take-append-drop, take_all}
+use Rattle.std.proofs.lemmas.List.{drop_all, drop_more}
 use Rattle.std.proofs.lemmas.Slice.Eq.{bytes_eq-Decides, slice_eq-Decides, strip_prefix_is}
 use Rattle.std.specs.Bool.{Decides}
-use Rattle.std.specs.List.{All, flat_map}
+use Rattle.std.specs.List.{flat_map}
 use Rattle.std.specs.Option.{option_and_then, option_copied}
-use Rattle.std.specs.Str.Lines.{lines, strip_carriage_return}
-use Rattle.memchr.specs.Find.{Nowhere, Passes, is_byte}
+use Rattle.std.specs.Str.Lines.{lines}
 use denote.Ref.{Bor}
 use lib.Pointwise.{pointwise}
 use Rattle.sieve_run.specs.Lines.{agrees, says, verdict_lines}
 use Rattle.sieve_run.specs.Verdict.{Verdict}
 use Rattle.sieve_run.specs.view.Left.{behind_front, is_whole, left_says}
-use Rattle.message_text.proofs.LineLemmas.{lines-feed, lines-last, plain_before}
 
 -- FRONTS
 
@@ -161,21 +158,6 @@ pub agrees_where : (mailbox : List ℕ) (verdict : Verdict) (text : List ℕ) �
 unfolding agrees
 agrees_where mailbox verdict [] = (λ (is : IsTrue false). absurd (let e : false ≡ true = is in cc), λ both. absurd (omega (arith, both.0)))
 agrees_where mailbox verdict (octet ∷ text) = let decides = says_is (octet ∷ text) (verdict_lines mailbox verdict) in (λ is. (omega arith, decides.0 is), λ both. decides.1 both.1)
-
--- THE FIRST LINE
-
-pub line_to_end : (text : List ℕ) → 0 < length text → Nowhere (Passes (is_byte (octet_of "\n")) text) 0 (length text) → lines text ≡ text ∷ lines (drop (length text) text)
-line_to_end text some nowhere =
-    let plain : All (λ b. (b == octet_of "\n") ≡ false) text = subst (All (λ b. (b == octet_of "\n") ≡ false)) (take_all (length text) text (omega arith)) (plain_before text (length text) (omega arith) nowhere) in
-    lines-last text some plain ∙ ap (λ (end : List ℕ). text ∷ lines end) (sym (drop_all (length text) text (omega arith)))
-
-pub line_to_feed : (text : List ℕ) (len : ℕ) (line : List ℕ) → Nowhere (Passes (is_byte (octet_of "\n")) text) 0 len → len < length text → Passes (is_byte (octet_of "\n")) text len → line ≡ strip_carriage_return (take len text)
-    → lines text ≡ line ∷ lines (drop (len + 1) text)
-line_to_feed text len line nowhere short feed is =
-    let at_feed : get_or text len 0 ≡ octet_of "\n" = eqb-true (get_or text len 0) (octet_of "\n") feed in
-    let cut : text ≡ take len text ++ octet_of "\n" ∷ drop (len + 1) text =
-    sym (take-append-drop len text) ∙ ap (λ (end : List ℕ). take len text ++ end) (drop_more text len 0 short) ∙ ap (λ b. take len text ++ b ∷ drop (len + 1) text) at_feed in
-    ap lines cut ∙ lines-feed (take len text) (drop (len + 1) text) (plain_before text len (omega arith) nowhere) ∙ ap (λ (l : List ℕ). l ∷ lines (drop (len + 1) text)) (sym is)
 
 pub ruleset left = (skip_none, skip_some, skip_second_none, skip_third, skip_nothing, next_item, no_item, last_item)
 

@@ -1,6 +1,6 @@
 -- Worked rows of what no run of the program shows: runs that are watched, libraries that have scripts of too long names, and what the laws
 -- say of actions.
-use Rattle.std.proofs.Common.{◌≡◌, true, false, List, [], ◌∷◌, length, nat_lt, if◌then◌else◌, Some, refl, ap, codes}
+use Rattle.std.proofs.Common.{◌≡◌, true, false, List, [], ◌∷◌, length, nat_lt, if◌then◌else◌, None, Some, refl, ap, codes}
 use Rattle.std.specs.List.{IsDistinct}
 use Rattle.sieve_reading.specs.Script.{chain_of, chain_with, block_commands, conditions_in}
 use Rattle.sieve_table.specs.Table.{command_named}
@@ -15,6 +15,7 @@ use Rattle.sieve_effects.specs.State.{RunState}
 use Rattle.sieve_effects.specs.declared.envelope.Envelope.{Envelope}
 use Rattle.sieve_profile.specs.Profile.{empty_profile}
 use Rattle.sieve_effects.specs.declared.action.Action.TheVariants.{Store, Discard}
+use Rattle.sieve_effects.specs.declared.action.Filing.{Filing}
 use Rattle.sieve_effects.specs.declared.error.ErrorKind.TheVariants.{MissingScript}
 use Rattle.sieve_base.specs.declared.name.ScriptName.{ScriptName}
 use Rattle.sieve_run.specs.Depth.{watched_include}
@@ -32,7 +33,7 @@ abbrev script_b : ScriptName
 script_b = record { place = Personal; name = codes "b" }
 
 abbrev envelope : Envelope
-envelope = record { from = []; to = []; mailbox = codes "INBOX" }
+envelope = record { from = []; to = []; mailbox = codes "INBOX"; mailboxes = [] }
 
 -- WATCHED RUNS
 
@@ -42,11 +43,11 @@ having name tree asked = if name_eq name asked then present tree else missing
 
 -- the state of a run that has entered "a" too
 abbrev entered_a : RunState
-entered_a = record { actions = []; cancelled = false; reads = (main, true) ∷ (script_a, true) ∷ []; entered = main ∷ script_a ∷ []; values = no_values; flags = [] }
+entered_a = record { actions = []; origins = []; cancelled = false; reads = (main, true) ∷ (script_a, true) ∷ []; entered = main ∷ script_a ∷ []; values = no_values; flags = [] }
 
 -- a delivery in a script that these scripts include
 abbrev under : List ScriptName → Delivery
-under including = record { arrival = record { message = []; envelope = envelope; profile = empty_profile }; script = main; including = including }
+under including = record { arrival = record { message = []; envelope = envelope; own = None; profile = empty_profile }; script = main; including = including }
 
 abbrev nine : List ScriptName
 nine = script_b ∷ script_b ∷ script_b ∷ script_b ∷ script_b ∷ script_b ∷ script_b ∷ script_b ∷ script_b ∷ []
@@ -67,13 +68,17 @@ long_include_row : (find : ScriptName → Lookup) (name : ScriptName) → length
 long_include_row find name is = ap (λ n. if nat_lt name_limit n then missing else find name) is
 
 long_name_row : (find : ScriptName → Lookup) (name : ScriptName) (arrival : Arrival) → length name.name ≡ 1025 → outcome_of find (Some name) arrival
-    ≡ record { actions = []; implicit = Some []; error = Some (record { script = name; line = 0; kind = MissingScript }); reads = (name, false) ∷ [] }
+    ≡ record { actions = []; origins = []; implicit = Some []; error = Some (record { script = name; line = 0; kind = MissingScript }); reads = (name, false) ∷ [] }
 unfolding outcome_of
 long_name_row find name arrival is = ap (λ n. verdict_at find arrival name (if nat_lt name_limit n then missing else find name)) is
 
 -- DISTINCT ACTIONS
 
+-- a store that asks for nothing beside
+abbrev plain : Filing
+plain = record { create = false; special_use = None }
+
 -- two stores into one mailbox are one action, whatever their flags, wherever they stand
-one_store_row : AreDistinct (Store (codes "a") [] ∷ Discard ∷ Store (codes "a") (codes "\\Seen" ∷ []) ∷ []) → ⊥
+one_store_row : AreDistinct (Store (codes "a") [] plain ∷ Discard ∷ Store (codes "a") (codes "\\Seen" ∷ []) plain ∷ []) → ⊥
 unfolding IsDistinct
 one_store_row distinct = let e = distinct.0.1.0 in absurd cc

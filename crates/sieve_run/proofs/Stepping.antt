@@ -3,7 +3,7 @@ use Rattle.std.proofs.Common.{◌≡◌, ℕ, ◌+◌, ◌<◌, ◌≤◌, ◌-�
 use Rattle.std.proofs.lemmas.Option.{slice_get_past}
 use Rattle.std.proofs.lemmas.Result.{IfOk-at_ok, IfOk-weaker}
 use Rattle.std.specs.Prelude.{slice_get}
-use Rattle.sieve_reading.specs.Reading.{Ask, Leaf, exists_ask}
+use Rattle.sieve_reading.specs.Reading.{Ask, Leaf, exists_ask, mailboxes_ask}
 use Rattle.sieve_variables.specs.Part.{Part}
 use Rattle.sieve_code.specs.Operation.{Operation, test_op, act_op, stop_op, return_op}
 use Rattle.sieve_code.specs.Walk as walk
@@ -85,6 +85,12 @@ module _ (act : Acts) (delivery : Delivery) where
       → IfOk step (λ taken. StepsTo act delivery op behind register s taken s)
   unfolding values_behind
   exists_follow names op called step behind register s is truth follows = asks_follow (exists_ask names) op called step behind register s s is truth (still called s s refl) follows
+
+  pub mailboxes_follow : {E : Type 0} (names : List (List Part)) (op : Operation) (called : Result Bool E) (step : Result Step E) (behind : ℕ) (register : Bool) (s : RunState) → op ≡ test_op (mailboxes_ask names)
+      → IfOk called (λ truth. truth ≡ truth_of delivery s (mailboxes_ask names)) → IfOk step (Follows called (λ truth. Next behind truth))
+      → IfOk step (λ taken. StepsTo act delivery op behind register s taken s)
+  unfolding values_behind
+  mailboxes_follow names op called step behind register s is truth follows = asks_follow (mailboxes_ask names) op called step behind register s s is truth (still called s s refl) follows
 
   pub size_steps : (ask : Ask) (op : Operation) (truth : Bool) (step : Step) (behind : ℕ) (register : Bool) (s : RunState) → op ≡ test_op ask → truth ≡ truth_of delivery s ask → s ≡ behind_test delivery ask s → step ≡ Next behind truth → StepsTo act delivery op behind register s step s
   size_steps ask op truth step behind register s is says stays to =

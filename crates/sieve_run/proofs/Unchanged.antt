@@ -1,6 +1,6 @@
 -- Laws of what tests and commands do to the state of a run.
 use Rattle.std.proofs.Common.{◌≡◌, ℕ, Bool, true, false, List, Option, None, Some, refl, ap, ◌∙◌}
-use Rattle.sieve_reading.specs.Reading.{Ask, Leaf, compares, exists_ask, over_ask, under_ask}
+use Rattle.sieve_reading.specs.Reading.{Ask, Leaf, compares, exists_ask, over_ask, under_ask, mailboxes_ask, duplicate_ask}
 use Rattle.sieve_reading.specs.declared.reading.MatchType.{MatchType}
 use Rattle.sieve_reading.specs.declared.reading.MatchType.TheVariants.{Is, Contains, Matches}
 use Rattle.sieve_reading.specs.Script.{Condition, always, never, asks, negated, both, either, Commands, stops, returns}
@@ -38,6 +38,8 @@ ask_keeps delivery (compares source comparison keys) state = found_keeps compari
 ask_keeps delivery (exists_ask names) state = (state.values.matched, refl)
 ask_keeps delivery (over_ask limit) state = (state.values.matched, refl)
 ask_keeps delivery (under_ask limit) state = (state.values.matched, refl)
+ask_keeps delivery (mailboxes_ask names) state = (state.values.matched, refl)
+ask_keeps delivery duplicate_ask state = (state.values.matched, refl)
 
 -- tests set match variables at most
 pub decide_keeps : (delivery : Delivery) (c : Condition) (state : RunState) → SetsMatched state (decide (answer_of delivery) c state).state

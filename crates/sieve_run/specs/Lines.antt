@@ -1,4 +1,4 @@
--- The lines of a verdict, each without what stands before and behind it in a report.
+-- The lines of a verdict, each without what stands before and after it in a report.
 use Rattle.std.specs.Prelude.{ℕ, Bool, true, false, List, [], ◌∷◌, ◌++◌, map, nat_eq, Option, None, Some, codes, decimal}
 use Rattle.std.specs.List.{flat_map}
 use Rattle.std.specs.Str.Lines.{lines}
@@ -8,6 +8,8 @@ use Rattle.sieve_base.specs.declared.name.ScriptName.{ScriptName}
 use Rattle.sieve_effects.specs.ErrorKind.{error_word}
 use Rattle.sieve_effects.specs.declared.action.Action.{Action}
 use Rattle.sieve_effects.specs.declared.action.Action.TheVariants.{Store, Redirect, Discard}
+use Rattle.sieve_effects.specs.declared.action.Filing.{Filing}
+use Rattle.sieve_effects.specs.declared.action.Origin.{Origin}
 use Rattle.sieve_effects.specs.declared.error.RunError.{RunError}
 use Rattle.sieve_run.specs.Verdict.{Verdict}
 
@@ -26,9 +28,22 @@ mailbox_words word mailbox = word ++ quoted mailbox
 unfoldable pub mailbox_line : List ℕ → List ℕ → List (List ℕ) → List ℕ
 mailbox_line word mailbox flags = mailbox_words word mailbox ++ flag_words flags
 
+-- what a store asks for beside: that its mailbox is made where it isn't there (RFC 5490, section 3.2), and the use of the mailbox to store into where
+-- there is one of that use (RFC 8579, section 4)
+abbrev pub create_word : Bool → List ℕ
+create_word false = []
+create_word true = codes " create"
+
+abbrev pub use_words : Option (List ℕ) → List ℕ
+use_words None = []
+use_words (Some used) = codes " special-use " ++ quoted used
+
+unfoldable pub filing_words : Filing → List ℕ
+filing_words filing = create_word filing.create ++ use_words filing.special_use
+
 -- the line of an action
 unfoldable pub action_line : Action → List ℕ
-action_line (Store mailbox flags) = mailbox_line (codes "store ") mailbox flags
+action_line (Store mailbox flags filing) = mailbox_line (codes "store ") mailbox flags ++ filing_words filing
 action_line (Redirect address) = codes "redirect " ++ quoted address
 action_line Discard = codes "discard"
 
@@ -39,6 +54,10 @@ implicit_line mailbox flags = mailbox_line (codes "implicit ") mailbox flags
 -- the line of an error
 unfoldable pub error_line : RunError → List ℕ
 error_line error = codes "error " ++ name_text error.script ++ codes " line " ++ decimal error.line ++ codes " " ++ error_word error.kind
+
+-- the line of the command that entered an action
+unfoldable pub origin_line : Origin → List ℕ
+origin_line origin = codes "at " ++ name_text origin.script ++ codes " line " ++ decimal origin.line
 
 -- the line of a looked-up name, present or missing
 unfoldable pub read_line : ScriptName × Bool → List ℕ

@@ -2,11 +2,14 @@
 use Rattle.std.specs.Prelude.{ℕ, List, Bool, Option}
 use Rattle.sieve_base.specs.declared.name.ScriptName.{ScriptName}
 use Rattle.sieve_effects.specs.declared.action.Action.{Action}
+use Rattle.sieve_effects.specs.declared.action.Origin.{Origin}
 use Rattle.sieve_effects.specs.declared.error.RunError.{RunError}
 
--- the actions, the flags of the implicit keep where it stands, the error, and the names looked up, each present or missing
+-- the actions, of each the command that entered it first, the flags of the implicit keep where it stands, the error, and the names looked up, each
+-- present or missing
 pub record Verdict : Type 0 where
   pub actions : List Action
+  pub origins : List Origin
   pub implicit : Option (List (List ℕ))
   pub error : Option RunError
   pub reads : List (ScriptName × Bool)

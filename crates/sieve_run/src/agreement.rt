@@ -1,19 +1,18 @@
 //! Whether a text says what becomes of a message: it is read from its front, and none of it is copied.
-ghost use Rattle.std.specs.Prelude.{◌≡◌, ◌<◌, ℕ, List, ◌∷◌, ◌++◌, MatchOption, [], map};
+ghost use Rattle.std.specs.Prelude.{◌≡◌, ℕ, List, ◌∷◌, ◌++◌, [], codes, map};
 ghost use Rattle.std.specs.List.{flat_map};
 ghost use Rattle.std.specs.Option.{option_copied};
-ghost use Rattle.std.specs.Str.Lines.{lines};
 ghost use Rattle.sieve_base.specs.Writers.{octet_spelling, quoted, name_text, piece_text, pieces_text};
 ghost use Rattle.sieve_run.specs.Lines as spec;
 ghost use Rattle.sieve_run.specs.view.Left.{behind_front, is_whole, left_says};
 
 use itoa::Buffer;
 use match_text::FlagList;
-use memchr::memchr;
+use message_text::next_line;
 use sieve_base::hex::hex_digit;
 use sieve_base::octet::is_printable;
-use sieve_base::{Piece, ScriptName, without_return};
-use sieve_effects::{Action, RunError};
+use sieve_base::{Octets, Piece, ScriptName};
+use sieve_effects::{Action, Filing, RunError};
 
 /// What follows these octets, where the text begins with them.
 fn skip_octets<'a>(text: &'a [u8], octets: &[u8]) -> Option<&'a [u8]>
@@ -133,15 +132,61 @@ fn skip_mailbox_line<'a>(
     skip_flags(left, flags)
 }
 
+/// What follows the word of a store that asks for its mailbox to be made, where it does.
+fn skip_create(text: &[u8], create: bool) -> Option<&[u8]>
+    ensures { option_copied result ≡ behind_front (spec.create_word create) text.now }
+{
+    let word: &[u8] = if create { b" create" } else { b"" };
+    skip_octets(text, word)
+}
+
+/// What follows the use of the mailbox that a store asks for, where it does.
+fn skip_use<'a>(text: &'a [u8], special_use: &Option<Octets>) -> Option<&'a [u8]>
+    ensures { option_copied result ≡ behind_front (spec.use_words special_use.now) text.now }
+{
+    match special_use {
+        Some(used) => skip_pieces(
+            text,
+            &[Piece::Raw(b" special-use "), Piece::Quoted(used.as_slice())],
+        ),
+        None => skip_octets(text, b""),
+    }
+}
+
+/// What follows what a store asks for beside its mailbox.
+#[tactic(auto, using(crate::proofs::Left::left), unfolding(crate::specs::Lines::filing_words))]
+fn skip_filing<'a>(text: &'a [u8], filing: &Filing) -> Option<&'a [u8]>
+    ensures { option_copied result ≡ behind_front (spec.filing_words filing.now) text.now }
+{
+    let left = skip_create(text, filing.create)?;
+    skip_use(left, &filing.special_use)
+}
+
+/// What follows the line of a store.
+#[tactic(auto, using(crate::proofs::Left::left))]
+fn skip_store<'a>(
+    text: &'a [u8],
+    mailbox: &[u8],
+    flags: &FlagList,
+    filing: &Filing,
+) -> Option<&'a [u8]>
+    ensures { option_copied result ≡ behind_front (spec.mailbox_line (codes "store ") mailbox.now flags.now ++ spec.filing_words filing.now) text.now }
+{
+    let left = skip_mailbox_line(text, b"store ", mailbox, flags)?;
+    skip_filing(left, filing)
+}
+
 /// What follows the line of an action.
 #[tactic(auto, unfolding(crate::specs::Lines::action_line))]
 fn skip_action<'a>(text: &'a [u8], action: &Action) -> Option<&'a [u8]>
     ensures { option_copied result ≡ behind_front (spec.action_line action.now) text.now }
 {
     match action {
-        Action::Store { mailbox, flags } => {
-            skip_mailbox_line(text, b"store ", mailbox.as_slice(), flags)
-        }
+        Action::Store {
+            mailbox,
+            flags,
+            filing,
+        } => skip_store(text, mailbox.as_slice(), flags, filing),
         Action::Redirect { address } => skip_pieces(
             text,
             &[Piece::Raw(b"redirect "), Piece::Quoted(address.as_slice())],
@@ -182,19 +227,6 @@ fn is_whole(left: Option<&[u8]>) -> bool
     match left {
         Some(octets) => octets.is_empty(),
         None => false,
-    }
-}
-
-/// The first line of a text and what follows it, or none where the text is empty.
-fn next_line(text: &[u8]) -> Option<(&[u8], &[u8])>
-    ensures { MatchOption result (text.now ≡ []) (λ cut. lines text.now ≡ cut.0.now ∷ lines cut.1.now) }
-{
-    if text.is_empty() {
-        return None;
-    }
-    match memchr(b'\n', text) {
-        Some(len) => Some((without_return(&text[..len]), &text[len + 1..])),
-        None => Some((text, &text[text.len()..])),
     }
 }
 

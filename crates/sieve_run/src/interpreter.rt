@@ -24,7 +24,7 @@ use sieve_base::ScriptName;
 use sieve_base::limits::MAX_INCLUDE_DEPTH;
 use sieve_code::Code;
 use sieve_effects::{
-    Actions, Arrival, Delivery, Envelope, ErrorKind, FieldReads, Flow, RunError, State,
+    Actions, Addresses, Arrival, Delivery, Envelope, ErrorKind, FieldReads, Flow, RunError, State,
 };
 use sieve_variables::Values;
 use std::alloc::{AllocError, Global};
@@ -38,6 +38,7 @@ fn failed_at_main(
 ) -> Result<Outcome, AllocError>
     ensures { IfOk result (λ outcome. outcome ≡ record {
       actions = [];
+      origins = [];
       implicit = Some [];
       error = Some (record { script = main.now; line = 0; kind = kind });
       reads = (main.now, is_present) ∷ [];
@@ -47,6 +48,7 @@ fn failed_at_main(
     let reads = first_read(alloc, main, is_present)?;
     Ok(Outcome {
         actions: Vec::new(alloc),
+        origins: Vec::new(alloc),
         implicit: Some(FlagList::new(alloc)),
         error: Some(RunError {
             script,
@@ -84,6 +86,7 @@ fn ended(alloc: Global, flow: Flow, state: State) -> Outcome
 {
     let State {
         actions,
+        origins,
         cancelled,
         reads,
         entered,
@@ -95,12 +98,14 @@ fn ended(alloc: Global, flow: Flow, state: State) -> Outcome
     match flow {
         Flow::Failed(error) => Outcome {
             actions: Vec::new(alloc),
+            origins: Vec::new(alloc),
             implicit: Some(FlagList::new(alloc)),
             error: Some(error),
             reads,
         },
         Flow::GoesOn | Flow::Returned | Flow::Stopped => Outcome {
             actions,
+            origins,
             implicit: kept(cancelled, flags),
             error: None,
             reads,
@@ -116,6 +121,8 @@ fn begun(alloc: Global, main: &ScriptName) -> Result<State, AllocError>
     entered.push(main.copy(alloc)?)?;
     Ok(State {
         actions: Actions::new(alloc),
+        // Most runs perform one action, and each verdict keeps the list.
+        origins: Vec::with_capacity(alloc, 1)?,
         cancelled: false,
         reads: first_read(alloc, main, true)?,
         entered,
@@ -153,28 +160,30 @@ fn run_main<L: Library>(
 
 /// The outcome where there is no main script: the implicit keep, and nothing is looked up.
 fn no_main(alloc: Global) -> Outcome
-    ensures { result ≡ record { actions = []; implicit = Some []; error = None; reads = [] } }
+    ensures { result ≡ record { actions = []; origins = []; implicit = Some []; error = None; reads = [] } }
 {
     Outcome {
         actions: Vec::new(alloc),
+        origins: Vec::new(alloc),
         implicit: Some(FlagList::new(alloc)),
         error: None,
         reads: IndexMap::new(alloc),
     }
 }
 
-/// Runs the main script on a message, under the library's profile. The meter counts the run, also where memory runs out.
+/// Runs the main script on a message, under the library's profile. A message's own addresses stand in place of those of the envelope. The meter counts the run, also where memory runs out.
 #[tactic(auto, using(crate::proofs::Performing::by_code), unfolding(crate::specs::Run::outcome_of))]
 pub fn run<L: Library>(
     alloc: Global,
     lib: &L,
     main: Option<&ScriptName>,
     envelope: &Envelope,
+    own: Option<&Addresses>,
     message: &Message,
     meter: &mut Meter,
 ) -> Result<Outcome, AllocError>
     ensures outcome { IfOk result (λ outcome. outcome ≡
-        outcome_of (library_of (L.profile lib.now) (L.texts lib.now)) (option_copied main.entry) (record { message = message.now; envelope = envelope.now; profile = L.profile lib.now })) }
+        outcome_of (library_of (L.profile lib.now) (L.texts lib.now)) (option_copied main.entry) (record { message = message.now; envelope = envelope.now; own = option_copied own.entry; profile = L.profile lib.now })) }
     ensures meter { meter.new ≡ next_run meter.old }
 {
     meter.count();
@@ -184,6 +193,7 @@ pub fn run<L: Library>(
     let arrival = Arrival {
         message,
         envelope,
+        own,
         profile: lib.profile(),
     };
     match find(lib, name) {

@@ -79,6 +79,12 @@ pub fn no_run_acts_too_often()
     ensures { (find : names.ScriptName → Lookup) (main : Option names.ScriptName) (arrival : Arrival) → length (spec.outcome_of find main arrival).actions ≤ action_limit }
 {}
 
+/// Each action of a verdict has the command that entered it.
+#[tactic(auto, using(crate::proofs::Bounds::outcome_originated))]
+pub fn each_action_has_its_origin()
+    ensures { (find : names.ScriptName → Lookup) (main : Option names.ScriptName) (arrival : Arrival) → length (spec.outcome_of find main arrival).origins ≡ length (spec.outcome_of find main arrival).actions }
+{}
+
 /// No two actions of a verdict are one: it has no two stores into one mailbox, no two redirects to one address, and no two discards
 /// (RFC 5228, section 2.10.3).
 #[tactic(auto, using(crate::proofs::Distinct::outcome_distinct))]

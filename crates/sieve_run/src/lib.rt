@@ -20,7 +20,7 @@ mod turn;
 pub use including::find;
 pub use interpreter::run;
 pub use library::{Found, Library};
-pub use lines::{write_action, write_error, write_implicit, write_read};
+pub use lines::{write_action, write_error, write_implicit, write_origin, write_read};
 pub use match_text::FlagList;
 pub use message_text::{Message, MessageFault};
 pub use meter::Meter;
@@ -28,4 +28,6 @@ pub use outcome::Outcome;
 pub use script::Script;
 pub use shelf::Shelf;
 pub use sieve_base::{Octets, Place, ScriptName};
-pub use sieve_effects::{Action, Envelope, ErrorKind, RunError};
+pub use sieve_effects::{
+    Action, Addresses, Envelope, ErrorKind, Filing, Origin, RunError, mailbox_count,
+};

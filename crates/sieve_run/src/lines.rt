@@ -1,10 +1,11 @@
 //! The lines of a verdict: what becomes of a message, and which names were looked up. Writing them takes no memory.
 ghost use Rattle.sieve_base.specs.Writers.{Writes};
-ghost use Rattle.sieve_run.specs.Lines.{action_line, error_line, flag_word, flag_words, implicit_line, mailbox_line, mailbox_words, read_line};
+ghost use Rattle.std.specs.Prelude.{◌++◌, codes};
+ghost use Rattle.sieve_run.specs.Lines.{action_line, create_word, error_line, filing_words, flag_word, flag_words, implicit_line, mailbox_line, mailbox_words, origin_line, read_line, use_words};
 
 use match_text::FlagList;
-use sieve_base::{Piece, ScriptName, Sink, WriteFault, write_out, write_pieces};
-use sieve_effects::{Action, RunError};
+use sieve_base::{Octets, Piece, ScriptName, Sink, WriteFault, write_out, write_pieces};
+use sieve_effects::{Action, Filing, Origin, RunError};
 
 /// Writes a flag behind a space.
 fn write_flag<W: Sink>(flag: &[u8], writer: &mut W) -> Result<(), WriteFault>
@@ -46,15 +47,61 @@ fn write_mailbox_line<W: Sink>(
     write_flags(flags, writer)
 }
 
+/// Writes what a store asks for beside its mailbox.
+#[tactic(auto, using(sieve_base::proofs::Writing::writing), unfolding(crate::specs::Lines::filing_words))]
+fn write_filing<W: Sink>(filing: &Filing, writer: &mut W) -> Result<(), WriteFault>
+    ensures { Writes W.contents W.fault_count result writer.old writer.new (filing_words filing.now) }
+{
+    write_create(filing.create, writer)?;
+    write_use(&filing.special_use, writer)
+}
+
+/// Writes that a store asks for its mailbox to be made, where it does.
+fn write_create<W: Sink>(create: bool, writer: &mut W) -> Result<(), WriteFault>
+    ensures { Writes W.contents W.fault_count result writer.old writer.new (create_word create) }
+{
+    let word: &[u8] = if create { b" create" } else { b"" };
+    write_out(word, writer)
+}
+
+/// Writes the use of the mailbox that a store asks for, where it does.
+fn write_use<W: Sink>(special_use: &Option<Octets>, writer: &mut W) -> Result<(), WriteFault>
+    ensures { Writes W.contents W.fault_count result writer.old writer.new (use_words special_use.now) }
+{
+    match special_use {
+        Some(used) => write_pieces(
+            &[Piece::Raw(b" special-use "), Piece::Quoted(used.as_slice())],
+            writer,
+        ),
+        None => write_out(b"", writer),
+    }
+}
+
+/// Writes the line of a store.
+#[tactic(auto, using(sieve_base::proofs::Writing::writing))]
+fn write_store<W: Sink>(
+    mailbox: &[u8],
+    flags: &FlagList,
+    filing: &Filing,
+    writer: &mut W,
+) -> Result<(), WriteFault>
+    ensures { Writes W.contents W.fault_count result writer.old writer.new (mailbox_line (codes "store ") mailbox.now flags.now ++ filing_words filing.now) }
+{
+    write_mailbox_line(b"store ", mailbox, flags, writer)?;
+    write_filing(filing, writer)
+}
+
 /// Writes the line of an action, without what stands before and behind it in a report. An error comes from the writer alone.
 #[tactic(auto, unfolding(crate::specs::Lines::action_line))]
 pub fn write_action<W: Sink>(action: &Action, writer: &mut W) -> Result<(), WriteFault>
     ensures { Writes W.contents W.fault_count result writer.old writer.new (action_line action.now) }
 {
     match action {
-        Action::Store { mailbox, flags } => {
-            write_mailbox_line(b"store ", mailbox.as_slice(), flags, writer)
-        }
+        Action::Store {
+            mailbox,
+            flags,
+            filing,
+        } => write_store(mailbox.as_slice(), flags, filing, writer),
         Action::Redirect { address } => write_pieces(
             &[Piece::Raw(b"redirect "), Piece::Quoted(address.as_slice())],
             writer,
@@ -89,6 +136,23 @@ pub fn write_error<W: Sink>(error: &RunError, writer: &mut W) -> Result<(), Writ
             Piece::Number(error.line),
             Piece::Raw(b" "),
             Piece::Raw(error.kind.word()),
+        ],
+        writer,
+    )
+}
+
+/// Writes the line of the command that entered an action, without what stands before and after it in a report. An error comes from the writer
+/// alone.
+#[tactic(auto, unfolding(crate::specs::Lines::origin_line))]
+pub fn write_origin<W: Sink>(origin: &Origin, writer: &mut W) -> Result<(), WriteFault>
+    ensures { Writes W.contents W.fault_count result writer.old writer.new (origin_line origin.now) }
+{
+    write_pieces(
+        &[
+            Piece::Raw(b"at "),
+            Piece::Name(&origin.script),
+            Piece::Raw(b" line "),
+            Piece::Number(origin.line),
         ],
         writer,
     )

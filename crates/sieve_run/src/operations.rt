@@ -1,6 +1,6 @@
 //! Carries out the operations of tests, and of commands that include nothing.
 ghost use Rattle.std.specs.Prelude.{◌≡◌, IfOk};
-ghost use Rattle.sieve_code.specs.declared.op.Op.TheVariants.{Compares, Discard, Exists, Fileinto, Flags, Keep, Over, Redirect, Set, Under};
+ghost use Rattle.sieve_code.specs.declared.op.Op.TheVariants.{Compares, Discard, Duplicate, Exists, Fileinto, Flags, Keep, MailboxExists, Over, Redirect, Set, Under};
 ghost use Rattle.sieve_effects.specs.Act.{act_by};
 ghost use Rattle.sieve_effects.specs.State.{RunState};
 ghost use Rattle.sieve_effects.specs.view.Delivery.{delivery_as};
@@ -10,7 +10,7 @@ ghost use Rattle.sieve_run.specs.view.Step.{Acts, Carries, Includes};
 use crate::turn::{Step, Turn, proceed};
 use sieve_effects::{
     FieldReads, State, change, compare, discard, exists, file_into, is_over, is_under, keep,
-    redirect, set,
+    mailboxes_exist, redirect, set,
 };
 use sieve_reading::FlagChange;
 use std::alloc::AllocError;
@@ -48,6 +48,21 @@ pub(crate) fn ask_exists(turn: &Turn<'_>, names: u32, state: &State) -> Result<S
 {
     let truth = exists(turn.delivery, &turn.code.names(names), state);
     turn.tested(truth)
+}
+
+/// Asks whether all named mailboxes are there.
+pub(crate) fn ask_mailboxes(turn: &Turn<'_>, names: u32, state: &State) -> Result<Step, AllocError>
+    ensures { (act : Acts) → IfOk result (λ step. Carries act turn.now (MailboxExists names) (state_of state.now) step (state_of state.now)) }
+{
+    let truth = mailboxes_exist(turn.delivery, &turn.code.list(names), state);
+    turn.tested(truth)
+}
+
+/// Asks whether the message came before, which none has.
+pub(crate) fn ask_duplicate(turn: &Turn<'_>) -> Step
+    ensures { (act : Acts) (state : RunState) → Carries act turn.now Duplicate state result state }
+{
+    proceed(false, turn.behind)
 }
 
 /// Asks whether the message has more octets.

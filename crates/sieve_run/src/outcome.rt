@@ -9,13 +9,14 @@ use crate::agreement::says;
 use indexmap::IndexMap;
 use match_text::FlagList;
 use sieve_base::ScriptName;
-use sieve_effects::{Action, RunError};
+use sieve_effects::{Action, Origin, RunError};
 use std::marker::Model;
 
 /// The verdict on a message, and the scripts that it looked at. Only a run makes one.
 #[derive(Drop)]
 pub struct Outcome {
     pub(crate) actions: Vec<Action>,
+    pub(crate) origins: Vec<Origin>,
     pub(crate) implicit: Option<FlagList>,
     pub(crate) error: Option<RunError>,
     pub(crate) reads: IndexMap<ScriptName, bool>,
@@ -28,7 +29,7 @@ impl Model for Outcome {
 
     ghost Value = { Verdict };
 
-    ghost view = { λ a. record { actions = a.actions.items; implicit = a.implicit; error = a.error; reads = a.reads.entries } };
+    ghost view = { λ a. record { actions = a.actions.items; origins = a.origins.items; implicit = a.implicit; error = a.error; reads = a.reads.entries } };
 
     ghost invariant = { λ a. length a.actions.items ≤ action_limit };
 }
@@ -40,6 +41,13 @@ impl Outcome {
         ensures limit { length result.now ≤ action_limit }
     {
         self.actions.as_slice()
+    }
+
+    /// Of each action, at its place, the command that entered it first. Takes no memory.
+    pub fn origins(&self) -> &[Origin]
+        ensures { result.now ≡ self.now.origins }
+    {
+        self.origins.as_slice()
     }
 
     /// The flags of the implicit keep, where it stands (RFC 5228, section 2.10.2; RFC 5232, section 5). Takes no memory.

@@ -17,7 +17,7 @@ use crate::including::{
 use crate::library::{Found, Library};
 use crate::operations::{
     act_discard, act_fileinto, act_flags, act_keep, act_redirect, act_set, ask_compares,
-    ask_exists, ask_over, ask_under,
+    ask_duplicate, ask_exists, ask_mailboxes, ask_over, ask_under,
 };
 use crate::reads::note_read;
 use crate::turn::{Step, Turn, proceed};
@@ -114,6 +114,8 @@ fn carry_out<L: Library>(
         Op::Exists { names } => ask_exists(turn, names, state),
         Op::Over { limit } => Ok(ask_over(turn, limit)),
         Op::Under { limit } => Ok(ask_under(turn, limit)),
+        Op::MailboxExists { names } => ask_mailboxes(turn, names, state),
+        Op::Duplicate => Ok(ask_duplicate(turn)),
         Op::Jump(left) => Ok(proceed(register, code.jump_place(left))),
         Op::JumpIfFalse(left) => {
             Ok(proceed(register, chosen(register, behind, code.jump_place(left))))

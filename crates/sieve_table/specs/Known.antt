@@ -23,6 +23,9 @@ extension_of capability.Imap4flags = None
 extension_of capability.Include = None
 extension_of capability.Copy = None
 extension_of capability.Subaddress = Some extension.Subaddress
+extension_of capability.Mailbox = Some extension.Mailbox
+extension_of capability.SpecialUse = Some extension.SpecialUse
+extension_of capability.Duplicate = Some extension.Duplicate
 extension_of capability.OctetComparator = None
 extension_of capability.CasemapComparator = None
 

@@ -83,6 +83,10 @@ bare name = record { name = name; tags = []; one_of = None; front = None; slots 
 abbrev pub bare_tag : List ℕ → TagKind → TagRow
 bare_tag name kind = record { name = name; kind = kind; takes = None; needs = None }
 
+-- a tag of `duplicate` that takes an argument (RFC 7352, section 3)
+abbrev pub tracking_tag : List ℕ → TagKind → Slot → TagRow
+tracking_tag name kind taken = record { name = name; kind = kind; takes = Some taken; needs = Some capability.Duplicate }
+
 -- THE ROWS
 
 abbrev pub tag_row : Tag → TagRow
@@ -115,6 +119,16 @@ tag_row tag.Length = bare_tag (codes "length") kind.Length
 tag_row tag.Flags = record (bare_tag (codes "flags") kind.Flags) { takes = Some (slot form.List role.Flags); needs = Some capability.Imap4flags }
 -- RFC 3894, section 3
 tag_row tag.Copy = record (bare_tag (codes "copy") kind.Copy) { needs = Some capability.Copy }
+-- RFC 5490, section 3.2
+tag_row tag.Create = record (bare_tag (codes "create") kind.Create) { needs = Some capability.Mailbox }
+-- RFC 8579, section 4
+tag_row tag.SpecialUse = record (bare_tag (codes "specialuse") kind.SpecialUse) { takes = Some (slot form.One role.Text); needs = Some capability.SpecialUse }
+-- RFC 7352, sections 3.1, 3.2 and 3.3: of `:header` and `:uniqueid` one may be given
+tag_row tag.Handle = tracking_tag (codes "handle") kind.Handle (slot form.One role.Tracking)
+tag_row tag.Header = tracking_tag (codes "header") kind.UniqueId (slot form.One role.Tracking)
+tag_row tag.UniqueId = tracking_tag (codes "uniqueid") kind.UniqueId (slot form.One role.Tracking)
+tag_row tag.Seconds = tracking_tag (codes "seconds") kind.Seconds (slot form.Number role.Tracking)
+tag_row tag.Last = record (bare_tag (codes "last") kind.Last) { needs = Some capability.Duplicate }
 -- RFC 6609, section 3.2
 tag_row tag.Personal = bare_tag (codes "personal") kind.Location
 tag_row tag.Global = bare_tag (codes "global") kind.Location
@@ -150,8 +164,8 @@ command_row command.Elsif = record (bare (codes "elsif")) { tests = inner.One; h
 command_row command.Else = record (bare (codes "else")) { has_block = true }
 -- RFC 5228, section 4.3; RFC 5232, section 5
 command_row command.Keep = record (bare (codes "keep")) { tags = tag.Flags ∷ [] }
--- RFC 5228, section 4.1; RFC 5232, section 5; RFC 3894, section 3
-command_row command.Fileinto = record (bare (codes "fileinto")) { tags = tag.Flags ∷ tag.Copy ∷ []; slots = slot form.One role.Mailbox ∷ []; needs = capability.Fileinto ∷ [] }
+-- RFC 5228, section 4.1; RFC 5232, section 5; RFC 3894, section 3; RFC 5490, section 3.2; RFC 8579, section 4
+command_row command.Fileinto = record (bare (codes "fileinto")) { tags = tag.Flags ∷ tag.Copy ∷ tag.Create ∷ tag.SpecialUse ∷ []; slots = slot form.One role.Mailbox ∷ []; needs = capability.Fileinto ∷ [] }
 -- RFC 5228, section 4.2; RFC 3894, section 3
 command_row command.Redirect = record (bare (codes "redirect")) { tags = tag.Copy ∷ []; slots = slot form.One role.Address ∷ [] }
 -- RFC 5228, section 4.4
@@ -194,6 +208,10 @@ test_row test.False = bare (codes "false")
 test_row test.String = record (bare (codes "string")) { tags = comparing_tags; slots = slot form.List role.Text ∷ slot form.List role.Keys ∷ []; needs = capability.Variables ∷ [] }
 -- RFC 5232, section 4
 test_row test.HasFlag = record (bare (codes "hasflag")) { tags = comparing_tags; front = Some (naming_slot form.List role.NamesToRead); slots = slot form.List role.Keys ∷ []; needs = capability.Imap4flags ∷ [] }
+-- RFC 5490, section 3.1
+test_row test.MailboxExists = record (bare (codes "mailboxexists")) { slots = slot form.List role.Mailbox ∷ []; needs = capability.Mailbox ∷ [] }
+-- RFC 7352, section 3
+test_row test.Duplicate = record (bare (codes "duplicate")) { tags = tag.Handle ∷ tag.Header ∷ tag.UniqueId ∷ tag.Seconds ∷ tag.Last ∷ []; needs = capability.Duplicate ∷ [] }
 
 -- THE LOOK-UP
 

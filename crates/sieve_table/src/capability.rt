@@ -19,6 +19,12 @@ pub enum Capability {
     Copy,
     /// Two parts of a local part (RFC 5233).
     Subaddress,
+    /// Mailboxes that are made or asked for (RFC 5490).
+    Mailbox,
+    /// Mailboxes by their use (RFC 8579).
+    SpecialUse,
+    /// Messages that came before (RFC 7352).
+    Duplicate,
     /// The comparator `i;octet` (RFC 5228, section 2.7.3).
     OctetComparator,
     /// The comparator `i;ascii-casemap` (RFC 5228, section 2.7.3).
@@ -26,7 +32,7 @@ pub enum Capability {
 }
 
 /// The capabilities that there are.
-pub(crate) const CAPABILITIES: [Capability; 9] = [
+pub(crate) const CAPABILITIES: [Capability; 12] = [
     Capability::Fileinto,
     Capability::Envelope,
     Capability::Variables,
@@ -34,6 +40,9 @@ pub(crate) const CAPABILITIES: [Capability; 9] = [
     Capability::Include,
     Capability::Copy,
     Capability::Subaddress,
+    Capability::Mailbox,
+    Capability::SpecialUse,
+    Capability::Duplicate,
     Capability::OctetComparator,
     Capability::CasemapComparator,
 ];
@@ -51,6 +60,9 @@ impl Capability {
             Capability::Include => b"include",
             Capability::Copy => b"copy",
             Capability::Subaddress => b"subaddress",
+            Capability::Mailbox => b"mailbox",
+            Capability::SpecialUse => b"special-use",
+            Capability::Duplicate => b"duplicate",
             Capability::OctetComparator => b"comparator-i;octet",
             Capability::CasemapComparator => b"comparator-i;ascii-casemap",
         }

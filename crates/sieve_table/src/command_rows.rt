@@ -90,7 +90,7 @@ pub(crate) fn fileinto_row() -> Row
 {
     Row {
         name: b"fileinto",
-        tags: &[Tag::Flags, Tag::Copy],
+        tags: &[Tag::Flags, Tag::Copy, Tag::Create, Tag::SpecialUse],
         slots: &[Slot {
             form: Form::One,
             role: Role::Mailbox,

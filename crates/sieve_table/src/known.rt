@@ -17,6 +17,9 @@ fn extension_of(capability: Capability) -> Option<Extension>
 {
     match capability {
         Capability::Subaddress => Some(Extension::Subaddress),
+        Capability::Mailbox => Some(Extension::Mailbox),
+        Capability::SpecialUse => Some(Extension::SpecialUse),
+        Capability::Duplicate => Some(Extension::Duplicate),
         Capability::Fileinto
         | Capability::Envelope
         | Capability::Variables

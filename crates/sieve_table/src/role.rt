@@ -47,6 +47,7 @@ pub fn is_expanded(role: Role) -> bool
         | Role::NameToSet
         | Role::NamesToRead
         | Role::NamesToDeclare
-        | Role::ScriptName => false,
+        | Role::ScriptName
+        | Role::Tracking => false,
     }
 }

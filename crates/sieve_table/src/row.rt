@@ -47,6 +47,8 @@ pub enum Role {
     NamesToDeclare,
     /// A script (RFC 6609, section 3.2).
     ScriptName,
+    /// What a server would know a message by that came before, and for how long (RFC 7352, section 3).
+    Tracking,
     /// Any other text.
     Text,
 }
@@ -89,6 +91,18 @@ pub enum TagKind {
     Length,
     /// `:copy` (RFC 3894, section 3).
     Copy,
+    /// `:create` (RFC 5490, section 3.2).
+    Create,
+    /// `:specialuse` (RFC 8579, section 4).
+    SpecialUse,
+    /// `:handle` (RFC 7352, section 3.2).
+    Handle,
+    /// `:header` and `:uniqueid` (RFC 7352, section 3.1).
+    UniqueId,
+    /// `:seconds` (RFC 7352, section 3.3).
+    Seconds,
+    /// `:last` (RFC 7352, section 3.3).
+    Last,
 }
 
 /// What is said of a tag.

@@ -1,6 +1,6 @@
 //! The table: a row for each command, test and tag that there is.
 ghost use Rattle.std.specs.Prelude.{◌≡◌, find};
-ghost use Rattle.sieve_table.specs.Table.{bare_tag, command_named, command_row, is_named, same_tag, tag_named, tag_row, test_named, test_row};
+ghost use Rattle.sieve_table.specs.Table.{bare_tag, command_named, command_row, is_named, same_tag, tag_named, tag_row, test_named, test_row, tracking_tag};
 ghost use Rattle.sieve_table.specs.view.Row.{row_as, tag_row_as};
 
 use crate::capability::Capability;
@@ -71,6 +71,10 @@ pub enum TestKind {
     String,
     /// `hasflag` (RFC 5232, section 4).
     HasFlag,
+    /// `mailboxexists` (RFC 5490, section 3.1).
+    MailboxExists,
+    /// `duplicate` (RFC 7352, section 3).
+    Duplicate,
 }
 
 /// A tag that there is.
@@ -122,6 +126,20 @@ pub enum Tag {
     Optional,
     /// `:copy` (RFC 3894, section 3).
     Copy,
+    /// `:create` (RFC 5490, section 3.2).
+    Create,
+    /// `:specialuse`, which takes the string after it (RFC 8579, section 4).
+    SpecialUse,
+    /// `:handle`, which takes the string after it (RFC 7352, section 3.2).
+    Handle,
+    /// `:header`, which takes the string after it (RFC 7352, section 3.1).
+    Header,
+    /// `:uniqueid`, which takes the string after it (RFC 7352, section 3.1).
+    UniqueId,
+    /// `:seconds`, which takes the number after it (RFC 7352, section 3.3).
+    Seconds,
+    /// `:last` (RFC 7352, section 3.3).
+    Last,
 }
 
 /// All commands.
@@ -145,7 +163,7 @@ const COMMANDS: [CommandKind; 16] = [
 ];
 
 /// All tests.
-const TESTS: [TestKind; 12] = [
+const TESTS: [TestKind; 14] = [
     TestKind::Header,
     TestKind::Address,
     TestKind::Envelope,
@@ -158,12 +176,35 @@ const TESTS: [TestKind; 12] = [
     TestKind::False,
     TestKind::String,
     TestKind::HasFlag,
+    TestKind::MailboxExists,
+    TestKind::Duplicate,
 ];
 
 /// A comparator's name.
 const COMPARATOR_NAME: Slot = Slot {
     form: Form::One,
     role: Role::ComparatorName,
+    needs: None,
+};
+
+/// The use of a mailbox.
+const USE: Slot = Slot {
+    form: Form::One,
+    role: Role::Text,
+    needs: None,
+};
+
+/// What a server would know a message by that came before.
+const TRACKING: Slot = Slot {
+    form: Form::One,
+    role: Role::Tracking,
+    needs: None,
+};
+
+/// For how long it would know it.
+const TRACKING_TIME: Slot = Slot {
+    form: Form::Number,
+    role: Role::Tracking,
     needs: None,
 };
 
@@ -176,6 +217,18 @@ fn bare_tag(name: &'static [u8], kind: TagKind) -> TagRow
         kind,
         takes: None,
         needs: None,
+    }
+}
+
+/// The row of a tag of `duplicate` that takes an argument (RFC 7352, section 3).
+fn tracking_tag(name: &'static [u8], kind: TagKind, slot: Slot) -> TagRow
+    ensures { tag_row_as result ≡ tracking_tag name.entry.now kind slot }
+{
+    TagRow {
+        name,
+        kind,
+        takes: Some(slot),
+        needs: Some(Capability::Duplicate),
     }
 }
 
@@ -223,6 +276,23 @@ impl Tag {
             Tag::Copy => TagRow {
                 needs: Some(Capability::Copy),
                 ..bare_tag(b"copy", TagKind::Copy)
+            },
+            Tag::Create => TagRow {
+                needs: Some(Capability::Mailbox),
+                ..bare_tag(b"create", TagKind::Create)
+            },
+            Tag::SpecialUse => TagRow {
+                takes: Some(USE),
+                needs: Some(Capability::SpecialUse),
+                ..bare_tag(b"specialuse", TagKind::SpecialUse)
+            },
+            Tag::Handle => tracking_tag(b"handle", TagKind::Handle, TRACKING),
+            Tag::Header => tracking_tag(b"header", TagKind::UniqueId, TRACKING),
+            Tag::UniqueId => tracking_tag(b"uniqueid", TagKind::UniqueId, TRACKING),
+            Tag::Seconds => tracking_tag(b"seconds", TagKind::Seconds, TRACKING_TIME),
+            Tag::Last => TagRow {
+                needs: Some(Capability::Duplicate),
+                ..bare_tag(b"last", TagKind::Last)
             },
         }
     }
@@ -272,6 +342,8 @@ impl TestKind {
             TestKind::False => test_rows::false_row(),
             TestKind::String => test_rows::string_row(),
             TestKind::HasFlag => test_rows::has_flag_row(),
+            TestKind::MailboxExists => test_rows::mailbox_exists_row(),
+            TestKind::Duplicate => test_rows::duplicate_row(),
         }
     }
 }

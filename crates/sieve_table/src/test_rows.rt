@@ -207,3 +207,37 @@ pub(crate) fn has_flag_row() -> Row
         ..BARE
     }
 }
+
+/// `mailboxexists` (RFC 5490, section 3.1).
+pub(crate) fn mailbox_exists_row() -> Row
+    ensures { row_as result ≡ test_row test.MailboxExists }
+{
+    Row {
+        name: b"mailboxexists",
+        slots: &[Slot {
+            form: Form::List,
+            role: Role::Mailbox,
+            needs: None,
+        }],
+        needs: &[Capability::Mailbox],
+        ..BARE
+    }
+}
+
+/// `duplicate` (RFC 7352, section 3).
+pub(crate) fn duplicate_row() -> Row
+    ensures { row_as result ≡ test_row test.Duplicate }
+{
+    Row {
+        name: b"duplicate",
+        tags: &[
+            Tag::Handle,
+            Tag::Header,
+            Tag::UniqueId,
+            Tag::Seconds,
+            Tag::Last,
+        ],
+        needs: &[Capability::Duplicate],
+        ..BARE
+    }
+}

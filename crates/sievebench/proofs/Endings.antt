@@ -4,11 +4,12 @@ use Rattle.std.proofs.Common.{◌≡◌, ℕ, ◌<◌, ◌≤◌, zero, suc, Lis
 use Rattle.std.specs.Option.{option_map}
 use Rattle.session_text.specs.SessionLine.{cut_line, first_line, in_front, line_from, without_cr}
 use Rattle.sieve_base.specs.Limits.{line_limit}
+use Rattle.sieve_profile.specs.Profile.{Profile}
 use Rattle.sieve_run.specs.Meter.{runs_after}
 use Rattle.bench.specs.Content.{Content, Edit, after}
 use Rattle.bench.specs.Report.{report_text}
 use Rattle.bench.specs.Stale.{stale_after}
-use Rattle.sievebench.specs.Session.{Demand, asks_question, asks_put, asks_edit, asks_report, answer_to, demand_at, BrokenSession, CutSession, Ends, IsFront, Replies, Request, Served, SessionText, Step, Steps, none_yet, one_more, over, unreadable, truncated, asks, edits, reports, refusal_line, request_at, request_by, request_of, request_so_far, takes_memory, with_octets}
+use Rattle.sievebench.specs.Session.{Demand, asks_question, asks_put, asks_edit, asks_report, answer_to, demand_at, BrokenSession, CutSession, Ends, IsFront, Replies, Request, Served, SessionText, Step, Steps, none_yet, one_more, over, unreadable, truncated, asks, edits, reports, profile_of, refusal_line, request_at, request_by, request_of, request_so_far, takes_memory, with_octets}
 use Rattle.bench.specs.declared.fault.EditFault.{EditFault}
 use Rattle.sievebench.proofs.Requests.{asked_with_more}
 use Rattle.sievebench.specs.declared.status.SessionEnd.{SessionEnd}
@@ -56,20 +57,20 @@ cut_fewer (b ∷ bs) = by_octet (cut_fewer bs) (eqb b (octet_of "\n"))
     by_octet later true = omega arith
     by_octet later false = later_fewer (length bs) b (cut_line bs) later
 
-at_fewer : (n : ℕ) (front rest : List ℕ) → length rest < n → LeavesFewer n (request_at (front, rest))
-at_fewer n front rest less = by_limit (nat_lt line_limit (length front))
+at_fewer : (profile : Profile) (n : ℕ) (front rest : List ℕ) → length rest < n → LeavesFewer n (request_at profile (front, rest))
+at_fewer profile n front rest less = by_limit (nat_lt line_limit (length front))
   where
-    by_limit : (v : Bool) → LeavesFewer n (cond v unreadable (request_by (demand_at front) rest))
+    by_limit : (v : Bool) → LeavesFewer n (cond v unreadable (request_by (demand_at profile front) rest))
     by_limit true = tt
-    by_limit false = ask_fewer n (demand_at front) rest less
+    by_limit false = ask_fewer n (demand_at profile front) rest less
 
-stream_fewer : (b : ℕ) (bs : List ℕ) → LeavesFewer (length (b ∷ bs)) (request_of (b ∷ bs))
+stream_fewer : (profile : Profile) (b : ℕ) (bs : List ℕ) → LeavesFewer (length (b ∷ bs)) (request_of profile (b ∷ bs))
 unfolding request_of first_line
-stream_fewer b bs = by_cut (cut_line (b ∷ bs)) (cut_fewer (b ∷ bs))
+stream_fewer profile b bs = by_cut (cut_line (b ∷ bs)) (cut_fewer (b ∷ bs))
   where
-    by_cut : (cut : Option (List ℕ × List ℕ)) → CutsFewer (length (b ∷ bs)) cut → LeavesFewer (length (b ∷ bs)) (request_at (line_from (b ∷ bs) cut))
-    by_cut None less = at_fewer (length (b ∷ bs)) (b ∷ bs) [] (omega arith)
-    by_cut (Some cut) less = at_fewer (length (b ∷ bs)) (without_cr cut.0) cut.1 less
+    by_cut : (cut : Option (List ℕ × List ℕ)) → CutsFewer (length (b ∷ bs)) cut → LeavesFewer (length (b ∷ bs)) (request_at profile (line_from (b ∷ bs) cut))
+    by_cut None less = at_fewer profile (length (b ∷ bs)) (b ∷ bs) [] (omega arith)
+    by_cut (Some cut) less = at_fewer profile (length (b ∷ bs)) (without_cr cut.0) cut.1 less
 
 -- EACH COMMAND HAS A REPLY, AND EACH STREAM AN END
 
@@ -83,7 +84,7 @@ abbrev reported : Served → Served
 reported old = record { bench = record old.bench { stale = [] }; runs = runs_after (length old.bench.stale) old.runs }
 
 -- some commands, and then others, are commands in turn
-steps_both : (request : List ℕ → Request) (a b : Served) (s t xs : List ℕ) → Steps request a s xs b t → (c : Served) (u ys : List ℕ) → Steps request b t ys c u → Steps request a s (xs ++ ys) c u
+steps_both : (request : Profile → List ℕ → Request) (a b : Served) (s t xs : List ℕ) → Steps request a s xs b t → (c : Served) (u ys : List ℕ) → Steps request b t ys c u → Steps request a s (xs ++ ys) c u
 steps_both request a b s t xs first c u ys none_yet = rw append-nil first
 steps_both request a b s t xs first c u ys (one_more replies reply mid new rest left before step) =
     rw (← append_assoc xs replies reply) (one_more (xs ++ replies) reply mid new rest left (steps_both request a b s t xs first mid rest replies before) step)
@@ -92,10 +93,10 @@ steps_both request a b s t xs first c u ys (one_more replies reply mid new rest 
 abbrev ComesToEnd : Served → List ℕ → Type 0
 ComesToEnd old stream = (text : List ℕ) × (end : SessionEnd) × (new : Served) × SessionText old stream text end new
 
-ends_here : (old : Served) (stream reply : List ℕ) (end : SessionEnd) → Ends (request_of stream) end reply → ComesToEnd old stream
+ends_here : (old : Served) (stream reply : List ℕ) (end : SessionEnd) → Ends (request_of (profile_of old) stream) end reply → ComesToEnd old stream
 ends_here old stream reply end is = (reply, end, old, record { replies = []; last = reply; rest = stream; steps = none_yet; ends = is; whole = refl })
 
-goes_on : (old mid : Served) (stream reply left : List ℕ) → Step old (request_of stream) reply mid left → ComesToEnd mid left → ComesToEnd old stream
+goes_on : (old mid : Served) (stream reply left : List ℕ) → Step old (request_of (profile_of old) stream) reply mid left → ComesToEnd mid left → ComesToEnd old stream
 goes_on old mid stream reply left step ended =
     let session = ended.3 in (
       reply ++ ended.0,
@@ -111,7 +112,7 @@ goes_on old mid stream reply left step ended =
       },
     )
 
-by_request : (n : ℕ) (old : Served) (stream : List ℕ) (request : Request) → ((new : Served) (rest : List ℕ) → length rest ≤ n → ComesToEnd new rest) → length stream ≤ suc n → LeavesFewer (length stream) request → request_of stream ≡ request → ComesToEnd old stream
+by_request : (n : ℕ) (old : Served) (stream : List ℕ) (request : Request) → ((new : Served) (rest : List ℕ) → length rest ≤ n → ComesToEnd new rest) → length stream ≤ suc n → LeavesFewer (length stream) request → request_of (profile_of old) stream ≡ request → ComesToEnd old stream
 by_request n old stream over go few less is = ends_here old stream [] ends.Done (rw is (refl, refl))
 by_request n old stream unreadable go few less is = ends_here old stream (codes "no syntax\n") ends.Syntax (rw is (refl, refl))
 by_request n old stream truncated go few less is = ends_here old stream (codes "no truncated\n") ends.Truncated (rw is (refl, refl))
@@ -126,7 +127,7 @@ comes_to_end : (n : ℕ) (old : Served) (stream : List ℕ) → length stream �
 unfolding request_of
 comes_to_end n old [] few = ends_here old [] [] ends.Done (refl, refl)
 comes_to_end zero old (b ∷ bs) few = absurd (omega (arith, few))
-comes_to_end (suc n) old (b ∷ bs) few = by_request n old (b ∷ bs) (request_of (b ∷ bs)) (λ new rest less. comes_to_end n new rest less) few (stream_fewer b bs) refl
+comes_to_end (suc n) old (b ∷ bs) few = by_request n old (b ∷ bs) (request_of (profile_of old) (b ∷ bs)) (λ new rest less. comes_to_end n new rest less) few (stream_fewer (profile_of old) b bs) refl
 
 joined : (r f b y x t : List ℕ) → f ++ b ≡ y → (r ++ f) ++ (b ++ (x ++ t)) ≡ ((r ++ y) ++ x) ++ t
 joined r f b y x t is = rw (← is) (simp append_assoc)
@@ -135,7 +136,7 @@ joined r f b y x t is = rw (← is) (simp append_assoc)
 pub cut_is_front : (old new : Served) (stream text : List ℕ) → CutSession old stream text new → IsFront old stream text
 cut_is_front old new stream text cut = elim cut.answered [ inl on ↦ later on.0 on.1 (comes_to_end (length on.0) new on.0 (omega arith)) | inr last ↦ here last.0 last.1 ]
   where
-    later : (left : List ℕ) → Step cut.mid (request_of cut.rest) cut.reply new left → ComesToEnd new left → IsFront old stream text
+    later : (left : List ℕ) → Step cut.mid (request_of (profile_of cut.mid) cut.rest) cut.reply new left → ComesToEnd new left → IsFront old stream text
     later left step ended =
         let session = ended.3 in (
           cut.back ++ (session.replies ++ session.last),
@@ -151,7 +152,7 @@ cut_is_front old new stream text cut = elim cut.answered [ inl on ↦ later on.0
           },
         )
 
-    here : (end : SessionEnd) → Ends (request_of cut.rest) end cut.reply → IsFront old stream text
+    here : (end : SessionEnd) → Ends (request_of (profile_of cut.mid) cut.rest) end cut.reply → IsFront old stream text
     here end is = (
       cut.back,
       end,
@@ -172,7 +173,7 @@ cut_is_front old new stream text cut = elim cut.answered [ inl on ↦ later on.0
 steps_with_more : (old : Served) (read more text : List ℕ) (new : Served) (rest : List ℕ) → Steps request_so_far old read text new rest → Steps request_of old (read ++ more) text new (rest ++ more)
 steps_with_more old read more text new rest none_yet = none_yet
 steps_with_more old read more text new rest (one_more replies reply mid last before left steps step) =
-    one_more replies reply mid last (before ++ more) (left ++ more) (steps_with_more old read more replies mid before steps) (asked_with_more mid last before more reply left step)
+    one_more replies reply mid last (before ++ more) (left ++ more) (steps_with_more old read more replies mid before steps) (asked_with_more (profile_of mid) mid last before more reply left step)
 
 pub broken_with_more : (old new : Served) (read text more : List ℕ) (session : BrokenSession old read text new) → Steps request_of old (read ++ more) text new (session.rest ++ more)
 broken_with_more old new read text more session = steps_with_more old read more text new session.rest session.steps

@@ -4,7 +4,7 @@ use Rattle.std.proofs.lemmas.Bool.Decides.{nat_tests}
 use Rattle.std.proofs.KnownBytes.{Appends-nil}
 use Rattle.std.specs.Io.KnownBytes.{Appends}
 use Rattle.sieve_base.specs.Devices.{HasRisen}
-use Rattle.sieve_base.specs.Limits.{expected_limit, message_count_limit, message_limit, script_count_limit, text_limit}
+use Rattle.sieve_base.specs.Limits.{expected_limit, mailboxes_limit, message_count_limit, message_limit, script_count_limit, text_limit}
 use Rattle.sieve_base.specs.Writers.{Wrote, WroteFront}
 use Rattle.bench.specs.Bench.{BenchState}
 use Rattle.bench.specs.Content.{Content, Edit, after, unless, is_long, is_long_id, text_at, message_at, with_script, with_message, with_expected}
@@ -151,6 +151,7 @@ pub put_takes : (subject : Subject) (octets : List ℕ) → takes_memory (edit_o
 put_takes (subjects.Script name) octets = refl
 put_takes (subjects.Message id) octets = refl
 put_takes (subjects.Expected id) octets = refl
+put_takes subjects.Mailboxes octets = refl
 
 second_holds : (a b : Bool) → b ≡ true → (a || b) ≡ true
 second_holds true b holds = refl
@@ -170,6 +171,9 @@ too_large (subjects.Expected id) old octets more =
     let past : nat_lt expected_limit (length octets) ≡ true = grind (arith, nat_tests) in
     let first : (is_long_id id || nat_lt expected_limit (length octets)) ≡ true = second_holds (is_long_id id) _ past in
     ap (λ (b : Bool). unless (cond b (Some TooLarge) (cond (is_none (message_at old.messages id)) (Some NoSuchMessage) None)) (record old { messages = with_expected id (Some octets) old.messages })) first
+too_large subjects.Mailboxes old octets more =
+    let past : nat_lt mailboxes_limit (length octets) ≡ true = grind (arith, nat_tests) in
+    ap (λ (b : Bool). unless (cond b (Some TooLarge) None) (record old { envelope = record old.envelope { mailboxes = octets } })) past
 
 -- octets that weren't kept: too many of them, or memory was refused
 pub unkept_replies : (subject : Subject) (count : ℕ) (old : Served) (octets : List ℕ) → length octets ≡ count → Replies (edit_of subject octets) (takes_memory (edit_of subject octets)) (after old.bench.content (edit_of subject octets)) old (refusal_line (cond (nat_lt (limit_of subject) count) TooLarge NoMemory)) old

@@ -3,7 +3,7 @@ use Rattle.std.proofs.Common.{◌≡◌, ℕ, ◌+◌, ◌-◌, ◌^◌, ◌≤�
 use Rattle.std.proofs.KnownBytes.{Appends-nil, Appends-trans}
 use Rattle.sieve_base.specs.Devices.{HasRisen}
 use Rattle.session_text.specs.view.Input.{CallsMade, Input, Reads, TurnsGave}
-use Rattle.sievebench.specs.Session.{BrokenSessionFrom, CutSessionFrom, SessionFrom, MatchFault, MatchSessionEnd, ReadsAreMade, Served, TurnsAreSpent, none_yet, one_more, request_of, request_so_far}
+use Rattle.sievebench.specs.Session.{BrokenSessionFrom, CutSessionFrom, SessionFrom, MatchFault, MatchSessionEnd, ReadsAreMade, Served, TurnsAreSpent, none_yet, one_more, profile_of, request_of, request_so_far}
 use Rattle.sievebench.specs.view.Progress.{BreakFrom, CutFrom, EndFrom, ServesFrom, SoFar}
 use Rattle.sievebench.specs.declared.status.SessionEnd.{SessionEnd}
 use Rattle.sievebench.specs.declared.status.SessionEnd.TheVariants.{Done, Syntax, Truncated, Read, Write, NoMemory, TurnLimit}
@@ -33,17 +33,17 @@ so_far_more ended ended' old mid new (Some s) (Some t) (Some u) before after' wr
 )
 
 -- the end that the octets ask for
-pub so_far_ends : (ended : Bool) (end : SessionEnd) (old mid new : Served) (stream unused before after' written : Option (List ℕ)) → SoFar ended old stream before mid unused after' → EndFrom request_of end mid unused after' new written → SessionFrom end old stream before new written
+pub so_far_ends : (ended : Bool) (end : SessionEnd) (old mid new : Served) (stream unused before after' written : Option (List ℕ)) → SoFar ended old stream before mid unused after' → EndFrom (request_of (profile_of mid)) end mid unused after' new written → SessionFrom end old stream before new written
 so_far_ends ended end old mid new None unused before after' written done last = tt
 so_far_ends ended end old mid new (Some s) None before after' written done last = absurd done
 so_far_ends ended end old mid new (Some s) (Some t) before after' written done last = (
   done.0 ++ last.0,
-  record { replies = done.0; last = last.0; rest = t; steps = rw last.3 done.1; ends = last.1; whole = refl },
+  record { replies = done.0; last = last.0; rest = t; steps = rw last.3 done.1; ends = rw last.3 last.1; whole = refl },
   Appends-trans before after' written done.0 last.0 done.3 last.2,
 )
 
 -- a session of which no more can be read
-pub so_far_breaks : (ended : Bool) (old mid new : Served) (stream unused rest before after' written : Option (List ℕ)) → ended ≡ false → SoFar ended old stream before mid unused after' → BreakFrom request_so_far mid unused after' new rest written
+pub so_far_breaks : (ended : Bool) (old mid new : Served) (stream unused rest before after' written : Option (List ℕ)) → ended ≡ false → SoFar ended old stream before mid unused after' → BreakFrom (request_so_far (profile_of mid)) mid unused after' new rest written
     → BrokenSessionFrom old stream before new rest written
 so_far_breaks ended old mid new None unused rest before after' written going done last = tt
 so_far_breaks ended old mid new (Some s) None rest before after' written going done last = absurd done
@@ -53,12 +53,12 @@ so_far_breaks ended old mid new (Some s) (Some t) (Some u) before after' written
       first.0 ++ last.0,
       done.0,
       first.1 ∙ ap (λ l. first.0 ++ l) last.1 ∙ sym (append_assoc first.0 last.0 u),
-      record { rest = last.0; steps = rw last.4 (first.2 last.0); breaks = last.2 },
+      record { rest = last.0; steps = rw last.4 (first.2 last.0); breaks = rw last.4 last.2 },
       rw (append-nil done.0) at (Appends-trans before after' written done.0 [] done.3 last.3),
     )
 
 -- a session of which no more can be written
-pub so_far_cut : (ended : Bool) (old mid new : Served) (stream unused before after' written : Option (List ℕ)) → SoFar ended old stream before mid unused after' → CutFrom request_of mid unused after' new written
+pub so_far_cut : (ended : Bool) (old mid new : Served) (stream unused before after' written : Option (List ℕ)) → SoFar ended old stream before mid unused after' → CutFrom (request_of (profile_of mid)) mid unused after' new written
     → CutSessionFrom old stream before new written
 so_far_cut ended old mid new None unused before after' written done last = tt
 so_far_cut ended old mid new (Some s) None before after' written done last = absurd done
@@ -71,7 +71,7 @@ so_far_cut ended old mid new (Some s) (Some t) before after' written done last =
 -- a session at each of its ends
 pub so_far_ends_by : (end : SessionEnd) (ended ended' : Bool) (old mid new : Served) (stream unused rest before after' written : Option (List ℕ)) (Q A B F : Type 0) → (ended' ≡ false → ended ≡ false) → SoFar ended old stream before mid unused after'
     → MatchFault end ((ended' ≡ false) × A) F ((ended' ≡ false) × B)
-    → MatchSessionEnd end (EndFrom request_of end mid unused after' new written) (BreakFrom request_so_far mid unused after' new rest written) (CutFrom request_of mid unused after' new written) ⊥
+    → MatchSessionEnd end (EndFrom (request_of (profile_of mid)) end mid unused after' new written) (BreakFrom (request_so_far (profile_of mid)) mid unused after' new rest written) (CutFrom (request_of (profile_of mid)) mid unused after' new written) ⊥
     → MatchSessionEnd end (SessionFrom end old stream before new written) (BrokenSessionFrom old stream before new rest written) (CutSessionFrom old stream before new written) Q
 so_far_ends_by Done ended ended' old mid new stream unused rest before after' written Q A B F stays done known last = so_far_ends ended Done old mid new stream unused before after' written done last
 so_far_ends_by Syntax ended ended' old mid new stream unused rest before after' written Q A B F stays done known last = so_far_ends ended Syntax old mid new stream unused before after' written done last

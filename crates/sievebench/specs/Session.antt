@@ -3,15 +3,16 @@ use Rattle.std.specs.Prelude.{◌≡◌, ⊤, ℕ, ◌+◌, ◌-◌, ◌^◌, �
 use Rattle.std.specs.Io.KnownBytes.{Appends}
 use Rattle.std.specs.Option.{option_map}
 use Rattle.sieve_base.specs.Limits.{line_limit}
+use Rattle.sieve_profile.specs.Profile.{Profile}
 use Rattle.sieve_run.specs.Library.{Lookup, missing, invalid, present, found_at, library_of}
 use Rattle.sieve_run.specs.Meter.{runs_after}
 use Rattle.bench.specs.Bench.{BenchState, RefusedAmong}
-use Rattle.bench.specs.Content.{Content, Edit, put_script, put_message, set_main, rename_script, remove_script, remove_message, clear_main, set_envelope, set_mailbox, set_expected, clear_expected, after, text_at}
+use Rattle.bench.specs.Content.{Content, Edit, put_script, put_message, set_main, rename_script, remove_script, remove_message, clear_main, set_envelope, set_mailbox, set_expected, clear_expected, set_mailboxes, set_message_envelope, clear_message_envelope, after, text_at}
 use Rattle.bench.specs.Dump.{script_code}
 use Rattle.bench.specs.Report.{report_text}
 use Rattle.bench.specs.Stale.{stale_after}
 use Rattle.sieve_base.specs.declared.name.ScriptName.{ScriptName}
-use Rattle.session_text.specs.SessionLine.{SessionCommand, nothing, script, message, main, no_main, rename, drop_script, drop_message, envelope, mailbox, report, dump, expect, no_expect, first_line, command_of_line, is_long_so_far, line_so_far}
+use Rattle.session_text.specs.SessionLine.{SessionCommand, nothing, script, message, main, no_main, rename, drop_script, drop_message, envelope, mailbox, report, dump, expect, no_expect, mailboxes, message_envelope, no_message_envelope, first_line, command_of_line, is_long_so_far, line_so_far}
 use Rattle.bench.specs.declared.fault.EditFault.{EditFault}
 use Rattle.bench.specs.declared.fault.EditFault.TheVariants.{NoSuchScript, NameTaken, NoSuchMessage, Full, TooLarge, NoMemory}
 use Rattle.sievebench.specs.declared.status.SessionEnd.{SessionEnd}
@@ -55,6 +56,9 @@ demand_of report = asks_report
 demand_of (dump place name) = asks_question (Code (record { place = place; name = name }))
 demand_of (expect id count) = asks_put count (λ octets. set_expected id octets)
 demand_of (no_expect id) = asks_edit (clear_expected id)
+demand_of (mailboxes count) = asks_put count (λ octets. set_mailboxes octets)
+demand_of (message_envelope id from to) = asks_edit (set_message_envelope id from to)
+demand_of (no_message_envelope id) = asks_edit (clear_message_envelope id)
 
 -- what a line asks for with the octets behind it; a line of no command says nothing that there is
 abbrev pub request_by : Option Demand → List ℕ → Request
@@ -64,31 +68,31 @@ request_by (Some (asks_put count edit)) rest = with_octets count rest edit
 request_by (Some (asks_edit edit)) rest = edits edit rest
 request_by (Some asks_report) rest = reports rest
 
--- what a line asks for
-abbrev pub demand_at : List ℕ → Option Demand
-demand_at line = option_map demand_of (command_of_line line)
+-- what a line asks for under a profile
+abbrev pub demand_at : Profile → List ℕ → Option Demand
+demand_at profile line = option_map demand_of (command_of_line profile line)
 
 -- a line that is too long says nothing that there is
-abbrev pub request_at : List ℕ × List ℕ → Request
-request_at (line, rest) = if nat_lt line_limit (length line) then unreadable else request_by (demand_at line) rest
+abbrev pub request_at : Profile → List ℕ × List ℕ → Request
+request_at profile (line, rest) = if nat_lt line_limit (length line) then unreadable else request_by (demand_at profile line) rest
 
--- what a stream asks for
-unfoldable pub request_of : List ℕ → Request
-request_of [] = over
-request_of (octet ∷ octets) = request_at (first_line (octet ∷ octets))
+-- what a stream asks for under a profile
+unfoldable pub request_of : Profile → List ℕ → Request
+request_of profile [] = over
+request_of profile (octet ∷ octets) = request_at profile (first_line (octet ∷ octets))
 
 -- octets without the end of a line are no whole command, and may become one unless they are too long for a line already
-abbrev pub request_behind : List ℕ → Option (List ℕ × List ℕ) → Request
-request_behind read None = if is_long_so_far read then unreadable else truncated
-request_behind read (Some cut) = request_at cut
+abbrev pub request_behind : Profile → List ℕ → Option (List ℕ × List ℕ) → Request
+request_behind profile read None = if is_long_so_far read then unreadable else truncated
+request_behind profile read (Some cut) = request_at profile cut
 
 -- what the octets ask for that are read, while more may come: neither their end nor that of a line without an LF is known
-unfoldable pub request_so_far : List ℕ → Request
-request_so_far read = request_behind read (line_so_far read)
+unfoldable pub request_so_far : Profile → List ℕ → Request
+request_so_far profile read = request_behind profile read (line_so_far read)
 
 -- no command is whole in these octets, while more may come
-abbrev pub NoneIsWhole : List ℕ → Type 0
-NoneIsWhole read = request_so_far read ≡ truncated
+abbrev pub NoneIsWhole : Profile → List ℕ → Type 0
+NoneIsWhole profile read = request_so_far profile read ≡ truncated
 
 -- the words of the refusals
 abbrev pub refusal_line : EditFault → List ℕ
@@ -119,7 +123,7 @@ abbrev pub question_takes_memory : Question → Bool
 question_takes_memory Nothing = false
 question_takes_memory (Code name) = true
 
--- whether memory may be refused to an edit of a session; three take none
+-- whether memory may be refused to an edit of a session; four take none
 abbrev pub takes_memory : Edit → Bool
 takes_memory (put_script name text) = true
 takes_memory (put_message id bytes) = true
@@ -132,6 +136,9 @@ takes_memory (set_envelope from to) = true
 takes_memory (set_mailbox box) = true
 takes_memory (set_expected id text) = true
 takes_memory (clear_expected id) = false
+takes_memory (set_mailboxes text) = true
+takes_memory (set_message_envelope id from to) = true
+takes_memory (clear_message_envelope id) = false
 
 -- a bench, and how many runs were made so far
 pub record Served : Type 0 where
@@ -140,6 +147,10 @@ pub record Served : Type 0 where
 
 abbrev pub served : BenchState → ℕ → Served
 served bench runs = record { bench = bench; runs = runs }
+
+-- the profile of a bench that is served, by which its lines are read
+abbrev pub profile_of : Served → Profile
+profile_of served = served.bench.content.profile
 
 -- An edit is made. The messages that it touches are stale, and no run is made.
 abbrev pub Made : Edit → Content → Served → Served → Type 0
@@ -178,9 +189,9 @@ Step old (edits edit rest) reply new left = Replies edit (takes_memory edit) (af
 Step old (reports rest) reply new left = (((reply ≡ report_text old.bench.content) × Reported old new) ⊎ ((reply ≡ refusal_line NoMemory) × ReportRefused old new)) × (left ≡ rest)
 
 -- some commands in turn, each what the octets then ask for: their replies, what is after them, and the octets behind them
-pub data Steps (request : List ℕ → Request) (old : Served) (stream : List ℕ) : List ℕ → Served → List ℕ → Type 0 where
+pub data Steps (request : Profile → List ℕ → Request) (old : Served) (stream : List ℕ) : List ℕ → Served → List ℕ → Type 0 where
   none_yet : Steps request old stream [] old stream
-  one_more : (replies reply : List ℕ) (mid new : Served) (rest left : List ℕ) → Steps request old stream replies mid rest → Step mid (request rest) reply new left → Steps request old stream (replies ++ reply) new left
+  one_more : (replies reply : List ℕ) (mid new : Served) (rest left : List ℕ) → Steps request old stream replies mid rest → Step mid (request (profile_of mid) rest) reply new left → Steps request old stream (replies ++ reply) new left
 
 -- how a session ends at a stream, and its last reply
 abbrev pub Ends : Request → SessionEnd → List ℕ → Type 0
@@ -197,7 +208,7 @@ pub record SessionText (old : Served) (stream : List ℕ) (text : List ℕ) (end
   pub last : List ℕ
   pub rest : List ℕ
   pub steps : Steps request_of old stream replies new rest
-  pub ends : Ends (request_of rest) end last
+  pub ends : Ends (request_of (profile_of new) rest) end last
   pub whole : text ≡ replies ++ last
 
 -- the text of a session of which no more could be read: the replies to the commands that are whole in what was read, and the bench
@@ -205,7 +216,7 @@ pub record SessionText (old : Served) (stream : List ℕ) (text : List ℕ) (end
 pub record BrokenSession (old : Served) (read : List ℕ) (text : List ℕ) (new : Served) : Type 0 where
   pub rest : List ℕ
   pub steps : Steps request_so_far old read text new rest
-  pub breaks : NoneIsWhole rest
+  pub breaks : NoneIsWhole (profile_of new) rest
 
 -- the reply to what a stream asks for next, whether the session goes on or ends, and the bench after it
 abbrev pub Answered : Served → Request → List ℕ → Served → Type 0
@@ -221,7 +232,7 @@ pub record CutSession (old : Served) (stream : List ℕ) (text : List ℕ) (new 
   pub front : List ℕ
   pub back : List ℕ
   pub steps : Steps request_of old stream replies mid rest
-  pub answered : Answered mid (request_of rest) reply new
+  pub answered : Answered mid (request_of (profile_of mid) rest) reply new
   pub cut : front ++ back ≡ reply
   pub whole : text ≡ replies ++ front
 

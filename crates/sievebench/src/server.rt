@@ -83,6 +83,7 @@ fn keep(bench: &mut Bench, subject: Subject, octets: Vec<u8>) -> Result<(), Edit
         Subject::Script(name) => bench.keep_script(&name, octets),
         Subject::Message(id) => bench.keep_message(id, octets),
         Subject::Expected(id) => bench.keep_expected(id.as_slice(), octets),
+        Subject::Mailboxes => bench.keep_mailboxes(octets),
     }
 }
 

@@ -7,16 +7,17 @@ ghost use Rattle.sievebench.specs.view.Task.{IsTried, Tasks, limit_of};
 
 use bench::{Bench, EditFault};
 use session_text::{SessionCommand, Word, command_of_line};
-use sieve_base::limits::{MAX_EXPECTED, MAX_ID, MAX_MESSAGE, MAX_TEXT};
+use sieve_base::limits::{MAX_EXPECTED, MAX_ID, MAX_MAILBOXES, MAX_MESSAGE, MAX_TEXT};
 use sieve_base::{Octets, Place, ScriptName};
 use std::alloc::{AllocError, Global};
 
-/// What octets are put at: a script's name or a message's id, or the id of a message of which they are expected.
+/// What octets are put at: a script's name or a message's id, the id of a message of which they are expected, or the list of mailboxes.
 #[derive(Drop)]
 pub(crate) enum Subject {
     Script(ScriptName),
     Message(Octets),
     Expected(Octets),
+    Mailboxes,
 }
 
 /// What a line asks of the bench. The answer changes nothing.
@@ -188,13 +189,40 @@ fn set_mailbox(bench: &mut Bench, mailbox: &Word<'_>) -> Result<(), EditFault>
     bench.set_mailbox(mailbox.as_slice())
 }
 
+/// Gives a message addresses of its own.
+#[tactic(auto, using(crate::proofs::Tried::trying))]
+fn set_message_envelope(
+    bench: &mut Bench,
+    id: &Word<'_>,
+    from: &Word<'_>,
+    to: &Word<'_>,
+) -> Result<(), EditFault>
+    ensures { IsTried (Some (demand_of (line.message_envelope id.now from.now to.now))) result bench.old bench.new }
+{
+    let id = id.copied(bench.allocator())?;
+    let from = from.copied(bench.allocator())?;
+    let to = to.copied(bench.allocator())?;
+    bench.set_message_envelope(id.as_slice(), from.as_slice(), to.as_slice())
+}
+
+/// Takes a message's own addresses from it. Takes no memory: an id that is too long for an array isn't one of the bench.
+#[tactic(auto, using(crate::proofs::Tried::trying))]
+fn clear_message_envelope(bench: &mut Bench, id: &Word<'_>) -> Result<(), EditFault>
+    ensures { IsTried (Some (demand_of (line.no_message_envelope id.now))) result bench.old bench.new }
+{
+    match id.short::<MAX_ID>() {
+        Some(id) => bench.clear_message_envelope(id.as_slice()),
+        None => Err(EditFault::TooLarge),
+    }
+}
+
 /// What to do for a line. An edit that no octets follow is made at once.
 #[tactic(auto, using(crate::proofs::Tried::trying))]
 pub(crate) fn task_of(bench: &mut Bench, line: &[u8]) -> Task
-    ensures { Tasks result (demand_at line.now) bench.old bench.new }
+    ensures { Tasks result (demand_at bench.old.content.profile line.now) bench.old bench.new }
 {
     let alloc = bench.allocator();
-    let Some(command) = command_of_line(line) else {
+    let Some(command) = command_of_line(bench.profile(), line) else {
         return Task::Unreadable;
     };
     let outcome = match command {
@@ -208,6 +236,10 @@ pub(crate) fn task_of(bench: &mut Bench, line: &[u8]) -> Task
         ),
         SessionCommand::Message { id, count } => return message_task(alloc, &id, count),
         SessionCommand::Expect { id, count } => return expect_task(alloc, &id, count),
+        SessionCommand::Mailboxes { count } => return Task::Put {
+            subject: Subject::Mailboxes,
+            count,
+        },
         SessionCommand::Main { place, name } => set_main(bench, place, &name),
         SessionCommand::NoMain => clear_main(bench),
         SessionCommand::Rename {
@@ -221,6 +253,10 @@ pub(crate) fn task_of(bench: &mut Bench, line: &[u8]) -> Task
         SessionCommand::NoExpect { id } => clear_expected(bench, &id),
         SessionCommand::Envelope { from, to } => set_envelope(bench, &from, &to),
         SessionCommand::Mailbox { mailbox } => set_mailbox(bench, &mailbox),
+        SessionCommand::MessageEnvelope { id, from, to } => {
+            set_message_envelope(bench, &id, &from, &to)
+        }
+        SessionCommand::NoMessageEnvelope { id } => clear_message_envelope(bench, &id),
     };
     Task::Made { outcome }
 }
@@ -233,5 +269,6 @@ pub(crate) fn limit_of(subject: &Subject) -> u64
         Subject::Script(_) => MAX_TEXT as u64,
         Subject::Message(_) => MAX_MESSAGE as u64,
         Subject::Expected(_) => MAX_EXPECTED as u64,
+        Subject::Mailboxes => MAX_MAILBOXES as u64,
     }
 }

@@ -105,7 +105,7 @@ fn answer_usage(rt: &(impl Print + Eprint), fault: UsageFault) -> u8 {
             let _ = rt.eprint(text.as_str());
             USAGE_STATUS
         }
-        UsageFault::UnknownName { .. } => {
+        UsageFault::UnknownName { .. } | UsageFault::NeedsMailbox => {
             let _ = rt.eprint(fault);
             USAGE_STATUS
         }

@@ -1,8 +1,10 @@
-//! What a test reads: the scripts of two folders, the main script and the message.
+//! What a test reads: the list of mailboxes, the scripts of two folders, the main script and the message.
 
 use crate::files::{ReadFault, octets_at, script_name};
 use crate::folder::read_folder;
-use sieve_base::limits::{MAX_ADDRESS, MAX_MAILBOX, MAX_MESSAGE, MAX_NAME, MAX_TEXT};
+use sieve_base::limits::{
+    MAX_ADDRESS, MAX_MAILBOX, MAX_MAILBOXES, MAX_MESSAGE, MAX_NAME, MAX_TEXT,
+};
 use sievebench::{Argument, Octets, Place, Profile, ScriptName, TestJob, TestScript, TestWords};
 use std::alloc::{AllocError, Global};
 use std::rt::Files;
@@ -14,11 +16,13 @@ const DEFAULT_MAILBOX: &str = "INBOX";
 #[derive(Drop)]
 pub(crate) struct TestInput {
     pub job: TestJob,
+    /// The path of the list of mailboxes, where the words give one.
+    pub mailboxes: Vec<u8>,
     /// The path of each script of the job.
     pub paths: Vec<Vec<u8>>,
 }
 
-/// Reads what a test wants, in this order: the personal folder, the global one, the main script, the message. The main script is personal, under
+/// Reads what a test wants, in this order: the list of mailboxes, the personal folder, the global one, the main script, the message. The main script is personal, under
 /// the name of its file, and goes last among the scripts.
 pub(crate) fn read_test<R: Files + AllocGlobal>(
     rt: &R,
@@ -36,6 +40,9 @@ fn read_files<R: Files + AllocGlobal>(
     words: &TestWords,
     input: &mut TestInput,
 ) -> Result<(), ReadFault> {
+    if let Some(path) = &words.mailboxes {
+        read_mailboxes(rt, path.as_str(), input)?;
+    }
     if let Some(folder) = &words.personal {
         read_folder(rt, Place::Personal, folder.as_str(), input)?;
     }
@@ -46,6 +53,18 @@ fn read_files<R: Files + AllocGlobal>(
     let mail = words.mail.as_str().as_bytes();
     input.job.message = Octets::from_vec(octets_at(rt, mail, MAX_MESSAGE)?);
     Ok(fill(rt.alloc(), words, &mut input.job)?)
+}
+
+/// Reads the list of mailboxes at a path.
+fn read_mailboxes<R: Files + AllocGlobal>(
+    rt: &R,
+    path: &str,
+    input: &mut TestInput,
+) -> Result<(), ReadFault> {
+    let text = octets_at(rt, path.as_bytes(), MAX_MAILBOXES)?;
+    input.mailboxes = Vec::from_slice(rt.alloc(), path.as_bytes())?;
+    input.job.mailboxes = Octets::from_vec(text);
+    Ok(())
 }
 
 /// Reads the main script at a path.
@@ -100,6 +119,7 @@ impl TestInput {
             from: empty(alloc),
             to: empty(alloc),
             mailbox: empty(alloc),
+            mailboxes: empty(alloc),
             scripts: Vec::new(alloc),
             main: ScriptName::new(Place::Personal, Vec::new(alloc)),
             id: empty(alloc),
@@ -107,6 +127,7 @@ impl TestInput {
         };
         TestInput {
             job,
+            mailboxes: Vec::new(alloc),
             paths: Vec::new(alloc),
         }
     }
@@ -137,6 +158,9 @@ impl TestInput {
         }
         if job.mailbox.as_slice().len() > MAX_MAILBOX {
             return job.mailbox.as_slice();
+        }
+        if job.mailboxes.as_slice().len() > MAX_MAILBOXES {
+            return self.mailboxes.as_slice();
         }
         for (script, path) in job.scripts.iter().zip(self.paths.iter()) {
             if is_too_large(script) {

@@ -1,20 +1,21 @@
 -- What a message's entry in a bench stands for.
-use Rattle.std.specs.Prelude.{◌≡◌, ⊤, ℕ, Bool, false, List, [], ◌∷◌, map, nat_eq, Option, None, Some, is_none, is_some, cond, if◌then◌else◌, IfSome}
+use Rattle.std.specs.Prelude.{◌≡◌, ⊤, ℕ, Bool, false, List, [], ◌∷◌, map, nat_eq, Option, None, Some, is_none, is_some, cond, IfSome}
 use Rattle.std.specs.Map.{lookup}
-use Rattle.std.specs.Option.{option_and_then}
+use Rattle.std.specs.Option.{option_map}
 use Rattle.indexmap.specs.IndexMap as ordered
 use lib.Pointwise.{pointwise}
 use Rattle.sieve_base.specs.declared.name.ScriptName.{ScriptName}
+use Rattle.sieve_effects.specs.declared.envelope.Addresses.{Addresses}
 use Rattle.sieve_run.specs.Meter.{next_run}
 use Rattle.sieve_run.specs.Run.{is_read}
 use Rattle.sieve_run.specs.Verdict.{Verdict}
-use Rattle.bench.specs.Content.{Sample}
+use Rattle.bench.specs.Content.{Sample, put_over}
 use Rattle.bench.specs.Report.{Judged, is_unlike}
 use Rattle.bench.specs.declared.entry.Entry.{Entry}
 
 -- the message of an entry, without what is only the bench's
 abbrev pub sample_of : Entry → Sample
-sample_of entry = record { octets = entry.message; expected = entry.expected }
+sample_of entry = record { octets = entry.message; expected = entry.expected; addresses = entry.addresses }
 
 -- the messages of entries, in their order, by their ids
 unfoldable pub messages_of : List (List ℕ × Entry) → List (List ℕ × Sample)
@@ -30,9 +31,9 @@ stale_of [] = []
 stale_of (e ∷ es) = cond (is_stale e.1) (e.0 ∷ stale_of es) (stale_of es)
 
 -- each verdict that is kept is the due one
-unfoldable pub KeepsDue : (List ℕ → Verdict) → List (List ℕ × Entry) → Type 0
+unfoldable pub KeepsDue : (Sample → Verdict) → List (List ℕ × Entry) → Type 0
 KeepsDue due [] = ⊤
-KeepsDue due (e ∷ es) = IfSome e.1.kept (λ verdict. verdict ≡ due e.1.message) × KeepsDue due es
+KeepsDue due (e ∷ es) = IfSome e.1.kept (λ verdict. verdict ≡ due (sample_of e.1)) × KeepsDue due es
 
 -- an entry that is marked
 abbrev pub forgotten : Entry → Entry
@@ -47,45 +48,40 @@ kept_without name (Some verdict) = cond (is_read name verdict.reads) None (Some 
 abbrev pub unread : ScriptName → Entry → Entry
 unread name entry = record entry { kept = kept_without name entry.kept }
 
--- what is kept behind a report
+-- what is kept after a report
 abbrev pub kept_or : Verdict → Option Verdict → Option Verdict
 kept_or due None = Some due
 kept_or due (Some verdict) = Some verdict
 
--- an entry behind a report
-abbrev pub refreshed : (List ℕ → Verdict) → Entry → Entry
-refreshed due entry = record entry { kept = kept_or (due entry.message) entry.kept }
+-- an entry after a report
+abbrev pub refreshed : (Sample → Verdict) → Entry → Entry
+refreshed due entry = record entry { kept = kept_or (due (sample_of entry)) entry.kept }
 
--- the runs behind that
+-- the runs after that
 abbrev pub runs_at : Entry → ℕ → ℕ
 runs_at entry runs = cond (is_stale entry) (next_run runs) runs
 
 -- a message with the verdict, where it is kept, before others
-abbrev pub judged_before : List ℕ → Option (List ℕ) → Option Verdict → List Judged → List Judged
-judged_before id expected None judged = judged
-judged_before id expected (Some verdict) judged = record { id = id; verdict = verdict; expected = expected } ∷ judged
+abbrev pub judged_before : List ℕ → Sample → Option Verdict → List Judged → List Judged
+judged_before id sample None judged = judged
+judged_before id sample (Some verdict) judged = record { id = id; addresses = sample.addresses; verdict = verdict; expected = sample.expected } ∷ judged
 
 -- the messages with the verdicts that are kept, in their order
 unfoldable pub judged_of : List (List ℕ × Entry) → List Judged
 judged_of [] = []
-judged_of (e ∷ es) = judged_before e.0 e.1.expected e.1.kept (judged_of es)
-
--- the entries with the one of an id changed
-abbrev pub changed : List ℕ → (Entry → Entry) → List (List ℕ × Entry) → List (List ℕ × Entry)
-changed id change [] = []
-changed id change (e ∷ es) = if pointwise nat_eq id e.0 then (e.0, change e.1) ∷ es else e ∷ changed id change es
-
--- the text that is expected of the message of an id, where it is there and there is one
-abbrev pub expected_in : List (List ℕ × Entry) → List ℕ → Option (List ℕ)
-expected_in entries id = option_and_then (λ entry. entry.expected) (lookup (pointwise nat_eq id) entries)
+judged_of (e ∷ es) = judged_before e.0 (sample_of e.1) e.1.kept (judged_of es)
 
 -- a stale entry
-abbrev pub fresh_entry : List ℕ → Option (List ℕ) → Entry
-fresh_entry message expected = record { message = message; expected = expected; kept = None }
+abbrev pub fresh_entry : Sample → Entry
+fresh_entry sample = record { message = sample.octets; expected = sample.expected; addresses = sample.addresses; kept = None }
 
--- the entries with a message put at an id, of which is expected what was
+-- the message of an id, where it is there
+abbrev pub sample_in : List (List ℕ × Entry) → List ℕ → Option Sample
+sample_in entries id = option_map sample_of (lookup (pointwise nat_eq id) entries)
+
+-- the entries with a message put at an id, over the one that is there
 abbrev pub put_entry : List ℕ → List ℕ → List (List ℕ × Entry) → List (List ℕ × Entry)
-put_entry id message entries = ordered.insert_entry (pointwise nat_eq) entries id (fresh_entry message (expected_in entries id))
+put_entry id message entries = ordered.insert_entry (pointwise nat_eq) entries id (fresh_entry (put_over message (sample_in entries id)))
 
 -- an entry with other octets, which is stale
 abbrev pub renewed : List ℕ → Entry → Entry
@@ -94,6 +90,10 @@ renewed message entry = record entry { message = message; kept = None }
 -- an entry with another expected text, or none
 abbrev pub expecting : Option (List ℕ) → Entry → Entry
 expecting expected entry = record entry { expected = expected }
+
+-- an entry with other addresses of its own, or none, which is stale
+abbrev pub readdressed : Option Addresses → Entry → Entry
+readdressed addresses entry = record entry { addresses = addresses; kept = None }
 
 -- whether the verdict that is kept has an error
 abbrev pub has_error : Option Verdict → Bool

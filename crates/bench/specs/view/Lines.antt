@@ -1,15 +1,23 @@
 -- The lines of a verdict in a report, one by one.
-use Rattle.std.specs.Prelude.{ℕ, Bool, List, [], ◌++◌, Option, None, Some}
-use Rattle.std.specs.List.{flat_map}
+use Rattle.std.specs.Prelude.{ℕ, Bool, true, false, List, [], ◌++◌, Option, None, Some}
+use Rattle.std.specs.List.{flat_map, zip}
 use Rattle.sieve_base.specs.declared.name.ScriptName.{ScriptName}
 use Rattle.sieve_effects.specs.declared.action.Action.{Action}
+use Rattle.sieve_effects.specs.declared.action.Origin.{Origin}
 use Rattle.sieve_effects.specs.declared.error.RunError.{RunError}
-use Rattle.sieve_run.specs.Lines.{action_line, error_line, implicit_line, read_line}
+use Rattle.sieve_run.specs.Lines.{action_line, error_line, implicit_line, origin_line, read_line}
 use Rattle.sieve_run.specs.Verdict.{Verdict}
 use Rattle.bench.specs.Report.{indented}
 
 abbrev pub action_text : Action → List ℕ
 action_text action = indented (action_line action)
+
+abbrev pub traced_text : Action × Origin → List ℕ
+traced_text e = action_text e.0 ++ indented (origin_line e.1)
+
+abbrev pub action_texts : (traced : Bool) → Verdict → List ℕ
+action_texts false verdict = flat_map action_text verdict.actions
+action_texts true verdict = flat_map traced_text (zip verdict.actions verdict.origins)
 
 abbrev pub implicit_text : (mailbox : List ℕ) → Option (List (List ℕ)) → List ℕ
 implicit_text mailbox None = []
@@ -23,5 +31,5 @@ abbrev pub read_text : ScriptName × Bool → List ℕ
 read_text read = indented (read_line read)
 
 -- a verdict's lines in a report, as the program writes them in turn
-unfoldable pub verdict_texts : (mailbox : List ℕ) → Verdict → List ℕ
-verdict_texts mailbox verdict = flat_map action_text verdict.actions ++ (implicit_text mailbox verdict.implicit ++ (error_text verdict.error ++ flat_map read_text verdict.reads))
+unfoldable pub verdict_texts : (traced : Bool) → (mailbox : List ℕ) → Verdict → List ℕ
+verdict_texts traced mailbox verdict = action_texts traced verdict ++ (implicit_text mailbox verdict.implicit ++ (error_text verdict.error ++ flat_map read_text verdict.reads))

@@ -26,6 +26,7 @@ fn bare(alloc: Global, main: ScriptName) -> TestJob {
         from: Octets::from_vec(Vec::new(alloc)),
         to: Octets::from_vec(Vec::new(alloc)),
         mailbox: Octets::from_vec(Vec::new(alloc)),
+        mailboxes: Octets::from_vec(Vec::new(alloc)),
         scripts: Vec::new(alloc),
         main,
         id: Octets::from_vec(Vec::new(alloc)),
@@ -147,12 +148,33 @@ fn a_report_names_its_profile(rt: HostRuntime) -> Result<(), AllocError> {
     Ok(())
 }
 
+/// Two of three mailboxes are there.
+const LISTED: &[u8] =
+    b"require [\"mailbox\"];\nif mailboxexists [\"Lists\", \"inbox\"] { discard; }\nif mailboxexists \"Work\" { keep; }\n";
+
+/// The list of mailboxes is that of the job.
+#[test]
+fn a_test_knows_its_mailboxes(rt: HostRuntime) -> Result<(), AllocError> {
+    let mut job = job_of(rt.alloc(), &[(b"main", LISTED)])?;
+    job.profile = Profile::new().with(Extension::Mailbox);
+    set(rt.alloc(), &mut job.mailboxes, b"Lists\r\n\nDrafts")?;
+    check_job(
+        &rt,
+        &job,
+        TestEnd::Clean,
+        1,
+        b"main personal \"main\"\nenvelope \"a@b.example\" \"\" mailbox \"INBOX\"\nwith mailbox\nmailboxes 2\nscript personal \"main\" ok\nmessage \"mail.txt\"\n  discard\n  read personal \"main\"\ntotal 1 messages 0 errors\n",
+    );
+    Ok(())
+}
+
 /// A part of a job that has a limit.
 #[derive(Clone, Copy)]
 enum Part {
     From,
     To,
     Mailbox,
+    Mailboxes,
     Name,
     Text,
     Main,
@@ -166,6 +188,7 @@ fn name_of(part: Part) -> &'static str {
         Part::From => "the sender",
         Part::To => "the recipient",
         Part::Mailbox => "the mailbox",
+        Part::Mailboxes => "the list of mailboxes",
         Part::Name => "a script's name",
         Part::Text => "a script's text",
         Part::Main => "the main script",
@@ -197,6 +220,7 @@ fn lengthen(alloc: Global, job: &mut TestJob, part: Part, count: usize) -> Resul
         Part::From => job.from = octets,
         Part::To => job.to = octets,
         Part::Mailbox => job.mailbox = octets,
+        Part::Mailboxes => job.mailboxes = octets,
         Part::Name => return add_name(alloc, job, octets),
         Part::Text => return add_text(alloc, job, octets),
         Part::Main => job.main.name = octets,
@@ -263,6 +287,8 @@ fn each_part_of_a_job_has_its_limit(rt: HostRuntime) -> Result<(), AllocError> {
             (1, Part::To, 1_025, TestEnd::TooLarge, false),
             (1, Part::Mailbox, 255, TestEnd::Clean, true),
             (1, Part::Mailbox, 256, TestEnd::TooLarge, false),
+            (1, Part::Mailboxes, 1_048_576, TestEnd::Clean, true),
+            (1, Part::Mailboxes, 1_048_577, TestEnd::TooLarge, false),
             (1, Part::Name, 1_024, TestEnd::Clean, true),
             (1, Part::Name, 1_025, TestEnd::TooLarge, false),
             (1, Part::Text, 1_048_576, TestEnd::Faulty, true),
@@ -289,6 +315,7 @@ fn the_first_refusal_is_told(rt: HostRuntime) -> Result<(), AllocError> {
             // The settings come before the scripts, and these before the main script's name and the message.
             (4_097, Part::From, 1_025, TestEnd::TooLarge, false),
             (4_097, Part::Mailbox, 256, TestEnd::TooLarge, false),
+            (4_097, Part::Mailboxes, 1_048_577, TestEnd::TooLarge, false),
             (4_097, Part::Main, 1_025, TestEnd::Full, false),
             (4_097, Part::Id, 1_025, TestEnd::Full, false),
             (4_097, Part::Text, 1_048_577, TestEnd::Full, false),

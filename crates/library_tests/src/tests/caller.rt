@@ -1,6 +1,6 @@
 //! A caller of the libraries, which `docs/CALLING.md` shows: what becomes of a mail by one script.
 
-ghost use Rattle.std.specs.Prelude.{◌≡◌, ◌≤◌, [], ◌∷◌, IfOk, Some, length};
+ghost use Rattle.std.specs.Prelude.{◌≡◌, ◌≤◌, [], ◌∷◌, IfOk, None, Some, length};
 ghost use Rattle.sieve_base.specs.Limits.{name_limit};
 ghost use Rattle.sieve_run.specs.Library.{library_of};
 ghost use Rattle.sieve_run.specs.Run.{outcome_of};
@@ -23,11 +23,11 @@ pub(crate) fn verdict_of(
     meter: &mut Meter,
 ) -> Result<Outcome, AllocError>
     requires { length name.now.name ≤ name_limit }
-    ensures { IfOk result (λ verdict. verdict ≡ outcome_of (library_of profile (text_on ((name.now, text.now) ∷ []))) (Some name.now) (record { message = mail.now; envelope = envelope.now; profile = profile })) }
+    ensures { IfOk result (λ verdict. verdict ≡ outcome_of (library_of profile (text_on ((name.now, text.now) ∷ []))) (Some name.now) (record { message = mail.now; envelope = envelope.now; own = None; profile = profile })) }
 {
     let mut shelf = Shelf::new(alloc, profile);
     shelf.add(name, text)?;
-    run(alloc, &shelf, Some(name), envelope, mail, meter)
+    run(alloc, &shelf, Some(name), envelope, None, mail, meter)
 }
 
 /// Whether a script discards the mail of a sender with these octets.
@@ -37,6 +37,7 @@ fn discards(alloc: Global, text: &[u8], from: &[u8], octets: Vec<u8>) -> Result<
         from: Octets::copied(alloc, from)?,
         to: Octets::copied(alloc, b"ada@example.org")?,
         mailbox: Octets::copied(alloc, b"INBOX")?,
+        mailboxes: Octets::from_vec(Vec::new(alloc)),
     };
     let mail = Message::new(alloc, octets)?;
     let verdict = verdict_of(

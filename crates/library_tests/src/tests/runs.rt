@@ -30,6 +30,7 @@ fn envelope_of(alloc: Global) -> Result<Envelope, AllocError> {
         from: Octets::from_vec(Vec::new(alloc)),
         to: Octets::from_vec(Vec::new(alloc)),
         mailbox,
+        mailboxes: Octets::from_vec(Vec::new(alloc)),
     })
 }
 
@@ -46,7 +47,7 @@ fn outcome_on(
     (envelope, message): (&Envelope, &Message),
     meter: &mut Meter,
 ) -> Result<Outcome, Fail> {
-    Ok(run(alloc, shelf, main, envelope, message, meter)?)
+    Ok(run(alloc, shelf, main, envelope, None, message, meter)?)
 }
 
 /// The outcome of a main script on a message of no octets.
@@ -65,12 +66,21 @@ pub(super) fn outcome_of(
 fn check_actions(rt: &impl Abort, actions: &[Action]) {
     match actions {
         [
-            Action::Store { mailbox, flags },
+            Action::Store {
+                mailbox,
+                flags,
+                filing,
+            },
             Action::Redirect { address },
             Action::Discard,
         ] => {
             same(rt, "the mailbox", mailbox.as_slice(), b"A");
             holds(rt, "the flags", flags.len() == 1);
+            holds(
+                rt,
+                "no further wishes",
+                !filing.create && filing.special_use.is_none(),
+            );
             same(rt, "the address", address.as_slice(), b"a@b.example");
         }
         _ => panic!(rt; "another list of actions"),
@@ -101,6 +111,7 @@ fn last_read(outcome: &Outcome) -> Option<bool> {
 /// Compares what a run comes to. One that has actions is that of `check_acting`.
 fn check_told(rt: &impl Abort, row: &str, outcome: &Outcome, wanted: Told) {
     holds(rt, row, outcome.actions().len() == wanted.0);
+    holds(rt, row, outcome.origins().len() == wanted.0);
     if wanted.0 > 0 {
         check_actions(rt, outcome.actions());
     }

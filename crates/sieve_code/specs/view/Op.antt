@@ -3,7 +3,7 @@ use Rattle.sieve_variables.specs.Part.{Part}
 use Rattle.std.specs.Prelude.{ℕ, ◌-◌, Bool, true, false, List, [], map, length, Option, Some, None, slice_index_or}
 use Rattle.std.specs.List.{slice_get}
 use Rattle.sieve_effects.specs.Joined.{list_in}
-use Rattle.sieve_reading.specs.Reading.{ValueSource, Ask, compares, exists_ask, over_ask, under_ask, header_values, address_values, envelope_values, string_values, flag_values, keep_leaf, fileinto_leaf, redirect_leaf, discard_leaf, set_leaf, flag_leaf, include_leaf}
+use Rattle.sieve_reading.specs.Reading.{ValueSource, Ask, compares, exists_ask, over_ask, under_ask, mailboxes_ask, duplicate_ask, header_values, address_values, envelope_values, string_values, flag_values, keep_leaf, fileinto_leaf, redirect_leaf, discard_leaf, set_leaf, flag_leaf, include_leaf}
 use Rattle.sieve_code.specs.Operation.{Operation, set_op, invert_op, test_op, jump_op, jump_if_op, act_op, stop_op, return_op, targeting}
 use Rattle.sieve_code.specs.Pool.{Pool, no_pool, given_list, given_variable, settings_in, test_in}
 use Rattle.sieve_code.specs.declared.pools.Target.{Target}
@@ -39,6 +39,8 @@ op_in pool (op.Compares test values keys) = test_op (compares_in pool (test_in p
 op_in pool (op.Exists names) = test_op (exists_ask (list_in pool.names names))
 op_in pool (op.Over limit) = test_op (over_ask limit)
 op_in pool (op.Under limit) = test_op (under_ask limit)
+op_in pool (op.MailboxExists names) = test_op (mailboxes_ask (list_in pool.lists names))
+op_in pool op.Duplicate = test_op duplicate_ask
 op_in pool (op.Jump left) = jump_op left
 op_in pool (op.JumpIfFalse left) = jump_if_op false left
 op_in pool (op.JumpIfTrue left) = jump_if_op true left

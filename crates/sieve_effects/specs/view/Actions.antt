@@ -5,26 +5,29 @@ use lib.Pointwise.{pointwise}
 use Rattle.match_text.specs.Flags.{has_flag}
 use Rattle.sieve_effects.specs.declared.action.Action.{Action}
 use Rattle.sieve_effects.specs.declared.action.Action.TheVariants.{Store, Redirect, Discard}
-use Rattle.sieve_effects.specs.Act.{Performed, performed, one_too_many}
+use Rattle.sieve_effects.specs.declared.actions.Added.{Added}
+use Rattle.sieve_effects.specs.declared.actions.Added.TheVariants.{Entered, Joined, NoRoom}
+use Rattle.sieve_effects.specs.Act.{Performed, entered, joined, one_too_many}
 
 pub record ActionsAndFlags : Type 0 where
   pub actions : List Action
   pub flags : List (List ℕ)
 
--- what became of the actions, by whether there was room
-abbrev pub performed_as : (has_room : Bool) → List Action → Performed
-performed_as true actions = performed actions
-performed_as false actions = one_too_many
+-- what became of the actions, by what became of the one that was performed
+abbrev pub performed_as : Added → List Action → Performed
+performed_as Entered actions = entered actions
+performed_as Joined actions = joined actions
+performed_as NoRoom actions = one_too_many
 
 -- whether an action stores into a mailbox
 abbrev pub stores_into : List ℕ → Action → Bool
-stores_into mailbox (Store other flags) = pointwise nat_eq mailbox other
+stores_into mailbox (Store other flags filing) = pointwise nat_eq mailbox other
 stores_into mailbox (Redirect address) = false
 stores_into mailbox Discard = false
 
 -- the first flags, as many as `known`, are among those of a store
 abbrev pub AreAmong : (flags : List (List ℕ)) → (known : ℕ) → Action → Type 0
-AreAmong flags known (Store mailbox own) = All (λ flag. has_flag own flag ≡ true) (take known flags)
+AreAmong flags known (Store mailbox own filing) = All (λ flag. has_flag own flag ≡ true) (take known flags)
 AreAmong flags known (Redirect address) = ⊤
 AreAmong flags known Discard = ⊤
 

@@ -1,4 +1,5 @@
 -- Where the tests of compiled code take values from, and what its commands say beside.
+use Rattle.std.specs.Option.{option_copied}
 use Rattle.sieve_reading.specs.Reading.{Settings}
 use Rattle.sieve_reading.specs.Reading as reading
 use Rattle.sieve_effects.specs.declared.ops.SettingsOp.{SettingsOp}
@@ -13,4 +14,4 @@ source_op_as (source.String texts) = reading.string_values texts
 source_op_as (source.Flags variables) = reading.flag_values variables
 
 abbrev pub settings_op_as : SettingsOp → Settings
-settings_op_as s = record { flags = s.flags; copy = s.copy }
+settings_op_as s = record { flags = s.flags; copy = s.copy; create = s.create; special_use = option_copied s.special_use }

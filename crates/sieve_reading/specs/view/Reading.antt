@@ -5,7 +5,7 @@ use Rattle.sieve_reading.specs.Reading as reading
 use Rattle.sieve_reading.specs.view.Tree.{text_of}
 use Rattle.sieve_variables.specs.Part.{Part}
 use Rattle.sieve_reading.specs.declared.reading.Ask.{Ask}
-use Rattle.sieve_reading.specs.declared.reading.Ask.TheVariants.{Compares, Exists, Over, Under}
+use Rattle.sieve_reading.specs.declared.reading.Ask.TheVariants.{Compares, Exists, Over, Under, MailboxExists, Duplicate}
 use Rattle.sieve_reading.specs.declared.reading.CommandReading.{CommandReading}
 use Rattle.sieve_reading.specs.declared.reading.CommandReading.TheVariants.{If, Elsif, Else, Stop, Return, Nothing, Act}
 use Rattle.sieve_reading.specs.declared.reading.Leaf.{Leaf}
@@ -33,6 +33,8 @@ ask_as (Compares source comparison keys) = reading.compares (source_as source) c
 ask_as (Exists names) = reading.exists_ask (texts_as names.items)
 ask_as (Over limit) = reading.over_ask limit
 ask_as (Under limit) = reading.under_ask limit
+ask_as (MailboxExists names) = reading.mailboxes_ask (texts_as names.items)
+ask_as Duplicate = reading.duplicate_ask
 
 abbrev pub test_reading_as : TestReading → reading.TestReading
 test_reading_as Always = reading.reads_always
@@ -43,7 +45,7 @@ test_reading_as AnyOf = reading.reads_any
 test_reading_as Not = reading.reads_not
 
 abbrev pub settings_as : Settings → reading.Settings
-settings_as s = record { flags = option_map (λ texts. texts_as texts.items) s.flags; copy = s.copy }
+settings_as s = record { flags = option_map (λ texts. texts_as texts.items) s.flags; copy = s.copy; create = s.create; special_use = s.special_use }
 
 abbrev pub leaf_as : Leaf → reading.Leaf
 leaf_as (Keep settings) = reading.keep_leaf (settings_as settings)

@@ -6,7 +6,7 @@ use Rattle.session_text.specs.view.Input.{Input}
 use Rattle.bench.specs.Bench.{BenchState}
 use Rattle.bench.specs.Content.{Edit, after}
 use Rattle.bench.specs.Stale.{stale_after}
-use Rattle.sievebench.specs.Session.{Request, Served, truncated, Step, Steps, Ends, Answered, MatchSessionEnd, MatchFault, AtLastEnd, refusal_line, request_of, request_so_far, takes_memory}
+use Rattle.sievebench.specs.Session.{Request, Served, truncated, Step, Steps, Ends, Answered, MatchSessionEnd, MatchFault, AtLastEnd, profile_of, refusal_line, request_of, request_so_far, takes_memory}
 use Rattle.bench.specs.declared.fault.EditFault.{EditFault}
 use Rattle.bench.specs.declared.fault.EditFault.TheVariants.{NoMemory}
 use Rattle.sievebench.specs.declared.status.SessionEnd.{SessionEnd}
@@ -49,19 +49,20 @@ GoesFrom request way old unused before new left rest after =
 
 -- some octets ask for a command, whatever follows them
 abbrev pub AsksAlone : Served → List ℕ → List ℕ → Served → List ℕ → Type 0
-AsksAlone old unused reply new left = (used : List ℕ) × (unused ≡ used ++ left) × ((more : List ℕ) → Step old (request_so_far (used ++ more)) reply new more)
+AsksAlone old unused reply new left = (used : List ℕ) × (unused ≡ used ++ left) × ((more : List ℕ) → Step old (request_so_far (profile_of old) (used ++ more)) reply new more)
 
 -- the next command is carried out, and its reply written; where the input hasn't come to its end, nothing that follows the command matters
 abbrev pub ServesFrom : Bool → Served → Option (List ℕ) → Option (List ℕ) → Served → Option (List ℕ) → Option (List ℕ) → Type 0
 ServesFrom ended old None before new left after = ⊤
 ServesFrom ended old (Some unused) before new None after = ⊥
 ServesFrom ended old (Some unused) before new (Some left) after =
-    (reply : List ℕ) × Step old (request_of unused) reply new left × (ended ≡ false → AsksAlone old unused reply new left) × Appends before after reply
+    (reply : List ℕ) × Step old (request_of (profile_of old) unused) reply new left × (ended ≡ false → AsksAlone old unused reply new left) × Appends before after reply
 
 -- the session goes on behind its next command, or ends
 abbrev pub Serves : Bool → Progress → Served → Option (List ℕ) → Option (List ℕ) → Served → Option (List ℕ) → Option (List ℕ) → Option (List ℕ) → Type 0
 Serves ended way old unused before new left rest after =
-    Follows way (ServesFrom ended old unused before new left after) (λ end. EndFrom request_of end old unused before new after) (BreakFrom request_so_far old unused before new rest after) (CutFrom request_of old unused before new after)
+    Follows way (ServesFrom ended old unused before new left after) (λ end. EndFrom (request_of (profile_of old)) end old unused before new after)
+    (BreakFrom (request_so_far (profile_of old)) old unused before new rest after) (CutFrom (request_of (profile_of old)) old unused before new after)
 
 -- the commands so far are carried out, and their replies written; where the input hasn't come to its end, nothing that follows them matters
 abbrev pub SoFar : Bool → Served → Option (List ℕ) → Option (List ℕ) → Served → Option (List ℕ) → Option (List ℕ) → Type 0

@@ -1,8 +1,8 @@
 -- What the program's tasks stand for.
 use Rattle.std.specs.Prelude.{◌≡◌, ℕ, List, Option, Some, None, Result, true}
-use Rattle.sieve_base.specs.Limits.{expected_limit, text_limit, message_limit}
+use Rattle.sieve_base.specs.Limits.{expected_limit, mailboxes_limit, text_limit, message_limit}
 use Rattle.bench.specs.Bench.{BenchState}
-use Rattle.bench.specs.Content.{Edit, put_script, put_message, set_expected}
+use Rattle.bench.specs.Content.{Edit, put_script, put_message, set_expected, set_mailboxes}
 use Rattle.bench.specs.declared.fault.EditFault.{EditFault}
 use Rattle.sievebench.specs.Session.{Demand, asks_question, asks_put, asks_edit, asks_report, question_takes_memory, takes_memory}
 use Rattle.sievebench.specs.view.Progress.{Tries}
@@ -16,12 +16,14 @@ abbrev pub edit_of : Subject → List ℕ → Edit
 edit_of (subjects.Script name) octets = put_script name octets
 edit_of (subjects.Message id) octets = put_message id octets
 edit_of (subjects.Expected id) octets = set_expected id octets
+edit_of subjects.Mailboxes octets = set_mailboxes octets
 
 -- the most octets that may be put there
 abbrev pub limit_of : Subject → ℕ
 limit_of (subjects.Script name) = text_limit
 limit_of (subjects.Message id) = message_limit
 limit_of (subjects.Expected id) = expected_limit
+limit_of subjects.Mailboxes = mailboxes_limit
 
 -- `count` octets follow what is asked for, and memory may be refused to it
 abbrev pub IsFollowedBy : ℕ → Option Demand → Type 0

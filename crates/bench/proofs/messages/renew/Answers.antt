@@ -3,8 +3,10 @@ use Rattle.std.specs.List.{position}
 use Rattle.std.specs.Map.{keys_of, lookup, values_of}
 use lib.Pointwise.{pointwise}
 use Rattle.bench.specs.declared.entry.Entry.{Entry}
-use Rattle.bench.specs.view.Entry.{changed, renewed}
-use Rattle.bench.proofs.Entries.{changed_absent, changed_from, distinct-changed}
+use Rattle.bench.specs.Content.{changed}
+use Rattle.bench.specs.view.Entry.{renewed}
+use Rattle.bench.proofs.Entries.{changed_absent, changed_from}
+use Rattle.bench.proofs.Kept.{distinct_changed}
 use Rattle.bench.proofs.messages.renew.Goals as goal
 
 pub returns-in-Some-clause-entries : goal.returns-in-Some-clause-entries
@@ -22,7 +24,7 @@ returns-in-Some-clause-unique c =
     let at : slice_get (values_of es) c.in-Some.index ≡ lookup (pointwise nat_eq c.args.id.now) es = rw c.in-Some.is at c.get_index_of.ensures.value in
     let there : is_some (slice_get (values_of es) c.in-Some.index) ≡ true = ap is_some at ∙ sym c.get_index_of.ensures.found ∙ ap is_some c.in-Some.is in
     let entries : c.renew_at.new.messages.entries ≡ changed c.args.id.now (renewed c.args.message) es = changed_from c.args.id.now (renewed c.args.message) es _ c.in-Some.index is there c.renew_at.ensures.entries in
-    rw entries (distinct-changed c.args.id.now (renewed c.args.message) es c.get_index_of.ensures.unique)
+    rw entries (distinct_changed c.args.id.now (renewed c.args.message) es c.get_index_of.ensures.unique)
 
 pub returns-in_default-clause-entries : goal.returns-in_default-clause-entries
 returns-in_default-clause-entries c =

@@ -3,6 +3,7 @@ use Rattle.std.specs.Map.{values_of}
 use Rattle.std.specs.Prelude.{slice_get}
 use Rattle.indexmap.specs.Layout.{set_value_at}
 use Rattle.sieve_run.specs.Verdict.{Verdict}
+use Rattle.bench.specs.Content.{Sample}
 use Rattle.bench.specs.Report.{verdict_by}
 use Rattle.bench.specs.view.Site.{site_as}
 use Rattle.bench.specs.declared.entry.Entry.{Entry}
@@ -47,7 +48,7 @@ returns-in_err-refresh-clause-refused c =
 
 pub loop-index-preserved : goal.loop-index-preserved
 loop-index-preserved c =
-    let due : List ℕ → Verdict = verdict_by (site_as c.args.site.now) in
+    let due : Sample → Verdict = verdict_by (site_as c.args.site.now) in
     let old : List (List ℕ × Entry) = c.args.messages.now.entries in
     let ran : Refreshing due old c.match-get_index_mut.messages.entries (suc c.loop-index.index) c.args.meter.now c.match-get_index_mut.meter =
     elim c.match-get_index_mut.branch [

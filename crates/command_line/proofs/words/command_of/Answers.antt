@@ -1,16 +1,17 @@
 -- What `clap` answers to the words of a command line, for the program `the_app`: the job that the words name, or why they are refused.
-use Rattle.std.proofs.Common.{◌≡◌, ◌∙◌, true, List, [], ◌∷◌, map, Option, Some, None, Ok, Err, IfOk, IfErr, IsOk, IsOkUnless, IsSome, is_some, refl, sym, ap, subst, inl, inr}
+use Rattle.std.proofs.Common.{◌≡◌, ◌∙◌, true, List, [], ◌∷◌, map, Option, Some, None, Ok, Err, IfOk, IfErr, IsOkUnless, is_some, refl, sym, ap, subst, inl, inr}
 use Rattle.clap.specs.Words.{App, HasKind, HasMatchesOf, Row, Kinds, Text, fault_of, is_simple, is_simple_and_free, kind_of, subcommand_of, subcommand_rows_of}
 use Rattle.clap.specs.declared.error.Error.{Error}
 use Rattle.clap.specs.declared.parser.matches.ArgMatches.{ArgMatches}
 use Rattle.clap.specs.declared.error.kind.ErrorKind.TheVariants.{OutOfMemory}
 use Rattle.clap.proofs.OnLiterals.{clap_on_literals}
-use Rattle.command_line.specs.CommandLine.{IsFaultFor, IsRefusalFor, SaysOf, dump_shape, profile_met, job_of, letter_rule, name_rule, named_job, names_rule, path_rule, said_profile, session_shape, test_shape, the_app, top_app, where_taken}
+use Rattle.command_line.specs.CommandLine.{IsFaultFor, IsRefusalFor, Lacks, SaysOf, allows, dump_shape, profile_met, job_of, letter_rule, name_rule, named_job, names_rule, path_rule, said_profile, session_shape, test_shape, the_app, top_app, where_taken}
 use Rattle.command_line.specs.declared.words.Job.{Job}
 use Rattle.command_line.specs.declared.words.UsageFault.{UsageFault}
-use Rattle.command_line.specs.declared.words.UsageFault.TheVariants.{Usage, UnknownName, NoMemory}
+use Rattle.command_line.specs.declared.words.UsageFault.TheVariants.{Usage, UnknownName, NeedsMailbox, NoMemory}
 use Rattle.std.specs.declared.result.Result.{Result}
 use Rattle.sieve_profile.specs.Profile.{Profile}
+use Rattle.std.proofs.lemmas.Bool.{false≢true}
 use Rattle.std.proofs.lemmas.Result.{IfOk-weaker}
 use Rattle.sieve_profile.specs.view.Profile.{profile_as}
 use Rattle.command_line.specs.declared.words.CommandLine.{CommandLine}
@@ -26,9 +27,9 @@ unfolding the_app top_app session_shape dump_shape test_shape path_rule letter_r
 simple_and_free = refl
 
 -- a job counts only where there are no faults
-none_where_named : (kinds : Kinds) (job : Option Job) → IsSome (where_taken kinds job) → kinds ≡ []
-none_where_named [] job named = refl
-none_where_named (kind ∷ kinds) job named = absurd (cc)
+none_where_named : (kinds : Kinds) (job : Option Job) (one : Job) → where_taken kinds job ≡ Some one → kinds ≡ []
+none_where_named [] job one named = refl
+none_where_named (kind ∷ kinds) job one named = absurd (cc)
 
 -- where there are no faults, an error says that memory ran out
 only_memory : (kinds : Kinds) (e : Error) → kinds ≡ [] → HasKind kinds e → kind_of e ≡ OutOfMemory
@@ -36,17 +37,18 @@ only_memory [] e none (inl memory) = memory
 only_memory [] e none (inr among) = absurd among
 only_memory (kind ∷ kinds) e none has = absurd (cc)
 
-refusal : (kinds : Kinds) (said : Result Profile Text) (e : Error) (fault : UsageFault) → HasKind kinds e → IsFaultFor (kind_of e) fault
-    → IsRefusalFor kinds said fault
-refusal kinds said e NoMemory has answers = tt
-refusal kinds said e (UnknownName name) has answers = absurd answers
-refusal kinds said e (Usage help text) (inl memory) answers = absurd (answers.0 memory)
-refusal kinds said e (Usage help text) (inr among) answers = (kind_of e, among, answers.1)
+refusal : (kinds : Kinds) (said : Result Profile Text) (asked : Option Job) (e : Error) (fault : UsageFault) → HasKind kinds e → IsFaultFor (kind_of e) fault
+    → IsRefusalFor kinds said asked fault
+refusal kinds said asked e NoMemory has answers = tt
+refusal kinds said asked e (UnknownName name) has answers = absurd answers
+refusal kinds said asked e NeedsMailbox has answers = absurd answers
+refusal kinds said asked e (Usage help text) (inl memory) answers = absurd (answers.0 memory)
+refusal kinds said asked e (Usage help text) (inr among) answers = (kind_of e, among, answers.1)
 
 -- words that name a job have no fault
-named_none : (words : List Text) → IsSome (named_job words) → fault_of the_app words ≡ []
+named_none : (words : List Text) (one : Job) → named_job words ≡ Some one → fault_of the_app words ≡ []
 unfolding named_job
-named_none words named = none_where_named (fault_of the_app words) _ named
+named_none words one named = none_where_named (fault_of the_app words) _ one named
 
 named_from : (words : List Text) (met : Option (Text × List Row)) (job : Option Job) (one : Job) → fault_of the_app words ≡ []
     → met ≡ subcommand_of the_app words → job ≡ job_of met → job ≡ Some one → named_job words ≡ Some one
@@ -77,12 +79,13 @@ met_at a words m is_program has =
     (has (ap is_simple is_program ∙ simple)).1 ∙ ap (λ (b : App). subcommand_of b words) is_program
 
 pub returns-in-Err-clause-named : goal.returns-in-Err-clause-named
-returns-in-Err-clause-named g c = λ named said. c.usage_fault.ensures.memory
-    (only_memory _ c.in-Err.error (named_none _ named) (kind_at _ _ c.in-Err.error c.in_ok-program.ensures c.in-Err.ensures.kinds))
+returns-in-Err-clause-named g c = λ asked profile named said allowed. c.usage_fault.ensures.memory
+    (only_memory _ c.in-Err.error (named_none _ asked named) (kind_at _ _ c.in-Err.error c.in_ok-program.ensures c.in-Err.ensures.kinds))
 
 pub returns-in-Err-clause-refused : goal.returns-in-Err-clause-refused
 returns-in-Err-clause-refused g c =
-    refusal _ (said_profile (map g.S.AsStr.text c.args.words.now)) c.in-Err.error _ (kind_at _ _ c.in-Err.error c.in_ok-program.ensures c.in-Err.ensures.kinds) c.usage_fault.ensures.usage
+    let words = map g.S.AsStr.text c.args.words.now in
+    refusal _ (said_profile words) (named_job words) c.in-Err.error _ (kind_at _ _ c.in-Err.error c.in_ok-program.ensures c.in-Err.ensures.kinds) c.usage_fault.ensures.usage
 
 pub unreachable-requires : goal.unreachable-requires
 unreachable-requires g c =
@@ -93,35 +96,52 @@ unreachable-requires g c =
     none_met (subcommand_rows_of c.in-Ok.matches) c.in_ok-job.field-0 c.in_ok-job.ensures c.in-None.is
     (ap (λ met. is_some (job_of met)) is_met ∙ is_named)
 
--- what it says of each clause that the answer has the profile that is said, or is for the name that is said in place of one
-has_profile : (said : Result Profile Text) (answer : Result CommandLine UsageFault) → SaysOf said answer
+-- what it says of each clause that the answer has the profile that is said and that the job may have, or is for a name in place of one
+has_profile : (said : Result Profile Text) (asked : Job) (answer : Result CommandLine UsageFault) → SaysOf said asked answer
     → IfOk answer (λ line. said ≡ Ok (profile_as line.profile))
-has_profile said (Ok line) says = says
-has_profile said (Err fault) says = tt
+has_profile said asked (Ok line) says = says.0
+has_profile said asked (Err fault) says = tt
 
-never_named : (said : Result Profile Text) (name : Text) → said ≡ Err name → IsOk said → ⊥
-never_named (Ok profile) name is ok = absurd (cc)
-never_named (Err other) name is ok = absurd (cc)
+has_needed : (said : Result Profile Text) (asked : Job) (answer : Result CommandLine UsageFault) → SaysOf said asked answer
+    → IfOk answer (λ line. line.job ≡ asked) → IfOk answer (λ line. allows (profile_as line.profile) line.job ≡ true)
+has_needed said asked (Ok line) says is = ap (allows (profile_as line.profile)) is ∙ says.1
+has_needed said asked (Err fault) says is = tt
 
-memory_alone : (said : Result Profile Text) (answer : Result CommandLine UsageFault) → SaysOf said answer → IsOk said → IsOkUnless answer NoMemory
-memory_alone said (Ok line) says ok = tt
-memory_alone said (Err NoMemory) says ok = refl
-memory_alone said (Err (UnknownName name)) says ok = absurd (never_named said name says ok)
-memory_alone said (Err (Usage help text)) says ok = absurd says
+never_named : (said : Result Profile Text) (profile : Profile) (name : Text) → said ≡ Ok profile → said ≡ Err name → ⊥
+never_named (Ok other) profile name ok is = absurd (cc)
+never_named (Err other) profile name ok is = absurd (cc)
 
-name_refused : (kinds : Kinds) (said : Result Profile Text) (answer : Result CommandLine UsageFault) → kinds ≡ [] → SaysOf said answer
-    → IfErr answer (IsRefusalFor kinds said)
-name_refused kinds said (Ok line) none says = tt
-name_refused kinds said (Err NoMemory) none says = tt
-name_refused kinds said (Err (UnknownName name)) none says = (none, says)
-name_refused kinds said (Err (Usage help text)) none says = absurd says
+never_lacking : (said : Result Profile Text) (profile : Profile) (asked : Job) → said ≡ Ok profile → allows profile asked ≡ true
+    → Lacks said (Some asked) → ⊥
+never_lacking (Ok other) profile asked ok allowed lacks =
+    let same : other ≡ profile = cc in false≢true (sym lacks ∙ ap (λ (p : Profile). allows p asked) same ∙ allowed)
+never_lacking (Err name) profile asked ok allowed lacks = lacks
+
+memory_alone : (said : Result Profile Text) (profile : Profile) (asked : Job) (answer : Result CommandLine UsageFault) → SaysOf said asked answer
+    → said ≡ Ok profile → allows profile asked ≡ true → IsOkUnless answer NoMemory
+memory_alone said profile asked (Ok line) says ok allowed = tt
+memory_alone said profile asked (Err NoMemory) says ok allowed = refl
+memory_alone said profile asked (Err (UnknownName name)) says ok allowed = absurd (never_named said profile name ok says)
+memory_alone said profile asked (Err NeedsMailbox) says ok allowed = absurd (never_lacking said profile asked ok allowed says)
+memory_alone said profile asked (Err (Usage help text)) says ok allowed = absurd says
+
+name_refused : (kinds : Kinds) (said : Result Profile Text) (named : Option Job) (asked : Job) (answer : Result CommandLine UsageFault) → kinds ≡ []
+    → named ≡ Some asked → SaysOf said asked answer → IfErr answer (IsRefusalFor kinds said named)
+name_refused kinds said named asked (Ok line) none is says = tt
+name_refused kinds said named asked (Err NoMemory) none is says = tt
+name_refused kinds said named asked (Err (UnknownName name)) none is says = (none, says)
+name_refused kinds said named asked (Err NeedsMailbox) none is says = (none, subst (Lacks said) (sym is) says)
+name_refused kinds said named asked (Err (Usage help text)) none is says = absurd says
+
+only_job : (one other : Job) → Some one ≡ Some other → one ≡ other
+only_job one other is = cc
 
 -- what the words say is said by the subcommand that was met
-says_at : (words : List Text) (met : Option (Text × List Row)) (answer : Result CommandLine UsageFault) → met ≡ subcommand_of the_app words
-    → SaysOf (profile_met met) answer → SaysOf (said_profile words) answer
+says_at : (words : List Text) (met : Option (Text × List Row)) (asked : Job) (answer : Result CommandLine UsageFault) → met ≡ subcommand_of the_app words
+    → SaysOf (profile_met met) asked answer → SaysOf (said_profile words) asked answer
 unfolding said_profile
-says_at words met answer is =
-    let P : Option (Text × List Row) → Type 0 = λ m. SaysOf (profile_met m) answer in
+says_at words met asked answer is =
+    let P : Option (Text × List Row) → Type 0 = λ m. SaysOf (profile_met m) asked answer in
     subst P is
 
 pub returns-clause-ok : goal.returns-clause-ok
@@ -135,17 +155,29 @@ returns-clause-ok g c =
 pub returns-clause-profile : goal.returns-clause-profile
 returns-clause-profile g c =
     let words = map g.S.AsStr.text c.args.words.now in
-    has_profile (said_profile words) c.with_profile.result
-    (says_at words _ c.with_profile.result (met_at _ words _ c.in_ok-program.ensures c.in-Ok.ensures.matches) c.with_profile.ensures.profile)
+    has_profile (said_profile words) c.in-Some.job c.with_profile.result
+    (says_at words _ c.in-Some.job c.with_profile.result (met_at _ words _ c.in_ok-program.ensures c.in-Ok.ensures.matches) c.with_profile.ensures.profile)
+
+pub returns-clause-allowed : goal.returns-clause-allowed
+returns-clause-allowed g c = has_needed _ c.in-Some.job c.with_profile.result c.with_profile.ensures.profile c.with_profile.ensures.job
 
 pub returns-clause-named : goal.returns-clause-named
-returns-clause-named g c = λ named said.
+returns-clause-named g c = λ asked profile named said allowed.
     let words = map g.S.AsStr.text c.args.words.now in
-    memory_alone (said_profile words) c.with_profile.result
-    (says_at words _ c.with_profile.result (met_at _ words _ c.in_ok-program.ensures c.in-Ok.ensures.matches) c.with_profile.ensures.profile) said
+    let is_program = c.in_ok-program.ensures in
+    let is_met = met_at _ words _ is_program c.in-Ok.ensures.matches in
+    let is_named = named_from words (subcommand_rows_of c.in-Ok.matches) c.in_ok-job.field-0 c.in-Some.job (none_at _ words is_program c.in-Ok.ensures.kinds)
+    is_met c.in_ok-job.ensures c.in-Some.is in
+    let same : asked ≡ c.in-Some.job = only_job asked c.in-Some.job (sym named ∙ is_named) in
+    memory_alone (said_profile words) profile c.in-Some.job c.with_profile.result
+    (says_at words _ c.in-Some.job c.with_profile.result is_met c.with_profile.ensures.profile) said
+    (ap (allows profile) (sym same) ∙ allowed)
 
 pub returns-clause-refused : goal.returns-clause-refused
 returns-clause-refused g c =
     let words = map g.S.AsStr.text c.args.words.now in
-    name_refused _ (said_profile words) c.with_profile.result (none_at _ words c.in_ok-program.ensures c.in-Ok.ensures.kinds)
-    (says_at words _ c.with_profile.result (met_at _ words _ c.in_ok-program.ensures c.in-Ok.ensures.matches) c.with_profile.ensures.profile)
+    let none = none_at _ words c.in_ok-program.ensures c.in-Ok.ensures.kinds in
+    let is_met = met_at _ words _ c.in_ok-program.ensures c.in-Ok.ensures.matches in
+    name_refused _ (said_profile words) (named_job words) c.in-Some.job c.with_profile.result none
+    (named_from words (subcommand_rows_of c.in-Ok.matches) c.in_ok-job.field-0 c.in-Some.job none is_met c.in_ok-job.ensures c.in-Some.is)
+    (says_at words _ c.in-Some.job c.with_profile.result is_met c.with_profile.ensures.profile)

@@ -10,8 +10,8 @@ use Rattle.sieve_effects.proofs.acting.perform.Goals as goal
 
 pub returns : goal.returns
 returns c =
-    let e = c.in_ok-has_room.ensures in let old = state_of c.args.state.now in
+    let e = c.in_ok-added.ensures in let old = state_of c.args.state.now in
     subst (λ (e : Ending). IfOk c.end_with.result (λ (flow : Flow). ending_by flow (state_of c.end_with.new.state) ≡ e))
-    (ended_so (delivery_as c.args.delivery.now) c.args.line c.args.deed old _ c.in_ok-has_room.has_room e.kept e.value
+    (ended_so (delivery_as c.args.delivery.now) c.args.line c.args.deed old _ c.in_ok-added.added e.kept e.value
     (ap (λ (l : List (List ℕ)). record old { actions = c.add.new.self.actions; flags = l }) e.flags))
     (c.end_with.ensures _ c.args.deed refl refl)

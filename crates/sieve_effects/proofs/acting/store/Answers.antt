@@ -1,6 +1,6 @@
 use Rattle.std.proofs.Common.{◌≡◌, ◌∙◌, List, None, ℕ, ap, refl, subst, sym}
 use Rattle.std.specs.Prelude.{IfOk}
-use Rattle.sieve_effects.specs.Act.{Ending, performs, store_deed}
+use Rattle.sieve_effects.specs.Act.{Ending, deed_of, performs, stored_flags}
 use Rattle.sieve_effects.specs.declared.action.Action.TheVariants.{Store}
 use Rattle.sieve_effects.specs.declared.action.Deed.{Deed}
 use Rattle.sieve_effects.specs.declared.flow.Flow.{Flow}
@@ -11,14 +11,15 @@ use Rattle.sieve_effects.specs.view.State.{state_of}
 use Rattle.sieve_effects.proofs.Known.{ended_so}
 use Rattle.sieve_effects.proofs.acting.store.Goals as goal
 
-pub returns-in_ok-has_room-in-None : goal.returns-in_ok-has_room-in-None
-returns-in_ok-has_room-in-None c =
-    let e = c.in_ok-has_room-in-None.ensures in let old = state_of c.args.state.now in let d = delivery_as c.args.delivery.now in
-    let deed : Deed = record { action = Store c.args.mailbox old.flags; copy = c.args.settings.now.copy } in
+pub returns-in_ok-added-in-None : goal.returns-in_ok-added-in-None
+returns-in_ok-added-in-None c =
+    let e = c.in_ok-added-in-None.ensures in let old = state_of c.args.state.now in let d = delivery_as c.args.delivery.now in
     let said = settings_op_as c.args.settings.now in
+    let deed : Deed = deed_of (Store c.args.mailbox old.flags c.args.filing) said in
     let none : None ≡ said.flags = sym c.in-None.is in
     subst (λ (e : Ending). IfOk c.end_with.result (λ (flow : Flow). ending_by flow (state_of c.end_with.new.state) ≡ e))
-    (ended_so d c.args.line deed old _ c.in_ok-has_room-in-None.has_room e.kept e.value
+    (ended_so d c.args.line deed old _ c.in_ok-added-in-None.added e.kept e.value
     (ap (λ (l : List (List ℕ)). record old { actions = c.store.new.self.actions; flags = l }) e.flags)
-    ∙ ap (λ o. performs d c.args.line (store_deed old c.args.mailbox (record { flags = o; copy = c.args.settings.now.copy })) old) none)
+    ∙ ap (λ o. performs d c.args.line (deed_of (Store c.args.mailbox (stored_flags old o) c.args.filing) said) old) none
+    ∙ ap (λ f. performs d c.args.line (deed_of (Store c.args.mailbox (stored_flags old said.flags) f) said) old) c.requires)
     (c.end_with.ensures _ deed refl refl)

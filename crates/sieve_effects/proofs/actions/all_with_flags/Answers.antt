@@ -15,7 +15,7 @@ loop-there-preserved c =
     let one : c.push.new.self.items ≡ c.loop-there.joined.items ++ c.in_ok-action.action ∷ [] = search rules in
     let both = both_pushed flags c.loop-there.numbers.items c.push-in-loop-there.new.self.items c.loop-there.joined.items c.push.new.self.items c.in_ok-action.number c.in_ok-action.action
     more one inv.2 inv.3 c.in_ok-action.ensures.known in (
-      one_remade (joined_with (Store c.args.mailbox.now flags)) c.loop-there.joined.items c.push.new.self.items c.loop-there.there-iterator.rest.items left _ there c.in_ok-action.action one c.in_ok-action.ensures.action split inv.0,
+      one_remade (joined_with (Store c.args.mailbox.now flags c.args.filing.now)) c.loop-there.joined.items c.push.new.self.items c.loop-there.there-iterator.rest.items left _ there c.in_ok-action.action one c.in_ok-action.ensures.action split inv.0,
       known.1,
       both.0,
       both.1,

@@ -9,3 +9,6 @@ returns-in-Message c = rw c.in-Message.is refl
 
 pub returns-in-Expected : goal.returns-in-Expected
 returns-in-Expected c = rw c.in-Expected.is refl
+
+pub returns-in-Mailboxes : goal.returns-in-Mailboxes
+returns-in-Mailboxes c = rw c.in-Mailboxes.is refl

@@ -4,15 +4,16 @@ use Rattle.bench.proofs.bench.Bench.with_profile.Goals as goal
 
 pub invariant_of-result : goal.invariant_of-result
 unfolding KeepsDue
-invariant_of-result c = let none : c.new-4.result.entries ≡ [] = c.new-4.ensures.empty in (rw none tt, c.new-4.ensures.unique)
+invariant_of-result c = let none : c.new-5.result.entries ≡ [] = c.new-5.ensures.empty in (rw none tt, c.new-5.ensures.unique)
 
 pub returns-clause-content : goal.returns-clause-content
 unfolding messages_of
 returns-clause-content c =
     let from : c.from_vec.result ≡ [] = c.from_vec.ensures ∙ c.new.ensures.items in
     let to : c.from_vec-2.result ≡ [] = c.from_vec-2.ensures ∙ c.new-2.ensures.items in
-    rw (from, to, c.in_ok-copied.ensures, c.new-3.ensures, c.new-4.ensures.empty) refl
+    let mailboxes : c.from_vec-3.result ≡ [] = c.from_vec-3.ensures ∙ c.new-3.ensures.items in
+    rw (from, to, c.in_ok-copied.ensures, mailboxes, c.new-4.ensures, c.new-5.ensures.empty) refl
 
 pub returns-clause-stale : goal.returns-clause-stale
 unfolding stale_of
-returns-clause-stale c = let none : c.new-4.result.entries ≡ [] = c.new-4.ensures.empty in rw none refl
+returns-clause-stale c = let none : c.new-5.result.entries ≡ [] = c.new-5.ensures.empty in rw none refl

@@ -4,10 +4,10 @@ use Rattle.std.specs.Option.{option_map}
 use Rattle.sieve_reading.specs.Reading.{Settings}
 use Rattle.sieve_reading.specs.view.Reading.{settings_as, texts_as}
 use Rattle.sieve_variables.specs.Part.{Part}
-use Rattle.sieve_code.specs.Pool.{Kept, Pool, given_list, nowhere, packed_in, settings_in, unpacked}
+use Rattle.sieve_code.specs.Pool.{Kept, Pool, given_list, given_string, nowhere, packed_in, settings_in, unpacked}
 use Rattle.sieve_code.specs.declared.op.PackedSettings.{PackedSettings}
 use Rattle.sieve_code.specs.view.Pools.{pool_as}
-use Rattle.sieve_code.proofs.Keeping.{kept_as, kept_by, kept_still}
+use Rattle.sieve_code.proofs.Keeping.{kept_by, kept_still, kept_two}
 use Rattle.sieve_code.proofs.pools.Pools.keep_settings.Goals as goal
 
 pub returns-then-are_plain : goal.returns-then-are_plain
@@ -18,9 +18,13 @@ returns-then-are_plain c =
 pub returns : goal.returns
 returns c =
     let copy = c.args.settings.copy in
+    let create = c.args.settings.create in
     let flags = option_map (λ given. texts_as given.items) c.args.settings.flags in
+    let special_use = c.args.settings.special_use in
     let place = c.in_ok-flags.flags in
+    let use_place = c.in_ok-special_use.special_use in
+    let strings = kept_two (λ (f : Option (List (List Part))) (u : Option (List Part)). record { flags = f; copy = copy; create = create; special_use = u }) _ _ _ (λ (p : Pool). given_list p place) (λ (p : Pool). given_string p use_place) flags special_use c.in_ok-flags.ensures c.in_ok-special_use.ensures in
     IfOk-weaker c.put_settings.result _ _
-    (λ at kept. kept_by (λ (s : PackedSettings) (p : Pool). unpacked p s) _ _ _ (λ (p : Pool). packed_in p at) (settings_as c.args.settings) (record { flags = place; copy = copy })
-    (kept_as (λ (f : Option (List (List Part))). record { flags = f; copy = copy }) _ _ (λ (p : Pool). given_list p place) flags c.in_ok-flags.ensures) kept)
+    (λ at kept. kept_by (λ (s : PackedSettings) (p : Pool). unpacked p s) _ _ _ (λ (p : Pool). packed_in p at) (settings_as c.args.settings) (record { flags = place; copy = copy; create = create; special_use = use_place })
+    strings kept)
     c.put_settings.ensures

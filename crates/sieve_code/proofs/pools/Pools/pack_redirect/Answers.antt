@@ -8,4 +8,4 @@ use Rattle.sieve_code.proofs.pools.Pools.pack_redirect.Goals as goal
 
 pub returns : goal.returns
 returns c =
-    kept_two (λ a b. act_op (redirect_leaf a b) c.args.line) _ _ _ (λ (p : Pool). slice_index_or p.strings c.in_ok-address.address []) (λ (p : Pool). settings_in p c.in_ok-settings.settings) c.args.address (settings_as c.args.settings) c.in_ok-address.ensures c.in_ok-settings.ensures
+    kept_two (λ a b. act_op (redirect_leaf a b) c.args.line) _ _ _ (λ (p : Pool). slice_index_or p.strings c.in_ok-address.address []) (λ (p : Pool). settings_in p c.in_ok-settings.settings) c.args.address (settings_as c.args.settings) c.in_ok-address.ensures.string c.in_ok-settings.ensures

@@ -1,0 +1,48 @@
+//! The lines of a session that there are under a profile.
+ghost use Rattle.std.specs.Prelude.{◌≡◌};
+ghost use Rattle.std.specs.Option.{option_map};
+ghost use Rattle.sieve_profile.specs.view.Profile.{profile_as};
+ghost use Rattle.session_text.specs.SessionLine as spec;
+ghost use Rattle.session_text.specs.view.Command.{command_as};
+
+use crate::session_line::{SessionCommand, command_in};
+use sieve_profile::{Extension, Profile};
+
+/// The name that a profile needs for a command to be there; without one it always is.
+fn extension_of(command: &SessionCommand<'_>) -> Option<Extension>
+    ensures { result ≡ spec.extension_of (command_as command.now) }
+{
+    match command {
+        SessionCommand::Mailboxes { .. } => Some(Extension::Mailbox),
+        SessionCommand::MessageEnvelope { .. } | SessionCommand::NoMessageEnvelope { .. } => Some(
+            Extension::Envelopes,
+        ),
+        _ => None,
+    }
+}
+
+/// Whether a command is there under a profile.
+fn is_there(profile: Profile, command: &SessionCommand<'_>) -> bool
+    ensures { result ≡ spec.is_there (profile_as profile) (command_as command.now) }
+{
+    match extension_of(command) {
+        Some(name) => profile.has(name),
+        None => true,
+    }
+}
+
+/// What a line, without its LF and the CR before it, asks for. `None` where it is none of the lines that there are under the
+/// profile: for an octet that is neither a visible one of ASCII nor a space, a first word that is unknown or needs a name that
+/// the profile lacks, a word that is ill quoted, too few words or too many, or a count that isn't one to nine digits. Takes no
+/// memory.
+#[tactic(auto, unfolding(crate::specs::SessionLine::command_of_line))]
+pub fn command_of_line(profile: Profile, line: &[u8]) -> Option<SessionCommand<'_>>
+    ensures { option_map command_as result ≡ spec.command_of_line (profile_as profile) line.now }
+{
+    let command = command_in(line)?;
+    if is_there(profile, &command) {
+        Some(command)
+    } else {
+        None
+    }
+}
