@@ -3,6 +3,7 @@ from . import runs
 from .runs import lines, put, reported, session
 
 TEXT_LIMIT, MESSAGE_LIMIT, EXPECTED_LIMIT, NAME_LIMIT, MAILBOX_LIMIT, SCRIPT_LIMIT, MAIL_LIMIT, LINE_LIMIT = 1_048_576, 16_777_216, 65_536, 1_024, 255, 4_096, 65_536, 16_384
+MAILBOXES_LIMIT = 1_048_576
 KEPT = ['implicit "INBOX"']
 SESSION = b"script personal main 9\ndiscard;\nmessage m1 0\nmain personal main\nreport\n"
 REPORT = lines('main personal "main"', runs.SETTINGS, 'script personal "main" ok', 'message "m1"', "  discard", '  read personal "main"', "total 1 messages 0 errors")
@@ -49,6 +50,10 @@ def of_words(room):
     """Words at their limits and past them."""
     large, no_script, no_message = b"no too-large\n", b"no no-such-script\n", b"no no-such-message\n"
     for front, limit, end, reply, past in [
+        (b"message-envelope ", NAME_LIMIT, b" a b\n", no_message, large),
+        (b"message-envelope m ", NAME_LIMIT, b" b\n", no_message, large),
+        (b"message-envelope m a ", NAME_LIMIT, b"\n", no_message, large),
+        (b"no-message-envelope ", NAME_LIMIT, b"\n", no_message, large),
         (b"main personal ", NAME_LIMIT, b"\n", b"ok\n", large),
         (b"script personal ", NAME_LIMIT, b" 0\n", b"ok\n", large),
         (b"message ", NAME_LIMIT, b" 0\n", b"ok\n", large),
@@ -64,8 +69,9 @@ def of_words(room):
         (b"dump personal ", NAME_LIMIT, b"\n", no_script, no_script),
     ]:
         title = f"the word behind `{front.decode()}`"
-        yield session(room, f"{title} at its limit", front + b"n" * limit + end, reply)
-        yield session(room, f"{title} past it", front + b"n" * (limit + 1) + end, past)
+        names = "envelopes" if b"message-envelope " in front else ""
+        yield session(room, f"{title} at its limit", front + b"n" * limit + end, reply, names=names)
+        yield session(room, f"{title} past it", front + b"n" * (limit + 1) + end, past, names=names)
     long = b"n" * (NAME_LIMIT + 1)
     renames = [b"personal b personal " + long, b"personal " + long + b" personal a", b"personal b personal a", b"personal a personal a"]
     refusals = [large, large, no_script, b"no name-taken\n"]
@@ -101,6 +107,9 @@ def of_counts(room):
     yield session(room, "a message at its limit, and past it", octets, b"ok\nno too-large\n")
     octets = b"message m 0\n" + put(b"expect m", b" " * EXPECTED_LIMIT) + put(b"expect m", b" " * (EXPECTED_LIMIT + 1)) + put(b"expect x", b" " * (EXPECTED_LIMIT + 1))
     yield session(room, "an expected text at its limit, and past it", octets, b"ok\nok\nno too-large\nno too-large\n")
+    octets = put(b"mailboxes", b"x\n" * (MAILBOXES_LIMIT // 2)) + put(b"mailboxes", b"y" * (MAILBOXES_LIMIT + 1)) + b"report\n"
+    told = ["ok", "no too-large", "main none", runs.SETTINGS, "with mailbox", f"mailboxes {MAILBOXES_LIMIT // 2}", "total 0 messages 0 errors"]
+    yield session(room, "a list of mailboxes at its limit, and past it", octets, lines(*told), names="mailbox")
 
 
 def of_mails(room):

@@ -1,4 +1,5 @@
-"""Random edits of a bench with a report behind each, beside benches that are made anew for each report: the texts must be the same."""
+"""Random edits of a bench with a report behind each, beside benches that are made anew for each report: the texts must be the same. Half of
+them are of benches of the empty profile, and half of benches that have the names by which there are more edits."""
 import concurrent.futures
 import os
 import random
@@ -7,9 +8,12 @@ import subprocess
 from .runs import SECONDS, put
 
 WALKS, STEPS = 12, 250
+PROFILE = "envelopes,lines,mailbox"
 NAMES = [b"main", b"a", b"b", b"c", b'd "e"']
 IDS = [b"m1", b"m2", b"m3", b"m 4"]
 SUBJECTS = [b"one", b"two", b"one two", b""]
+ADDRESSES = [(b"", b""), (b"a@b.example", b""), (b"a@b.example", b"c d"), (b"x", b"c@d.example")]
+LISTS = [b"", b"Lists\n", b"one\r\n\nLists", b"lists\nLists\nLists\n"]
 TEXTS = [b"", b"discard\n", b'implicit "INBOX"\n', b'implicit "Lists"\r\n', b'store "two"', b'implicit "INBOX"\nerror personal "main" line 0 missing-script\n']
 
 
@@ -18,9 +22,9 @@ def quoted(octets):
     return b'"' + octets.replace(b"\\", b"\\\\").replace(b'"', b'\\"') + b'"'
 
 
-def text_of(dice):
+def text_of(dice, has_names):
     """A script: it may include others that are there or not, by what a message or the envelope is like, and it may have a fault."""
-    lines = [b'require ["include", "fileinto", "envelope", "variables"];']
+    lines = [b'require ["include", "fileinto", "envelope", "variables"%s];' % (b', "mailbox"' if has_names else b"")]
     for _ in range(dice.randrange(4)):
         name, subject = dice.choice(NAMES), dice.choice(SUBJECTS)
         place = dice.choice([b"", b":global "])
@@ -36,6 +40,7 @@ def text_of(dice):
                     b"return;",
                     b"keep;",
                     b"kep;",
+                    *([b'if mailboxexists ["INBOX", "Lists"] { fileinto :create "Lists"; }'] * 3 if has_names else []),
                 ]
             )
         )
@@ -43,20 +48,23 @@ def text_of(dice):
 
 
 class Bench:
-    """What a bench holds, by the rules of its edits."""
+    """What a bench holds, by the rules of its edits: of each message the octets, what is expected and its own addresses."""
 
-    def __init__(self):
-        self.scripts, self.messages = {}, {}
-        self.main, self.envelope, self.mailbox = None, (b"", b""), b"INBOX"
+    def __init__(self, has_names):
+        self.has_names, self.scripts, self.messages = has_names, {}, {}
+        self.main, self.envelope, self.mailbox, self.mailboxes = None, (b"", b""), b"INBOX", b""
 
     def edit(self, dice):
         """Makes an edit, and gives its octets and the reply that is due."""
-        kind = dice.choice(["script"] * 6 + ["rename"] * 3 + ["message"] * 3 + ["drop-script", "drop-script", "drop-message", "main", "main", "no-main", "envelope", "mailbox", "expect", "expect", "no-expect"])
+        kinds = ["script"] * 6 + ["rename"] * 3 + ["message"] * 3 + ["drop-script", "drop-script", "drop-message", "main", "main", "no-main", "envelope", "mailbox", "expect", "expect", "no-expect"]
+        kind = dice.choice(kinds + (["mailboxes", "message-envelope", "message-envelope", "no-message-envelope"] if self.has_names else []))
         place, name = dice.choice([b"personal", b"personal", b"global"]), dice.choice(NAMES)
         words = place + b" " + quoted(name)
         key, at = (place != b"personal", name), dice.choice(IDS)
         if kind in ("script", "rename", "drop-script"):
             return self.edit_of_script(dice, kind, key, words)
+        if kind in ("message-envelope", "no-message-envelope"):
+            return self.edit_of_addresses(dice, kind, at)
         if kind in ("message", "expect", "no-expect", "drop-message"):
             return self.edit_of_message(dice, kind, at)
         if kind == "main":
@@ -68,6 +76,9 @@ class Bench:
         if kind == "envelope":
             self.envelope = dice.choice([b"", b"a@b.example"]), dice.choice([b"", b"c@d.example"])
             return b"envelope %s %s\n" % tuple(quoted(it) for it in self.envelope), b"ok"
+        if kind == "mailboxes":
+            self.mailboxes = dice.choice(LISTS)
+            return put(b"mailboxes", self.mailboxes), b"ok"
         self.mailbox = dice.choice([b"INBOX", b"Lists"])
         return b"mailbox " + self.mailbox + b"\n", b"ok"
 
@@ -75,7 +86,7 @@ class Bench:
         """Makes an edit of a message, by its id."""
         if kind == "message":
             octets = b"Subject: " + dice.choice(SUBJECTS) + b"\n\n"
-            self.messages[at] = octets, self.messages.get(at, (b"", None))[1]
+            self.messages[at] = octets, *self.messages.get(at, (b"", None, None))[1:]
             return put(b"message " + quoted(at), octets), b"ok"
         if kind == "drop-message":
             there = self.messages.pop(at, None) is not None
@@ -84,13 +95,22 @@ class Bench:
         line = b"no-expect " + quoted(at) + b"\n" if text is None else put(b"expect " + quoted(at), text)
         if at not in self.messages:
             return line, b"no no-such-message"
-        self.messages[at] = self.messages[at][0], text
+        self.messages[at] = self.messages[at][0], text, self.messages[at][2]
+        return line, b"ok"
+
+    def edit_of_addresses(self, dice, kind, at):
+        """Makes an edit of a message's own addresses."""
+        own = dice.choice(ADDRESSES) if kind == "message-envelope" else None
+        line = b"no-message-envelope " + quoted(at) + b"\n" if own is None else addressed(at, own)
+        if at not in self.messages:
+            return line, b"no no-such-message"
+        self.messages[at] = *self.messages[at][:2], own
         return line, b"ok"
 
     def edit_of_script(self, dice, kind, key, words):
         """Makes an edit of a script, by its place and name, and by the words for these."""
         if kind == "script":
-            text = self.scripts.get(key, b"") if dice.random() < 0.1 else text_of(dice)
+            text = self.scripts.get(key, b"") if dice.random() < 0.1 else text_of(dice, self.has_names)
             self.scripts[key] = text
             return put(b"script " + words, text), b"ok"
         if kind == "drop-script":
@@ -110,16 +130,24 @@ class Bench:
         """A session that makes a new bench of this, and reports."""
         settings = [b"envelope %s %s\n" % tuple(quoted(it) for it in self.envelope), b"mailbox " + self.mailbox + b"\n"]
         scripts = [put(b"script %s %s" % (b"global" if shared else b"personal", quoted(name)), text) for (shared, name), text in self.scripts.items()]
-        messages = [put(b"message " + quoted(at), octets) for at, (octets, _) in self.messages.items()]
-        messages += [put(b"expect " + quoted(at), text) for at, (_, text) in self.messages.items() if text is not None]
+        settings += [put(b"mailboxes", self.mailboxes)] if self.has_names else []
+        messages = [put(b"message " + quoted(at), octets) for at, (octets, _, _) in self.messages.items()]
+        messages += [put(b"expect " + quoted(at), text) for at, (_, text, _) in self.messages.items() if text is not None]
+        messages += [addressed(at, own) for at, (_, _, own) in self.messages.items() if own is not None]
         main = [] if self.main is None else [b"main " + self.main + b"\n"]
         return b"".join(settings + scripts + messages + main) + b"report\n"
 
 
-def served(path, octets):
+def addressed(at, own):
+    """A line that gives a message these addresses."""
+    return b"message-envelope %s %s %s\n" % tuple(quoted(it) for it in (at, *own))
+
+
+def served(path, octets, has_names):
     """What the program replies to a session."""
     env = {**os.environ, "PATH": path}
-    return subprocess.run(["sievebench", "session"], input=octets, env=env, capture_output=True, timeout=SECONDS, check=True).stdout
+    words = ["sievebench", "session", *([f"--with={PROFILE}"] if has_names else [])]
+    return subprocess.run(words, input=octets, env=env, capture_output=True, timeout=SECONDS, check=True).stdout
 
 
 def last_report(replies):
@@ -131,19 +159,20 @@ class Walk:
     """So many edits in turn."""
 
     def __init__(self, seed):
-        self.seed, self.title, self.command = seed, f"{STEPS} random edits, each with a report", f"seed {seed}"
+        self.seed, self.has_names = seed, seed % 2 == 1
+        self.title, self.command = f"{STEPS} random edits, each with a report", f"seed {seed}"
 
     def differences(self, path):
         """What is other than on a bench that is made anew."""
-        dice, bench, session, wanted, anew = random.Random(self.seed), Bench(), [], [], []
+        dice, bench, session, wanted, anew = random.Random(self.seed), Bench(self.has_names), [], [], []
         for _ in range(STEPS):
             octets, reply = bench.edit(dice)
             session.append(octets + b"report\n")
             wanted.append(reply + b"\n")
             anew.append(bench.anew())
         with concurrent.futures.ThreadPoolExecutor(os.cpu_count()) as pool:
-            fresh = list(pool.map(lambda octets: last_report(served(path, octets)), anew))
-        got = served(path, b"".join(session))
+            fresh = list(pool.map(lambda octets: last_report(served(path, octets, self.has_names)), anew))
+        got = served(path, b"".join(session), self.has_names)
         for step, (reply, report) in enumerate(zip(wanted, fresh)):
             if not got.startswith(reply + report):
                 return [f"at edit {step}: wanted {reply + report!r:.2000}, got {got[: len(reply + report)]!r:.2000}"]

@@ -2,8 +2,8 @@
 and numbers at their limits and past them."""
 import os
 
-from .amounts import MAILBOX_LIMIT, MESSAGE_LIMIT, NAME_LIMIT, SCRIPT_LIMIT, TEXT_LIMIT
-from .runs import Run, report
+from .amounts import MAILBOX_LIMIT, MAILBOXES_LIMIT, MESSAGE_LIMIT, NAME_LIMIT, SCRIPT_LIMIT, TEXT_LIMIT
+from .runs import SETTINGS, Run, report
 
 
 def odd_files(folder):
@@ -144,6 +144,30 @@ def of_words(room):
     )
     for words in ["test -f '' '' ''", "test -f '' a ''", "test --personal '' a m", "test --global '' a m", "dump ''"]:
         yield Run(f"an empty path: {words}", folder, f"sievebench {words}", b"", b'sievebench: cannot read ""\n', 3)
+
+
+def of_mailboxes(room):
+    """The list of mailboxes in a file, which is read before all others."""
+    folder = room / "mailboxes"
+    script, large = b'require "mailbox"; if mailboxexists ["INBOX", "Work"] { discard; }', b"#" * (TEXT_LIMIT + 1)
+    write(folder, {"asks.sieve": script, "mail": b"", "some": b"Home\r\n\nWork", "none": b"", "at": b"x\n" * (MAILBOXES_LIMIT // 2), "past": b"x" * (MAILBOXES_LIMIT + 1), "past.sieve": large})
+    for words, count, verdict in [
+        ("--mailboxes some", 2, ["discard"]),
+        ("--mailboxes=none", 0, ['implicit "INBOX"']),
+        ("", 0, ['implicit "INBOX"']),
+        ("--mailboxes at", MAILBOXES_LIMIT // 2, ['implicit "INBOX"']),
+    ]:
+        told = report(['personal "asks" ok'], "asks", "mail", verdict, settings=f"{SETTINGS}\nwith mailbox\nmailboxes {count}")
+        yield Run(f"a list of {count} mailboxes {words}", folder, f"sievebench test --with mailbox {words} asks.sieve mail", told)
+    past = "sievebench test --with mailbox --mailboxes past"
+    yield Run("a list past its limit", folder, f"{past} asks.sieve mail", b"", b'sievebench: too large "past"\n', 2)
+    yield Run("a list past it before scripts", folder, f"{past} past.sieve mail", b"", b'sievebench: too large "past"\n', 2)
+    mailbox = "b" * (MAILBOX_LIMIT + 1)
+    yield Run("a value past its limit before a list", folder, f"{past} -m {mailbox} asks.sieve mail", b"", f'sievebench: too large "{mailbox}"\n'.encode(), 2)
+    yield Run("what can't be read before a list past its limit", folder, f"{past} absent mail", b"", b'sievebench: cannot read "absent"\n', 3)
+    yield Run("a list without an end", folder, "ulimit -v 131072; sievebench test --with mailbox --mailboxes /dev/zero asks.sieve mail", b"", b'sievebench: too large "/dev/zero"\n', 2)
+    for path in ("gone", ".", ""):
+        yield Run(f"a list that can't be read: {path}", folder, f"sievebench test --with mailbox --mailboxes '{path}' --personal no absent absent", b"", f'sievebench: cannot read "{path}"\n'.encode(), 3)
 
 
 def of_dumps(room):
@@ -298,6 +322,7 @@ def of_files(room):
     """All of them."""
     yield from of_sessions(room)
     yield from of_trials(room)
+    yield from of_mailboxes(room)
     yield from of_order(room)
     yield from of_dumps(room)
     yield from of_words(room)

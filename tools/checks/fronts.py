@@ -8,7 +8,11 @@ from .runs import lines, put, session
 WORD = r'(?:[!#-\[\]-~]+|"(?:[ !#-\[\]-~]|\\["\\]|\\x[0-9A-Fa-f]{2})*")'
 NAME = rf"(?:personal|global) +{WORD}"
 PLAIN = rf"main +{NAME}|no-main|rename +{NAME} +{NAME}|drop-script +{NAME}|drop-message +{WORD}|no-expect +{WORD}|envelope +{WORD} +{WORD}|mailbox +{WORD}|report|dump +{NAME}"
-LINE = re.compile(rf" *(?:(?:{PLAIN})|(?:script +{NAME}|message +{WORD}|expect +{WORD}) +([0-9]{{1,9}}))? *")
+COUNTED = rf"script +{NAME}|message +{WORD}|expect +{WORD}"
+LINE = re.compile(rf" *(?:(?:{PLAIN})|(?:{COUNTED}) +([0-9]{{1,9}}))? *")
+# The lines that there are with two names more.
+NAMES, ASKED = "envelopes mailbox", rf"{PLAIN}|message-envelope +{WORD} +{WORD} +{WORD}|no-message-envelope +{WORD}"
+ASKED_LINE = re.compile(rf" *(?:(?:{ASKED})|(?:{COUNTED}|mailboxes) +([0-9]{{1,9}}))? *")
 
 
 def report(settings):
@@ -31,12 +35,21 @@ STEPS = [
     (b'mailbox "In\\"box\\\\" \n', b"", b"ok\n"),
     (b"report \n", b"", report('"" "ada@x.example" mailbox "In\\"box\\\\"')),
 ]
+# The same of lines that need a name.
+TOLD = ['envelope "" "" mailbox "INBOX"', f"with {NAMES}", "mailboxes 1", 'message "m"', '  envelope "a@b.example" "c d"', '  implicit "INBOX"', "total 1 messages 0 errors"]
+ASKED_STEPS = [
+    (b"message m 0\n", b"", b"ok\n"),
+    (b'message-envelope  "m" a@b.example "c d"\n', b"", b"ok\n"),
+    (b"mailboxes 5 \n", b"Work\n", b"ok\n"),
+    (b"report\n", b"", lines("main none", *TOLD)),
+    (b'no-message-envelope "\\x6d"\r\n', b"", b"ok\n"),
+]
 EMPTY, TRUNCATED, SYNTAX = (b"", 0), (b"no truncated\n", 2), (b"no syntax\n", 2)
 
 
-def end_of(line, reply):
+def end_of(line, reply, pattern):
     """What comes of the front of a line behind which the input ends: its reply is that of the whole line where it is a line too."""
-    read = LINE.fullmatch(line.decode())
+    read = pattern.fullmatch(line.decode())
     if not read:
         return SYNTAX
     if not line.strip(b" "):
@@ -45,16 +58,22 @@ def end_of(line, reply):
 
 
 def of_lines(room):
-    """A session with quoted words, a report in its middle and a dump, cut off behind each of its octets."""
+    """A session with quoted words, a report in its middle and a dump, and one of lines that need names, cut off behind each octet."""
+    yield from cut_off(room, STEPS, LINE, "")
+    yield from cut_off(room, ASKED_STEPS, ASKED_LINE, NAMES)
+
+
+def cut_off(room, steps, pattern, names):
+    """A session of these lines, under a profile, cut off behind each of its octets."""
     octets, replies = b"", b""
-    for line, counted, reply in STEPS:
+    for line, counted, reply in steps:
         for size in range(len(line)):
-            told, status = end_of(line[:size], reply)
-            yield session(room, f"cut off behind {octets + line[:size]!r:.200}", octets + line[:size], replies + told, status)
+            told, status = end_of(line[:size], reply, pattern)
+            yield session(room, f"cut off behind {octets + line[:size]!r:.200}", octets + line[:size], replies + told, status, names)
         for size in range(len(counted)):
-            yield session(room, f"cut off behind {size} octets of {line!r}", octets + line + counted[:size], replies + TRUNCATED[0], 2)
+            yield session(room, f"cut off behind {size} octets of {line!r}", octets + line + counted[:size], replies + TRUNCATED[0], 2, names)
         octets, replies = octets + line + counted, replies + reply
-    yield session(room, "not cut off", octets, replies)
+    yield session(room, "not cut off", octets, replies, names=names)
 
 
 def of_texts(room):

@@ -14,7 +14,7 @@ and without such a line it is empty; then the lines of the verdict, `> `; or the
 octets. Lines `| ` stand before each text of the paragraph and of those behind it, up to other such lines; `|\\` stands for none. `+ `, the
 names of the profile in their order, holds for the paragraph.
 
-`*.sessions`: `< ` a line of the input, `> ` one of the replies, `= ` the status where it isn't 0.
+`*.sessions`: `< ` a line of the input, `> ` one of the replies, `+ ` the names of the profile, `= ` the status where it isn't 0.
 
 `*.words`: `$ ` the words of a command line behind `sievebench`, as a shell reads them; `> ` a part of what stands on standard output,
 `2> ` of standard error, each with escapes; `= ` the status where it isn't 0. Where an output has no part, nothing may stand there.
@@ -98,15 +98,16 @@ def of_faults(path, room):
             if text[:1] in ("|", "+"):
                 continue
             script = front + unescaped(text if text != "\\" else "")
-            replies = runs.lines("ok", "main none", runs.SETTINGS, *runs.with_line(names), f'script personal "main" {fault}', "total 0 messages 0 errors")
+            replies = runs.lines("ok", "main none", runs.SETTINGS, *runs.profile_lines(names), f'script personal "main" {fault}', "total 0 messages 0 errors")
             yield runs.session(room, f"{path.name}, {text}", runs.put(b"script personal main", script) + b"report\n", replies, names=names)
 
 
 def of_sessions(path, room):
     """The cases of a `*.sessions` file."""
     for title, paragraph in paragraphs(path):
-        case = Case(f"{path.name}, {title}", paragraph, "<>=")
-        yield runs.session(room, case.title, case.octets.get("<", b""), case.octets.get(">", b""), case.status())
+        case = Case(f"{path.name}, {title}", paragraph, "<>=+")
+        names = case.lines.get("+", [""])[0]
+        yield runs.session(room, case.title, case.octets.get("<", b""), case.octets.get(">", b""), case.status(), names)
 
 
 def of_words(path, room):

@@ -55,9 +55,10 @@ def put(words, octets):
     return b"%s %d\n%s" % (words, len(octets), octets)
 
 
-def with_line(names):
-    """The line of a report that tells the profile, where it isn't empty."""
-    return [f"with {names}"] if names else []
+def profile_lines(names):
+    """The lines of a report that say the profile, where it isn't empty, and how many mailboxes are listed, where it asks for them: none."""
+    told = [f"with {names}"] if names else []
+    return told + (["mailboxes 0"] if "mailbox" in names.split() else [])
 
 
 def session(room, title, octets, replies, status=0, names=""):
@@ -74,7 +75,7 @@ def reported(room, title, script, mails, verdicts, fault="ok", envelope='"" ""',
     octets = b"".join(puts) + b"main personal main\n" + lines(f"envelope {envelope}", "report")
     if fault != "ok":
         verdicts = [['implicit "INBOX"', 'error personal "main" line 0 invalid-script']] * len(mails)
-    told = ["ok"] * (len(mails) + 3) + ['main personal "main"', f'envelope {envelope} mailbox "INBOX"', *with_line(names), f'script personal "main" {fault}']
+    told = ["ok"] * (len(mails) + 3) + ['main personal "main"', f'envelope {envelope} mailbox "INBOX"', *profile_lines(names), f'script personal "main" {fault}']
     for number, verdict in enumerate(verdicts, 1):
         told += [f'message "m{number}"', *(f"  {line}" for line in verdict), '  read personal "main"']
     errors = sum(any(line.startswith("error ") for line in verdict) for verdict in verdicts)

@@ -99,8 +99,17 @@ def of_names(room):
     yield run("names of a site", room, "check --strict asked", lines(counted(1, 1, 1, 1, 0, 0, 0, 0)))
     write(room / "unasked", files)
     yield run("no names of a site", room, "check unasked", [b"unknown-capability"], status=1)
+    script = b'require ["mailbox", "fileinto", "envelope"]; if mailboxexists "Work" { fileinto :create "Work"; } if envelope "to" "c@d.example" { discard; }'
+    files = {**site({"1.eml": b"", "1.eml.envelope": b"a@b.example c@d.example", "2.eml": b""}, main=script), "with": b"lines\nmailbox\n", "mailboxes": b"Home\r\nWork"}
+    files.update({"mails/1.eml.expect": b'[main]\nstore "Work" create\ndiscard\n', "mails/2.eml.expect": b'[main]\nstore "Work" create\n'})
+    write(room / "boxes", files)
+    yield run("a list of mailboxes, and lines of a report that are none of a verdict", room, "check --strict boxes", lines(counted(2, 1, 2, 2, 0, 0, 0, 0)))
+    write(room / "manyboxes", {**files, "mailboxes": b"x" * 1_048_577})
+    yield run("a list of mailboxes that is refused", room, "check manyboxes", b"", told('the list of mailboxes "manyboxes/mailboxes" is refused: no too-large'), 2)
+    write(room / "nobody", {**site({"1.eml": b"", "1.eml.expect": b"[main]\ndiscard\n"}, main=b"discard;"), "mailboxes": b"x" * 1_048_577})
+    yield run("a list of mailboxes that isn't asked for", room, "check nobody", lines(counted(1, 1, 1, 1, 0, 0, 0, 0)))
     write(room / "misnamed", {**files, "with": b"sub address\n"})
-    yield run("a name that there isn't", room, "check misnamed", b"", [b"of the site's file with", b"subaddress"], 2)
+    yield run("a name that there isn't", room, "check misnamed", b"", [b"of the site's file with", b"sub address,envelopes", b"subaddress"], 2)
 
 
 def of_refusals(room):
