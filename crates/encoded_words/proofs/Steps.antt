@@ -11,13 +11,16 @@ use Rattle.std.proofs.Math.ListN.{drop_of_length-le}
 use Rattle.std.proofs.lemmas.Str.{encodes-append, IsUtf8-from_is_utf8, is_utf8-from_IsUtf8}
 use Rattle.sieve_profile.specs.Profile.{Profile}
 use Rattle.encoded_words.specs.Encoding.{octet_before}
-use Rattle.encoded_words.specs.Cut.{Cuts, ValuePiece, joined, kept, leads_to_word, octet, replaced}
+use Rattle.text_cut.proofs.Cut.{cuts_from, pieces-octet, pieces-sequence}
+use Rattle.text_cut.specs.Cut.{octet, sequence}
+use Rattle.text_cut.specs.Scan.{pieces_from}
+use Rattle.encoded_words.specs.Cut.{Cuts, ReplacedWord, ValuePiece, joined, kept, leads_to_word, replaced}
 use Rattle.sieve_base.specs.Octet.{is_blank, octet_of}
 use Rattle.encoded_words.specs.Charset.{charset_named, in_utf8, meaning, octets_in}
 use Rattle.encoded_words.specs.declared.charset.Charset.{Charset}
-use Rattle.encoded_words.specs.Scan.{decoded_of, first_piece, has_word, replaced_of, has_known, further_octets, is_known, is_word, piece_by, pieces_from, pieces_of, run, word_at}
+use Rattle.encoded_words.specs.Scan.{decoded_of, further, has_word, replaced_at, replaced_of, has_known, is_known, is_word, pieces_of, run, with_meaning, word_at}
 use Rattle.encoded_words.specs.Word.{EncodedWord, is_word_octet}
-use Rattle.encoded_words.proofs.Cut.{cuts_from, pieces_from-drop}
+use Rattle.encoded_words.proofs.Cut.{finds}
 
 pub utf8_said : (octets : List ℕ) → IsUtf8 octets → is_utf8 octets ≡ true
 utf8_said octets is = is_utf8-from_IsUtf8 octets is
@@ -55,26 +58,23 @@ latin_step octets text next i within so_far is =
 -- the piece with which a value begins
 
 pub none_at : (profile : Profile) (value : List ℕ) → 0 < length value → None ≡ word_at value → pieces_of profile value ≡ octet (get_or value 0 0) ∷ pieces_of profile (drop 1 value)
-unfolding pieces_from
 none_at profile [] some is = absurd (omega arith)
-none_at profile (c ∷ rest) some is = ap (λ found. first_piece profile c found ∷ pieces_from profile (further_octets (first_piece profile c found)) rest) (sym is)
+none_at profile (c ∷ rest) some is = pieces-octet (replaced_at profile) further c rest (ap (with_meaning profile) (sym is))
+
+-- a word, with what it stands for
+abbrev by_meaning : EncodedWord → Option (List ℕ) → Option ReplacedWord
+by_meaning word meant = option_map (λ octets. record { word = word; octets = octets }) meant
 
 pub meaningless_at : (profile : Profile) (value : List ℕ) (word : EncodedWord) → 0 < length value → Some word ≡ word_at value → None ≡ meaning profile word → pieces_of profile value ≡ octet (get_or value 0 0) ∷ pieces_of profile (drop 1 value)
-unfolding pieces_from
 meaningless_at profile [] word some is none = absurd (omega arith)
 meaningless_at profile (c ∷ rest) word some is none =
-    ap (λ found. first_piece profile c found ∷ pieces_from profile (further_octets (first_piece profile c found)) rest) (sym is)
-    ∙ ap (λ meant. piece_by c word meant ∷ pieces_from profile (further_octets (piece_by c word meant)) rest) (sym none)
+    pieces-octet (replaced_at profile) further c rest (ap (with_meaning profile) (sym is) ∙ ap (by_meaning word) (sym none))
 
-replaced_at : (profile : Profile) (value meant : List ℕ) (word : EncodedWord) (n : ℕ) → 0 < length value → Some word ≡ word_at value → Some meant ≡ meaning profile word → n ≡ length word.charset + length word.text + 7 → pieces_of profile value ≡ replaced word meant ∷ pieces_of profile (drop n value)
-unfolding pieces_from
-replaced_at profile [] meant word n some is means count = absurd (omega arith)
-replaced_at profile (c ∷ rest) meant word n some is means count =
-    let further = length word.charset + length word.text + 6 in
-    let same : suc further ≡ n = omega arith in
-    ap (λ found. first_piece profile c found ∷ pieces_from profile (further_octets (first_piece profile c found)) rest) (sym is)
-    ∙ ap (λ meant. piece_by c word meant ∷ pieces_from profile (further_octets (piece_by c word meant)) rest) (sym means)
-    ∙ ap (λ pieces. replaced word meant ∷ pieces) (pieces_from-drop profile further rest)
+decoded_at : (profile : Profile) (value meant : List ℕ) (word : EncodedWord) (n : ℕ) → 0 < length value → Some word ≡ word_at value → Some meant ≡ meaning profile word → n ≡ length word.charset + length word.text + 7 → pieces_of profile value ≡ replaced word meant ∷ pieces_of profile (drop n value)
+decoded_at profile [] meant word n some is means count = absurd (omega arith)
+decoded_at profile (c ∷ rest) meant word n some is means count =
+    let same : suc (length word.charset + length word.text + 6) ≡ n = omega arith in
+    pieces-sequence (replaced_at profile) further c rest (record { word = word; octets = meant }) (ap (with_meaning profile) (sym is) ∙ ap (by_meaning word) (sym means))
     ∙ ap (λ n. replaced word meant ∷ pieces_of profile (drop n (c ∷ rest))) same
 
 -- octets that stand for themselves, and the pieces behind them
@@ -92,7 +92,7 @@ plain_step profile left plain whole within is so_far = rw add-one (plain_next pr
 pub word_step : (profile : Profile) (gap rest behind meant : List ℕ) (word : EncodedWord) (n : ℕ) (whole : List ValuePiece) → 0 < length rest → Some word ≡ word_at rest → Some meant ≡ meaning profile word → n ≡ length word.charset + length word.text + 7 → behind ≡ drop n rest → in_front gap (pieces_of profile rest) ≡ whole → whole ≡ in_front gap (replaced word meant ∷ pieces_of profile behind)
 word_step profile gap rest behind meant word n whole some is means count behind_is so_far =
     sym so_far
-    ∙ ap (in_front gap) (replaced_at profile rest meant word n some is means count)
+    ∙ ap (in_front gap) (decoded_at profile rest meant word n some is means count)
     ∙ ap (λ one. in_front gap (replaced word meant ∷ pieces_of profile one)) (sym behind_is)
 
 pub all_alone : (profile : Profile) (left : List ℕ) (plain : ℕ) → length left ≤ plain → in_front (take plain left) (pieces_of profile (drop plain left)) ≡ pieces_of profile left → pieces_of profile left ≡ map octet left
@@ -254,12 +254,12 @@ unknown_means profile rest meant word is means none =
 
 unchanged_pieces : (profile : Profile) (pieces : List ValuePiece) (value : List ℕ) → Cuts profile pieces value → list_any is_word pieces ≡ false → joined false pieces ≡ value
 unchanged_pieces profile [] value is none = sym is
-unchanged_pieces profile (replaced word octets ∷ pieces) value cut none = absurd cc
+unchanged_pieces profile (sequence found ∷ pieces) value cut none = absurd cc
 unchanged_pieces profile (octet c ∷ pieces) value (nowhere, rest, is, cut) none =
     ap (λ octets. c ∷ octets) (unchanged_pieces profile pieces rest cut none) ∙ sym is
 
 pub unchanged : (profile : Profile) (value : List ℕ) → has_word profile value ≡ false → decoded_of profile value ≡ value
-unchanged profile value none = unchanged_pieces profile (pieces_of profile value) value (cuts_from profile 0 value) none
+unchanged profile value none = unchanged_pieces profile (pieces_of profile value) value (cuts_from (finds profile) 0 value) none
 
 none_step : (profile : Profile) (value : List ℕ) (b : Bool) → None ≡ cond b (Some (decoded_of profile value)) None → b ≡ false
 none_step profile value true is = absurd cc

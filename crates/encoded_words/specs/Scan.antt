@@ -1,9 +1,12 @@
 -- The one cut of a value into words that can be decoded and octets, computed, and the value with its words replaced.
-use Rattle.std.specs.Prelude.{ℕ, zero, suc, ◌+◌, Bool, true, false, ◌==◌, ◌&&◌, List, [], ◌∷◌, length, drop, Option, None, Some, is_some, ◌||◌, if◌then◌else◌}
+use Rattle.std.specs.Prelude.{ℕ, ◌+◌, Bool, true, false, ◌==◌, ◌&&◌, List, [], ◌∷◌, length, drop, Option, None, Some, is_some, ◌||◌, if◌then◌else◌}
 use Rattle.std.specs.List.{list_any, prefix_len, take_while}
+use Rattle.std.specs.Option.{option_and_then, option_map}
 use Rattle.sieve_profile.specs.Profile.{Profile}
 use Rattle.encoded_words.specs.Charset.{charset_named, meaning}
-use Rattle.encoded_words.specs.Cut.{ValuePiece, joined, octet, replaced}
+use Rattle.text_cut.specs.Cut.{octet, sequence}
+use Rattle.text_cut.specs.Scan as scan
+use Rattle.encoded_words.specs.Cut.{ReplacedWord, ValuePiece, joined}
 use Rattle.sieve_base.specs.Octet.{is_filled, octet_of}
 use Rattle.encoded_words.specs.Word.{EncodedWord, is_letter, is_word_octet}
 
@@ -37,29 +40,21 @@ word_at [] = None
 word_at (c ∷ []) = None
 word_at (c ∷ d ∷ rest) = if c == octet_of "=" && d == octet_of "?" then word_behind (run rest) (behind_run rest) else None
 
--- the piece of an octet, or of a word that begins with it and can be decoded
-abbrev pub piece_by : ℕ → EncodedWord → Option (List ℕ) → ValuePiece
-piece_by c word None = octet c
-piece_by c word (Some octets) = replaced word octets
+-- a word, with the octets that it stands for, if it can be decoded
+abbrev pub with_meaning : Profile → Option EncodedWord → Option ReplacedWord
+with_meaning profile found = option_and_then (λ word. option_map (λ octets. record { word = word; octets = octets }) (meaning profile word)) found
 
-abbrev pub first_piece : Profile → ℕ → Option EncodedWord → ValuePiece
-first_piece profile c None = octet c
-first_piece profile c (Some word) = piece_by c word (meaning profile word)
+-- the word that can be decoded with which a value begins
+abbrev pub replaced_at : Profile → List ℕ → Option ReplacedWord
+replaced_at profile value = with_meaning profile (word_at value)
 
--- how many octets of a piece stand behind its first
-abbrev pub further_octets : ValuePiece → ℕ
-further_octets (octet c) = 0
-further_octets (replaced word octets) = length word.charset + length word.text + 6
-
--- the pieces of a value, of which the first octets, as many as `skip`, belong to the piece before
-unfoldable pub pieces_from : Profile → (skip : ℕ) → List ℕ → List ValuePiece
-pieces_from profile skip [] = []
-pieces_from profile zero (c ∷ rest) = first_piece profile c (word_at (c ∷ rest)) ∷ pieces_from profile (further_octets (first_piece profile c (word_at (c ∷ rest)))) rest
-pieces_from profile (suc skip) (c ∷ rest) = pieces_from profile skip rest
+-- how many octets of a word stand after its first
+abbrev pub further : ReplacedWord → ℕ
+further found = length found.word.charset + length found.word.text + 6
 
 -- the pieces of a value
 abbrev pub pieces_of : Profile → List ℕ → List ValuePiece
-pieces_of profile value = pieces_from profile 0 value
+pieces_of profile value = scan.pieces_of (replaced_at profile) further value
 
 -- a value with its words replaced
 abbrev pub decoded_of : Profile → List ℕ → List ℕ
@@ -68,7 +63,7 @@ decoded_of profile value = joined false (pieces_of profile value)
 -- whether a piece is a word
 abbrev pub is_word : ValuePiece → Bool
 is_word (octet c) = false
-is_word (replaced word octets) = true
+is_word (sequence found) = true
 
 -- whether a value has a word that can be decoded
 abbrev pub has_word : Profile → List ℕ → Bool

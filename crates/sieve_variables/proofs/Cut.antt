@@ -1,11 +1,14 @@
 -- The computed cut of a text into references and octets is the one cut.
 use Rattle.sieve_base.specs.Octet.{octet_of}
-use Rattle.std.proofs.Common.{◌≡◌, ℕ, zero, suc, ◌+◌, Bool, true, false, ◌&&◌, ◌==◌, cond, List, [], ◌∷◌, ◌++◌, length, drop, Option, None, Some, refl, sym, ◌∙◌, ap, subst, append_assoc, length-append, arith}
+use Rattle.std.proofs.Common.{◌≡◌, ℕ, suc, ◌+◌, Bool, true, false, ◌&&◌, ◌==◌, cond, List, [], ◌∷◌, ◌++◌, length, drop, Option, None, Some, refl, sym, ◌∙◌, ap, subst, append_assoc, length-append, arith}
 use Rattle.std.specs.List.{list_all}
 use Rattle.std.specs.Option.{option_map}
 use Rattle.std.proofs.lemmas.Bool.{eqb-true}
-use Rattle.sieve_variables.specs.Reference.{BeginsWithReference, Cuts, TextPiece, dotted, is_legal, octet, reference, written}
-use Rattle.sieve_variables.specs.Scan.{before_brace, first_piece, further_octets, if_legal, inside_at, is_inside, pieces_from, words_of}
+use Rattle.text_cut.proofs.Cut as cuts
+use Rattle.text_cut.specs.Cut.{octet}
+use Rattle.text_cut.specs.Scan.{Finds, pieces_from}
+use Rattle.sieve_variables.specs.Reference.{Cuts, IsLegal, dotted, is_legal, reference, written}
+use Rattle.sieve_variables.specs.Scan.{before_brace, further, if_legal, inside_at, is_inside, pieces_of, reference_at, words_of}
 use Rattle.sieve_variables.proofs.Words.{dotted-words_of, dotted_inside, legal_octets, legal_some, not_brace, words_of-dotted}
 use Rattle.sieve_base.proofs.Both.{first_of_both, last_of_both}
 
@@ -104,97 +107,55 @@ written_at text inside begins =
     ∙ ap (λ one. octet_of "$" ∷ octet_of "{" ∷ (one ++ octet_of "}" ∷ behind inside text)) (sym (dotted-words_of inside))
     ∙ sym (written-is (words_of inside) (behind inside text))
 
-begins_at : (text inside : List ℕ) → BeginsWith text inside → BeginsWithReference text
-begins_at text inside begins = record {
-  words = words_of inside;
-  rest = behind inside text;
-  legal = begins.legal;
-  is = written_at text inside begins;
+-- what is found is a reference as it is written
+
+-- a text that begins with a reference, by its words
+record Starts (text : List ℕ) (words : List (List ℕ)) : Type 0 where
+  pub legal : is_legal words ≡ true
+  pub rest : List ℕ
+  pub is : text ≡ written words ++ rest
+
+words_start : (text : List ℕ) (words : List (List ℕ)) (found : Option (List ℕ)) → inside_at text ≡ found → option_map words_of found ≡ Some words → Starts text words
+words_start text words None at is = absurd cc
+words_start text words (Some inside) at is =
+    let begins = inside_at-begins text inside at in
+    let same : words_of inside ≡ words = cc in
+    subst (Starts text) same (record { legal = begins.legal; rest = behind inside text; is = written_at text inside begins })
+
+reference_starts : (text : List ℕ) (words : List (List ℕ)) → reference_at text ≡ Some words → Starts text words
+reference_starts text words is = words_start text words (inside_at text) refl is
+
+reference_at-written : (words : List (List ℕ)) (rest : List ℕ) → is_legal words ≡ true → reference_at (written words ++ rest) ≡ Some words
+reference_at-written words rest legal =
+    ap reference_at (written-is words rest)
+    ∙ ap (option_map words_of) (inside_at-written words rest legal)
+    ∙ ap Some (words_of-dotted words (legal_some words legal) (legal_octets words legal))
+
+written_length : (words : List (List ℕ)) → length (written words) ≡ suc (further words)
+written_length words = simp length-append (omega arith)
+
+-- exactly the references are found
+pub finds : Finds written IsLegal reference_at further
+finds = record {
+  legal = λ text words is. (reference_starts text words is).legal;
+  is = λ text words is. let starts = reference_starts text words is in (starts.rest, starts.is);
+  found = reference_at-written;
+  count = λ words legal. written_length words;
 }
-
-none_step : (text : List ℕ) (found : Option (List ℕ)) → inside_at text ≡ found → (BeginsWithReference text → ⊥) → found ≡ None
-none_step text None is nowhere = refl
-none_step text (Some inside) is nowhere = absurd (nowhere (begins_at text inside (inside_at-begins text inside is)))
-
-inside_at-none : (text : List ℕ) → (BeginsWithReference text → ⊥) → inside_at text ≡ None
-inside_at-none text nowhere = none_step text (inside_at text) refl nowhere
-
-no_reference : (text : List ℕ) → inside_at text ≡ None → BeginsWithReference text → ⊥
-no_reference text none begins =
-    let found = inside_at-written begins.words begins.rest begins.legal in
-    let same = begins.is ∙ written-is begins.words begins.rest in
-    let is : inside_at text ≡ Some (dotted begins.words) = ap inside_at same ∙ found in
-    cc
 
 -- the pieces of a text
 
-pub pieces_from-drop : (skip : ℕ) (text : List ℕ) → pieces_from skip text ≡ pieces_from 0 (drop skip text)
-unfolding pieces_from
-pieces_from-drop zero [] = refl
-pieces_from-drop (suc skip) [] = refl
-pieces_from-drop zero (c ∷ rest) = refl
-pieces_from-drop (suc skip) (c ∷ rest) = pieces_from-drop skip rest
+pub pieces-octet : (c : ℕ) (rest : List ℕ) → inside_at (c ∷ rest) ≡ None → pieces_of (c ∷ rest) ≡ octet c ∷ pieces_of rest
+pieces-octet c rest none = cuts.pieces-octet reference_at further c rest (ap (option_map words_of) none)
 
-pub pieces-octet : (c : ℕ) (rest : List ℕ) → inside_at (c ∷ rest) ≡ None → pieces_from 0 (c ∷ rest) ≡ octet c ∷ pieces_from 0 rest
-unfolding pieces_from
-pieces-octet c rest is = ap (λ found. first_piece c found ∷ pieces_from (further_octets found) rest) is
+pub pieces-reference : (c : ℕ) (rest inside : List ℕ) → inside_at (c ∷ rest) ≡ Some inside → pieces_of (c ∷ rest) ≡ reference (words_of inside) ∷ pieces_of (drop (length inside + 2) rest)
+pieces-reference c rest inside found =
+    cuts.pieces-sequence reference_at further c rest (words_of inside) (ap (option_map words_of) found)
+    ∙ ap (λ octets. reference (words_of inside) ∷ pieces_of (drop (length octets + 2) rest)) (dotted-words_of inside)
 
-pub pieces-reference : (c : ℕ) (rest inside : List ℕ) → inside_at (c ∷ rest) ≡ Some inside → pieces_from 0 (c ∷ rest) ≡ reference (words_of inside) ∷ pieces_from 0 (drop (length inside + 2) rest)
-unfolding pieces_from
-pieces-reference c rest inside is =
-    ap (λ found. first_piece c found ∷ pieces_from (further_octets found) rest) is
-    ∙ ap (λ pieces. reference (words_of inside) ∷ pieces) (pieces_from-drop (length inside + 2) rest)
-
-drop_inside : (inside rest : List ℕ) → drop (suc (length inside)) (inside ++ octet_of "}" ∷ rest) ≡ rest
-drop_inside [] rest = refl
-drop_inside (c ∷ cs) rest = drop_inside cs rest
-
-two_more : (n : ℕ) → n + 2 ≡ suc (suc n)
-two_more n = omega arith
-
-pieces-written : (words : List (List ℕ)) (rest : List ℕ) → is_legal words ≡ true → pieces_from 0 (written words ++ rest) ≡ reference words ∷ pieces_from 0 rest
-pieces-written words rest legal =
-    let same : words_of (dotted words) ≡ words = words_of-dotted words (legal_some words legal) (legal_octets words legal) in
-    ap (pieces_from 0) (written-is words rest)
-    ∙ pieces-reference (octet_of "$") (octet_of "{" ∷ (dotted words ++ octet_of "}" ∷ rest)) (dotted words) (inside_at-written words rest legal)
-    ∙ ap (λ n. reference (words_of (dotted words)) ∷ pieces_from 0 (drop n (octet_of "{" ∷ (dotted words ++ octet_of "}" ∷ rest)))) (two_more (length (dotted words)))
-    ∙ ap (λ text. reference (words_of (dotted words)) ∷ pieces_from 0 text) (drop_inside (dotted words) rest)
-    ∙ ap (λ one. reference one ∷ pieces_from 0 rest) same
-
--- each cut of a text is the computed one
-
-pub cut_is : (pieces : List TextPiece) (text : List ℕ) → Cuts pieces text → pieces ≡ pieces_from 0 text
-unfolding pieces_from
-cut_is [] text is = ap (pieces_from 0) (sym is)
-cut_is (reference words ∷ pieces) text (legal, rest, is, cut) =
-    ap (λ further. reference words ∷ further) (cut_is pieces rest cut)
-    ∙ sym (pieces-written words rest legal)
-    ∙ ap (pieces_from 0) (sym is)
-cut_is (octet c ∷ pieces) text (nowhere, rest, is, cut) =
-    let none : inside_at (c ∷ rest) ≡ None = ap inside_at (sym is) ∙ inside_at-none text nowhere in
-    ap (λ further. octet c ∷ further) (cut_is pieces rest cut)
-    ∙ sym (pieces-octet c rest none)
-    ∙ ap (pieces_from 0) (sym is)
-
--- the computed cut is a cut of the text
-
-drop_two : (n : ℕ) (rest : List ℕ) → drop (suc (suc n)) rest ≡ drop (suc n) (drop 1 rest)
-drop_two n [] = refl
-drop_two n (c ∷ rest) = refl
-
-cuts_step : (c : ℕ) (rest : List ℕ) (found : Option (List ℕ)) → inside_at (c ∷ rest) ≡ found → Cuts (pieces_from (further_octets found) rest) (drop (further_octets found) rest) → Cuts (first_piece c found ∷ pieces_from (further_octets found) rest) (c ∷ rest)
-cuts_step c rest None is cut = (no_reference (c ∷ rest) is, rest, refl, cut)
-cuts_step c rest (Some inside) is cut =
-    let begins = inside_at-begins (c ∷ rest) inside is in
-    let same = ap (λ n. drop n rest) (two_more (length inside)) ∙ drop_two (length inside) rest in
-    (begins.legal, behind inside (c ∷ rest), written_at (c ∷ rest) inside begins, subst (Cuts (pieces_from (length inside + 2) rest)) same cut)
-
-pub cuts_from : (skip : ℕ) (text : List ℕ) → Cuts (pieces_from skip text) (drop skip text)
-unfolding pieces_from
-cuts_from zero [] = refl
-cuts_from (suc skip) [] = refl
-cuts_from zero (c ∷ rest) = cuts_step c rest (inside_at (c ∷ rest)) refl (cuts_from (further_octets (inside_at (c ∷ rest))) rest)
-cuts_from (suc skip) (c ∷ rest) = cuts_from skip rest
+-- the computed pieces are a cut of the text
+pub cuts_from : (skip : ℕ) (text : List ℕ) → Cuts (pieces_from reference_at further skip text) (drop skip text)
+cuts_from skip text = cuts.cuts_from finds skip text
 
 -- the octets of the reference with which a text begins
 

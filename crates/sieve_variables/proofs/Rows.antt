@@ -3,7 +3,8 @@
 use Rattle.std.specs.Prelude.{◌≡◌, [], ◌∷◌, codes, refl}
 use Rattle.sieve_base.specs.Octet.{octet_of}
 use Rattle.sieve_variables.specs.Part.{literal, match_part, scoped_part}
-use Rattle.sieve_variables.specs.Scan.{before_brace, inside_at, parts_of_text, pieces_from}
+use Rattle.text_cut.specs.Scan.{pieces_from}
+use Rattle.sieve_variables.specs.Scan.{before_brace, inside_at, parts_of_text}
 use Rattle.sieve_variables.specs.Value.{Values, no_values, with_variable}
 use Rattle.sieve_variables.specs.Variable.{local_variable, with_name}
 

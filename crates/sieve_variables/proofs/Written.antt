@@ -3,7 +3,8 @@ use Rattle.std.proofs.Common.{◌≡◌, ℕ, Bool, true, false, ◌||◌, cond,
 use Rattle.std.proofs.lemmas.Bool.{false≢true}
 use Rattle.sieve_variables.specs.Name.{folded_name, index_of, is_identifier, is_number}
 use Rattle.sieve_variables.specs.Part.{AreWritten, Part, global_part, grouped, is_shared, literal, local_part, match_part, octet_before, part_of_words, variable_part}
-use Rattle.sieve_variables.specs.Reference.{Cuts, TextPiece, is_legal, octet, reference, written}
+use Rattle.text_cut.specs.Cut.{octet, sequence}
+use Rattle.sieve_variables.specs.Reference.{Cuts, TextPiece, is_legal, written}
 use Rattle.sieve_variables.specs.Variable.{global_variable, local_variable}
 
 octet_written : (c : ℕ) (parts : List Part) (rest : List ℕ) → AreWritten parts rest → AreWritten (octet_before c parts) (c ∷ rest)
@@ -31,7 +32,7 @@ reference_written (namespace ∷ word ∷ next ∷ words) parts text rest legal 
 
 pub grouped-written : (pieces : List TextPiece) (text : List ℕ) → Cuts pieces text → AreWritten (grouped pieces) text
 grouped-written [] text is = is
-grouped-written (reference words ∷ pieces) text (legal, rest, is, cut) =
+grouped-written (sequence words ∷ pieces) text (legal, rest, is, cut) =
     reference_written words (grouped pieces) text rest legal is (grouped-written pieces rest cut)
 grouped-written (octet c ∷ pieces) text (nowhere, rest, is, cut) =
     subst (AreWritten (octet_before c (grouped pieces))) (sym is) (octet_written c (grouped pieces) rest (grouped-written pieces rest cut))

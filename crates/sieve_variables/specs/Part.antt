@@ -2,7 +2,8 @@
 use Rattle.std.specs.Prelude.{◌≡◌, ℕ, Bool, true, ◌&&◌, List, [], ◌∷◌, ◌++◌, if◌then◌else◌}
 use Rattle.std.specs.Str.{str_eq_ignore_ascii_case}
 use Rattle.sieve_variables.specs.Name.{is_identifier, is_number, index_of, folded_name, global_namespace}
-use Rattle.sieve_variables.specs.Reference.{TextPiece, reference, octet, written}
+use Rattle.text_cut.specs.Cut.{octet, sequence}
+use Rattle.sieve_variables.specs.Reference.{TextPiece, written}
 use Rattle.sieve_variables.specs.Variable.{Variable, local_variable, global_variable, scoped}
 
 -- Octets, a variable, or a match variable by its number.
@@ -39,7 +40,7 @@ octet_before c (match_part index ∷ parts) = literal (c ∷ []) ∷ match_part 
 -- begin another, and only those directly in front of it join it.
 abbrev pub grouped : List TextPiece → List Part
 grouped [] = []
-grouped (reference words ∷ pieces) = part_of_words words ∷ grouped pieces
+grouped (sequence words ∷ pieces) = part_of_words words ∷ grouped pieces
 grouped (octet c ∷ pieces) = octet_before c (grouped pieces)
 
 -- A text that can be written for these parts: a name in any case, with `global.` in any case in front where scripts share the

@@ -4,6 +4,8 @@
 use Rattle.std.specs.Prelude.{◌≡◌, ℕ, Bool, true, false, ◌&&◌, ◌||◌, List, [], ◌∷◌, ◌++◌, codes}
 use Rattle.std.specs.List.{flat_map, list_all}
 use Rattle.sieve_base.specs.Octet.{octet_of}
+use Rattle.text_cut.specs.Cut as cut
+use Rattle.text_cut.specs.Cut.{Piece, sequence}
 use Rattle.sieve_variables.specs.Name.{is_identifier, is_number}
 
 -- variable-name, sub-namespace
@@ -25,21 +27,18 @@ dotted (word ∷ words) = word ++ flat_map (λ further. octet_of "." ∷ further
 abbrev pub written : List (List ℕ) → List ℕ
 written words = codes "${" ++ dotted words ++ codes "}"
 
--- a text that begins with a reference
-pub record BeginsWithReference (text : List ℕ) : Type 0 where
-  pub words : List (List ℕ)
-  pub rest : List ℕ
-  pub legal : is_legal words ≡ true
-  pub is : text ≡ written words ++ rest
+-- whether words are those of a reference
+abbrev pub IsLegal : List (List ℕ) → Type 0
+IsLegal words = is_legal words ≡ true
 
 -- a piece of a text: a reference, by its words, or an octet
-pub data TextPiece : Type 0 where
-  reference : (words : List (List ℕ)) → TextPiece
-  octet : (octet : ℕ) → TextPiece
+abbrev pub TextPiece : Type 0
+TextPiece = Piece (List (List ℕ))
+
+abbrev pub reference : (words : List (List ℕ)) → TextPiece
+reference words = sequence words
 
 -- A text is cut from the left into references and single octets, and no reference begins where an octet stands alone (RFC 5229,
 -- section 3: what isn't a reference stands as it is).
 abbrev pub Cuts : List TextPiece → List ℕ → Type 0
-Cuts [] text = text ≡ []
-Cuts (reference words ∷ pieces) text = (is_legal words ≡ true) × (rest : List ℕ) × (text ≡ written words ++ rest) × Cuts pieces rest
-Cuts (octet c ∷ pieces) text = (BeginsWithReference text → ⊥) × (rest : List ℕ) × (text ≡ c ∷ rest) × Cuts pieces rest
+Cuts pieces text = cut.Cuts written IsLegal pieces text

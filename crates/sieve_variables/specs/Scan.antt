@@ -1,11 +1,13 @@
 -- The one cut of a text into references and octets (RFC 5229, section 3), and the parts of it, computed.
-use Rattle.std.specs.Prelude.{ℕ, zero, suc, ◌+◌, Bool, true, false, not, ◌==◌, ◌&&◌, ◌||◌, nat_lt, List, [], ◌∷◌, length, Option, None, Some, if◌then◌else◌}
+use Rattle.std.specs.Prelude.{ℕ, ◌+◌, Bool, true, false, not, ◌==◌, ◌&&◌, ◌||◌, nat_lt, List, [], ◌∷◌, length, Option, None, Some, if◌then◌else◌}
 use Rattle.std.specs.List.{list_any, slice_split}
 use Rattle.std.specs.Option.{option_map}
 use Rattle.sieve_base.specs.Limits.{match_limit}
 use Rattle.sieve_base.specs.Octet.{octet_of, is_name_octet}
 use Rattle.sieve_variables.specs.Name.{is_number, index_of}
-use Rattle.sieve_variables.specs.Reference.{is_legal, TextPiece, reference, octet}
+use Rattle.text_cut.specs.Cut.{octet, sequence}
+use Rattle.text_cut.specs.Scan as scan
+use Rattle.sieve_variables.specs.Reference.{TextPiece, dotted, is_legal}
 use Rattle.sieve_variables.specs.Part.{Part, grouped, is_shared}
 
 -- what stands between the words of a reference
@@ -36,25 +38,17 @@ inside_at [] = None
 inside_at (c ∷ []) = None
 inside_at (c ∷ d ∷ rest) = if c == octet_of "$" && d == octet_of "{" then if_legal (before_brace rest) else None
 
--- the piece with which a text begins, by its first octet and by the reference with which it begins, if it does
-abbrev pub first_piece : ℕ → Option (List ℕ) → TextPiece
-first_piece c None = octet c
-first_piece c (Some inside) = reference (words_of inside)
+-- the words of the reference with which a text begins
+abbrev pub reference_at : List ℕ → Option (List (List ℕ))
+reference_at text = option_map words_of (inside_at text)
 
--- how many octets of that piece stand behind its first: `{`, what stands inside, and `}`
-abbrev pub further_octets : Option (List ℕ) → ℕ
-further_octets None = 0
-further_octets (Some inside) = length inside + 2
-
--- the pieces of a text, of which the first octets, as many as `skip`, belong to the piece before
-unfoldable pub pieces_from : (skip : ℕ) → List ℕ → List TextPiece
-pieces_from skip [] = []
-pieces_from zero (c ∷ rest) = first_piece c (inside_at (c ∷ rest)) ∷ pieces_from (further_octets (inside_at (c ∷ rest))) rest
-pieces_from (suc skip) (c ∷ rest) = pieces_from skip rest
+-- how many octets of a reference stand after its first: `{`, what stands inside, and `}`
+abbrev pub further : List (List ℕ) → ℕ
+further words = length (dotted words) + 2
 
 -- the pieces of a text
 abbrev pub pieces_of : List ℕ → List TextPiece
-pieces_of text = pieces_from 0 text
+pieces_of text = scan.pieces_of reference_at further text
 
 -- the parts of a text
 abbrev pub parts_of_text : List ℕ → List Part
@@ -63,27 +57,27 @@ parts_of_text text = grouped (pieces_of text)
 -- whether a piece is a reference
 abbrev pub is_reference : TextPiece → Bool
 is_reference (octet c) = false
-is_reference (reference words) = true
+is_reference (sequence words) = true
 
 -- whether a piece is a reference with a namespace: of more than one word
 abbrev pub is_namespaced : TextPiece → Bool
 is_namespaced (octet c) = false
-is_namespaced (reference words) = nat_lt 1 (length words)
+is_namespaced (sequence words) = nat_lt 1 (length words)
 
 -- whether a piece is a reference in another namespace than that of the variables that scripts share (RFC 6609, section 3.4.2)
 abbrev pub is_foreign : TextPiece → Bool
 is_foreign (octet c) = false
-is_foreign (reference []) = false
-is_foreign (reference (name ∷ [])) = false
-is_foreign (reference (namespace ∷ name ∷ [])) = not (is_shared namespace name)
-is_foreign (reference (namespace ∷ word ∷ next ∷ words)) = true
+is_foreign (sequence []) = false
+is_foreign (sequence (name ∷ [])) = false
+is_foreign (sequence (namespace ∷ name ∷ [])) = not (is_shared namespace name)
+is_foreign (sequence (namespace ∷ word ∷ next ∷ words)) = true
 
 -- whether a piece is a reference to a match variable whose number is past the limit (RFC 5229, section 6)
 abbrev pub is_far : TextPiece → Bool
 is_far (octet c) = false
-is_far (reference []) = false
-is_far (reference (name ∷ [])) = is_number name && nat_lt match_limit (index_of name)
-is_far (reference (namespace ∷ word ∷ words)) = false
+is_far (sequence []) = false
+is_far (sequence (name ∷ [])) = is_number name && nat_lt match_limit (index_of name)
+is_far (sequence (namespace ∷ word ∷ words)) = false
 
 -- whether a text has a reference
 abbrev pub has_reference : List ℕ → Bool
