@@ -1,9 +1,7 @@
 -- A flag of a list, found by its spelling.
 use Rattle.std.proofs.Common.{◌≡◌, ℕ, zero, suc, ◌<◌, length, get_or, Bool, true, false, not, cond, ◌||◌, List, [], ◌∷◌, None, Some, find, remove, refl, sym, ap, ◌∙◌, true≢false, arith}
 use Rattle.std.specs.List.{AllByRecursion, IsDistinct}
-use Rattle.match_text.specs.Comparator.{ascii_casemap, fold_of, octet, same}
-use Rattle.match_text.specs.declared.comparators.Collation.{Collation}
-use Rattle.match_text.specs.declared.comparators.Collation.TheVariants.{Octet, Casemap}
+use Rattle.match_text.specs.Comparator.{ascii_casemap, octet, same}
 use Rattle.match_text.specs.Flags.{AreDistinct, flags_without, has_flag, has_key}
 use Rattle.match_text.specs.view.Hashing.{same_equiv}
 use Rattle.match_text.proofs.Deciding.{same-Decides}
@@ -27,12 +25,12 @@ or_none true t e = absurd (true≢false e)
 or_none false t e = (refl, e)
 
 -- with no regard to case, a flag of the list is equal to a key exactly where the key is the same as a flag of the list
-pub has_key-folded : (flags : List (List ℕ)) (key : List ℕ) → has_key ascii_casemap flags key ≡ has_flag flags key
+pub has_key-folded : (flags : List (List ℕ)) (key : List ℕ) → has_key (same ascii_casemap) flags key ≡ has_flag flags key
 has_key-folded [] key = refl
 has_key-folded (x ∷ flags) key = λ j. same_equiv.symm x key j || has_key-folded flags key j
 
 -- no flag is a key octet for octet where none is with no regard to case
-has_key-none : (flags : List (List ℕ)) (key : List ℕ) → has_flag flags key ≡ false → has_key octet flags key ≡ false
+has_key-none : (flags : List (List ℕ)) (key : List ℕ) → has_flag flags key ≡ false → has_key (same octet) flags key ≡ false
 has_key-none [] key none = refl
 has_key-none (x ∷ flags) key none =
     let split = or_none (same ascii_casemap key x) (has_flag flags key) none in
@@ -44,7 +42,7 @@ others_differ x key is [] all = refl
 others_differ x key is (y ∷ flags) all = λ j. (same_equiv.congr key x y is ∙ all.0) j || others_differ x key is flags all.1 j
 
 -- of flags of which no two are the same, the one that is found is the only one that the key may be octet for octet
-pub has_key-found : (flags : List (List ℕ)) (key found : List ℕ) → AreDistinct flags → find (same ascii_casemap key) flags ≡ Some found → has_key octet flags key ≡ same octet found key
+pub has_key-found : (flags : List (List ℕ)) (key found : List ℕ) → AreDistinct flags → find (same ascii_casemap key) flags ≡ Some found → has_key (same octet) flags key ≡ same octet found key
 unfolding IsDistinct
 has_key-found [] key found h is = absurd cc
 has_key-found (x ∷ flags) key found h is = by (same ascii_casemap key x) refl is (λ at. has_key-found flags key found h.1 at)
@@ -54,11 +52,11 @@ has_key-found (x ∷ flags) key found h is = by (same ascii_casemap key x) refl 
     or_false false = refl
 
     by : (s : Bool) → same ascii_casemap key x ≡ s → cond s (Some x) (find (same ascii_casemap key) flags) ≡ Some found
-        → (find (same ascii_casemap key) flags ≡ Some found → has_key octet flags key ≡ same octet found key) → (same octet x key || has_key octet flags key) ≡ same octet found key
+        → (find (same ascii_casemap key) flags ≡ Some found → has_key (same octet) flags key ≡ same octet found key) → (same octet x key || has_key (same octet) flags key) ≡ same octet found key
     by true e at more =
         let it : x ≡ found = cc in
         ap (λ b. same octet x key || b) (has_key-none flags key (others_differ x key e flags h.0)) ∙ or_false (same octet x key) ∙ ap (λ y. same octet y key) it
-    by false e at more = ap (λ b. b || has_key octet flags key) (differs x key e) ∙ more at
+    by false e at more = ap (λ b. b || has_key (same octet) flags key) (differs x key e) ∙ more at
 
 -- a key of which no flag is found is none of the flags
 found_none : (flags : List (List ℕ)) (key : List ℕ) → find (same ascii_casemap key) flags ≡ None → has_flag flags key ≡ false
@@ -70,10 +68,9 @@ found_none (x ∷ flags) key none = by (same ascii_casemap key x) refl none (λ 
     by true e at more = absurd cc
     by false e at more = ap (λ b. b || has_flag flags key) e ∙ more at
 
--- under either comparator no flag is equal to a key that isn't found with no regard to case
-pub none_has : (collation : Collation) (flags : List (List ℕ)) (key : List ℕ) → find (same ascii_casemap key) flags ≡ None → false ≡ has_key (fold_of collation) flags key
-none_has Octet flags key none = sym (has_key-none flags key (found_none flags key none))
-none_has Casemap flags key none = sym (has_key-folded flags key ∙ found_none flags key none)
+-- no flag is a key octet for octet where none is found with no regard to case
+pub none_has : (flags : List (List ℕ)) (key : List ℕ) → find (same ascii_casemap key) flags ≡ None → false ≡ has_key (same octet) flags key
+none_has flags key none = sym (has_key-none flags key (found_none flags key none))
 
 -- TAKEN OUT
 

@@ -14,4 +14,7 @@ pub mod FlagLists
 pub mod Pieces
 pub mod Turns
 pub mod Keywords
+pub mod Numerals
+pub mod Ordered
+pub mod Relations
 mod FlagRows

@@ -1,9 +1,10 @@
 -- What it means that two octet strings are equal under a comparator, and that one contains the other (RFC 4790, RFC 5228
--- section 2.7). A comparator is known by its fold: two octets are equal under it where their folds are equal.
+-- section 2.7). i;octet and i;ascii-casemap are known by their folds: two octets are equal where their folds are equal. What all
+-- comparators say of whole texts is in Order.
 use Rattle.std.specs.Prelude.{◌≡◌, ℕ, Bool, ◌-◌, ◌<◌, ◌≤◌, ◌||◌, ◌==◌, if◌then◌else◌, List, [], ◌∷◌, length, take, slice_index, slice_range, Option, Some, None, nat_eq, codes}
 use lib.Pointwise.{pointwise}
 use Rattle.match_text.specs.declared.comparators.Collation.{Collation}
-use Rattle.match_text.specs.declared.comparators.Collation.TheVariants.{Octet, Casemap}
+use Rattle.match_text.specs.declared.comparators.Collation.TheVariants.{Octet, Casemap, Numeric}
 use Rattle.sieve_base.specs.Octet.{is_between, octet_of}
 
 -- i;octet: each octet is equal to itself alone (RFC 4790, section 9.3.1)
@@ -14,14 +15,12 @@ octet b = b
 abbrev pub ascii_casemap : ℕ → ℕ
 ascii_casemap b = if is_between (octet_of "a") (octet_of "z") b then b - (octet_of "a" - octet_of "A") else b
 
--- the fold by which a comparator takes octets as equal (RFC 5228, section 2.7.3)
-abbrev pub fold_of : Collation → ℕ → ℕ
-fold_of Octet = octet
-fold_of Casemap = ascii_casemap
-
 -- the comparator of that name, octet for octet (RFC 4790, section 9)
 abbrev pub collation_named : List ℕ → Option Collation
-collation_named name = if pointwise nat_eq (codes "i;octet") name then Some Octet else if pointwise nat_eq (codes "i;ascii-casemap") name then Some Casemap else None
+collation_named name =
+    if pointwise nat_eq (codes "i;octet") name then Some Octet else
+    if pointwise nat_eq (codes "i;ascii-casemap") name then Some Casemap else
+    if pointwise nat_eq (codes "i;ascii-numeric") name then Some Numeric else None
 
 -- equal lengths, and equal octets after folding
 pub record Same (fold : ℕ → ℕ) (a b : List ℕ) : Type 0 where

@@ -37,9 +37,9 @@ is_flag text = is_system_flag text || is_keyword text
 abbrev pub has_flag : List (List ℕ) → List ℕ → Bool
 has_flag flags flag = list_any (same ascii_casemap flag) flags
 
--- whether a member of the list is equal to a key, where equal octets have equal folds
-abbrev pub has_key : (ℕ → ℕ) → List (List ℕ) → List ℕ → Bool
-has_key fold flags key = list_any (λ flag. same fold flag key) flags
+-- whether a member of the list is equal to a key, by what tells that two texts are equal
+abbrev pub has_key : (List ℕ → List ℕ → Bool) → List (List ℕ) → List ℕ → Bool
+has_key equal flags key = list_any (λ flag. equal flag key) flags
 
 -- no two flags are the same
 abbrev pub AreDistinct : List (List ℕ) → Type 0

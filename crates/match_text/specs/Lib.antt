@@ -1,4 +1,6 @@
 pub mod Comparator
 pub mod Flags
+pub mod Order
+pub mod Relation
 pub mod Wildcard
 pub mod view

@@ -126,6 +126,8 @@ pub enum Collation {
     Octet,
     /// `i;ascii-casemap`, which is [`AsciiCasemap`].
     Casemap,
+    /// `i;ascii-numeric`, which compares numbers and has no fold (RFC 4790, section 9.1).
+    Numeric,
 }
 
 /// The comparator of that name, octet for octet (RFC 4790, section 9). Takes no memory.
@@ -136,6 +138,8 @@ pub fn collation_named(name: &[u8]) -> Option<Collation>
         Some(Collation::Octet)
     } else if b"i;ascii-casemap".as_slice() == name {
         Some(Collation::Casemap)
+    } else if b"i;ascii-numeric".as_slice() == name {
+        Some(Collation::Numeric)
     } else {
         None
     }

@@ -1,15 +1,17 @@
 //! Lists of flags (RFC 5232, sections 2 and 3).
 ghost use Rattle.std.specs.Prelude.{◌≡◌, ◌<◌, ◌≤◌, ◌↔◌, [], ◌∷◌, IfNone, IfOk, IfSome, IsOk, IsTrue, OnErr, OnOk, Some, SomeIndex, fold, length, remove, slice_get, take, true};
 ghost use Rattle.std.specs.List.{All};
-ghost use Rattle.match_text.specs.Comparator.{ascii_casemap, fold_of, same};
+ghost use Rattle.match_text.specs.Comparator.{ascii_casemap, octet, same};
 ghost use Rattle.match_text.specs.Flags.{AreDistinct, has_flag, has_key, flag_list, flag_text, flag_union, flags_in};
 ghost use Rattle.match_text.specs.Flags.{flags_of_texts, flags_without};
+ghost use Rattle.match_text.specs.Order.{are_equal};
 ghost use Rattle.match_text.specs.view.Hashing.{flag_hash, same_alike, same_equiv, same_per};
 ghost use Rattle.std.specs.Cmp.{on_equiv, partial_equiv_from_equiv};
 ghost use Rattle.sieve_base.specs.view.Texts.{octets_of_each};
 
 use crate::comparators::{AsciiCasemap, Collation, Comparator, Octet, is};
 use crate::flag_spelling::next_flag;
+use crate::order::equals;
 use indexmap::{Equivalent, IndexSet};
 use sieve_base::Octets;
 use std::alloc::{AllocError, Global};
@@ -175,17 +177,33 @@ impl FlagList {
         self.flags.as_slice()[i].as_slice()
     }
 
-    /// Whether a flag of the list is equal to a key under a comparator. Takes no memory.
+    /// Whether a flag of the list is equal to a key under a comparator. Takes no memory. Under `i;ascii-numeric` each flag is
+    /// compared in turn.
     pub fn has(&self, collation: Collation, key: &[u8]) -> bool
-        ensures { result ≡ has_key (fold_of collation) self.now key.now }
+        ensures { result ≡ has_key (are_equal collation) self.now key.now }
+    {
+        match collation {
+            Collation::Octet => self.has_spelling(key),
+            Collation::Casemap => self.has_in_any_case(key),
+            Collation::Numeric => has_number(self.flags.as_slice(), key),
+        }
+    }
+
+    /// Whether a flag of the list is spelled so, octet for octet. Takes no memory.
+    fn has_spelling(&self, key: &[u8]) -> bool
+        ensures { result ≡ has_key (same octet) self.now key.now }
     {
         match self.flags.get(SoughtFlag { spelling: key }) {
-            Some(flag) => match collation {
-                Collation::Octet => is::<Octet>(flag.as_slice(), key),
-                Collation::Casemap => true,
-            },
+            Some(flag) => is::<Octet>(flag.as_slice(), key),
             None => false,
         }
+    }
+
+    /// Whether a flag of the list is spelled so in any case of letters. Takes no memory.
+    fn has_in_any_case(&self, key: &[u8]) -> bool
+        ensures { result ≡ has_key (same ascii_casemap) self.now key.now }
+    {
+        self.flags.contains(SoughtFlag { spelling: key })
     }
 
     /// Adds the flags of another list that aren't there yet (RFC 5232, section 3.2). The first of them, as many as `known`, are there
@@ -260,6 +278,15 @@ impl FlagList {
         insert_each(alloc, &mut flags, self.flags.as_slice())?;
         Ok(list_of(flags))
     }
+}
+
+// Whether a flag stands for the number of a key.
+fn has_number(flags: &[Flag], key: &[u8]) -> bool
+    ensures { result ≡ has_key (are_equal Collation.Numeric) flags.now key.now }
+{
+    flags
+        .iter()
+        .any(|flag| equals(Collation::Numeric, flag.as_slice(), key))
 }
 
 // The list of a set's flags.

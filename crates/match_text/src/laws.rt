@@ -1,10 +1,21 @@
 //! Laws over the definitions. Each of these functions does nothing: its contract is the law.
-ghost use Rattle.std.specs.Prelude.{◌≡◌, ◌∷◌, ◌↔◌, ℕ, List, [], None, Some, length, map, true};
+ghost use Rattle.std.specs.Prelude.{◌≡◌, ◌∷◌, ◌++◌, ◌<◌, ◌^◌, ◌↔◌, ◌⊎◌, ◌||◌, ℕ, IsSome, List, [], None, Some, decimal, false, length, map, not, true};
+ghost use Rattle.std.specs.Cmp.{IsEquivalence, IsTotalOrder};
 ghost use Rattle.std.specs.List.{All};
-ghost use Rattle.match_text.specs.Comparator.{IsPart, Same, is_part, same};
+ghost use Rattle.std.specs.Ordering.{nat_cmp};
+ghost use Rattle.std.specs.declared.cmp.Ordering as orderings;
+ghost use Rattle.std.specs.declared.cmp.Ordering.TheVariants.{Equal, Greater, Less};
+ghost use Rattle.sieve_base.specs.Octet.{octet_of};
+ghost use Rattle.match_text.specs.Comparator.{IsPart, Same, ascii_casemap, is_part, octet, same};
 ghost use Rattle.match_text.specs.Flags.{AreDistinct, distinct, flag_list, flag_union, flags_in, flags_of_texts, flags_without, is_flag};
+ghost use Rattle.match_text.specs.Order.{are_equal, first_digits, number_of, order_of};
+ghost use Rattle.match_text.specs.Relation.{is_word_of, relation_named, relation_word, stands_in};
 ghost use Rattle.match_text.specs.Wildcard.{Fits, IsLeastFit, TakeInTurn, least_fit, taken};
+ghost use Rattle.match_text.specs.declared.comparators.Collation.{Collation};
+ghost use Rattle.match_text.specs.declared.comparators.Collation.TheVariants.{Casemap, Numeric, Octet};
 ghost use Rattle.match_text.specs.declared.pattern.Item.{Item};
+ghost use Rattle.match_text.specs.declared.relation.Relation.{Relation};
+ghost use Rattle.match_text.specs.declared.relation.Relation.TheVariants.{Eq, Ge, Gt, Le, Lt, Ne};
 
 /// Whether two texts are the same, and whether one is part of the other, is told exactly (`:is` and `:contains` of RFC 5228,
 /// section 2.7.1). No octets at all are part of every value, the empty one too.
@@ -12,6 +23,64 @@ pub fn sameness_is_decided()
     ensures same { (fold : ℕ → ℕ) (a b : List ℕ) → (same fold a b ≡ true) ↔ Same fold a b }
     ensures part { (fold : ℕ → ℕ) (value key : List ℕ) → (is_part fold value key ≡ true) ↔ IsPart fold value key }
     ensures empty { (fold : ℕ → ℕ) (value : List ℕ) → is_part fold value [] ≡ true }
+{}
+
+/// The order of each comparator is total (RFC 4790, section 4.2.4). Of two texts one is at most the other, those of which each is at
+/// most the other are equal in it, and at most is transitive.
+pub fn texts_are_in_a_total_order()
+    ensures total { (collation : Collation) → IsTotalOrder (order_of collation) }
+    ensures either { (collation : Collation) (a b : List ℕ) → (stands_in Le (order_of collation a b) ≡ true) ⊎ (stands_in Le (order_of collation b a) ≡ true) }
+    ensures both { (collation : Collation) (a b : List ℕ) → stands_in Le (order_of collation a b) ≡ true → stands_in Le (order_of collation b a) ≡ true → stands_in Eq (order_of collation a b) ≡ true }
+    ensures transitive { (collation : Collation) (a b c : List ℕ) → stands_in Le (order_of collation a b) ≡ true → stands_in Le (order_of collation b c) ≡ true → stands_in Le (order_of collation a c) ≡ true }
+{}
+
+/// Equal in the order of a comparator is an equivalence, and is what `:is` calls equal (RFC 4790, section 4.2.2). Under `i;octet` and
+/// `i;ascii-casemap` it is that the octets are equal after folding.
+pub fn equality_goes_by_the_order()
+    ensures equivalence { (collation : Collation) → IsEquivalence (λ a b. stands_in Eq (order_of collation a b)) }
+    ensures equal { (collation : Collation) (a b : List ℕ) → are_equal collation a b ≡ stands_in Eq (order_of collation a b) }
+    ensures octet { (a b : List ℕ) → (order_of Octet a b ≡ Equal) ↔ Same octet a b }
+    ensures casemap { (a b : List ℕ) → (order_of Casemap a b ≡ Equal) ↔ Same ascii_casemap a b }
+{}
+
+/// What each relation says of an order (RFC 5231, section 4): `ne` is that `eq` doesn't hold, `ge` that `lt` doesn't, and `le` that `gt`
+/// doesn't. Seen from the other text, `gt` is `lt`. `gt` holds only where the first is greater, and `eq`
+/// only where the two are equal.
+pub fn relations_go_by_the_order()
+    ensures ne { (order : orderings.Ordering) → stands_in Ne order ≡ not (stands_in Eq order) }
+    ensures ge { (order : orderings.Ordering) → stands_in Ge order ≡ not (stands_in Lt order) }
+    ensures le { (order : orderings.Ordering) → stands_in Le order ≡ not (stands_in Gt order) }
+    ensures equal { (order : orderings.Ordering) → stands_in Le order ≡ (stands_in Lt order || stands_in Eq order) }
+    ensures turned { (collation : Collation) (a b : List ℕ) → stands_in Gt (order_of collation a b) ≡ stands_in Lt (order_of collation b a) }
+    ensures greater { stands_in Gt Greater ≡ true }
+    ensures less { stands_in Gt Less ≡ false }
+    ensures same { stands_in Gt Equal ≡ false }
+    ensures equal_alone { (order : orderings.Ordering) → (stands_in Eq order ≡ true) ↔ (order ≡ Equal) }
+{}
+
+/// Each relation is found by its word. A relation is what a word finds exactly where the word is that of the relation, in any case of
+/// letters (RFC 5231, section 4).
+pub fn relations_have_their_words()
+    ensures found { (relation : Relation) → relation_named (relation_word relation) ≡ Some relation }
+    ensures word { (relation : Relation) (word : List ℕ) → (relation_named word ≡ Some relation) ↔ (is_word_of relation word ≡ true) }
+{}
+
+/// What stands after the first digits of a text doesn't change its number, nor do zeros before a number. A text is infinite, which is
+/// no number, exactly where it begins with no digit (RFC 4790, section 9.1.1). The decimal text of a number of at most 64 digits
+/// stands for that number, whatever comes after it that doesn't begin with a digit.
+pub fn numbers_are_those_of_their_digits()
+    ensures digits { (text : List ℕ) → number_of (first_digits text) ≡ number_of text }
+    ensures zeros { (text : List ℕ) → IsSome (number_of text) → number_of (octet_of "0" ∷ text) ≡ number_of text }
+    ensures infinite { (text : List ℕ) → (number_of text ≡ None) ↔ (first_digits text ≡ []) }
+    ensures decimal { (n : ℕ) (rest : List ℕ) → n < 10 ^ 64 → first_digits rest ≡ [] → number_of (decimal n ++ rest) ≡ Some n }
+{}
+
+/// Under `i;ascii-numeric` two texts are in the order of their numbers (RFC 4790, section 9.1). What is infinite is greater than each
+/// number, and all that is infinite is equal.
+pub fn numbers_are_ordered_by_what_they_are()
+    ensures infinite { (a b : List ℕ) (n : ℕ) → number_of a ≡ None → number_of b ≡ Some n → order_of Numeric a b ≡ Greater }
+    ensures finite { (a b : List ℕ) (m n : ℕ) → number_of a ≡ Some m → number_of b ≡ Some n → order_of Numeric a b ≡ nat_cmp m n }
+    ensures both { (a b : List ℕ) → number_of a ≡ None → number_of b ≡ None → order_of Numeric a b ≡ Equal }
 {}
 
 /// The least fit of a pattern's items is the fit that is least in dictionary order, and is absent exactly where no fit exists

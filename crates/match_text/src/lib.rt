@@ -2,13 +2,18 @@
 //!
 //! Texts are octet strings. A [`Comparator`] says which octets are equal (RFC 4790); [`is`],
 //! [`contains`] and [`matches`] are the match types of RFC 5228, section 2.7.1, at a comparator.
+//! [`equals`] and [`stands`] compare whole texts by a comparator's name, the latter by a [`Relation`]
+//! of RFC 5231 in the comparator's order.
 #![tactic(auto)]
 
 mod comparators;
 mod flag_spelling;
 mod flags;
 pub mod laws;
+mod number;
+mod order;
 mod pattern;
+mod relation;
 mod segments;
 mod sought_flags;
 mod wildcards;
@@ -18,5 +23,7 @@ pub use crate::comparators::{
 };
 pub use crate::flag_spelling::{is_keyword, next_flag};
 pub use crate::flags::{FlagList, flag_text, flags_of, flags_of_texts, union, without};
+pub use crate::order::{equals, stands};
+pub use crate::relation::{Relation, relation_named};
 pub use crate::sought_flags::{flag_keys, flag_keys_of_texts};
 pub use crate::wildcards::{Captures, matches};
