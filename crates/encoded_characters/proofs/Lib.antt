@@ -1,0 +1,4 @@
+pub mod Items
+pub mod Found
+pub mod Values
+pub mod Steps

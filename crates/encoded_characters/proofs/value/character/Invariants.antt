@@ -1,0 +1,10 @@
+use Rattle.std.proofs.Common.{◌≡◌, ◌≤◌, drop}
+use Rattle.encoded_characters.specs.Value.{number_from}
+use Rattle.encoded_characters.proofs.value.character.Given as goal
+
+-- the number is within the limit, and the digits that are left make of it the number of all digits
+abbrev pub invariant-loop-digit : goal.invariant-loop-digit
+invariant-loop-digit l = record {
+  within : l.number ≤ 0x10FFFF;
+  number : number_from l.number (drop l.digit-index l.digits) ≡ number_from 0 l.digits;
+}
