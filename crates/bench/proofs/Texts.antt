@@ -159,3 +159,17 @@ looked-up state name found is = by (text_at state.scripts name) is
     by : (text : Option (List ℕ)) → found ≡ option_map (λ t. record { profile = state.profile; text = t }) text → lookup_of state.profile text ≡ lookup_by found
     by None at = ap lookup_by (sym at)
     by (Some text) at = ap lookup_by (sym at)
+
+-- the script of a name is of the profile of all
+pub profile_at : (state : ScriptsState) (name : ScriptName) (script : ScriptState) → Some script ≡ script_at state name → script.profile ≡ state.profile
+profile_at state name script is = by_text (text_at state.scripts name) is
+  where
+    one_of : (a b : ScriptState) → Some a ≡ Some b → a ≡ b
+    one_of a b e = cc
+
+    some_none : Some script ≡ None → ⊥
+    some_none e = cc
+
+    by_text : (text : Option (List ℕ)) → Some script ≡ option_map (λ t. record { profile = state.profile; text = t }) text → script.profile ≡ state.profile
+    by_text None e = absurd (some_none e)
+    by_text (Some text) e = ap (λ (s : ScriptState). s.profile) (one_of script (record { profile = state.profile; text = text }) e)

@@ -34,10 +34,13 @@ fn name_text(extension: Extension) -> &'static str {
 fn brings(extension: Extension) -> &'static str {
     match extension {
         Extension::Charsets => "encoded words of further charsets are decoded",
+        Extension::AsciiNumeric => "the comparator i;ascii-numeric (RFC 4790)",
         Extension::Duplicate => "the test duplicate, which is false (RFC 7352)",
+        Extension::EncodedCharacter => "${hex:..} and ${unicode:..} in strings (RFC 5228)",
         Extension::Envelopes => "a message may have an envelope of its own",
         Extension::Lines => "a report says which line entered each action",
         Extension::Mailbox => "fileinto :create, and the test mailboxexists (RFC 5490)",
+        Extension::Relational => "the match types :value and :count (RFC 5231)",
         Extension::SpecialUse => "fileinto :specialuse (RFC 8579)",
         Extension::Subaddress => "the address parts :user and :detail (RFC 5233)",
         Extension::Unused => "a capability that is not known may be required where it is not used",
@@ -53,7 +56,7 @@ pub(crate) fn names_help(alloc: Global) -> Result<String, AllocError> {
     for extension in EXTENSIONS.iter().copied() {
         let name = name_text(extension);
         let few_words = brings(extension);
-        text.push_str(format!(in alloc; "\n  {name:<12}  {few_words}")?.as_str())?;
+        text.push_str(format!(in alloc; "\n  {name:<26}  {few_words}")?.as_str())?;
     }
     Ok(text)
 }

@@ -1,7 +1,11 @@
 //! Texts that are compared, searched and matched.
 
 use crate::telling::{Host, mark, tell_octets, tell_refused};
-use match_text::{AsciiCasemap, Captures, contains, contains_in, is, matches};
+use encoded_characters::replaced;
+use match_text::{
+    AsciiCasemap, Captures, Collation, Relation, contains, contains_in, equals, is, matches,
+    relation_named, stands,
+};
 use std::io;
 
 const VALUE: &[u8] =
@@ -17,11 +21,37 @@ pub(crate) const SHORT_KEY: &[u8] =
 
 const PATTERN: &[u8] = b"THE * fox JUMP? over*cat, \\t*";
 
+pub(crate) const SEQUENCES: &[u8] = b"${hex:c3 a9}, ${unicode:20ac} and ${hex:4";
+
+pub(crate) const NO_SEQUENCE: &[u8] = b"${hex:400}";
+
 pub(crate) fn compare(rt: &impl Host) -> io::Result<()> {
     mark(rt);
     let answer = is::<AsciiCasemap>(KEY, VALUE);
     mark(rt);
     println!(rt; "{answer}")
+}
+
+/// Whether a number is greater than another, and equal to it.
+pub(crate) fn compare_numbers(rt: &impl Host) -> io::Result<()> {
+    mark(rt);
+    let relation = relation_named(b"GT").unwrap_or(Relation::Ne);
+    let greater = stands(relation, Collation::Numeric, b"0100 of them", b"99");
+    let equal = equals(Collation::Numeric, b"0100 of them", b"99");
+    mark(rt);
+    println!(rt; "{greater} {equal}")
+}
+
+/// A string with its encoded characters replaced.
+pub(crate) fn replace(rt: &impl Host, text: &[u8]) -> io::Result<()> {
+    mark(rt);
+    let answer = replaced(rt.alloc(), text);
+    mark(rt);
+    match answer {
+        Ok(Some(octets)) => tell_octets(rt, octets.as_slice()),
+        Ok(None) => println!(rt; "no character"),
+        Err(_) => tell_refused(rt),
+    }
 }
 
 pub(crate) fn search(rt: &impl Host) -> io::Result<()> {

@@ -4,7 +4,8 @@ use crate::telling::Host;
 use crate::{edits, flags, mails, reports, runs, scripts, texts, values};
 use std::io;
 
-const WORDS: &str = "is contains contains_in contains_in/short matches Captures \
+const WORDS: &str =
+    "is stands contains contains_in contains_in/short matches Captures replaced replaced/plain \
     flags_of union without FlagList::add FlagList::add/held \
     FlagList::add_text FlagList::add_text/held FlagList \
     Message::new Message::new/bare Message::value Message::decoded decoded_value decoded_value/unknown addresses \
@@ -38,11 +39,14 @@ pub(crate) fn call(rt: &impl Host, word: &str) -> io::Result<()> {
 fn call_texts(rt: &impl Host, word: &str) -> Option<io::Result<()>> {
     Some(match word {
         "is" => texts::compare(rt),
+        "stands" => texts::compare_numbers(rt),
         "contains" => texts::search(rt),
         "contains_in" => texts::search_in(rt, texts::KEY),
         "contains_in/short" => texts::search_in(rt, texts::SHORT_KEY),
         "matches" => texts::match_pattern(rt),
         "Captures" => texts::ask_captures(rt),
+        "replaced" => texts::replace(rt, texts::SEQUENCES),
+        "replaced/plain" => texts::replace(rt, texts::NO_SEQUENCE),
         "flags_of" => flags::read(rt),
         "union" => flags::join(rt),
         "without" => flags::take_away(rt),

@@ -7,10 +7,11 @@ use Rattle.std.specs.Option.{option_and_then}
 use Rattle.std.specs.Prelude.{if◌then◌else◌}
 use Rattle.sieve_profile.specs.Profile.{Profile}
 use Rattle.sieve_syntax.specs.Tree.{Argument, Block, Node, Tests}
-use Rattle.sieve_check.specs.Absent.{command_lacks, comparator_lacks, is_absent_tag, lacks, row_lacks, test_lacks}
-use Rattle.sieve_check.specs.Breach.{breaches_in, breaches_of, breaks, command_breaks, test_breaks}
+use Rattle.sieve_check.specs.Absent.{command_lacks, comparator_lacks, is_absent_tag, lacks, row_lacks, said_lacks, test_lacks}
+use Rattle.sieve_check.specs.Breach.{breaches_in, breaches_of, breaks, command_breaks, said_breaks, test_breaks}
 use Rattle.sieve_check.specs.Context.{Context}
 use Rattle.sieve_check.specs.Element.{Element, elements_of, the_command, the_number, the_test, the_text}
+use Rattle.sieve_check.specs.Said.{said}
 use Rattle.sieve_check.specs.Use.{has_bad_tag, has_late_tag, has_repeated, is_other_tag}
 use Rattle.sieve_reading.specs.Label.{Expected, expected_behind, expecting, label_at, labels_from, slots_of}
 use Rattle.sieve_reading.specs.Shape.{known_labels, known_shape, known_shapes, shape_of, shapes_of}
@@ -84,8 +85,11 @@ module _ (p : Profile) where
   element_there (the_command c name line args ts ending) unbroken = command_there c (command_named name) args ts ending unbroken
   element_there (the_test c name line args ts) unbroken = test_there c (test_named name) args ts unbroken
   element_there (the_text c role text) unbroken =
-      ap (λ b. b || comparator_lacks role text.string) (unbroken UnknownCapability)
-      ∙ unbroken UnknownComparator
+      by_said (said c.required role text.string) unbroken
+    where
+      by_said : (o : Option (List ℕ)) → ((rule : Rule) → said_breaks (under p c) role o rule ≡ false) → said_lacks p (under p c) role o ≡ false
+      by_said None unbroken = refl
+      by_said (Some octets) unbroken = ap (λ b. b || comparator_lacks p role octets) (unbroken UnknownCapability) ∙ unbroken UnknownComparator
   element_there (the_number value line) unbroken = refl
 
   all_there : (es : List Element) → breaches_in (map (reprofiled p) es) ≡ [] → All (λ e. lacks p e ≡ false) (map (reprofiled p) es)

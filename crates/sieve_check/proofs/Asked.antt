@@ -1,9 +1,10 @@
 -- A row gives what the reading of its command or test asks for, and the reading goes by nothing else.
 use Rattle.std.proofs.Common.{◌≡◌, true, List, refl, ap, ◌∙◌}
 use Rattle.match_text.specs.Comparator.{collation_named}
+use Rattle.match_text.specs.Relation.{relation_named}
 use Rattle.sieve_check.specs.Asked.{AreAlike, asked_by_command, asked_by_test, changing_flags, comparing, gives_all}
 use Rattle.sieve_reading.specs.CommandReading as commands
-use Rattle.sieve_reading.specs.Given.{address_part_of, collation_or_casemap, given_text, given_texts, has_tag, in_role, match_type_of, tags_of}
+use Rattle.sieve_reading.specs.Given.{address_part_of, collation_or_casemap, given_text, given_texts, has_tag, in_role, match_type_of, relation_or_eq, tags_of}
 use Rattle.sieve_reading.specs.Reading.{ValueSource, address_values, compares, envelope_values, exists_ask, fileinto_leaf, flag_leaf, flag_values, header_values, include_leaf, keep_leaf, mailboxes_ask, reads_act, reads_ask, redirect_leaf, set_leaf, string_values}
 use Rattle.sieve_reading.specs.TestReading as tests
 use Rattle.sieve_reading.specs.Tree.{Argument}
@@ -37,7 +38,7 @@ module _ (labels others : List Label) (args arguments : List Argument) (same_tag
   compare_alike : (source another : ValueSource) → source ≡ another → AreAlike comparing labels others args arguments → reads_ask (tests.compares_by source labels args) ≡ reads_ask (tests.compares_by another others arguments)
   compare_alike source another same alike =
       three (λ s c k. reads_ask (compares s c k)) same
-      (two (λ t name. record { match_type = match_type_of t; collation = collation_or_casemap (collation_named name) }) same_tags alike.1.0) alike.0
+      (three (λ t name relation. record { match_type = match_type_of t (relation_or_eq (relation_named relation)); collation = collation_or_casemap (collation_named name) }) same_tags alike.1.0 alike.1.1.0) alike.0
 
   pub tests_alike : (kind : TestKind) → AreAlike (asked_by_test kind) labels others args arguments → tests.test_reading_by kind labels args ≡ tests.test_reading_by kind others arguments
   tests_alike test.Header alike = compare_alike _ _ (ap header_values alike.0) alike.1

@@ -3,12 +3,14 @@ use Rattle.std.proofs.Common.{◌≡◌, List, [], ◌∷◌, map, drop, Option,
 use Rattle.sieve_syntax.specs.Tree as syntax
 use Rattle.sieve_check.specs.Bare.{bare_argument, bare_block, bare_node, bare_nodes, bare_test, bare_test_list, bare_tests, bare_text}
 use Rattle.sieve_check.specs.Context.{Context, behind, behind_kind, inside, script_start}
-use Rattle.sieve_check.specs.Parted.{command_labels, parted, parted_argument, parted_block, parted_labelled, parted_node, parted_nodes, parted_test, parted_test_list, parted_tests, parted_text, test_labels}
+use Rattle.sieve_check.specs.Parted.{command_labels, parted, parted_argument, parted_block, parted_labelled, parted_node, parted_nodes, parted_said, parted_test, parted_test_list, parted_tests, parted_text, test_labels}
+use Rattle.sieve_check.specs.Said.{said_argument, said_arguments, said_text}
 use Rattle.sieve_reading.specs.Role.{first_role}
 use Rattle.sieve_syntax.specs.TreeOf.{strings, test, one_test, test_list, more_tests, block, Node, node, Nodes, end_nodes, more_nodes, items, nodes}
 use Rattle.sieve_reading.specs.declared.label.Label.{Label}
 use Rattle.sieve_profile.specs.Profile.{Profile}
 use Rattle.sieve_table.specs.Known.{known_command, known_test}
+use Rattle.sieve_table.specs.Required.{Required}
 use Rattle.sieve_table.specs.declared.row.Role.{Role}
 
 -- ARGUMENTS
@@ -28,12 +30,32 @@ arguments_kept context labels (a ∷ args) =
     ap (λ x. x ∷ map bare_argument (parted_labelled context (drop 1 labels) args)) (argument_kept context (first_role labels) a)
     ∙ ap (λ l. bare_argument a ∷ l) (arguments_kept context (drop 1 labels) args)
 
+-- what strings say changes nothing else either
+
+texts_said : (required : Required) (role : Option Role) (ts : List syntax.Text) → map bare_text (map (said_text required role) ts) ≡ map bare_text ts
+texts_said required role [] = refl
+texts_said required role (t ∷ ts) = ap (λ l. bare_text t ∷ l) (texts_said required role ts)
+
+argument_said : (required : Required) (role : Option Role) (a : syntax.Argument) → bare_argument (said_argument required role a) ≡ bare_argument a
+argument_said required role (syntax.strings items bracketed) = ap (λ l. strings l bracketed) (texts_said required role items)
+argument_said required role (syntax.number value line) = refl
+argument_said required role (syntax.tag name line) = refl
+
+arguments_said : (required : Required) (labels : List Label) (args : List syntax.Argument) → map bare_argument (said_arguments required labels args) ≡ map bare_argument args
+arguments_said required labels [] = refl
+arguments_said required labels (a ∷ args) =
+    ap (λ x. x ∷ map bare_argument (said_arguments required (drop 1 labels) args)) (argument_said required (first_role labels) a)
+    ∙ ap (λ l. bare_argument a ∷ l) (arguments_said required (drop 1 labels) args)
+
+both_kept : (context : Context) (labels : List Label) (args : List syntax.Argument) → map bare_argument (parted_said context labels args) ≡ map bare_argument args
+both_kept context labels args = arguments_kept context labels (said_arguments context.required labels args) ∙ arguments_said context.required labels args
+
 -- TESTS
 
 mutual
   test_kept : (t : syntax.Test) (context : Context) → bare_test (parted_test context t) ≡ bare_test t
   test_kept (syntax.test name line args ts) context =
-      ap (λ x. test name line x (bare_tests (parted_tests context ts))) (arguments_kept context (test_labels context.profile (known_test context.profile name) args) args)
+      ap (λ x. test name line x (bare_tests (parted_tests context ts))) (both_kept context (test_labels context.profile (known_test context.profile name) args) args)
       ∙ ap (λ x. test name line (map bare_argument args) x) (tests_kept ts context)
 
   tests_kept : (ts : syntax.Tests) (context : Context) → bare_tests (parted_tests context ts) ≡ bare_tests ts
@@ -53,7 +75,7 @@ mutual
   node_kept : (n : syntax.Node) (context : Context) → bare_node (parted_node context n) ≡ bare_node n
   node_kept (syntax.node name line args ts ending) context =
       let within = behind_kind context (known_command context.profile name) args in
-      ap (λ x. node name line x (bare_tests (parted_tests context ts)) (bare_block (parted_block within ending))) (arguments_kept context (command_labels context.profile (known_command context.profile name) args) args)
+      ap (λ x. node name line x (bare_tests (parted_tests context ts)) (bare_block (parted_block within ending))) (both_kept context (command_labels context.profile (known_command context.profile name) args) args)
       ∙ ap (λ x. node name line (map bare_argument args) x (bare_block (parted_block within ending))) (tests_kept ts context)
       ∙ ap (λ x. node name line (map bare_argument args) (bare_tests ts) x) (block_kept ending within)
 

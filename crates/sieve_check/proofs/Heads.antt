@@ -7,7 +7,7 @@ use Rattle.sieve_syntax.specs.view.Tree.{argument_of, block_of, tests_of}
 use Rattle.sieve_syntax.specs.declared.tree.Argument as arguments
 use Rattle.sieve_syntax.specs.declared.tree.Command as commands
 use Rattle.sieve_syntax.specs.declared.tree.Test as one_tests
-use Rattle.sieve_check.specs.Breach.{Breach, breach_if, breaches_at, breaches_by, breaches_in, command_breaks, kind_breaks, test_breaks}
+use Rattle.sieve_check.specs.Breach.{Breach, breach_if, breaches_at, breaches_by, breaches_in, command_breaks, kind_breaks, test_breaks, use_lacks}
 use Rattle.sieve_table.specs.Rule.{all_rules}
 use Rattle.sieve_check.specs.CheckFault.{IsFirst}
 use Rattle.sieve_check.specs.Context.{Context, is_require, continues_if}
@@ -75,7 +75,7 @@ module _ (context : Context) (kind : CommandKind) (c : commands.Command) where
   unfolding by_places
   found_by = let o = commands.out-Command c in
       append_assoc (breach_if (is_require kind && not context.leads) o.line RequirePlace)
-      (breaches_by (kind_breaks false (continues_if kind && not context.follows_if) context.required (command_row kind) (known_shapes context.profile (command_row kind).tags (map argument_of o.args.items)) (tests_of o.tests) (has_block (block_of o.block))) o.line all_rules)
+      (breaches_by (kind_breaks false (continues_if kind && not context.follows_if) (use_lacks context.profile context.required (command_row kind) (map argument_of o.args.items)) (command_row kind) (known_shapes context.profile (command_row kind).tags (map argument_of o.args.items)) (tests_of o.tests) (has_block (block_of o.block))) o.line all_rules)
       (breaches_in (command_arguments context (Some kind) (map argument_of o.args.items) (tests_of o.tests) (block_of o.block)))
 
   pub require_misplaced : (line : ℕ) → line ≡ (commands.out-Command c).line → true ≡ (is_require kind && not context.leads) → IsFirst (kind_found context kind c) (faults.Breach line RequirePlace)

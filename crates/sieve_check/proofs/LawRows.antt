@@ -3,9 +3,9 @@ use Rattle.std.proofs.Common.{◌≡◌, ℕ, false, List, [], ◌∷◌, map, S
 use Rattle.sieve_syntax.specs.Tree as syntax
 use Rattle.sieve_syntax.specs.Symbol.{identifier, number_symbol, string_symbol}
 use Rattle.sieve_check.specs.Bare.{bare_node}
-use Rattle.sieve_check.specs.Context.{behind}
+use Rattle.sieve_check.specs.Context.{behind, script_start}
 use Rattle.sieve_check.specs.Element.{block_elements, elements_of, node_elements, nodes_elements, test_elements, tests_elements}
-use Rattle.sieve_check.specs.Naming.{declares, nodes_mentions, set_by, sets}
+use Rattle.sieve_check.specs.Naming.{declares, mentions_in, set_by, sets}
 use Rattle.sieve_check.specs.Order.{written_by}
 use Rattle.sieve_check.specs.Parted.{parted}
 use Rattle.sieve_check.specs.Readable.{IsReadable, ReadsBlock, ReadsNode, ReadsNodes, act_mark, choice_mark, marks, return_mark, stop_mark}
@@ -79,10 +79,10 @@ naming =
     naming_two (codes "set") (codes "Ab") ∷ naming_two (codes "set") (codes "aB") ∷ branch (codes "if") 1 (codes "true") (naming_two (codes "addflag") (codes "c")) ∷ naming_one (codes "global") (codes "d")
     ∷ naming_two (codes "set") (codes "D") ∷ naming_two (codes "set") (codes "1") ∷ naming_two (codes "setflag") (codes "E") ∷ naming_one (codes "setflag") (codes "f") ∷ []
 
-mentions_row : nodes_mentions empty_profile (syntax.nodes naming) ≡ sets (codes "Ab") ∷ sets (codes "aB") ∷ sets (codes "c") ∷ declares (codes "d") ∷ sets (codes "D") ∷ sets (codes "1") ∷ sets (codes "E") ∷ []
-unfolding command_named
+mentions_row : mentions_in (nodes_elements (script_start empty_profile) (syntax.nodes naming)) ≡ sets (codes "Ab") ∷ sets (codes "aB") ∷ sets (codes "c") ∷ declares (codes "d") ∷ sets (codes "D") ∷ sets (codes "1") ∷ sets (codes "E") ∷ []
+unfolding nodes_elements node_elements block_elements tests_elements test_elements command_named test_named behind
 mentions_row = refl
 
-set_row : set_by (nodes_mentions empty_profile (syntax.nodes naming)) ≡ codes "Ab" ∷ codes "c" ∷ codes "E" ∷ []
-unfolding command_named
+set_row : set_by (mentions_in (nodes_elements (script_start empty_profile) (syntax.nodes naming))) ≡ codes "Ab" ∷ codes "c" ∷ codes "E" ∷ []
+unfolding nodes_elements node_elements block_elements tests_elements test_elements command_named test_named behind
 set_row = refl

@@ -1,10 +1,9 @@
 -- The context behind a command of a kind.
 use Rattle.std.proofs.Common.{◌≡◌, Bool, ◌&&◌, List, Some, ap, ◌∙◌}
 use Rattle.sieve_syntax.specs.Tree.{Argument}
-use Rattle.sieve_check.specs.Context.{Context, allows_else, behind_kind, is_require, required_behind}
+use Rattle.sieve_check.specs.Context.{Context, allows_else, behind_kind, is_require, naming_said, required_behind}
 use Rattle.sieve_table.specs.Required.{Required}
-use Rattle.sieve_check.specs.Scope.{Scope, naming_arguments}
-use Rattle.sieve_profile.specs.Profile.{Profile}
+use Rattle.sieve_check.specs.Scope.{Scope}
 use Rattle.sieve_reading.specs.Shape.{known_labels}
 use Rattle.sieve_check.specs.view.Context.{at_spot}
 use Rattle.sieve_profile.specs.view.Profile.{profile_as}
@@ -14,13 +13,13 @@ use Rattle.sieve_check.specs.declared.context.Spot.{Spot}
 use Rattle.sieve_table.specs.Table.{command_row}
 use Rattle.sieve_table.specs.declared.table.CommandKind.{CommandKind}
 
-abbrev behind_by : Profile → Bool → Bool → Required → Scope → Context
-behind_by profile leads follows_if required scope = record { profile = profile; leads = leads; follows_if = follows_if; required = required; scope = scope }
+abbrev behind_by : Spot → Bool → Bool → Required → Scope → Context
+behind_by s leads follows_if required scope = record { profile = profile_as s.profile; leads = leads; follows_if = follows_if; required = required; finds_parts = s.finds_parts; scope = scope }
 
 pub spot_moves : (s : Spot) (kind : CommandKind) (args : List Argument) (leads follows_if : Bool) (required : requireds.Required) → leads ≡ (s.leads && is_require kind) → follows_if ≡ allows_else kind → ((scope : Scope) → required_as required ≡ required_behind (at_spot s scope) kind args)
-    → (scope : Scope) → at_spot (record { profile = s.profile; leads = leads; follows_if = follows_if; required = required }) (naming_arguments scope (known_labels (profile_as s.profile) (command_row kind) args) args) ≡ behind_kind (at_spot s scope) (Some kind) args
+    → (scope : Scope) → at_spot (record { profile = s.profile; leads = leads; follows_if = follows_if; required = required; finds_parts = s.finds_parts }) (naming_said (required_as s.required) scope (known_labels (profile_as s.profile) (command_row kind) args) args) ≡ behind_kind (at_spot s scope) (Some kind) args
 spot_moves s kind args leads follows_if required l f r scope =
-    let names = naming_arguments scope (known_labels (profile_as s.profile) (command_row kind) args) args in
-    ap (λ x. behind_by (profile_as s.profile) x follows_if (required_as required) names) l
-    ∙ ap (λ x. behind_by (profile_as s.profile) (s.leads && is_require kind) x (required_as required) names) f
-    ∙ ap (λ x. behind_by (profile_as s.profile) (s.leads && is_require kind) (allows_else kind) x names) (r scope)
+    let names = naming_said (required_as s.required) scope (known_labels (profile_as s.profile) (command_row kind) args) args in
+    ap (λ x. behind_by s x follows_if (required_as required) names) l
+    ∙ ap (λ x. behind_by s (s.leads && is_require kind) x (required_as required) names) f
+    ∙ ap (λ x. behind_by s (s.leads && is_require kind) (allows_else kind) x names) (r scope)

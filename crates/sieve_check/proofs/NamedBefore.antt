@@ -6,25 +6,27 @@ use Rattle.std.specs.List.{before_last, prefix_len, suffix_len}
 use Rattle.std.specs.Prelude.{if◌then◌else◌}
 use Rattle.sieve_syntax.specs.Tree.{Argument, strings, number, tag, Text, Test, test, Tests, no_tests, one_test, test_list, TestList, end_tests, more_tests, Node, node, Block, no_block, block, Nodes, end_nodes, more_nodes, nodes}
 use Rattle.sieve_check.specs.Context.{Context, behind, behind_kind, inside, script_start}
-use Rattle.sieve_check.specs.Element.{Element, argument_elements, block_elements, command_arguments, elements_of, labelled_elements, node_elements, nodes_elements, test_arguments, test_elements, test_list_elements, tests_elements, text_elements, the_command, the_number, the_test, the_text}
-use Rattle.sieve_check.specs.Naming.{HasSetBefore, element_mentions, is_command, mentions_in, Mention, block_mentions, command_mentions, node_mentions, nodes_mentions, set_by}
+use Rattle.sieve_check.specs.Element.{Element, among, argument_elements, block_elements, command_arguments, elements_of, judged_labels, labelled_elements, node_elements, nodes_elements, row_elements, test_arguments, test_elements, test_list_elements, tests_elements, text_elements, the_command, the_number, the_test, the_text}
+use Rattle.sieve_check.specs.Naming.{HasSetBefore, element_mentions, is_command, mentions_in, Mention, command_mentions, set_by}
 use Rattle.sieve_check.specs.Scope.{Scope, no_names}
+use Rattle.sieve_check.specs.Use.{has_block, is_well_used}
 use Rattle.sieve_reading.specs.Role.{first_role}
+use Rattle.sieve_reading.specs.Shape.{known_labels, known_shapes}
+use Rattle.sieve_table.specs.Table.{Row, command_row, test_row}
 use Rattle.sieve_reading.specs.declared.label.Label.{Label}
 use Rattle.sieve_profile.specs.Profile.{Profile}
 use Rattle.sieve_table.specs.Known.{known_command, known_test}
-use Rattle.sieve_check.proofs.Profiles.{kind_profile, node_profile}
 use Rattle.sieve_table.specs.declared.row.Role.{Role}
 use Rattle.sieve_table.specs.declared.table.CommandKind.{CommandKind}
 use Rattle.sieve_table.specs.declared.table.TestKind.{TestKind}
-use Rattle.sieve_check.proofs.Naming.{behind_mentions, in_turn, kind_mentions, node_names, set_so}
+use Rattle.sieve_check.proofs.Naming.{behind_mentions, block_writes, in_turn, kind_mentions, node_names, node_writes, nodes_writes, set_so}
 
 -- BEFORE EACH ELEMENT
 
 -- Elements in turn: `done` are the names written before the command that they stand in, `own` those that it writes.
 abbrev Goes : (done own : List Mention) → List Element → Type 0
 Goes done own [] = Unit {0}
-Goes done own (the_command context name line args ts ending ∷ es) = (context.scope.assigned ≡ set_by (done ++ own)) × Goes (done ++ own) (command_mentions context.profile (known_command context.profile name) args) es
+Goes done own (the_command context name line args ts ending ∷ es) = (context.scope.assigned ≡ set_by (done ++ own)) × Goes (done ++ own) (command_mentions context.profile context.required (known_command context.profile name) args) es
 Goes done own (the_test context name line args ts ∷ es) = (context.scope.assigned ≡ set_by done) × Goes done own es
 Goes done own (the_text context role text ∷ es) = (context.scope.assigned ≡ set_by done) × Goes done own es
 Goes done own (the_number value line ∷ es) = Goes done own es
@@ -46,13 +48,20 @@ module _ (done own : List Mention) (context : Context) (so : context.scope.assig
       subst (Goes done own) (sym (append_assoc (argument_elements context (first_role labels) a) (labelled_elements context (drop 1 labels) args) es))
       (argument_goes a (first_role labels) (labelled_elements context (drop 1 labels) args ++ es) (arguments_go args (drop 1 labels) es goes))
 
+-- and so do those of a use of a row
+module _ (done own : List Mention) (context : Context) (so : context.scope.assigned ≡ set_by done) where
+  row_goes : (row : Row) (args : List Argument) (ts : Tests) (ends : Bool) (es : List Element) → Goes done own es → Goes done own (row_elements context row args ts ends ++ es)
+  row_goes row args ts ends es goes =
+      let labels = known_labels context.profile row args in
+      arguments_go done own (among context labels) so args (judged_labels (is_well_used row (known_shapes context.profile row.tags args) ts ends) labels) es goes
+
   test_arguments_go : (k : Option TestKind) (args : List Argument) (ts : Tests) (es : List Element) → Goes done own es → Goes done own (test_arguments context k args ts ++ es)
-  test_arguments_go None args ts es goes = arguments_go args _ es goes
-  test_arguments_go (Some kind) args ts es goes = arguments_go args _ es goes
+  test_arguments_go None args ts es goes = arguments_go done own context so args [] es goes
+  test_arguments_go (Some kind) args ts es goes = row_goes (test_row kind) args ts false es goes
 
   command_arguments_go : (k : Option CommandKind) (args : List Argument) (ts : Tests) (ending : Block) (es : List Element) → Goes done own es → Goes done own (command_arguments context k args ts ending ++ es)
-  command_arguments_go None args ts ending es goes = arguments_go args _ es goes
-  command_arguments_go (Some kind) args ts ending es goes = arguments_go args _ es goes
+  command_arguments_go None args ts ending es goes = arguments_go done own context so args [] es goes
+  command_arguments_go (Some kind) args ts ending es goes = row_goes (command_row kind) args ts (has_block ending) es goes
 
   mutual
     unfolding test_elements tests_elements test_list_elements
@@ -89,36 +98,39 @@ GoesOn names es = (done own : List Mention) → done ++ own ≡ names → Goes d
 mutual
   unfolding node_elements block_elements nodes_elements
 
-  node_goes : (n : Node) (context : Context) (done own : List Mention) → Behind context.scope (done ++ own) → (es : List Element) → GoesOn ((done ++ own) ++ node_mentions context.profile n) es → Goes done own (node_elements context n ++ es)
+  node_goes : (n : Node) (context : Context) (done own : List Mention) → Behind context.scope (done ++ own) → (es : List Element) → GoesOn ((done ++ own) ++ node_writes context n) es → Goes done own (node_elements context n ++ es)
   node_goes (node name line args ts ending) context done own so es goes =
       let k = known_command context.profile name in
+      let its = command_mentions context.profile context.required k args in
+      let within = behind_kind context k args in
       let own_args = command_arguments context k args ts ending in
       let its_tests = tests_elements context ts in
-      let its_block = block_elements (behind_kind context k args) ending in
+      let its_block = block_elements within ending in
       let now = ap (λ s. s.assigned) so ∙ set_so (done ++ own) in (
         now,
-        subst (Goes (done ++ own) (command_mentions context.profile k args)) (sym (append_assoc own_args (its_tests ++ its_block) es))
-            (command_arguments_go (done ++ own) (command_mentions context.profile k args) context now k args ts ending ((its_tests ++ its_block) ++ es)
-            (subst (Goes (done ++ own) (command_mentions context.profile k args)) (sym (append_assoc its_tests its_block es))
-            (tests_go (done ++ own) (command_mentions context.profile k args) context now ts (its_block ++ es)
-            (block_goes ending (behind_kind context k args) (done ++ own) (command_mentions context.profile k args)
-            (behind_more context.scope (behind_kind context k args).scope (done ++ own) (command_mentions context.profile k args) so (kind_mentions context k args)) es
-            (λ d o e. goes d o (e ∙ ap (λ p. ((done ++ own) ++ command_mentions context.profile k args) ++ block_mentions p ending) (kind_profile context k args) ∙ append_assoc (done ++ own) (command_mentions context.profile k args) (block_mentions context.profile ending))))))),
+        subst (Goes (done ++ own) its) (sym (append_assoc own_args (its_tests ++ its_block) es))
+            (command_arguments_go (done ++ own) its context now k args ts ending ((its_tests ++ its_block) ++ es)
+            (subst (Goes (done ++ own) its) (sym (append_assoc its_tests its_block es))
+            (tests_go (done ++ own) its context now ts (its_block ++ es)
+            (block_goes ending within (done ++ own) its
+            (behind_more context.scope within.scope (done ++ own) its so (kind_mentions context k args)) es
+            (λ d o e. goes d o (e ∙ append_assoc (done ++ own) its (block_writes within ending))))))),
       )
 
-  block_goes : (b : Block) (context : Context) (done own : List Mention) → Behind context.scope (done ++ own) → (es : List Element) → GoesOn ((done ++ own) ++ block_mentions context.profile b) es → Goes done own (block_elements context b ++ es)
+  block_goes : (b : Block) (context : Context) (done own : List Mention) → Behind context.scope (done ++ own) → (es : List Element) → GoesOn ((done ++ own) ++ block_writes context b) es → Goes done own (block_elements context b ++ es)
   block_goes no_block context done own so es goes = goes done own (sym (append-nil (done ++ own)))
   block_goes (block ns) context done own so es goes = nodes_go ns (inside context) done own so es goes
 
-  nodes_go : (ns : Nodes) (context : Context) (done own : List Mention) → Behind context.scope (done ++ own) → (es : List Element) → GoesOn ((done ++ own) ++ nodes_mentions context.profile ns) es → Goes done own (nodes_elements context ns ++ es)
+  nodes_go : (ns : Nodes) (context : Context) (done own : List Mention) → Behind context.scope (done ++ own) → (es : List Element) → GoesOn ((done ++ own) ++ nodes_writes context ns) es → Goes done own (nodes_elements context ns ++ es)
   nodes_go end_nodes context done own so es goes = goes done own (sym (append-nil (done ++ own)))
   nodes_go (more_nodes n ns) context done own so es goes =
-      let rest = nodes_elements (behind context n) ns in
-      let next = behind_more context.scope (behind context n).scope (done ++ own) (node_mentions context.profile n) so (node_names n context) in
+      let next = behind context n in
+      let rest = nodes_elements next ns in
+      let moved = behind_more context.scope next.scope (done ++ own) (node_writes context n) so (node_names n context) in
       subst (Goes done own) (sym (append_assoc (node_elements context n) rest es))
       (node_goes n context done own so (rest ++ es)
-      (λ d o e. nodes_go ns (behind context n) d o (next ∙ sym (ap (behind_mentions no_names) e)) es
-      (λ d' o' e'. goes d' o' (e' ∙ ap (λ p. (d ++ o) ++ nodes_mentions p ns) (node_profile n context) ∙ ap (λ l. l ++ nodes_mentions context.profile ns) e ∙ append_assoc (done ++ own) (node_mentions context.profile n) (nodes_mentions context.profile ns)))))
+      (λ d o e. nodes_go ns next d o (moved ∙ sym (ap (behind_mentions no_names) e)) es
+      (λ d' o' e'. goes d' o' (e' ∙ ap (λ l. l ++ nodes_writes next ns) e ∙ append_assoc (done ++ own) (node_writes context n) (nodes_writes next ns)))))
 
 all_go : (profile : Profile) (tree : List Node) → Goes [] [] (elements_of profile tree)
 all_go profile tree = subst (Goes [] []) (append-nil (elements_of profile tree)) (nodes_go (nodes tree) (script_start profile) [] [] refl [] (λ d o e. tt))
@@ -164,7 +176,7 @@ more_mentions front e names all = flat_map-append element_mentions front (e ∷ 
 
 -- `front` and a command behind it stand before the elements of that command
 command_stands : (front : List Element) (done own : List Mention) (context : Context) (name : List ℕ) (line : ℕ) (args : List Argument) (ts : Tests) (ending : Block) → StandsBefore done own front
-    → StandsBefore (done ++ own) (command_mentions context.profile (known_command context.profile name) args) (front ++ the_command context name line args ts ending ∷ [])
+    → StandsBefore (done ++ own) (command_mentions context.profile context.required (known_command context.profile name) args) (front ++ the_command context name line args ts ending ∷ [])
 command_stands front done own context name line args ts ending stands =
     let e = the_command context name line args ts ending in
     record { all = more_mentions front e (done ++ own) stands.all; old = ap mentions_in (before_push is_command e front true refl) ∙ stands.all }
@@ -185,7 +197,7 @@ each_goes (x ∷ es) zero e front done own stands goes is =
     subst (λ l. HasSetBefore l e) (sym (append-nil front)) (subst (HasSetBefore front) (one_of x e is) (here_goes x es front done own stands goes))
 each_goes (the_command context name line args ts ending ∷ es) (suc place) e front done own stands goes is =
     past front (the_command context name line args ts ending) e (take place es)
-    (each_goes es place e (front ++ the_command context name line args ts ending ∷ []) (done ++ own) (command_mentions context.profile (known_command context.profile name) args) (command_stands front done own context name line args ts ending stands) goes.1 is)
+    (each_goes es place e (front ++ the_command context name line args ts ending ∷ []) (done ++ own) (command_mentions context.profile context.required (known_command context.profile name) args) (command_stands front done own context name line args ts ending stands) goes.1 is)
 each_goes (the_test context name line args ts ∷ es) (suc place) e front done own stands goes is =
     past front (the_test context name line args ts) e (take place es)
     (each_goes es place e (front ++ the_test context name line args ts ∷ []) done own (other_stands front done own (the_test context name line args ts) refl refl stands) goes.1 is)

@@ -1,6 +1,7 @@
 -- The variables that a text sets are those that the names written in it set.
 use Rattle.sieve_base.specs.Octet.{is_among}
 use Rattle.std.proofs.Common.{◌≡◌, ℕ, Bool, true, false, not, ◌&&◌, ◌||◌, List, [], ◌∷◌, ◌++◌, map, drop, Option, None, Some, refl, sym, ap, ◌∙◌, append-nil, append_assoc}
+use Rattle.std.proofs.lemmas.Grind.{flat_map-append}
 use Rattle.std.proofs.lemmas.List.{map-append}
 use Rattle.std.proofs.lemmas.List.Elements.{filter_agree}
 use Rattle.std.specs.Bool.{one_answer}
@@ -8,21 +9,24 @@ use Rattle.std.specs.List.{filter, list_any}
 use Rattle.std.specs.Prelude.{if◌then◌else◌, nat_eq}
 use Rattle.std.specs.Str.{str_eq_ignore_ascii_case}
 use lib.Pointwise.{bytes_decides, pointwise}
-use Rattle.sieve_syntax.specs.Tree.{Argument, strings, number, tag, Text, Node, node, Block, no_block, block, Nodes, end_nodes, more_nodes}
+use Rattle.sieve_syntax.specs.Tree.{Argument, strings, number, tag, Text, Test, test, Tests, no_tests, one_test, test_list, TestList, end_tests, more_tests, Node, node, Block, no_block, block, Nodes, end_nodes, more_nodes}
 use Rattle.sieve_check.specs.Context.{Context, behind, behind_block, behind_kind, behind_nodes, inside, script_start}
-use Rattle.sieve_check.specs.Naming.{Mention, sets, declares, block_mentions, command_mentions, names_in_role, node_mentions, nodes_mentions, octets_in, set_by, without_name}
+use Rattle.sieve_check.specs.Element.{Element, among, argument_elements, block_elements, command_arguments, judged_labels, labelled_elements, node_elements, nodes_elements, row_elements, test_arguments, test_elements, test_list_elements, tests_elements, text_elements}
+use Rattle.sieve_check.specs.Naming.{Mention, sets, declares, command_mentions, element_mentions, mentions_in, names_in_role, octets_in, set_by, without_name}
+use Rattle.sieve_check.specs.Said.{said_arguments}
 use Rattle.sieve_check.specs.Scope.{Scope, assigning, assigning_argument, assigning_arguments, assigning_texts, declaring_argument, declaring_texts, is_assigned, no_names, with_declared}
 use Rattle.sieve_reading.specs.Role.{first_role}
 use Rattle.sieve_table.specs.Role.{has_role}
-use Rattle.sieve_reading.specs.Shape.{known_labels}
+use Rattle.sieve_reading.specs.Shape.{known_labels, known_shapes}
+use Rattle.sieve_check.specs.Use.{has_block, is_well_used}
 use Rattle.sieve_reading.specs.declared.label.Label.{Label}
 use Rattle.sieve_profile.specs.Profile.{Profile}
-use Rattle.sieve_table.specs.Known.{known_command}
-use Rattle.sieve_table.specs.Table.{command_row}
-use Rattle.sieve_check.proofs.Profiles.{kind_profile, node_profile}
+use Rattle.sieve_table.specs.Known.{known_command, known_test}
+use Rattle.sieve_table.specs.Table.{Row, command_row, test_row}
 use Rattle.sieve_table.specs.declared.row.Role.{Role}
 use Rattle.sieve_table.specs.declared.row.Role.TheVariants.{NameToSet, NamesToDeclare}
 use Rattle.sieve_table.specs.declared.table.CommandKind.{CommandKind}
+use Rattle.sieve_table.specs.declared.table.TestKind.{TestKind}
 use Rattle.sieve_variables.specs.Name.{folded_name, is_identifier}
 use Rattle.sieve_variables.specs.Variable.{with_name}
 
@@ -117,38 +121,123 @@ arguments_declare (a ∷ args) scope labels =
 
 -- COMMANDS
 
-pub kind_mentions : (context : Context) (k : Option CommandKind) (args : List Argument) → (behind_kind context k args).scope ≡ behind_mentions context.scope (command_mentions context.profile k args)
+pub kind_mentions : (context : Context) (k : Option CommandKind) (args : List Argument) → (behind_kind context k args).scope ≡ behind_mentions context.scope (command_mentions context.profile context.required k args)
 kind_mentions context None args = refl
 kind_mentions context (Some kind) args =
     let labels = known_labels context.profile (command_row kind) args in
-    let first = map sets (names_in_role NameToSet labels args) in
-    let then_those = map declares (names_in_role NamesToDeclare labels args) in
-    ap (λ s. with_declared s labels args) (arguments_set args context.scope labels)
-    ∙ arguments_declare args (behind_mentions context.scope first) labels
+    let said = said_arguments context.required labels args in
+    let first = map sets (names_in_role NameToSet labels said) in
+    let then_those = map declares (names_in_role NamesToDeclare labels said) in
+    ap (λ s. with_declared s labels said) (arguments_set said context.scope labels)
+    ∙ arguments_declare said (behind_mentions context.scope first) labels
     ∙ sym (in_turn first then_those context.scope)
+
+-- the names that a command and its block write, in the order of the text, where this stands before it
+abbrev mutual
+  pub node_writes : Context → Node → List Mention
+  node_writes context (node name line args ts ending) = command_mentions context.profile context.required (known_command context.profile name) args ++ block_writes (behind_kind context (known_command context.profile name) args) ending
+
+  pub block_writes : Context → Block → List Mention
+  block_writes context no_block = []
+  block_writes context (block ns) = nodes_writes (inside context) ns
+
+  pub nodes_writes : Context → Nodes → List Mention
+  nodes_writes context end_nodes = []
+  nodes_writes context (more_nodes n ns) = node_writes context n ++ nodes_writes (behind context n) ns
 
 mutual
   unfolding behind behind_block behind_nodes
 
-  pub node_names : (n : Node) (context : Context) → (behind context n).scope ≡ behind_mentions context.scope (node_mentions context.profile n)
+  pub node_names : (n : Node) (context : Context) → (behind context n).scope ≡ behind_mentions context.scope (node_writes context n)
   node_names (node name line args ts ending) context =
       let k = known_command context.profile name in
-      block_names ending (behind_kind context k args)
-      ∙ ap (λ p. behind_mentions (behind_kind context k args).scope (block_mentions p ending)) (kind_profile context k args)
-      ∙ ap (λ s. behind_mentions s (block_mentions context.profile ending)) (kind_mentions context k args)
-      ∙ sym (in_turn (command_mentions context.profile k args) (block_mentions context.profile ending) context.scope)
+      let within = behind_kind context k args in
+      block_names ending within
+      ∙ ap (λ s. behind_mentions s (block_writes within ending)) (kind_mentions context k args)
+      ∙ sym (in_turn (command_mentions context.profile context.required k args) (block_writes within ending) context.scope)
 
-  block_names : (b : Block) (context : Context) → (behind_block context b).scope ≡ behind_mentions context.scope (block_mentions context.profile b)
+  block_names : (b : Block) (context : Context) → (behind_block context b).scope ≡ behind_mentions context.scope (block_writes context b)
   block_names no_block context = refl
   block_names (block ns) context = nodes_names ns (inside context)
 
-  nodes_names : (ns : Nodes) (context : Context) → (behind_nodes context ns).scope ≡ behind_mentions context.scope (nodes_mentions context.profile ns)
+  nodes_names : (ns : Nodes) (context : Context) → (behind_nodes context ns).scope ≡ behind_mentions context.scope (nodes_writes context ns)
   nodes_names end_nodes context = refl
   nodes_names (more_nodes n ns) context =
       nodes_names ns (behind context n)
-      ∙ ap (λ p. behind_mentions (behind context n).scope (nodes_mentions p ns)) (node_profile n context)
-      ∙ ap (λ s. behind_mentions s (nodes_mentions context.profile ns)) (node_names n context)
-      ∙ sym (in_turn (node_mentions context.profile n) (nodes_mentions context.profile ns) context.scope)
+      ∙ ap (λ s. behind_mentions s (nodes_writes (behind context n) ns)) (node_names n context)
+      ∙ sym (in_turn (node_writes context n) (nodes_writes (behind context n) ns) context.scope)
+
+-- AMONG ELEMENTS
+
+then_mentions : (xs ys : List Element) (front rest : List Mention) → mentions_in xs ≡ front → mentions_in ys ≡ rest → mentions_in (xs ++ ys) ≡ front ++ rest
+then_mentions xs ys front rest first second = flat_map-append element_mentions xs ys ∙ ap (λ l. l ++ mentions_in ys) first ∙ ap (λ l. front ++ l) second
+
+texts_write_none : (context : Context) (role : Option Role) (ts : List Text) → mentions_in (text_elements context role ts) ≡ []
+texts_write_none context role [] = refl
+texts_write_none context role (t ∷ ts) = texts_write_none context role ts
+
+argument_writes_none : (context : Context) (role : Option Role) (a : Argument) → mentions_in (argument_elements context role a) ≡ []
+argument_writes_none context role (strings items bracketed) = texts_write_none context role items
+argument_writes_none context role (number value line) = refl
+argument_writes_none context role (tag name line) = refl
+
+arguments_write_none : (context : Context) (labels : List Label) (args : List Argument) → mentions_in (labelled_elements context labels args) ≡ []
+arguments_write_none context labels [] = refl
+arguments_write_none context labels (a ∷ args) =
+    then_mentions (argument_elements context (first_role labels) a) (labelled_elements context (drop 1 labels) args) [] []
+    (argument_writes_none context (first_role labels) a) (arguments_write_none context (drop 1 labels) args)
+
+row_writes_none : (context : Context) (row : Row) (args : List Argument) (ts : Tests) (ends : Bool) → mentions_in (row_elements context row args ts ends) ≡ []
+row_writes_none context row args ts ends =
+    let labels = known_labels context.profile row args in
+    arguments_write_none (among context labels) (judged_labels (is_well_used row (known_shapes context.profile row.tags args) ts ends) labels) args
+
+test_arguments_write_none : (context : Context) (k : Option TestKind) (args : List Argument) (ts : Tests) → mentions_in (test_arguments context k args ts) ≡ []
+test_arguments_write_none context None args ts = arguments_write_none context [] args
+test_arguments_write_none context (Some kind) args ts = row_writes_none context (test_row kind) args ts false
+
+command_arguments_write_none : (context : Context) (k : Option CommandKind) (args : List Argument) (ts : Tests) (ending : Block) → mentions_in (command_arguments context k args ts ending) ≡ []
+command_arguments_write_none context None args ts ending = arguments_write_none context [] args
+command_arguments_write_none context (Some kind) args ts ending = row_writes_none context (command_row kind) args ts (has_block ending)
+
+mutual
+  unfolding test_elements tests_elements test_list_elements
+
+  test_writes_none : (t : Test) (context : Context) → mentions_in (test_elements context t) ≡ []
+  test_writes_none (test name line args ts) context =
+      then_mentions (test_arguments context (known_test context.profile name) args ts) (tests_elements context ts) [] []
+      (test_arguments_write_none context (known_test context.profile name) args ts) (tests_write_none ts context)
+
+  tests_write_none : (ts : Tests) (context : Context) → mentions_in (tests_elements context ts) ≡ []
+  tests_write_none no_tests context = refl
+  tests_write_none (one_test t) context = test_writes_none t context
+  tests_write_none (test_list ts) context = test_list_writes_none ts context
+
+  test_list_writes_none : (ts : TestList) (context : Context) → mentions_in (test_list_elements context ts) ≡ []
+  test_list_writes_none end_tests context = refl
+  test_list_writes_none (more_tests t ts) context =
+      then_mentions (test_elements context t) (test_list_elements context ts) [] [] (test_writes_none t context) (test_list_writes_none ts context)
+
+mutual
+  unfolding node_elements block_elements nodes_elements
+
+  node_among : (n : Node) (context : Context) → mentions_in (node_elements context n) ≡ node_writes context n
+  node_among (node name line args ts ending) context =
+      let k = known_command context.profile name in
+      let within = behind_kind context k args in
+      ap (λ l. command_mentions context.profile context.required k args ++ l)
+      (then_mentions (command_arguments context k args ts ending) (tests_elements context ts ++ block_elements within ending) [] (block_writes within ending)
+      (command_arguments_write_none context k args ts ending)
+      (then_mentions (tests_elements context ts) (block_elements within ending) [] (block_writes within ending) (tests_write_none ts context) (block_among ending within)))
+
+  block_among : (b : Block) (context : Context) → mentions_in (block_elements context b) ≡ block_writes context b
+  block_among no_block context = refl
+  block_among (block ns) context = nodes_among ns (inside context)
+
+  pub nodes_among : (ns : Nodes) (context : Context) → mentions_in (nodes_elements context ns) ≡ nodes_writes context ns
+  nodes_among end_nodes context = refl
+  nodes_among (more_nodes n ns) context =
+      then_mentions (node_elements context n) (nodes_elements (behind context n) ns) (node_writes context n) (nodes_writes (behind context n) ns) (node_among n context) (nodes_among ns (behind context n))
 
 -- NAMES THAT ARE ONE
 
@@ -292,5 +381,5 @@ mentions_set (declares name ∷ ms) scope =
 pub set_so : (ms : List Mention) → (behind_mentions no_names ms).assigned ≡ set_by ms
 set_so ms = mentions_set ms no_names ∙ filter_all (set_by ms)
 
-pub names_set : (profile : Profile) (ns : Nodes) → (behind_nodes (script_start profile) ns).scope.assigned ≡ set_by (nodes_mentions profile ns)
-names_set profile ns = ap (λ s. s.assigned) (nodes_names ns (script_start profile)) ∙ set_so (nodes_mentions profile ns)
+pub names_set : (profile : Profile) (ns : Nodes) → (behind_nodes (script_start profile) ns).scope.assigned ≡ set_by (mentions_in (nodes_elements (script_start profile) ns))
+names_set profile ns = ap (λ s. s.assigned) (nodes_names ns (script_start profile)) ∙ set_so (nodes_writes (script_start profile) ns) ∙ sym (ap set_by (nodes_among ns (script_start profile)))

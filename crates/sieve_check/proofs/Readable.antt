@@ -9,8 +9,9 @@ use Rattle.sieve_syntax.specs.Tree as syntax
 use Rattle.sieve_check.specs.Breach.{breaches_in, breaches_of, command_breaks, test_breaks}
 use Rattle.sieve_check.specs.Context.{Context, allows_else, behind, behind_block, behind_kind, continues_if, inside, script_start}
 use Rattle.sieve_check.specs.Element.{block_elements, command_arguments, node_elements, nodes_elements, test_arguments, test_elements, test_list_elements, tests_elements, the_command, the_test}
-use Rattle.sieve_check.specs.Parted.{command_labels, parted, parted_argument, parted_block, parted_labelled, parted_node, parted_nodes, parted_test, parted_test_list, parted_tests, parted_text, test_labels}
+use Rattle.sieve_check.specs.Parted.{command_labels, parted, parted_argument, parted_block, parted_labelled, parted_node, parted_nodes, parted_said, parted_test, parted_test_list, parted_tests, parted_text, test_labels}
 use Rattle.sieve_check.specs.Readable.{IsReadable, Joins, ReadsBlock, ReadsNode, ReadsNodes, ReadsTest, ReadsTestList, ReadsTests, Stands, command_takes, may_go_on, needs_of, test_takes, tests_of_reading}
+use Rattle.sieve_check.specs.Said.{said_argument, said_arguments, said_text}
 use Rattle.sieve_check.specs.Use.{block_fits, has_bad_arguments, has_bad_tag, has_block, has_late_tag, has_repeated, is_other_tag, is_well_used, lacks_kind, lacks_own, tests_fit, tests_there}
 use Rattle.sieve_reading.specs.CommandReading as commands
 use Rattle.sieve_reading.specs.Label.{Expected, expected_behind, expecting, label_at, labels_from, labels_of, row_is_filled, slots_of}
@@ -25,6 +26,7 @@ use Rattle.sieve_reading.specs.declared.label.Shape.TheVariants as shape
 use Rattle.sieve_profile.proofs.Each.{of_each}
 use Rattle.sieve_profile.specs.Profile.{Profile}
 use Rattle.sieve_table.specs.Known.{is_known_row, is_known_tag, known_command, known_test, only_if}
+use Rattle.sieve_table.specs.Required.{Required}
 use Rattle.sieve_table.specs.Table.{Row, command_named, command_row, test_named, test_row}
 use Rattle.sieve_table.specs.contracts.row.Inner as inners
 use Rattle.sieve_table.specs.contracts.table.CommandKind as every_command
@@ -58,6 +60,20 @@ module _ (context : Context) where
       ap (λ s. s ∷ shapes_of tags (parted_labelled context (drop 1 labels) args)) (same_shape tags (first_role labels) a)
       ∙ ap (λ l. shape_of tags a ∷ l) (same_shapes tags (drop 1 labels) args)
 
+module _ (required : Required) where
+  -- and so does one that says what its strings do
+  said_shape : (tags : List Tag) (r : Option Role) (a : syntax.Argument) → shape_of tags (said_argument required r a) ≡ shape_of tags a
+  said_shape tags r (syntax.strings items bracketed) = ap (λ n. texts_shape n bracketed) (length-map (said_text required r) items)
+  said_shape tags r (syntax.number value line) = refl
+  said_shape tags r (syntax.tag name line) = refl
+
+  said_shapes : (tags : List Tag) (labels : List Label) (args : List syntax.Argument) → shapes_of tags (said_arguments required labels args) ≡ shapes_of tags args
+  said_shapes tags labels [] = refl
+  said_shapes tags labels (a ∷ args) =
+      ap (λ s. s ∷ shapes_of tags (said_arguments required (drop 1 labels) args)) (said_shape tags (first_role labels) a)
+      ∙ ap (λ l. shape_of tags a ∷ l) (said_shapes tags (drop 1 labels) args)
+
+module _ (context : Context) where
   same_tests : (ts : syntax.Tests) → tests_there (parted_tests context ts) ≡ tests_there ts
   same_tests syntax.no_tests = refl
   same_tests (syntax.one_test t) = refl
@@ -107,11 +123,11 @@ module _ (profile : Profile) where
 -- what is as its row says still is when its strings are cut, and where all tags are known
 still_used : (context within : Context) (row : Row) (args : List syntax.Argument) (ts : syntax.Tests) (ending : syntax.Block) → let known = known_labels context.profile row args in
     has_bad_tag known ≡ false → has_bad_arguments row (known_shapes context.profile row.tags args) ts (has_block ending) ≡ false
-    → is_well_used row (shapes_of row.tags (parted_labelled context known args)) (parted_tests context ts) (has_block (parted_block within ending)) ≡ true
+    → is_well_used row (shapes_of row.tags (parted_said context known args)) (parted_tests context ts) (has_block (parted_block within ending)) ≡ true
 still_used context within row args ts ending tags arguments =
     let known = known_labels context.profile row args in
     let shapes = known_shapes context.profile row.tags args in
-    ap (λ shapes. used_by row shapes (tests_there (parted_tests context ts)) (has_block (parted_block within ending))) (same_shapes context row.tags known args ∙ sym (row_known context.profile row args tags))
+    ap (λ shapes. used_by row shapes (tests_there (parted_tests context ts)) (has_block (parted_block within ending))) (same_shapes context row.tags known (said_arguments context.required known args) ∙ said_shapes context.required row.tags known args ∙ sym (row_known context.profile row args tags))
     ∙ ap (λ there. used_by row shapes there (has_block (parted_block within ending))) (same_tests context ts)
     ∙ ap (used_by row shapes (tests_there ts)) (same_block within ending)
     ∙ well_used (has_bad_tag known) (has_bad_arguments row shapes ts (has_block ending)) tags arguments
@@ -172,29 +188,29 @@ command_says_so k labels args =
 module _ (context : Context) where
   -- a test of some kind or none, where it is known, that breaks no rule is of a kind, takes its arguments, and is read
   known_test_is_read : (kind : TestKind) (known : Bool) (args : List syntax.Argument) (ts : syntax.Tests) → ((rule : Rule) → test_breaks context (if known then Some kind else None) args ts rule ≡ false)
-      → let cut = parted_labelled context (test_labels context.profile (if known then Some kind else None) args) args in (test_takes (Some kind) cut (parted_tests context ts) ≡ true) × Joins (Some (tests.test_kind_reading kind cut)) (parted_tests context ts)
+      → let cut = parted_said context (test_labels context.profile (if known then Some kind else None) args) args in (test_takes (Some kind) cut (parted_tests context ts) ≡ true) × Joins (Some (tests.test_kind_reading kind cut)) (parted_tests context ts)
   known_test_is_read kind false args ts unbroken = absurd (never_both (unbroken UnknownCommand))
   known_test_is_read kind true args ts unbroken =
       let row = test_row kind in
-      let cut = parted_labelled context (known_labels context.profile row args) args in
+      let cut = parted_said context (known_labels context.profile row args) args in
       let used = still_used context context row args ts syntax.no_block (unbroken BadTag) (unbroken BadArguments) in
       let ends = ends_well row (shapes_of row.tags cut) (tests_there (parted_tests context ts)) false used in
       (used, subst (λ i. tests_fit i (parted_tests context ts) ≡ true) (sym (tests_read_of kind (row_labels row cut) cut)) ends.0)
 
   test_is_read : (k : Option TestKind) (args : List syntax.Argument) (ts : syntax.Tests) → let known = option_and_then (only_if (λ kind. is_known_row context.profile (test_row kind))) k in
       ((rule : Rule) → test_breaks context known args ts rule ≡ false)
-      → let cut = parted_labelled context (test_labels context.profile known args) args in (test_takes k cut (parted_tests context ts) ≡ true) × Joins (option_map (λ kind. tests.test_kind_reading kind cut) k) (parted_tests context ts)
+      → let cut = parted_said context (test_labels context.profile known args) args in (test_takes k cut (parted_tests context ts) ≡ true) × Joins (option_map (λ kind. tests.test_kind_reading kind cut) k) (parted_tests context ts)
   test_is_read None args ts unbroken = absurd (never_both (unbroken UnknownCommand))
   test_is_read (Some kind) args ts unbroken = known_test_is_read kind (is_known_row context.profile (test_row kind)) args ts unbroken
 
   -- a command of some kind or none, where it is known, that breaks no rule is of a kind, takes its arguments, and stands where it may
   known_command_is_read : (within : Context) (kind : CommandKind) (known : Bool) (args : List syntax.Argument) (ts : syntax.Tests) (ending : syntax.Block) → ((rule : Rule) → command_breaks context (if known then Some kind else None) args ts ending rule ≡ false)
-      → let cut = parted_labelled context (command_labels context.profile (if known then Some kind else None) args) args in
+      → let cut = parted_said context (command_labels context.profile (if known then Some kind else None) args) args in
       (command_takes (Some kind) cut (parted_tests context ts) (parted_block within ending) ≡ true) × Stands context.follows_if (Some (commands.command_kind_reading kind cut)) (parted_tests context ts) (parted_block within ending)
   known_command_is_read within kind false args ts ending unbroken = absurd (never_both (unbroken UnknownCommand))
   known_command_is_read within kind true args ts ending unbroken =
       let row = command_row kind in
-      let cut = parted_labelled context (known_labels context.profile row args) args in
+      let cut = parted_said context (known_labels context.profile row args) args in
       let used = still_used context within row args ts ending (unbroken BadTag) (unbroken BadArguments) in
       let ends = ends_well row (shapes_of row.tags cut) (tests_there (parted_tests context ts)) (has_block (parted_block within ending)) used in
       let says = command_says_so kind (row_labels row cut) cut in
@@ -208,7 +224,7 @@ module _ (context : Context) where
 
   command_is_read : (within : Context) (k : Option CommandKind) (args : List syntax.Argument) (ts : syntax.Tests) (ending : syntax.Block) → let known = option_and_then (only_if (λ kind. is_known_row context.profile (command_row kind))) k in
       ((rule : Rule) → command_breaks context known args ts ending rule ≡ false)
-      → let cut = parted_labelled context (command_labels context.profile known args) args in
+      → let cut = parted_said context (command_labels context.profile known args) args in
       (command_takes k cut (parted_tests context ts) (parted_block within ending) ≡ true) × Stands context.follows_if (option_map (λ kind. commands.command_kind_reading kind cut) k) (parted_tests context ts) (parted_block within ending)
   command_is_read within None args ts ending unbroken = absurd (never_both (unbroken UnknownCommand))
   command_is_read within (Some kind) args ts ending unbroken = known_command_is_read within kind (is_known_row context.profile (command_row kind)) args ts ending unbroken

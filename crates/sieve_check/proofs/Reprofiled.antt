@@ -1,16 +1,19 @@
 -- A script is judged alike by profiles by which the same capabilities are known, but for what may be required.
-use Rattle.std.proofs.Common.{◌≡◌, ℕ, Bool, false, List, [], ◌∷◌, ◌++◌, map, drop, Option, None, Some, refl, sym, ap, ◌∙◌}
+use Rattle.std.proofs.Common.{◌≡◌, ℕ, Bool, false, ◌&&◌, ◌||◌, List, [], ◌∷◌, ◌++◌, map, drop, Option, None, Some, refl, sym, ap, ◌∙◌}
 use Rattle.std.proofs.lemmas.List.{map-append}
-use Rattle.std.specs.List.{list_all}
+use Rattle.std.specs.List.{list_all, list_any}
 use Rattle.std.specs.Prelude.{if◌then◌else◌}
 use Rattle.std.specs.Option.{option_and_then}
 use Rattle.sieve_profile.specs.Profile.{Profile}
 use Rattle.sieve_syntax.specs.Tree.{Argument, strings, number, tag, Text, Test, test, Tests, no_tests, one_test, test_list, TestList, end_tests, more_tests, Node, node, Block, no_block, block, Nodes, end_nodes, more_nodes, nodes}
-use Rattle.sieve_check.specs.Context.{Context, behind, behind_block, behind_kind, behind_nodes, inside, script_start}
-use Rattle.sieve_check.specs.Element.{Element, argument_elements, block_elements, command_arguments, elements_of, judged_labels, labelled_elements, node_elements, nodes_elements, test_arguments, test_elements, test_list_elements, tests_elements, text_elements, the_command, the_number, the_test, the_text}
-use Rattle.sieve_check.specs.Parted.{parted, parted_argument, parted_block, parted_labelled, parted_node, parted_nodes, parted_test, parted_test_list, parted_tests, parted_text, command_labels, test_labels}
-use Rattle.sieve_check.specs.Scope.{naming_arguments}
-use Rattle.sieve_check.specs.Use.{has_block, is_well_used}
+use Rattle.match_text.specs.Comparator.{collation_named}
+use Rattle.sieve_check.specs.Breach.{use_lacks}
+use Rattle.sieve_check.specs.Collating.{argument_lacks, arguments_lack, collation_lacks, known_collation, name_lacks, needed_for, text_lacks}
+use Rattle.sieve_check.specs.Context.{Context, behind, behind_block, behind_kind, behind_nodes, inside, naming_said, script_start}
+use Rattle.sieve_check.specs.Element.{Element, among, argument_elements, block_elements, command_arguments, elements_of, judged_labels, labelled_elements, node_elements, nodes_elements, row_elements, test_arguments, test_elements, test_list_elements, tests_elements, text_elements, the_command, the_number, the_test, the_text}
+use Rattle.sieve_check.specs.Parted.{parted, parted_argument, parted_block, parted_labelled, parted_node, parted_nodes, parted_said, parted_test, parted_test_list, parted_tests, parted_text, command_labels, test_labels}
+use Rattle.sieve_check.specs.Said.{said, said_arguments}
+use Rattle.sieve_check.specs.Use.{has_block, is_well_used, lacks_required}
 use Rattle.sieve_reading.specs.Label.{labels_of}
 use Rattle.sieve_reading.specs.Role.{first_role}
 use Rattle.sieve_reading.specs.Shape.{known_labels, known_shape, known_shapes, shape_of}
@@ -20,7 +23,10 @@ use Rattle.sieve_reading.specs.declared.label.Shape.{Shape}
 use Rattle.sieve_reading.specs.declared.label.Shape.TheVariants as shape
 use Rattle.sieve_table.specs.Known.{is_known, is_known_tag, is_need_known, known_command, known_test, only_if}
 use Rattle.sieve_table.specs.Table.{Row, command_named, command_row, tag_row, test_named, test_row}
+use Rattle.sieve_table.specs.Required.{Required}
+use Rattle.sieve_table.specs.Role.{has_role}
 use Rattle.sieve_table.specs.declared.row.Role.{Role}
+use Rattle.sieve_table.specs.declared.row.Role.TheVariants.{ComparatorName}
 use Rattle.sieve_table.specs.declared.table.CommandKind.{CommandKind}
 use Rattle.sieve_table.specs.declared.table.Tag.{Tag}
 use Rattle.sieve_table.specs.declared.table.TestKind.{TestKind}
@@ -63,8 +69,38 @@ module _ (p q : Profile) (same : is_known p ≡ is_known q) where
   shapes_again tags (a ∷ args) =
       ap (λ s. s ∷ known_shapes p tags args) (shape_again (shape_of tags a)) ∙ ap (λ l. known_shape q (shape_of tags a) ∷ l) (shapes_again tags args)
 
-  labels_again : (row : Row) (args : List Argument) → known_labels p row args ≡ known_labels q row args
+  pub labels_again : (row : Row) (args : List Argument) → known_labels p row args ≡ known_labels q row args
   labels_again row args = ap (labels_of row) (shapes_again row.tags args)
+
+  -- WHAT IS NEEDED
+
+  pub collation_again : (name : List ℕ) → known_collation p name ≡ known_collation q name
+  collation_again name = ap (λ known. option_and_then (only_if (λ collation. known (needed_for collation))) (collation_named name)) same
+
+  module _ (r : Required) where
+    name_lacks_again : (o : Option (List ℕ)) → name_lacks p r o ≡ name_lacks q r o
+    name_lacks_again None = refl
+    name_lacks_again (Some name) = ap (collation_lacks r) (collation_again name)
+
+    texts_lack_again : (role : Option Role) (ts : List Text) → list_any (text_lacks p r role) ts ≡ list_any (text_lacks q r role) ts
+    texts_lack_again role [] = refl
+    texts_lack_again role (t ∷ ts) = ap (λ b. b || list_any (text_lacks p r role) ts) (name_lacks_again (said r role t.string)) ∙ ap (λ b. text_lacks q r role t || b) (texts_lack_again role ts)
+
+    argument_lacks_again : (role : Option Role) (a : Argument) → argument_lacks p r role a ≡ argument_lacks q r role a
+    argument_lacks_again role (strings items bracketed) = ap (λ b. has_role ComparatorName role && b) (texts_lack_again role items)
+    argument_lacks_again role (number value line) = refl
+    argument_lacks_again role (tag name line) = refl
+
+    arguments_lack_again : (labels : List Label) (args : List Argument) → arguments_lack p r labels args ≡ arguments_lack q r labels args
+    arguments_lack_again labels [] = refl
+    arguments_lack_again labels (a ∷ args) =
+        ap (λ b. b || arguments_lack p r (drop 1 labels) args) (argument_lacks_again (first_role labels) a)
+        ∙ ap (λ b. argument_lacks q r (first_role labels) a || b) (arguments_lack_again (drop 1 labels) args)
+
+    pub use_lacks_again : (row : Row) (args : List Argument) → use_lacks p r row args ≡ use_lacks q r row args
+    use_lacks_again row args =
+        ap (λ labels. lacks_required r row labels || arguments_lack p r labels args) (labels_again row args)
+        ∙ ap (λ b. lacks_required r row (known_labels q row args) || b) (arguments_lack_again (known_labels q row args) args)
 
   -- THE ELEMENTS
 
@@ -85,18 +121,18 @@ module _ (p q : Profile) (same : is_known p ≡ is_known q) where
         ∙ ap (λ l. map again (argument_elements (under q c) (first_role labels) a) ++ l) (arguments_again (drop 1 labels) args)
         ∙ sym (map-append again (argument_elements (under q c) (first_role labels) a) (labelled_elements (under q c) (drop 1 labels) args))
 
-    row_again : (row : Row) (args : List Argument) (ts : Tests) (ends : Bool) → labelled_elements (under p c) (judged_labels (is_well_used row (known_shapes p row.tags args) ts ends) (known_labels p row args)) args
-        ≡ map again (labelled_elements (under q c) (judged_labels (is_well_used row (known_shapes q row.tags args) ts ends) (known_labels q row args)) args)
+  module _ (c : Context) where
+    row_again : (row : Row) (args : List Argument) (ts : Tests) (ends : Bool) → row_elements (under p c) row args ts ends ≡ map again (row_elements (under q c) row args ts ends)
     row_again row args ts ends =
-        ap (λ shapes. labelled_elements (under p c) (judged_labels (is_well_used row shapes ts ends) (labels_of row shapes)) args) (shapes_again row.tags args)
-        ∙ arguments_again _ args
+        ap (λ shapes. labelled_elements (among (under p c) (labels_of row shapes)) (judged_labels (is_well_used row shapes ts ends) (labels_of row shapes)) args) (shapes_again row.tags args)
+        ∙ arguments_again (among c (known_labels q row args)) _ args
 
     test_arguments_again : (k : Option TestKind) (args : List Argument) (ts : Tests) → test_arguments (under p c) k args ts ≡ map again (test_arguments (under q c) k args ts)
-    test_arguments_again None args ts = arguments_again [] args
+    test_arguments_again None args ts = arguments_again c [] args
     test_arguments_again (Some kind) args ts = row_again (test_row kind) args ts false
 
     command_arguments_again : (k : Option CommandKind) (args : List Argument) (ts : Tests) (ending : Block) → command_arguments (under p c) k args ts ending ≡ map again (command_arguments (under q c) k args ts ending)
-    command_arguments_again None args ts ending = arguments_again [] args
+    command_arguments_again None args ts ending = arguments_again c [] args
     command_arguments_again (Some kind) args ts ending = row_again (command_row kind) args ts (has_block ending)
 
     mutual
@@ -128,7 +164,7 @@ module _ (p q : Profile) (same : is_known p ≡ is_known q) where
   -- what stands behind a command
   kind_again : (c : Context) (k : Option CommandKind) (args : List Argument) → behind_kind (under p c) k args ≡ under p (behind_kind (under q c) k args)
   kind_again c None args = refl
-  kind_again c (Some kind) args = ap (λ labels. record (behind_kind (under p c) (Some kind) args) { scope = naming_arguments c.scope labels args }) (labels_again (command_row kind) args)
+  kind_again c (Some kind) args = ap (λ labels. record (behind_kind (under p c) (Some kind) args) { scope = naming_said c.required c.scope labels args }) (labels_again (command_row kind) args)
 
   mutual
     unfolding behind behind_block behind_nodes
@@ -215,10 +251,10 @@ module _ (p q : Profile) (same : is_known p ≡ is_known q) where
     mutual
       test_cut : (t : Test) → parted_test (under p c) t ≡ parted_test (under q c) t
       test_cut (test name line args ts) =
-          ap (λ k. checked.test name line (parted_labelled (under p c) (test_labels p k args) args) (parted_tests (under p c) ts)) (test_again name)
-          ∙ ap (λ l. checked.test name line (parted_labelled (under p c) l args) (parted_tests (under p c) ts)) (test_cut_by (known_test q name) args)
-          ∙ ap (λ x. checked.test name line x (parted_tests (under p c) ts)) (arguments_cut (test_labels q (known_test q name) args) args)
-          ∙ ap (λ x. checked.test name line (parted_labelled (under q c) (test_labels q (known_test q name) args) args) x) (tests_cut ts)
+          ap (λ k. checked.test name line (parted_said (under p c) (test_labels p k args) args) (parted_tests (under p c) ts)) (test_again name)
+          ∙ ap (λ l. checked.test name line (parted_said (under p c) l args) (parted_tests (under p c) ts)) (test_cut_by (known_test q name) args)
+          ∙ ap (λ x. checked.test name line x (parted_tests (under p c) ts)) (arguments_cut (test_labels q (known_test q name) args) (said_arguments c.required (test_labels q (known_test q name) args) args))
+          ∙ ap (λ x. checked.test name line (parted_said (under q c) (test_labels q (known_test q name) args) args) x) (tests_cut ts)
 
       tests_cut : (ts : Tests) → parted_tests (under p c) ts ≡ parted_tests (under q c) ts
       tests_cut no_tests = refl
@@ -234,10 +270,10 @@ module _ (p q : Profile) (same : is_known p ≡ is_known q) where
     node_cut (node name line args ts ending) c =
         let k = known_command q name in
         let within = behind_kind (under q c) k args in
-        let cut = parted_labelled (under q c) (command_labels q k args) args in
-        ap (λ k. checked.node name line (parted_labelled (under p c) (command_labels p k args) args) (parted_tests (under p c) ts) (parted_block (behind_kind (under p c) k args) ending)) (command_again name)
-        ∙ ap (λ l. checked.node name line (parted_labelled (under p c) l args) (parted_tests (under p c) ts) (parted_block (behind_kind (under p c) k args) ending)) (command_cut_by c k args)
-        ∙ ap (λ x. checked.node name line x (parted_tests (under p c) ts) (parted_block (behind_kind (under p c) k args) ending)) (arguments_cut c (command_labels q k args) args)
+        let cut = parted_said (under q c) (command_labels q k args) args in
+        ap (λ k. checked.node name line (parted_said (under p c) (command_labels p k args) args) (parted_tests (under p c) ts) (parted_block (behind_kind (under p c) k args) ending)) (command_again name)
+        ∙ ap (λ l. checked.node name line (parted_said (under p c) l args) (parted_tests (under p c) ts) (parted_block (behind_kind (under p c) k args) ending)) (command_cut_by c k args)
+        ∙ ap (λ x. checked.node name line x (parted_tests (under p c) ts) (parted_block (behind_kind (under p c) k args) ending)) (arguments_cut c (command_labels q k args) (said_arguments c.required (command_labels q k args) args))
         ∙ ap (λ x. checked.node name line cut x (parted_block (behind_kind (under p c) k args) ending)) (tests_cut c ts)
         ∙ ap (λ x. checked.node name line cut (parted_tests (under q c) ts) (parted_block x ending)) (kind_again c k args)
         ∙ ap (λ x. checked.node name line cut (parted_tests (under q c) ts) x)

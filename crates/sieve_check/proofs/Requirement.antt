@@ -5,9 +5,12 @@ use Rattle.std.specs.List.{All, prefix_len, take_while}
 use Rattle.std.specs.Prelude.{if◌then◌else◌}
 use Rattle.sieve_syntax.specs.Tree.{Text, Argument, strings, number, tag, Test, test, Tests, no_tests, one_test, test_list, TestList, end_tests, more_tests, Block, no_block, block, Node, node, Nodes, end_nodes, more_nodes, nodes}
 use Rattle.sieve_check.specs.Context.{Context, behind, behind_block, behind_kind, inside, requiring_arguments, script_start}
-use Rattle.sieve_check.specs.Element.{Element, argument_elements, block_elements, command_arguments, labelled_elements, node_elements, nodes_elements, test_arguments, test_elements, test_list_elements, tests_elements, text_elements, the_command, the_number, the_test, the_text}
+use Rattle.sieve_check.specs.Element.{Element, among, argument_elements, block_elements, command_arguments, judged_labels, labelled_elements, node_elements, nodes_elements, row_elements, test_arguments, test_elements, test_list_elements, tests_elements, text_elements, the_command, the_number, the_test, the_text}
 use Rattle.sieve_check.specs.Requirement.{IsJudgedUnder, JudgesBehindRequires, is_require_command, leading_requires, requires_kind, requiring_command, requiring_commands}
+use Rattle.sieve_check.specs.Use.{has_block, is_well_used}
 use Rattle.sieve_reading.specs.Role.{first_role}
+use Rattle.sieve_reading.specs.Shape.{known_labels, known_shapes}
+use Rattle.sieve_table.specs.Table.{Row, command_row, test_row}
 use Rattle.sieve_reading.specs.declared.label.Label.{Label}
 use Rattle.sieve_check.proofs.Truth.{not_both}
 use Rattle.sieve_table.specs.Required.{Required}
@@ -39,13 +42,18 @@ module _ (r : Required) where
       All-append Judged (argument_elements context (first_role labels) a) (labelled_elements context (drop 1 labels) args)
       (argument_judged context (first_role labels) a same) (arguments_judged context (drop 1 labels) args same)
 
+  row_judged : (context : Context) (row : Row) (args : List Argument) (ts : Tests) (ends : Bool) → context.required ≡ r → All Judged (row_elements context row args ts ends)
+  row_judged context row args ts ends same =
+      let labels = known_labels context.profile row args in
+      arguments_judged (among context labels) (judged_labels (is_well_used row (known_shapes context.profile row.tags args) ts ends) labels) args same
+
   test_arguments_judged : (context : Context) (k : Option TestKind) (args : List Argument) (ts : Tests) → context.required ≡ r → All Judged (test_arguments context k args ts)
-  test_arguments_judged context None args ts same = arguments_judged context _ args same
-  test_arguments_judged context (Some kind) args ts same = arguments_judged context _ args same
+  test_arguments_judged context None args ts same = arguments_judged context [] args same
+  test_arguments_judged context (Some kind) args ts same = row_judged context (test_row kind) args ts false same
 
   command_arguments_judged : (context : Context) (k : Option CommandKind) (args : List Argument) (ts : Tests) (ending : Block) → context.required ≡ r → All Judged (command_arguments context k args ts ending)
-  command_arguments_judged context None args ts ending same = arguments_judged context _ args same
-  command_arguments_judged context (Some kind) args ts ending same = arguments_judged context _ args same
+  command_arguments_judged context None args ts ending same = arguments_judged context [] args same
+  command_arguments_judged context (Some kind) args ts ending same = row_judged context (command_row kind) args ts (has_block ending) same
 
   mutual
     unfolding test_elements tests_elements test_list_elements

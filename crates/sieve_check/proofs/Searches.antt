@@ -6,16 +6,18 @@ use Rattle.std.specs.Prelude.{if◌then◌else◌}
 use Rattle.sieve_syntax.specs.view.Tree.{argument_of, text_of}
 use Rattle.sieve_syntax.specs.declared.tree.Argument as arguments
 use Rattle.sieve_syntax.specs.declared.tree.Text as texts
-use Rattle.sieve_check.specs.Breach.{Breach, breach_if, breaches_at, breaches_by, breaches_in, text_breaks}
+use Rattle.sieve_check.specs.Breach.{Breach, breach_if, breaches_at, breaches_by, breaches_in, said_breaks, text_breaks}
 use Rattle.sieve_table.specs.Rule.{all_rules}
 use Rattle.sieve_check.specs.CheckFault.{IsFirst}
 use Rattle.sieve_check.specs.Context.{Context}
 use Rattle.sieve_check.specs.Element.{Element, text_elements, the_text, argument_elements, labelled_elements}
+use Rattle.sieve_check.specs.Said.{said}
 use Rattle.sieve_reading.specs.Role.{first_role}
 use Rattle.sieve_check.specs.view.Finds.{Finds, FindsIn}
 use Rattle.sieve_reading.specs.declared.label.Label.{Label}
 use Rattle.sieve_table.specs.declared.row.Role.{Role}
 use Rattle.sieve_table.specs.declared.rule.Rule.{Rule}
+use Rattle.sieve_table.specs.declared.rule.Rule.TheVariants.{BadCharacter}
 use Rattle.sieve_check.specs.declared.validator.CheckFault.{CheckFault}
 use Rattle.sieve_check.specs.declared.validator.CheckFault.TheVariants as faults
 
@@ -83,16 +85,25 @@ no_rule broken line (rule ∷ rules) found = no_rule_by broken line rule rules (
 
 -- STRINGS
 
-pub text_breaks_rule : (context : Context) (role : Option Role) (t : texts.Text) (octets : List ℕ) (rule : Rule) (line : ℕ) → octets ≡ (text_of t).string → line ≡ (text_of t).line → Some rule ≡ find (text_breaks context role octets) all_rules → IsFirst (breaches_at (the_text context role (text_of t))) (faults.Breach line rule)
-unfolding breaches_at
-text_breaks_rule context role t octets rule line same at found =
-    subst (λ n. slice_get (breaches_by (text_breaks context role (text_of t).string) (text_of t).line all_rules) 0 ≡ Some (record { line = n; rule = rule })) (sym at)
-    (first_rule (text_breaks context role (text_of t).string) (text_of t).line all_rules rule (sym (found ∙ ap (λ o. find (text_breaks context role o) all_rules) same)))
+module _ (context : Context) (role : Option Role) (t : texts.Text) (line : ℕ) where
+  -- a string with a sequence that stands for no character
+  pub text_says_nothing : said context.required role (text_of t).string ≡ None → line ≡ (text_of t).line → IsFirst (breaches_at (the_text context role (text_of t))) (faults.Breach line BadCharacter)
+  unfolding breaches_at
+  text_says_nothing is at =
+      subst (λ n. slice_get (breaches_by (said_breaks context role (said context.required role (text_of t).string)) (text_of t).line all_rules) 0 ≡ Some (record { line = n; rule = BadCharacter })) (sym at)
+      (ap (λ s. slice_get (breaches_by (said_breaks context role s) (text_of t).line all_rules) 0) is)
 
-pub text_breaks_none : (context : Context) (role : Option Role) (t : texts.Text) (octets : List ℕ) → octets ≡ (text_of t).string → None ≡ find (text_breaks context role octets) all_rules → breaches_at (the_text context role (text_of t)) ≡ []
+  -- a string that says something
+  pub text_breaks_rule : (octets : List ℕ) (rule : Rule) → said context.required role (text_of t).string ≡ Some octets → line ≡ (text_of t).line → Some rule ≡ find (text_breaks context role octets) all_rules → IsFirst (breaches_at (the_text context role (text_of t))) (faults.Breach line rule)
+  unfolding breaches_at
+  text_breaks_rule octets rule is at found =
+      subst (λ n. slice_get (breaches_by (said_breaks context role (said context.required role (text_of t).string)) (text_of t).line all_rules) 0 ≡ Some (record { line = n; rule = rule })) (sym at)
+      (first_rule (said_breaks context role (said context.required role (text_of t).string)) (text_of t).line all_rules rule (ap (λ s. find (said_breaks context role s) all_rules) is ∙ sym found))
+
+pub text_breaks_none : (context : Context) (role : Option Role) (t : texts.Text) (octets : List ℕ) → said context.required role (text_of t).string ≡ Some octets → None ≡ find (text_breaks context role octets) all_rules → breaches_at (the_text context role (text_of t)) ≡ []
 unfolding breaches_at
-text_breaks_none context role t octets same found =
-    no_rule (text_breaks context role (text_of t).string) (text_of t).line all_rules (sym (found ∙ ap (λ o. find (text_breaks context role o) all_rules) same))
+text_breaks_none context role t octets is found =
+    no_rule (said_breaks context role (said context.required role (text_of t).string)) (text_of t).line all_rules (ap (λ s. find (said_breaks context role s) all_rules) is ∙ sym found)
 
 text_at : (context : Context) (role : Option Role) (xs : List texts.Text) (i : ℕ) (t : texts.Text) → i < length xs → t ≡ get_or xs i t → text_elements context role (map text_of (drop i xs)) ≡ the_text context role (text_of t) ∷ text_elements context role (map text_of (drop (i + 1) xs))
 text_at context role xs i t h e =
@@ -130,7 +141,7 @@ arguments_end context labels xs i h = ap breaches_in (at_drop_all (λ l. labelle
 
 pub ruleset element_steps = (none_in, one_in)
 
-pub ruleset text_rule_steps = (text_breaks_rule, text_breaks_none)
+pub ruleset text_rule_steps = (text_says_nothing, text_breaks_rule, text_breaks_none)
 
 pub ruleset text_steps = (texts_stop, texts_go_on, texts_end)
 

@@ -1,5 +1,5 @@
 -- An element without a breach breaks no rule.
-use Rattle.std.proofs.Common.{◌≡◌, ℕ, Bool, true, false, not, ◌&&◌, List, [], ◌∷◌, ◌++◌, None, Some, slice_get, refl, sym, ◌∙◌, arith}
+use Rattle.std.proofs.Common.{◌≡◌, ℕ, Bool, true, false, not, ◌&&◌, List, [], ◌∷◌, ◌++◌, None, Some, slice_get, refl, sym, ap, ◌∙◌, arith}
 use Rattle.std.proofs.lemmas.List.Elements.{All-cons}
 use Rattle.std.specs.List.{All, list_all}
 use Rattle.sieve_syntax.specs.Tree.{Node}
@@ -31,6 +31,11 @@ keeps e none rule = not_so (breaks e rule) (of_each every_rule.enum tt (λ rule.
     not_so : (b : Bool) → not b ≡ true → b ≡ false
     not_so true is = sym is
     not_so false is = refl
+
+-- where none of some rules is broken, there is no breach
+pub no_breach : (broken : Rule → Bool) (line : ℕ) (rules : List Rule) → ((rule : Rule) → broken rule ≡ false) → breaches_by broken line rules ≡ []
+no_breach broken line [] none = refl
+no_breach broken line (rule ∷ rules) none = ap (λ b. breach_if b line rule ++ breaches_by broken line rules) (none rule) ∙ no_breach broken line rules none
 
 -- ELEMENTS IN TURN
 

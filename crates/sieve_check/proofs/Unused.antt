@@ -1,5 +1,5 @@
 -- A script without a breach has none either where capabilities that aren't known may be required, and is the same tree then.
-use Rattle.std.proofs.Common.{◌≡◌, ℕ, Bool, true, false, not, ◌&&◌, ◌||◌, List, [], ◌∷◌, ◌++◌, map, Option, None, Some, Result, Ok, Err, slice_get, refl, sym, ap, ◌∙◌}
+use Rattle.std.proofs.Common.{◌≡◌, ℕ, Bool, true, false, not, ◌&&◌, ◌||◌, List, [], ◌∷◌, ◌++◌, map, Option, None, Some, Result, Ok, Err, is_none, slice_get, refl, sym, ap, ◌∙◌}
 use Rattle.std.specs.List.{list_any}
 use Rattle.sieve_profile.proofs.Each.{of_each}
 use Rattle.sieve_profile.proofs.Sets as sets
@@ -9,12 +9,15 @@ use Rattle.sieve_profile.specs.declared.extension.Extension.{Extension}
 use Rattle.sieve_profile.specs.declared.extension.Extension.TheVariants.{Unused}
 use Rattle.sieve_syntax.specs.Syntax.{syntax_of}
 use Rattle.sieve_syntax.specs.Tree.{Argument, Block, Node, Tests}
-use Rattle.sieve_check.specs.Breach.{Breach, breach_if, breaches_at, breaches_by, breaches_in, breaches_of, command_breaks, first_breach, kind_breaks, row_breaks, test_breaks}
+use Rattle.sieve_check.specs.Breach.{Breach, breaches_at, breaches_by, breaches_in, breaches_of, breaks, command_breaks, first_breach, kind_breaks, row_breaks, said_breaks, test_breaks, text_breaks, use_lacks}
+use Rattle.sieve_check.specs.Collating.{lacks_substrings}
 use Rattle.sieve_check.specs.Context.{Context, continues_if, is_require}
 use Rattle.sieve_check.specs.Element.{Element, elements_of, the_command, the_number, the_test, the_text}
 use Rattle.sieve_check.specs.Judgement.{judgement_by, judgement_from, judgement_of, sound}
 use Rattle.sieve_check.specs.Parted.{parted}
+use Rattle.sieve_check.specs.Said.{said}
 use Rattle.sieve_check.specs.Use.{has_block}
+use Rattle.sieve_reading.specs.Shape.{known_shapes}
 use Rattle.sieve_reading.specs.Tree as checked
 use Rattle.sieve_table.specs.Capability.{capabilities, is_name_of}
 use Rattle.sieve_table.specs.Known.{extension_of, is_asked_for, is_known, is_shown_by_no_word, known_command, known_test, may_be_required, names_known}
@@ -23,14 +26,15 @@ use Rattle.sieve_table.specs.Rule.{all_rules}
 use Rattle.sieve_table.specs.Table.{command_row, test_row}
 use Rattle.sieve_table.specs.contracts.capability.Capability as every_capability
 use Rattle.sieve_table.specs.declared.capability.Capability.{Capability}
-use Rattle.sieve_table.specs.declared.row.Role.TheVariants.{Capabilities}
+use Rattle.sieve_table.specs.declared.row.Role.{Role}
+use Rattle.sieve_table.specs.declared.row.Role.TheVariants.{Capabilities, ComparatorName}
 use Rattle.sieve_table.specs.declared.rule.Rule.{Rule}
-use Rattle.sieve_table.specs.declared.rule.Rule.TheVariants.{UnknownCapability}
+use Rattle.sieve_table.specs.declared.rule.Rule.TheVariants.{RequirePlace, UnknownCapability, UnknownCommand, NotRequired, ElsePlace, BadTag, BadArguments, UnknownComparator, BadVariableName, GlobalAfterSet, BadNamespace, MatchIndex, NumberTooLarge, BadEnvelopePart, NotAddressHeader, TooManyVariables, BadCharacter, BadRelation, UnfitComparator}
 use Rattle.sieve_table.specs.declared.table.CommandKind.{CommandKind}
 use Rattle.sieve_table.specs.declared.table.TestKind.{TestKind}
-use Rattle.sieve_check.proofs.Reprofiled.{command_again, elements_again, parted_again, reprofiled, shapes_again, test_again, under}
+use Rattle.sieve_check.proofs.Reprofiled.{collation_again, command_again, elements_again, parted_again, reprofiled, shapes_again, test_again, under, use_lacks_again}
 use Rattle.sieve_check.proofs.Searches.{cons_in}
-use Rattle.sieve_check.proofs.Unbroken.{none_first, none_in_front}
+use Rattle.sieve_check.proofs.Unbroken.{keeps, no_breach, none_first, none_in_front}
 
 or_false : (b : Bool) → (b || false) ≡ b
 or_false true = refl
@@ -57,14 +61,6 @@ known_alike : (p : Profile) → is_known (with_extension p Unused) ≡ is_known 
 known_alike p = λ i c. asked_alike p (extension_of c) (never_unused c) i
 
 -- WITHOUT A BREACH
-
--- where a rule isn't broken, and it isn't by another test either, nothing is found by that
-pass_front : (x y : Bool) (line : ℕ) (rule : Rule) (rest : List Breach) → (x ≡ false → y ≡ false) → breach_if x line rule ++ rest ≡ [] → breach_if y line rule ++ rest ≡ []
-pass_front true y line rule rest less none = absurd (not_nil none)
-  where
-    not_nil : record { line = line; rule = rule } ∷ rest ≡ [] → ⊥
-    not_nil e = cc
-pass_front false y line rule rest less none = ap (λ b. breach_if b line rule ++ rest) (less refl) ∙ none
 
 -- what may be required may be required with it too
 refused_less : (p : Profile) (in_role leads : Bool) (name : List ℕ) → (in_role && (leads && not (may_be_required p name))) ≡ false → (in_role && (leads && not (may_be_required (with_extension p Unused) name))) ≡ false
@@ -94,11 +90,40 @@ module _ (p : Profile) where
   command_alike : (c : Context) (k : Option CommandKind) (args : List Argument) (ts : Tests) (ending : Block) → command_breaks (under lenient c) k args ts ending ≡ command_breaks (under p c) k args ts ending
   command_alike c None args ts ending = refl
   command_alike c (Some kind) args ts ending =
-      ap (λ shapes. kind_breaks (is_require kind && not c.leads) (continues_if kind && not c.follows_if) c.required (command_row kind) shapes ts (has_block ending)) (shapes_again lenient p (known_alike p) (command_row kind).tags args)
+      ap (λ shapes. kind_breaks (is_require kind && not c.leads) (continues_if kind && not c.follows_if) (use_lacks lenient c.required (command_row kind) args) (command_row kind) shapes ts (has_block ending)) (shapes_again lenient p (known_alike p) (command_row kind).tags args)
+      ∙ ap (λ lacks. kind_breaks (is_require kind && not c.leads) (continues_if kind && not c.follows_if) lacks (command_row kind) (known_shapes p (command_row kind).tags args) ts (has_block ending)) (use_lacks_again lenient p (known_alike p) c.required (command_row kind) args)
 
   test_alike : (c : Context) (k : Option TestKind) (args : List Argument) (ts : Tests) → test_breaks (under lenient c) k args ts ≡ test_breaks (under p c) k args ts
   test_alike c None args ts = refl
-  test_alike c (Some kind) args ts = ap (λ shapes. row_breaks c.required (test_row kind) shapes ts false) (shapes_again lenient p (known_alike p) (test_row kind).tags args)
+  test_alike c (Some kind) args ts =
+      ap (λ shapes. row_breaks (use_lacks lenient c.required (test_row kind) args) (test_row kind) shapes ts false) (shapes_again lenient p (known_alike p) (test_row kind).tags args)
+      ∙ ap (λ lacks. row_breaks lacks (test_row kind) (known_shapes p (test_row kind).tags args) ts false) (use_lacks_again lenient p (known_alike p) c.required (test_row kind) args)
+
+  -- a string that breaks no rule breaks none with it
+  text_passes : (c : Context) (role : Option Role) (octets : List ℕ) → ((rule : Rule) → text_breaks (under p c) role octets rule ≡ false) → (rule : Rule) → text_breaks (under lenient c) role octets rule ≡ false
+  text_passes c role octets fine RequirePlace = refl
+  text_passes c role octets fine UnknownCapability = refused_less p (has_role Capabilities role) c.leads octets (fine UnknownCapability)
+  text_passes c role octets fine UnknownCommand = refl
+  text_passes c role octets fine NotRequired = refl
+  text_passes c role octets fine ElsePlace = refl
+  text_passes c role octets fine BadTag = refl
+  text_passes c role octets fine BadArguments = refl
+  text_passes c role octets fine UnknownComparator = ap (λ known. has_role ComparatorName role && is_none known) (collation_again lenient p (known_alike p) octets) ∙ fine UnknownComparator
+  text_passes c role octets fine BadVariableName = fine BadVariableName
+  text_passes c role octets fine GlobalAfterSet = fine GlobalAfterSet
+  text_passes c role octets fine BadNamespace = fine BadNamespace
+  text_passes c role octets fine MatchIndex = fine MatchIndex
+  text_passes c role octets fine NumberTooLarge = refl
+  text_passes c role octets fine BadEnvelopePart = fine BadEnvelopePart
+  text_passes c role octets fine NotAddressHeader = fine NotAddressHeader
+  text_passes c role octets fine TooManyVariables = fine TooManyVariables
+  text_passes c role octets fine BadCharacter = refl
+  text_passes c role octets fine BadRelation = fine BadRelation
+  text_passes c role octets fine UnfitComparator = ap (λ known. has_role ComparatorName role && (c.finds_parts && lacks_substrings known)) (collation_again lenient p (known_alike p) octets) ∙ fine UnfitComparator
+
+  said_passes : (c : Context) (role : Option Role) (o : Option (List ℕ)) → ((rule : Rule) → said_breaks (under p c) role o rule ≡ false) → (rule : Rule) → said_breaks (under lenient c) role o rule ≡ false
+  said_passes c role None fine rule = fine rule
+  said_passes c role (Some octets) fine rule = text_passes c role octets fine rule
 
   -- an element that breaks no rule breaks none with it
   passes_again : (e : Element) → breaches_at (reprofiled p e) ≡ [] → breaches_at (reprofiled lenient e) ≡ []
@@ -112,8 +137,7 @@ module _ (p : Profile) where
       ∙ ap (λ broken. breaches_by broken line all_rules) (test_alike c (known_test p name) args ts)
       ∙ none
   passes_again (the_text c role text) none =
-      pass_front (has_role Capabilities role && (c.leads && not (may_be_required p text.string))) (has_role Capabilities role && (c.leads && not (may_be_required lenient text.string))) text.line UnknownCapability _
-      (refused_less p (has_role Capabilities role) c.leads text.string) none
+      no_breach (breaks (reprofiled lenient (the_text c role text))) text.line all_rules (said_passes c role (said c.required role text.string) (keeps (reprofiled p (the_text c role text)) none))
   passes_again (the_number value line) none = none
 
   all_pass : (es : List Element) → breaches_in (map (reprofiled p) es) ≡ [] → breaches_in (map (reprofiled lenient) es) ≡ []

@@ -8,7 +8,7 @@ use Rattle.sieve_syntax.specs.Tree.{Node, node, Nodes, end_nodes, more_nodes, no
 use Rattle.sieve_syntax.specs.Symbol.{Symbol, close_bracket, identifier, string_symbol, symbol_of, symbols_of}
 use Rattle.sieve_syntax.specs.declared.token.Token.{Token}
 use Rattle.sieve_check.specs.Context.{Context, behind, behind_kind, inside, script_start}
-use Rattle.sieve_check.specs.Element.{Element, argument_elements, block_elements, command_arguments, elements_of, judged_labels, labelled_elements, node_elements, nodes_elements, test_arguments, test_elements, test_list_elements, tests_elements, text_elements}
+use Rattle.sieve_check.specs.Element.{Element, among, argument_elements, block_elements, command_arguments, elements_of, judged_labels, labelled_elements, node_elements, nodes_elements, test_arguments, test_elements, test_list_elements, tests_elements, text_elements}
 use Rattle.sieve_check.specs.Order.{writes_element, written_by}
 use Rattle.sieve_reading.specs.Role.{first_role}
 use Rattle.sieve_profile.specs.Profile.{Profile}
@@ -64,13 +64,14 @@ module _ (context : Context) where
       in_turn (argument_elements context (first_role labels) a) (labelled_elements context (drop 1 labels) args) (written_argument a) (written_arguments args)
       (argument (first_role labels) a) (arguments (drop 1 labels) args)
 
+module _ (context : Context) where
   of_test : (k : Option TestKind) (args : List Argument) (ts : Tests) → AreWritten (test_arguments context k args ts) (written_arguments args)
-  of_test None args ts = arguments [] args
-  of_test (Some k) args ts = let row = test_row k in arguments (judged_labels (is_well_used row (known_shapes context.profile row.tags args) ts false) (known_labels context.profile row args)) args
+  of_test None args ts = arguments context [] args
+  of_test (Some k) args ts = let row = test_row k in arguments (among context (known_labels context.profile row args)) (judged_labels (is_well_used row (known_shapes context.profile row.tags args) ts false) (known_labels context.profile row args)) args
 
   of_command : (k : Option CommandKind) (args : List Argument) (ts : Tests) (ending : Block) → AreWritten (command_arguments context k args ts ending) (written_arguments args)
-  of_command None args ts ending = arguments [] args
-  of_command (Some k) args ts ending = let row = command_row k in arguments (judged_labels (is_well_used row (known_shapes context.profile row.tags args) ts (has_block ending)) (known_labels context.profile row args)) args
+  of_command None args ts ending = arguments context [] args
+  of_command (Some k) args ts ending = let row = command_row k in arguments (among context (known_labels context.profile row args)) (judged_labels (is_well_used row (known_shapes context.profile row.tags args) ts (has_block ending)) (known_labels context.profile row args)) args
 
 -- TESTS
 

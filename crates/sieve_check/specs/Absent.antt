@@ -1,10 +1,11 @@
 -- What a bench of a profile lacks, in a script.
 use Rattle.std.specs.Prelude.{ℕ, Bool, true, false, not, ◌&&◌, ◌||◌, List, Option, Some, None, is_none}
 use Rattle.std.specs.List.{list_any}
-use Rattle.match_text.specs.Comparator.{collation_named}
 use Rattle.sieve_profile.specs.Profile.{Profile}
 use Rattle.sieve_syntax.specs.Tree.{Argument}
+use Rattle.sieve_check.specs.Collating.{known_collation}
 use Rattle.sieve_check.specs.Context.{Context}
+use Rattle.sieve_check.specs.Said.{said}
 use Rattle.sieve_check.specs.Element.{Element, the_command, the_test, the_text, the_number}
 use Rattle.sieve_reading.specs.Shape.{shapes_of}
 use Rattle.sieve_reading.specs.declared.label.Shape.{Shape}
@@ -42,14 +43,19 @@ test_lacks profile (Some kind) args = row_lacks profile (test_row kind) args
 abbrev pub capability_lacks : Profile → Context → Option Role → List ℕ → Bool
 capability_lacks profile context role octets = has_role Capabilities role && (context.leads && not (may_be_required profile octets))
 
--- a string that names no comparator
-abbrev pub comparator_lacks : Option Role → List ℕ → Bool
-comparator_lacks role octets = has_role ComparatorName role && is_none (collation_named octets)
+-- a string that names no comparator that is known
+abbrev pub comparator_lacks : Profile → Option Role → List ℕ → Bool
+comparator_lacks profile role octets = has_role ComparatorName role && is_none (known_collation profile octets)
+
+-- what a string says, where it says something
+abbrev pub said_lacks : Profile → Context → Option Role → Option (List ℕ) → Bool
+said_lacks profile context role None = false
+said_lacks profile context role (Some octets) = capability_lacks profile context role octets || comparator_lacks profile role octets
 
 -- Whether an element has what isn't known: a command or a test that isn't there or needs it, a tag of theirs that isn't there or does, a capability, or a
 -- comparator.
 abbrev pub lacks : Profile → Element → Bool
 lacks profile (the_command context name line args ts ending) = command_lacks profile (command_named name) args
 lacks profile (the_test context name line args ts) = test_lacks profile (test_named name) args
-lacks profile (the_text context role text) = capability_lacks profile context role text.string || comparator_lacks role text.string
+lacks profile (the_text context role text) = said_lacks profile context role (said context.required role text.string)
 lacks profile (the_number value line) = false

@@ -51,7 +51,7 @@ never_is sort role = record { sort = sort; role = role; presence = never }
 
 -- a test that compares values with keys
 abbrev pub comparing : List Asked
-comparing = must texts role.Keys ∷ may one_literal role.ComparatorName ∷ []
+comparing = must texts role.Keys ∷ may one_literal role.ComparatorName ∷ may one_literal role.Relation ∷ []
 
 abbrev pub asked_by_test : TestKind → List Asked
 asked_by_test test.Header = must texts role.FieldNames ∷ comparing
@@ -133,10 +133,16 @@ abbrev pub is_none_of : List Slot → Bool
 is_none_of [] = true
 is_none_of (slot ∷ slots) = false
 
--- What is always there is a positional argument that can't be left out; what may be left out isn't.
+-- there are some slots, and each is of the form
+abbrev pub are_all : Form → List Slot → Bool
+are_all wanted [] = false
+are_all wanted (slot ∷ slots) = list_all (λ s. sameb the_type s.form wanted) (slot ∷ slots)
+
+-- What is always there is the one positional argument of the role, which can't be left out. What may be left out isn't positional; of those that have the
+-- role, which are of one kind of tags where there are several, one is given.
 abbrev pub gives_slot : Row → Role → Form → Presence → Bool
 gives_slot row role wanted always = is_one wanted (filter (is_in_role role) (slots_of_row row)) && list_any (is_in_role role) row.slots
-gives_slot row role wanted perhaps = is_one wanted (filter (is_in_role role) (slots_of_row row)) && not (list_any (is_in_role role) row.slots)
+gives_slot row role wanted perhaps = are_all wanted (filter (is_in_role role) (slots_of_row row)) && not (list_any (is_in_role role) row.slots)
 gives_slot row role wanted never = is_none_of (filter (is_in_role role) (slots_of_row row))
 
 -- a row gives what is asked for

@@ -10,21 +10,23 @@ use Rattle.sieve_variables.specs.Scan.{has_reference, has_namespace, has_foreign
 use Rattle.sieve_table.specs.Known.{known_command, known_test, may_be_required}
 use Rattle.sieve_check.specs.Context.{Context, takes_references, is_require, continues_if}
 use Rattle.sieve_check.specs.Element.{Element, the_command, the_test, the_text, the_number, elements_of}
-use Rattle.match_text.specs.Comparator.{collation_named}
+use Rattle.match_text.specs.Relation.{relation_named}
+use Rattle.sieve_check.specs.Collating.{arguments_lack, known_collation, lacks_substrings}
+use Rattle.sieve_check.specs.Said.{said}
 use Rattle.sieve_table.specs.Required.{Required, is_required}
 use Rattle.sieve_table.specs.Role.{has_role, names_variable}
 use Rattle.sieve_table.specs.Rule.{all_rules}
 use Rattle.sieve_check.specs.Scope.{Scope, is_assigned, is_new_local}
 use Rattle.sieve_reading.specs.Label.{labels_of}
-use Rattle.sieve_reading.specs.Shape.{known_shapes}
+use Rattle.sieve_reading.specs.Shape.{known_labels, known_shapes}
 use Rattle.sieve_reading.specs.declared.label.Shape.{Shape}
 use Rattle.sieve_table.specs.Table.{Row, command_row, test_row}
 use Rattle.sieve_check.specs.Use.{has_bad_tag, has_bad_arguments, has_block, lacks_required}
 use Rattle.sieve_table.specs.declared.capability.Capability.TheVariants.{Include}
 use Rattle.sieve_table.specs.declared.row.Role.{Role}
-use Rattle.sieve_table.specs.declared.row.Role.TheVariants.{Capabilities, ComparatorName, AddressFields, EnvelopeParts, NameToSet, NamesToDeclare}
+use Rattle.sieve_table.specs.declared.row.Role.TheVariants.{Capabilities, ComparatorName, AddressFields, EnvelopeParts, NameToSet, NamesToDeclare, Relation}
 use Rattle.sieve_table.specs.declared.rule.Rule.{Rule}
-use Rattle.sieve_table.specs.declared.rule.Rule.TheVariants.{RequirePlace, UnknownCapability, UnknownCommand, NotRequired, ElsePlace, BadTag, BadArguments, UnknownComparator, BadVariableName, GlobalAfterSet, BadNamespace, MatchIndex, NumberTooLarge, BadEnvelopePart, NotAddressHeader, TooManyVariables}
+use Rattle.sieve_table.specs.declared.rule.Rule.TheVariants.{RequirePlace, UnknownCapability, UnknownCommand, NotRequired, ElsePlace, BadTag, BadArguments, UnknownComparator, BadVariableName, GlobalAfterSet, BadNamespace, MatchIndex, NumberTooLarge, BadEnvelopePart, NotAddressHeader, TooManyVariables, BadCharacter, BadRelation, UnfitComparator}
 use Rattle.sieve_table.specs.declared.table.CommandKind.{CommandKind}
 use Rattle.sieve_table.specs.declared.table.TestKind.{TestKind}
 
@@ -35,19 +37,23 @@ pub record Breach : Type 0 where
 
 -- WHAT BREAKS WHICH RULE
 
--- a command or test of a row, by the shapes of its arguments (RFC 5228, sections 2.5, 2.6, 2.8, 2.9 and 2.10.5)
-abbrev pub row_breaks : Required → Row → List Shape → Tests → (ends_by_block : Bool) → Rule → Bool
-row_breaks required row shapes ts ends_by_block NotRequired = lacks_required required row (labels_of row shapes)
-row_breaks required row shapes ts ends_by_block BadTag = has_bad_tag (labels_of row shapes)
-row_breaks required row shapes ts ends_by_block BadArguments = has_bad_arguments row shapes ts ends_by_block
-row_breaks required row shapes ts ends_by_block rule = false
+-- What isn't required that a command or test of a row needs, itself, by its arguments, or by a comparator that these name (RFC 5228, section 2.10.5)
+abbrev pub use_lacks : Profile → Required → Row → List Argument → Bool
+use_lacks profile required row args = lacks_required required row (known_labels profile row args) || arguments_lack profile required (known_labels profile row args) args
+
+-- a command or test of a row, by the shapes of its arguments, and by whether it needs what isn't required (RFC 5228, sections 2.5, 2.6, 2.8, 2.9 and 2.10.5)
+abbrev pub row_breaks : (lacking : Bool) → Row → List Shape → Tests → (ends_by_block : Bool) → Rule → Bool
+row_breaks lacking row shapes ts ends_by_block NotRequired = lacking
+row_breaks lacking row shapes ts ends_by_block BadTag = has_bad_tag (labels_of row shapes)
+row_breaks lacking row shapes ts ends_by_block BadArguments = has_bad_arguments row shapes ts ends_by_block
+row_breaks lacking row shapes ts ends_by_block rule = false
 
 -- a command of a row: `misplaced` says whether it is a `require` in a wrong place, and `alone` whether it goes on with an `if` that isn't there
 -- (RFC 5228, sections 3.1 and 3.2)
-abbrev pub kind_breaks : (misplaced alone : Bool) → Required → Row → List Shape → Tests → (ends_by_block : Bool) → Rule → Bool
-kind_breaks misplaced alone required row shapes ts ends_by_block RequirePlace = misplaced
-kind_breaks misplaced alone required row shapes ts ends_by_block ElsePlace = alone
-kind_breaks misplaced alone required row shapes ts ends_by_block rule = row_breaks required row shapes ts ends_by_block rule
+abbrev pub kind_breaks : (misplaced alone lacking : Bool) → Row → List Shape → Tests → (ends_by_block : Bool) → Rule → Bool
+kind_breaks misplaced alone lacking row shapes ts ends_by_block RequirePlace = misplaced
+kind_breaks misplaced alone lacking row shapes ts ends_by_block ElsePlace = alone
+kind_breaks misplaced alone lacking row shapes ts ends_by_block rule = row_breaks lacking row shapes ts ends_by_block rule
 
 -- a command or a test that there isn't, or that isn't known (RFC 5228, section 2.10.5)
 abbrev pub unknown_breaks : Rule → Bool
@@ -57,11 +63,11 @@ unknown_breaks rule = false
 abbrev pub command_breaks : Context → Option CommandKind → List Argument → Tests → Block → Rule → Bool
 command_breaks context None args ts ending rule = unknown_breaks rule
 command_breaks context (Some kind) args ts ending rule =
-    kind_breaks (is_require kind && not context.leads) (continues_if kind && not context.follows_if) context.required (command_row kind) (known_shapes context.profile (command_row kind).tags args) ts (has_block ending) rule
+    kind_breaks (is_require kind && not context.leads) (continues_if kind && not context.follows_if) (use_lacks context.profile context.required (command_row kind) args) (command_row kind) (known_shapes context.profile (command_row kind).tags args) ts (has_block ending) rule
 
 abbrev pub test_breaks : Context → Option TestKind → List Argument → Tests → Rule → Bool
 test_breaks context None args ts rule = unknown_breaks rule
-test_breaks context (Some kind) args ts rule = row_breaks context.required (test_row kind) (known_shapes context.profile (test_row kind).tags args) ts false rule
+test_breaks context (Some kind) args ts rule = row_breaks (use_lacks context.profile context.required (test_row kind) args) (test_row kind) (known_shapes context.profile (test_row kind).tags args) ts false rule
 
 -- a string that has no reference in it is known before the script runs
 abbrev pub is_known : Required → Option Role → List ℕ → Bool
@@ -91,10 +97,11 @@ is_past_locals octets scope = is_new_local octets scope && not (nat_lt (length s
 
 -- a string: that of a leading `require` (RFC 5228, section 3.2), of a comparator (section 2.7.3), a part of an envelope (section
 -- 5.4), a field that holds addresses (section 5.1), the name of a variable (RFC 5229, section 4; RFC 5232, sections 3 and 4; RFC
--- 6609, section 3.4.1), or one with references to variables (RFC 5229, sections 3 and 6)
+-- 6609, section 3.4.1), one with references to variables (RFC 5229, sections 3 and 6), a relation (RFC 5231, section 4), or a comparator in a
+-- test that finds parts of values (RFC 4790, section 9.1)
 abbrev pub text_breaks : Context → Option Role → List ℕ → Rule → Bool
 text_breaks context role octets UnknownCapability = has_role Capabilities role && (context.leads && not (may_be_required context.profile octets))
-text_breaks context role octets UnknownComparator = has_role ComparatorName role && is_none (collation_named octets)
+text_breaks context role octets UnknownComparator = has_role ComparatorName role && is_none (known_collation context.profile octets)
 text_breaks context role octets BadVariableName = (names_variable role && is_bad_name octets) || is_no_declaration role octets
 text_breaks context role octets GlobalAfterSet = has_role NamesToDeclare role && is_assigned octets context.scope
 text_breaks context role octets BadNamespace = names_namespace context.required role octets
@@ -102,7 +109,20 @@ text_breaks context role octets MatchIndex = takes_references context.required r
 text_breaks context role octets BadEnvelopePart = has_role EnvelopeParts role && (not (is_envelope_part octets) && is_known context.required role octets)
 text_breaks context role octets NotAddressHeader = has_role AddressFields role && (not (is_address_field octets) && is_known context.required role octets)
 text_breaks context role octets TooManyVariables = has_role NameToSet role && is_past_locals octets context.scope
+text_breaks context role octets BadRelation = has_role Relation role && is_none (relation_named octets)
+text_breaks context role octets UnfitComparator = has_role ComparatorName role && (context.finds_parts && lacks_substrings (known_collation context.profile octets))
 text_breaks context role octets rule = false
+
+-- a string with a sequence that stands for no character (RFC 5228, section 2.4.2.4)
+abbrev pub character_breaks : Rule → Bool
+character_breaks BadCharacter = true
+character_breaks rule = false
+
+-- A string that says something breaks what that does; any other has a sequence that stands for no character, and breaks no other rule (RFC 5228, section
+-- 2.4.2.4).
+abbrev pub said_breaks : Context → Option Role → Option (List ℕ) → Rule → Bool
+said_breaks context role None rule = character_breaks rule
+said_breaks context role (Some octets) rule = text_breaks context role octets rule
 
 -- a number past 64 bits (RFC 5228, section 2.4.1)
 abbrev pub number_breaks : Option ℕ → Rule → Bool
@@ -112,7 +132,7 @@ number_breaks value rule = false
 abbrev pub breaks : Element → Rule → Bool
 breaks (the_command context name line args ts ending) rule = command_breaks context (known_command context.profile name) args ts ending rule
 breaks (the_test context name line args ts) rule = test_breaks context (known_test context.profile name) args ts rule
-breaks (the_text context role text) rule = text_breaks context role text.string rule
+breaks (the_text context role text) rule = said_breaks context role (said context.required role text.string) rule
 breaks (the_number value line) rule = number_breaks value rule
 
 -- the line of an element

@@ -2,9 +2,11 @@
 use Rattle.std.specs.Prelude.{Bool, true, false, ◌&&◌, ◌||◌, List, [], ◌∷◌, Option, Some, None, if◌then◌else◌}
 use Rattle.sieve_syntax.specs.Tree.{Node, node, Nodes, end_nodes, more_nodes, Block, no_block, block, Text, Argument, strings, number, tag}
 use Rattle.sieve_table.specs.Role.{is_expanded}
+use Rattle.sieve_check.specs.Said.{said_arguments}
 use Rattle.sieve_check.specs.Scope.{Scope, naming_arguments, no_names}
 use Rattle.sieve_profile.specs.Profile.{Profile}
 use Rattle.sieve_reading.specs.Shape.{known_labels}
+use Rattle.sieve_reading.specs.declared.label.Label.{Label}
 use Rattle.sieve_table.specs.Known.{known_command}
 use Rattle.sieve_table.specs.Required.{Required, is_required, nothing_required, requiring}
 use Rattle.sieve_table.specs.Table.{command_row, same_command}
@@ -42,12 +44,14 @@ pub record Context : Type 0 where
   -- what the requires at the top of the script name that stand before it; behind them that is all that is required (RFC 5228,
   -- section 3.2)
   pub required : Required
+  -- it is a string of a test that finds parts of values, by `:contains` or `:matches` (RFC 5228, section 2.7.1)
+  pub finds_parts : Bool
   -- the names of variables in the text before it (RFC 5229, section 4; RFC 6609, section 3.4.1)
   pub scope : Scope
 
 -- the context at the start of a script
 abbrev pub script_start : Profile → Context
-script_start profile = record { profile = profile; leads = true; follows_if = false; required = nothing_required; scope = no_names }
+script_start profile = record { profile = profile; leads = true; follows_if = false; required = nothing_required; finds_parts = false; scope = no_names }
 
 abbrev pub is_require : CommandKind → Bool
 is_require kind = same_command kind Require
@@ -64,6 +68,10 @@ continues_if kind = same_command kind Elsif || same_command kind Else
 abbrev pub required_behind : Context → CommandKind → List Argument → Required
 required_behind context kind args = if context.leads && is_require kind then requiring_arguments context.required args else context.required
 
+-- the names of a scope behind the arguments of a command, by what their strings say
+abbrev pub naming_said : Required → Scope → List Label → List Argument → Scope
+naming_said required scope labels args = naming_arguments scope labels (said_arguments required labels args)
+
 -- the context behind a command of a kind, with its arguments, and before its block
 abbrev pub behind_kind : Context → Option CommandKind → List Argument → Context
 behind_kind context None args = record context { leads = false; follows_if = false }
@@ -72,7 +80,8 @@ behind_kind context (Some kind) args = record {
   leads = context.leads && is_require kind;
   follows_if = allows_else kind;
   required = required_behind context kind args;
-  scope = naming_arguments context.scope (known_labels context.profile (command_row kind) args) args;
+  finds_parts = context.finds_parts;
+  scope = naming_said context.required context.scope (known_labels context.profile (command_row kind) args) args;
 }
 
 -- the context at the start of a block

@@ -1,17 +1,20 @@
 -- The elements of a script, of which rules speak: its commands, tests, strings and numbers, in the order in which its text
 -- writes them, each with what stands before it.
-use Rattle.std.specs.Prelude.{ℕ, Bool, true, false, List, [], ◌∷◌, ◌++◌, Option, Some, None, drop}
+use Rattle.std.specs.Prelude.{ℕ, Bool, true, false, List, [], ◌∷◌, ◌++◌, ◌||◌, Option, Some, None, drop}
+use Rattle.std.specs.List.{list_any}
 use Rattle.sieve_syntax.specs.Tree.{Node, node, Nodes, end_nodes, more_nodes, nodes, Block, no_block, block, Test, test, Tests, no_tests, one_test, test_list, TestList, end_tests, more_tests, Text, Argument, strings, number, tag}
 use Rattle.sieve_check.specs.Context.{Context, script_start, inside, behind, behind_kind}
 use Rattle.sieve_profile.specs.Profile.{Profile}
 use Rattle.sieve_reading.specs.Role.{first_role}
 use Rattle.sieve_table.specs.Known.{known_command, known_test}
 use Rattle.sieve_reading.specs.Shape.{known_labels, known_shapes}
-use Rattle.sieve_table.specs.Table.{Row, command_row, test_row}
+use Rattle.sieve_table.specs.Table.{Row, command_row, same_tag, test_row}
 use Rattle.sieve_check.specs.Use.{is_well_used, has_block}
 use Rattle.sieve_reading.specs.declared.label.Label.{Label}
+use Rattle.sieve_reading.specs.declared.label.Label.TheVariants.{Tagged, OtherTag, Own, InSlot, Unfit}
 use Rattle.sieve_table.specs.declared.row.Role.{Role}
 use Rattle.sieve_table.specs.declared.table.CommandKind.{CommandKind}
+use Rattle.sieve_table.specs.declared.table.Tag.TheVariants.{Contains, Matches}
 use Rattle.sieve_table.specs.declared.table.TestKind.{TestKind}
 
 -- a command, a test, a string in its role, or a number. A string has no role where its argument isn't what some slot or tag
@@ -43,9 +46,21 @@ abbrev pub judged_labels : Bool → List Label → List Label
 judged_labels true labels = labels
 judged_labels false labels = []
 
+-- a tag by which parts of values are found (RFC 5228, section 2.7.1)
+abbrev pub finds_parts : Label → Bool
+finds_parts (Tagged taken) = same_tag taken Contains || same_tag taken Matches
+finds_parts OtherTag = false
+finds_parts (Own slot) = false
+finds_parts (InSlot slot) = false
+finds_parts Unfit = false
+
+-- the context of the strings among arguments of these labels
+abbrev pub among : Context → List Label → Context
+among context labels = record context { finds_parts = list_any finds_parts labels }
+
 -- the arguments of a command or test of a row
 abbrev pub row_elements : Context → Row → List Argument → Tests → (ends_by_block : Bool) → List Element
-row_elements context row args ts ends_by_block = labelled_elements context (judged_labels (is_well_used row (known_shapes context.profile row.tags args) ts ends_by_block) (known_labels context.profile row args)) args
+row_elements context row args ts ends_by_block = labelled_elements (among context (known_labels context.profile row args)) (judged_labels (is_well_used row (known_shapes context.profile row.tags args) ts ends_by_block) (known_labels context.profile row args)) args
 
 abbrev pub test_arguments : Context → Option TestKind → List Argument → Tests → List Element
 test_arguments context None args ts = labelled_elements context [] args

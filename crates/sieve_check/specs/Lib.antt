@@ -3,6 +3,7 @@ pub mod Asked
 pub mod Bare
 pub mod Breach
 pub mod CheckFault
+pub mod Collating
 pub mod Context
 pub mod Element
 pub mod Faultless
@@ -12,6 +13,7 @@ pub mod Order
 pub mod Parted
 pub mod Readable
 pub mod Requirement
+pub mod Said
 pub mod Scope
 pub mod Use
 pub mod view

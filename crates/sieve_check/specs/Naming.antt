@@ -3,11 +3,13 @@
 use Rattle.std.specs.Prelude.{◌≡◌, ⊤, ℕ, Bool, true, false, not, List, [], ◌∷◌, ◌++◌, map, drop, Option, Some, None, if◌then◌else◌}
 use Rattle.std.specs.List.{before_last, filter, flat_map}
 use Rattle.std.specs.Str.{str_eq_ignore_ascii_case}
-use Rattle.sieve_syntax.specs.Tree.{Argument, strings, number, tag, Node, node, Block, no_block, block, Nodes, end_nodes, more_nodes}
+use Rattle.sieve_syntax.specs.Tree.{Argument, strings, number, tag}
 use Rattle.sieve_reading.specs.Role.{first_role}
 use Rattle.sieve_table.specs.Role.{has_role}
 use Rattle.sieve_check.specs.Element.{Element, the_command, the_test, the_text, the_number}
+use Rattle.sieve_check.specs.Said.{said_arguments}
 use Rattle.sieve_profile.specs.Profile.{Profile}
+use Rattle.sieve_table.specs.Required.{Required}
 use Rattle.sieve_reading.specs.Shape.{known_labels}
 use Rattle.sieve_table.specs.Known.{known_command}
 use Rattle.sieve_reading.specs.declared.label.Label.{Label}
@@ -35,23 +37,14 @@ abbrev pub names_in_role : Role → List Label → List Argument → List (List 
 names_in_role wanted labels [] = []
 names_in_role wanted labels (a ∷ args) = (if has_role wanted (first_role labels) then octets_in a else []) ++ names_in_role wanted (drop 1 labels) args
 
--- the names that a command writes; none both sets and declares
-abbrev pub command_mentions : Profile → Option CommandKind → List Argument → List Mention
-command_mentions profile None args = []
-command_mentions profile (Some kind) args = map sets (names_in_role NameToSet (known_labels profile (command_row kind) args) args) ++ map declares (names_in_role NamesToDeclare (known_labels profile (command_row kind) args) args)
+-- the names that arguments write, by their labels; none both sets and declares
+abbrev pub label_mentions : List Label → List Argument → List Mention
+label_mentions labels args = map sets (names_in_role NameToSet labels args) ++ map declares (names_in_role NamesToDeclare labels args)
 
-abbrev mutual
-  -- the mentions of a command and its block, in the order of the text
-  pub node_mentions : Profile → Node → List Mention
-  node_mentions profile (node name line args ts ending) = command_mentions profile (known_command profile name) args ++ block_mentions profile ending
-
-  pub block_mentions : Profile → Block → List Mention
-  block_mentions profile no_block = []
-  block_mentions profile (block ns) = nodes_mentions profile ns
-
-  pub nodes_mentions : Profile → Nodes → List Mention
-  nodes_mentions profile end_nodes = []
-  nodes_mentions profile (more_nodes n ns) = node_mentions profile n ++ nodes_mentions profile ns
+-- the names that a command writes, by what its strings say
+abbrev pub command_mentions : Profile → Required → Option CommandKind → List Argument → List Mention
+command_mentions profile required None args = []
+command_mentions profile required (Some kind) args = label_mentions (known_labels profile (command_row kind) args) (said_arguments required (known_labels profile (command_row kind) args) args)
 
 -- VARIABLES THAT ARE SET
 
@@ -66,11 +59,11 @@ set_by [] = []
 set_by (sets name ∷ rest) = if is_identifier name then name ∷ without_name name (set_by rest) else set_by rest
 set_by (declares name ∷ rest) = without_name name (set_by rest)
 
--- BEFORE A PLACE
+-- AMONG ELEMENTS
 
 -- the names that are written by the commands among elements
 abbrev pub element_mentions : Element → List Mention
-element_mentions (the_command context name line args ts ending) = command_mentions context.profile (known_command context.profile name) args
+element_mentions (the_command context name line args ts ending) = command_mentions context.profile context.required (known_command context.profile name) args
 element_mentions (the_test context name line args ts) = []
 element_mentions (the_text context role text) = []
 element_mentions (the_number value line) = []
@@ -83,6 +76,8 @@ is_command (the_command context name line args ts ending) = true
 is_command (the_test context name line args ts) = false
 is_command (the_text context role text) = false
 is_command (the_number value line) = false
+
+-- BEFORE A PLACE
 
 -- Where a command stands behind these elements, and where its tests and strings do, those variables are set that are by the names written
 -- before the command. So what the command names itself counts behind it alone.

@@ -1,10 +1,11 @@
--- The tree of a text with its strings cut into parts (RFC 5229, section 3). How a string is cut goes by its role: one that names a
+-- The tree of a text with what its strings say cut into parts (RFC 5229, section 3). How a string is cut goes by its role: one that names a
 -- variable is that variable; any other is one literal where `variables` isn't required. A name that the text before a command declares is that
 -- of a variable that scripts share (RFC 6609, section 3.4.1). What stands before a command is the context under which it is judged.
 use Rattle.std.specs.Prelude.{ℕ, List, [], ◌∷◌, Option, Some, None, map, drop, if◌then◌else◌}
 use Rattle.sieve_profile.specs.Profile.{Profile}
 use Rattle.sieve_syntax.specs.Tree as syntax
 use Rattle.sieve_check.specs.Context.{Context, behind, behind_kind, inside, script_start, takes_references}
+use Rattle.sieve_check.specs.Said.{said_arguments}
 use Rattle.sieve_reading.specs.Role.{first_role}
 use Rattle.sieve_table.specs.Role.{names_variable}
 use Rattle.sieve_reading.specs.Shape.{known_labels}
@@ -39,6 +40,10 @@ abbrev pub parted_labelled : Context → List Label → List syntax.Argument →
 parted_labelled context labels [] = []
 parted_labelled context labels (a ∷ args) = parted_argument context (first_role labels) a ∷ parted_labelled context (drop 1 labels) args
 
+-- the same, by what their strings say
+abbrev pub parted_said : Context → List Label → List syntax.Argument → List Argument
+parted_said context labels args = parted_labelled context labels (said_arguments context.required labels args)
+
 -- the labels of the arguments of a test or a command
 abbrev pub test_labels : Profile → Option TestKind → List syntax.Argument → List Label
 test_labels profile None args = []
@@ -50,7 +55,7 @@ command_labels profile (Some kind) args = known_labels profile (command_row kind
 
 abbrev mutual
   pub parted_test : Context → syntax.Test → Test
-  parted_test context (syntax.test name line args ts) = test name line (parted_labelled context (test_labels context.profile (known_test context.profile name) args) args) (parted_tests context ts)
+  parted_test context (syntax.test name line args ts) = test name line (parted_said context (test_labels context.profile (known_test context.profile name) args) args) (parted_tests context ts)
 
   pub parted_tests : Context → syntax.Tests → Tests
   parted_tests context syntax.no_tests = no_tests
@@ -64,7 +69,7 @@ abbrev mutual
 abbrev mutual
   -- a command: its arguments and its tests are cut by what stands before it, and its block by what stands behind them
   pub parted_node : Context → syntax.Node → Node
-  parted_node context (syntax.node name line args ts ending) = node name line (parted_labelled context (command_labels context.profile (known_command context.profile name) args) args) (parted_tests context ts) (parted_block (behind_kind context (known_command context.profile name) args) ending)
+  parted_node context (syntax.node name line args ts ending) = node name line (parted_said context (command_labels context.profile (known_command context.profile name) args) args) (parted_tests context ts) (parted_block (behind_kind context (known_command context.profile name) args) ending)
 
   pub parted_block : Context → syntax.Block → Block
   parted_block context syntax.no_block = no_block

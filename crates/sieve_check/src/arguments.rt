@@ -1,8 +1,8 @@
 //! The breaches in the use of a row and in its arguments: what isn't required, tags and arguments that don't fit, unknown names,
 //! and numbers that are too large.
-ghost use Rattle.std.specs.Prelude.{◌≡◌, false, find, map, IfOk};
+ghost use Rattle.std.specs.Prelude.{◌≡◌, ◌&&◌, false, find, is_none, map, IfOk};
 ghost use Rattle.sieve_syntax.specs.view.Tree.{argument_of, tests_of, text_of};
-ghost use Rattle.sieve_check.specs.Breach.{breaches_at, has_unknown_namespace, is_bad_name, is_known, is_no_declaration, names_namespace, text_breaks};
+ghost use Rattle.sieve_check.specs.Breach.{breaches_at, has_unknown_namespace, is_bad_name, is_known, is_no_declaration, names_namespace, text_breaks, use_lacks};
 ghost use Rattle.sieve_check.specs.Context.{takes_references};
 ghost use Rattle.sieve_check.specs.Element.{argument_elements, labelled_elements, text_elements, the_number, the_text};
 ghost use Rattle.sieve_table.specs.Role.{has_role, names_variable};
@@ -12,14 +12,18 @@ ghost use Rattle.sieve_table.specs.view.Required.{required_as};
 ghost use Rattle.sieve_check.specs.view.Finds.{Finds, FindsIn};
 ghost use Rattle.sieve_table.specs.view.Row.{row_as};
 ghost use Rattle.sieve_check.specs.view.Use.{row_found};
-ghost use Rattle.sieve_table.specs.declared.row.Role.TheVariants.{NameToSet, NamesToDeclare};
+ghost use Rattle.match_text.specs.Relation.{relation_named};
+ghost use Rattle.sieve_table.specs.declared.row.Role.TheVariants.{NameToSet, NamesToDeclare, Relation};
+ghost use Rattle.sieve_table.specs.declared.rule.Rule.TheVariants.{UnfitComparator, UnknownComparator};
 ghost use Rattle.sieve_variables.specs.Name.{is_global_name, is_identifier};
 
+use crate::collating::{arguments_lack, known_collation, lacks_substrings};
 use crate::context::{Context, takes_references};
 use crate::role::{behind_first, first_role};
+use crate::said::said;
 use crate::usage::{has_bad_arguments, has_bad_tag, lacks_required};
 use crate::validator::CheckFault;
-use match_text::collation_named;
+use match_text::relation_named;
 use sieve_reading::{AsOctets, Label, RowLabels, known_labels};
 use sieve_syntax::{Argument, Tests, Text};
 use sieve_table::{
@@ -71,6 +75,29 @@ fn names_namespace(required: Required, role: Option<Role>, octets: &[u8]) -> boo
         || (takes_references(required, role) && has_unknown_namespace(required, octets))
 }
 
+/// Whether a string names no comparator that is known (RFC 5228, section 2.7.3).
+fn is_unknown(context: Context<'_>, role: Option<Role>, octets: &[u8]) -> bool
+    ensures { result ≡ text_breaks (context_as context.entry) role octets.now UnknownComparator }
+{
+    has_role(Role::ComparatorName, role) && known_collation(context.spot.profile, octets).is_none()
+}
+
+/// Whether a string names no relation (RFC 5231, section 4).
+fn is_bad_relation(role: Option<Role>, octets: &[u8]) -> bool
+    ensures { result ≡ (has_role Relation role && is_none (relation_named octets.now)) }
+{
+    has_role(Role::Relation, role) && relation_named(octets).is_none()
+}
+
+/// Whether a string names a comparator without substrings in a test that finds parts of values (RFC 4790, section 9.1).
+fn is_unfit(context: Context<'_>, role: Option<Role>, octets: &[u8]) -> bool
+    ensures { result ≡ text_breaks (context_as context.entry) role octets.now UnfitComparator }
+{
+    has_role(Role::ComparatorName, role)
+        && (context.spot.finds_parts
+            && lacks_substrings(known_collation(context.spot.profile, octets)))
+}
+
 /// Whether a string in its role breaks a rule.
 fn text_breaks(
     alloc: Global,
@@ -87,9 +114,7 @@ fn text_breaks(
             has_role(Role::Capabilities, role)
                 && (context.spot.leads && !may_be_required(context.spot.profile, octets))
         }
-        Rule::UnknownComparator => {
-            has_role(Role::ComparatorName, role) && collation_named(octets).is_none()
-        }
+        Rule::UnknownComparator => is_unknown(context, role, octets),
         Rule::BadVariableName => {
             (names_variable(role) && is_bad_name(octets)) || is_no_declaration(role, octets)
         }
@@ -109,19 +134,22 @@ fn text_breaks(
         Rule::TooManyVariables => {
             has_role(Role::NameToSet, role) && context.scope.is_full_for(alloc, octets)?
         }
-        Rule::RequirePlace => false,
-        Rule::UnknownCommand => false,
-        Rule::NotRequired => false,
-        Rule::ElsePlace => false,
-        Rule::BadTag => false,
-        Rule::BadArguments => false,
-        Rule::NumberTooLarge => false,
+        Rule::BadRelation => is_bad_relation(role, octets),
+        Rule::UnfitComparator => is_unfit(context, role, octets),
+        Rule::RequirePlace
+        | Rule::UnknownCommand
+        | Rule::NotRequired
+        | Rule::ElsePlace
+        | Rule::BadTag
+        | Rule::BadArguments
+        | Rule::NumberTooLarge
+        | Rule::BadCharacter => false,
     };
     Ok(broken)
 }
 
 /// The rules that a string can break, in the order of their numbers.
-const TEXT_RULES: [Rule; 9] = [
+const TEXT_RULES: [Rule; 11] = [
     Rule::UnknownCapability,
     Rule::UnknownComparator,
     Rule::BadVariableName,
@@ -131,6 +159,8 @@ const TEXT_RULES: [Rule; 9] = [
     Rule::BadEnvelopePart,
     Rule::NotAddressHeader,
     Rule::TooManyVariables,
+    Rule::BadRelation,
+    Rule::UnfitComparator,
 ];
 
 /// The first of some rules that a string in its role breaks.
@@ -161,11 +191,13 @@ fn check_text(
 ) -> Result<(), CheckFault>
     ensures { Finds (breaches_at (the_text (context_as context.entry) role (text_of text.now))) result }
 {
-    match first_broken(alloc, &TEXT_RULES, context, role, text.octets())? {
-        Some(rule) => Err(CheckFault::Breach {
-            line: text.line as u64,
-            rule,
-        }),
+    let line = text.line as u64;
+    let Some(said) = said(alloc, context.spot.required, role, text.octets())? else {
+        let rule = Rule::BadCharacter;
+        return Err(CheckFault::Breach { line, rule });
+    };
+    match first_broken(alloc, &TEXT_RULES, context, role, said.as_slice())? {
+        Some(rule) => Err(CheckFault::Breach { line, rule }),
         None => Ok(()),
     }
 }
@@ -235,6 +267,25 @@ pub(crate) fn check_arguments(
     Ok(())
 }
 
+/// Whether a command or a test of a row, with arguments of these labels, needs what isn't required, itself, by an argument, or by a
+/// comparator that is named (RFC 5228, section 2.10.5).
+fn use_lacks(
+    alloc: Global,
+    context: Context<'_>,
+    row: &Row,
+    labels: &[Label],
+    args: &[Argument],
+) -> Result<bool, AllocError>
+    requires { labels.now ≡ known_labels (context_as context).profile (row_as row.now) (map argument_of args.now) }
+    ensures { IfOk result (λ lacks. lacks ≡ use_lacks (context_as context.entry).profile (context_as context.entry).required (row_as row.now) (map argument_of args.now)) }
+{
+    let required = context.spot.required;
+    if lacks_required(required, row, labels) {
+        return Ok(true);
+    }
+    arguments_lack(alloc, context.spot.profile, required, labels, args)
+}
+
 /// Checks a command or a test of a row, apart from its tests and its block, and from whether a `require` may stand there.
 /// `stands_alone` says whether it goes on with an `if` that isn't there.
 #[tactic(auto, using(crate::proofs::Uses::use_steps))]
@@ -257,7 +308,7 @@ pub(crate) fn check_use(
         row,
         args,
     )?;
-    if lacks_required(context.spot.required, row, &labels) {
+    if use_lacks(alloc, context, row, &labels, args)? {
         let rule = Rule::NotRequired;
         return Err(CheckFault::Breach { line, rule });
     }
@@ -273,6 +324,6 @@ pub(crate) fn check_use(
         let rule = Rule::BadArguments;
         return Err(CheckFault::Breach { line, rule });
     }
-    check_arguments(alloc, context, &labels, args)?;
+    check_arguments(alloc, context.among(&labels), &labels, args)?;
     Ok(labels)
 }

@@ -3,16 +3,16 @@ ghost use Rattle.std.specs.Prelude.{◌≡◌, ◌&&◌, not, map, Some, IfOk, O
 ghost use Rattle.sieve_syntax.specs.Tree.{nodes};
 ghost use Rattle.sieve_syntax.specs.view.Tree as seen;
 ghost use Rattle.sieve_syntax.specs.declared.tree.Command.{out-Command};
-ghost use Rattle.sieve_check.specs.Context.{behind, behind_kind, behind_nodes, continues_if, is_require};
+ghost use Rattle.sieve_check.specs.Context.{behind, behind_kind, behind_nodes, continues_if, is_require, naming_said};
 ghost use Rattle.sieve_check.specs.Element.{node_elements, nodes_elements, tests_elements};
-ghost use Rattle.sieve_check.specs.Parted.{parted_labelled, parted_node, parted_nodes, parted_tests};
-ghost use Rattle.sieve_check.specs.Scope.{naming_arguments};
+ghost use Rattle.sieve_check.specs.Parted.{parted_said, parted_node, parted_nodes, parted_tests};
 ghost use Rattle.sieve_reading.specs.Shape.{known_labels};
 ghost use Rattle.sieve_reading.specs.Tree.{items};
 ghost use Rattle.sieve_reading.specs.view.Tree.{argument_of, node_of, tests_of};
 ghost use Rattle.sieve_profile.specs.view.Profile.{profile_as};
 ghost use Rattle.sieve_table.specs.Known as spec;
 ghost use Rattle.sieve_table.specs.Table.{command_row};
+ghost use Rattle.sieve_table.specs.view.Required.{required_as};
 ghost use Rattle.sieve_check.specs.view.Context.{at_spot, context_as};
 ghost use Rattle.sieve_check.specs.view.Finds.{Finds, FindsIn};
 ghost use Rattle.sieve_check.specs.view.Head.{command_head, kind_found};
@@ -20,6 +20,7 @@ ghost use Rattle.sieve_check.specs.view.Head.{command_head, kind_found};
 use crate::arguments::check_use;
 use crate::context::{Context, Spot, continues_if, is_require};
 use crate::cutting::cut_arguments;
+use crate::said::say_arguments;
 use crate::scope::Scope;
 use crate::test_rules::check_tests;
 use crate::validator::CheckFault;
@@ -109,7 +110,7 @@ fn check_command_head(
     }
 }
 
-/// Cuts the strings of arguments by what stands before their command, and goes on behind them. Names that are set are read before the
+/// Cuts what the strings of arguments say by what stands before their command, and goes on behind them. Names that are set are read before the
 /// cut, which makes variables of them; names that are declared count behind it, and stay literals.
 fn cut_and_name(
     alloc: Global,
@@ -118,9 +119,10 @@ fn cut_and_name(
     labels: &[Label],
     args: &mut Vec<Argument>,
 ) -> Result<(), AllocError>
-    ensures cut { OnOk result (map argument_of args.new.items ≡ parted_labelled (at_spot spot scope.old) labels.now (map seen.argument_of args.old.items)) }
-    ensures goes { OnOk result (scope.new ≡ naming_arguments scope.old labels.now (map seen.argument_of args.old.items)) }
+    ensures cut { OnOk result (map argument_of args.new.items ≡ parted_said (at_spot spot scope.old) labels.now (map seen.argument_of args.old.items)) }
+    ensures goes { OnOk result (scope.new ≡ naming_said (required_as spot.required) scope.old labels.now (map seen.argument_of args.old.items)) }
 {
+    say_arguments(alloc, spot.required, labels, &mut *args)?;
     scope.assign_arguments(alloc, labels, args)?;
     let context = Context {
         spot,
@@ -143,7 +145,7 @@ fn check_front(
     requires { head.labels.items ≡ known_labels (profile_as spot.profile) (command_row head.kind) (map seen.argument_of args.old.items) }
     ensures found { FindsIn (tests_elements (at_spot spot scope.old) (seen.tests_of tests.old)) result }
     ensures goes { IfOk result (λ next. at_spot next scope.new ≡ behind_kind (at_spot spot scope.old) (Some head.kind) (map seen.argument_of args.old.items)) }
-    ensures args { OnOk result (map argument_of args.new.items ≡ parted_labelled (at_spot spot scope.old) head.labels.items (map seen.argument_of args.old.items)) }
+    ensures args { OnOk result (map argument_of args.new.items ≡ parted_said (at_spot spot scope.old) head.labels.items (map seen.argument_of args.old.items)) }
     ensures tests { OnOk result (tests_of tests.new ≡ parted_tests (at_spot spot scope.old) (seen.tests_of tests.old)) }
 {
     let context = Context {

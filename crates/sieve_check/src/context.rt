@@ -1,19 +1,22 @@
 //! What stands before a command in its text, as far as rules ask.
 ghost use Rattle.std.specs.Prelude.{◌≡◌, ◌&&◌, Some, map};
+ghost use Rattle.std.specs.List.{list_any};
 ghost use Rattle.sieve_syntax.specs.view.Tree.{argument_of, text_of};
 ghost use Rattle.sieve_check.specs.Context as spec;
-ghost use Rattle.sieve_check.specs.Scope.{naming_arguments, no_names};
+ghost use Rattle.sieve_check.specs.Scope.{no_names};
 ghost use Rattle.sieve_profile.specs.view.Profile.{profile_as};
 ghost use Rattle.sieve_reading.specs.Shape.{known_labels};
-ghost use Rattle.sieve_check.specs.view.Context.{at_spot};
+ghost use Rattle.sieve_check.specs.Element.{among, finds_parts};
+ghost use Rattle.sieve_check.specs.view.Context.{at_spot, context_as};
 ghost use Rattle.sieve_table.specs.view.Required.{required_as};
 ghost use Rattle.sieve_check.specs.view.Scope.{ScopeState};
 ghost use Rattle.sieve_table.specs.Table.{command_row};
 
 use crate::scope::Scope;
 use sieve_profile::Profile;
+use sieve_reading::Label;
 use sieve_syntax::{Argument, Text};
-use sieve_table::{Capability, CommandKind, Required, Role, is_expanded};
+use sieve_table::{Capability, CommandKind, Required, Role, Tag, is_expanded, same_tag};
 
 /// What is required with what strings name.
 fn requiring_texts(required: Required, texts: &[Text]) -> Required
@@ -69,6 +72,8 @@ pub(crate) struct Spot {
     pub(crate) follows_if: bool,
     /// What the requires at the top of the script name that stand before it (RFC 5228, section 3.2).
     pub(crate) required: Required,
+    /// It is a string of a test that finds parts of values (RFC 5228, section 2.7.1).
+    pub(crate) finds_parts: bool,
 }
 
 /// What stands before a command in its text.
@@ -77,6 +82,38 @@ pub(crate) struct Context<'a> {
     pub(crate) spot: Spot,
     /// The names of variables in the text before it.
     pub(crate) scope: &'a Scope,
+}
+
+impl<'a> Context<'a> {
+    /// Among the strings of arguments of these labels.
+    pub(crate) fn among(self, labels: &[Label]) -> Context<'a>
+        ensures { context_as result ≡ among (context_as self.entry) labels.now }
+    {
+        Context {
+            spot: Spot {
+                finds_parts: find_parts(labels),
+                ..self.spot
+            },
+            scope: self.scope,
+        }
+    }
+}
+
+/// Whether an argument is a tag by which parts of values are found (RFC 5228, section 2.7.1).
+fn finds_parts(label: Label) -> bool
+    ensures { result ≡ finds_parts label }
+{
+    match label {
+        Label::Tagged(tag) => same_tag(tag, Tag::Contains) || same_tag(tag, Tag::Matches),
+        Label::OtherTag | Label::Own(_) | Label::InSlot(_) | Label::Unfit => false,
+    }
+}
+
+/// Whether some argument is one.
+fn find_parts(labels: &[Label]) -> bool
+    ensures { result ≡ list_any finds_parts labels.now }
+{
+    labels.iter().any(|label| finds_parts(*label))
 }
 
 /// Whether a command is `require`.
@@ -117,6 +154,7 @@ impl Spot {
             leads: true,
             follows_if: false,
             required: Required::nothing(),
+            finds_parts: false,
         }
     }
 
@@ -144,13 +182,14 @@ impl Spot {
 
     /// Behind a command of this kind with these arguments.
     pub(crate) fn behind_kind(self, kind: CommandKind, args: &[Argument]) -> Spot
-        ensures { (scope : ScopeState) → at_spot result (naming_arguments scope (known_labels (profile_as self.profile) (command_row kind) (map argument_of args.now)) (map argument_of args.now)) ≡ spec.behind_kind (at_spot self scope) (Some kind) (map argument_of args.now) }
+        ensures { (scope : ScopeState) → at_spot result (spec.naming_said (required_as self.required) scope (known_labels (profile_as self.profile) (command_row kind) (map argument_of args.now)) (map argument_of args.now)) ≡ spec.behind_kind (at_spot self scope) (Some kind) (map argument_of args.now) }
     {
         Spot {
             profile: self.profile,
             leads: leads_behind(self.leads, kind),
             follows_if: allows_else(kind),
             required: self.required_behind(kind, args),
+            finds_parts: self.finds_parts,
         }
     }
 }

@@ -10,6 +10,7 @@ ghost use Rattle.sieve_variables.specs.Variable.{scoped, variable_named};
 
 use crate::context::{Context, takes_references};
 use crate::role::{behind_first, first_role};
+use crate::said::say_arguments;
 use sieve_reading::Label;
 use sieve_syntax::{Argument, Text, octets_in};
 use sieve_table::{Role, names_variable};
@@ -123,6 +124,19 @@ fn cut_argument(
         Argument::Number { .. } => Ok(()),
         Argument::Tag { .. } => Ok(()),
     }
+}
+
+/// Cuts what the strings of arguments say, each by its label.
+pub(crate) fn say_and_cut(
+    alloc: Global,
+    context: Context<'_>,
+    labels: &[Label],
+    args: &mut Vec<Argument>,
+) -> Result<(), AllocError>
+    ensures { OnOk result (map argument_of args.new.items ≡ spec.parted_said (context_as context.entry) labels.now (map seen.argument_of args.old.items)) }
+{
+    say_arguments(alloc, context.spot.required, labels, &mut *args)?;
+    cut_arguments(alloc, context, labels, args)
 }
 
 /// Cuts the strings of arguments, each by its label.

@@ -15,8 +15,8 @@ ghost use Rattle.sieve_check.specs.Asked.{AreAlike, asked_by_command, asked_by_t
 ghost use Rattle.sieve_check.specs.Bare.{bare_node};
 ghost use Rattle.sieve_check.specs.Breach.{Breach, breaches_at, breaches_of, breaks, first_breach, IsLeastBreach};
 ghost use Rattle.sieve_check.specs.Context.{Context, behind_nodes, script_start, takes_references};
-ghost use Rattle.sieve_check.specs.Element.{Element, elements_of};
-ghost use Rattle.sieve_check.specs.Naming.{HasSetBefore, nodes_mentions, set_by};
+ghost use Rattle.sieve_check.specs.Element.{Element, elements_of, nodes_elements};
+ghost use Rattle.sieve_check.specs.Naming.{HasSetBefore, mentions_in, set_by};
 ghost use Rattle.sieve_check.specs.Order.{IsInTextOrder};
 ghost use Rattle.sieve_check.specs.Parted.{parted, parts_in};
 ghost use Rattle.sieve_check.specs.Readable.{IsReadable, DoesAll};
@@ -32,7 +32,7 @@ ghost use Rattle.sieve_table.specs.Table.{command_row, test_row};
 ghost use Rattle.sieve_table.specs.declared.row.Role.{Role};
 ghost use Rattle.sieve_table.specs.declared.row.TagKind.TheVariants.{Bound};
 ghost use Rattle.sieve_table.specs.declared.rule.Rule.{Rule};
-ghost use Rattle.sieve_table.specs.declared.rule.Rule.TheVariants.{RequirePlace, UnknownCapability, UnknownCommand, NotRequired, ElsePlace, BadTag, BadArguments, UnknownComparator, BadVariableName, GlobalAfterSet, BadNamespace, MatchIndex, NumberTooLarge, BadEnvelopePart, NotAddressHeader, TooManyVariables};
+ghost use Rattle.sieve_table.specs.declared.rule.Rule.TheVariants.{RequirePlace, UnknownCapability, UnknownCommand, NotRequired, ElsePlace, BadTag, BadArguments, UnknownComparator, BadVariableName, GlobalAfterSet, BadNamespace, MatchIndex, NumberTooLarge, BadEnvelopePart, NotAddressHeader, TooManyVariables, BadCharacter, BadRelation, UnfitComparator};
 ghost use Rattle.sieve_table.specs.declared.table.CommandKind.{CommandKind};
 ghost use Rattle.sieve_table.specs.declared.table.Tag.TheVariants.{Over, Under};
 ghost use Rattle.sieve_table.specs.declared.table.TestKind.{TestKind};
@@ -45,7 +45,7 @@ ghost use Rattle.sieve_variables.specs.Variable.{scoped, variable_named};
 /// each with the rules that it breaks in the order of their numbers, which is the one written here. So the first breach is the least.
 #[tactic(auto, using(crate::proofs::Least::least))]
 pub fn first_breach_is_least()
-    ensures rules { all_rules ≡ RequirePlace ∷ UnknownCapability ∷ UnknownCommand ∷ NotRequired ∷ ElsePlace ∷ BadTag ∷ BadArguments ∷ UnknownComparator ∷ BadVariableName ∷ GlobalAfterSet ∷ BadNamespace ∷ MatchIndex ∷ NumberTooLarge ∷ BadEnvelopePart ∷ NotAddressHeader ∷ TooManyVariables ∷ [] }
+    ensures rules { all_rules ≡ RequirePlace ∷ UnknownCapability ∷ UnknownCommand ∷ NotRequired ∷ ElsePlace ∷ BadTag ∷ BadArguments ∷ UnknownComparator ∷ BadVariableName ∷ GlobalAfterSet ∷ BadNamespace ∷ MatchIndex ∷ NumberTooLarge ∷ BadEnvelopePart ∷ NotAddressHeader ∷ TooManyVariables ∷ BadCharacter ∷ BadRelation ∷ UnfitComparator ∷ [] }
     ensures order { (profile : Profile) (tree : List Node) → breaches_of profile tree ≡ flat_map breaches_at (elements_of profile tree) }
     ensures least { (profile : Profile) (tree : List Node) (breach : Breach) → first_breach profile tree ≡ Some breach → IsLeastBreach profile tree breach }
 {}
@@ -78,7 +78,7 @@ pub fn what_is_required_is_named_at_the_top()
 /// text, and before each command, test and string of a script, wherever it stands: there those variables are set that are by the commands
 /// before its own.
 pub fn what_is_written_to_be_set_is_set()
-    ensures behind { (profile : Profile) (commands : Nodes) → (behind_nodes (script_start profile) commands).scope.assigned ≡ set_by (nodes_mentions profile commands) }
+    ensures behind { (profile : Profile) (commands : Nodes) → (behind_nodes (script_start profile) commands).scope.assigned ≡ set_by (mentions_in (nodes_elements (script_start profile) commands)) }
     ensures before { (profile : Profile) (tree : List Node) (place : ℕ) (element : Element) → slice_get (elements_of profile tree) place ≡ Some element → HasSetBefore (take place (elements_of profile tree)) element }
 {}
 
@@ -106,8 +106,9 @@ pub fn unused_changes_no_sound_script()
     ensures { (profile : Profile) (text : List ℕ) (tree : List checked.Node) → judgement_of profile text ≡ sound tree → judgement_of (with_extension profile Unused) text ≡ sound tree }
 {}
 
-/// Each argument that the reading of a command or a test asks for is in its row: exactly one there is of the role, and that one is written as
-/// it is read; it can't be left out exactly where the reading wants it always; and its strings are cut as the reading needs them. What
+/// Each argument that the reading of a command or a test asks for is in its row: one there is of the role, and it is written as it is read; it
+/// can't be left out exactly where the reading wants it always; and its strings are cut as the reading needs them. Where it may be left out, more
+/// than one may be of the role, each taken by a tag. What
 /// these arguments are read as, with the tags, is all that a command or a test is read by. The tags of `size` are `:over` and `:under`, of
 /// which a script without a breach gives one.
 pub fn rows_give_what_readings_ask_for()

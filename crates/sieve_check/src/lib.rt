@@ -3,6 +3,7 @@
 
 mod arguments;
 mod checked;
+mod collating;
 mod command_rules;
 mod context;
 mod cutting;
@@ -10,6 +11,7 @@ mod judged;
 pub mod laws;
 pub mod profile_laws;
 mod role;
+mod said;
 mod scope;
 mod test_rules;
 mod usage;

@@ -14,7 +14,7 @@ ghost use Rattle.sieve_table.specs.Known as spec;
 
 use crate::arguments::check_use;
 use crate::context::Context;
-use crate::cutting::cut_arguments;
+use crate::cutting::say_and_cut;
 use crate::validator::CheckFault;
 use sieve_profile::Profile;
 use sieve_reading::Label;
@@ -69,7 +69,7 @@ fn check_test(alloc: Global, context: Context<'_>, test: &mut Test) -> Result<()
     ensures cut { OnOk result (test_of test.new ≡ parted_test (context_as context.entry) (seen.test_of test.old)) }
 {
     let labels = check_test_head(alloc, context, &*test)?;
-    cut_arguments(alloc, context, &labels, &mut test.args)?;
+    say_and_cut(alloc, context, &labels, &mut test.args)?;
     let tests = mem::replace(&mut test.tests, Tests::None);
     test.tests = check_tests(alloc, context, tests)?;
     Ok(())

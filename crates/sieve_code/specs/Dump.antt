@@ -2,7 +2,8 @@
 use Rattle.std.specs.Prelude.{ℕ, Bool, true, false, List, [], ◌∷◌, ◌++◌, Option, Some, None, codes, decimal, slice_get}
 use Rattle.std.specs.List.{flat_map}
 use Rattle.match_text.specs.declared.comparators.Collation.{Collation}
-use Rattle.match_text.specs.declared.comparators.Collation.TheVariants.{Octet, Casemap}
+use Rattle.match_text.specs.declared.comparators.Collation.TheVariants.{Octet, Casemap, Numeric}
+use Rattle.match_text.specs.Relation.{relation_word}
 use Rattle.sieve_base.specs.Name.{place_word}
 use Rattle.sieve_base.specs.Writers.{quoted}
 use Rattle.sieve_base.specs.declared.place.Place.{Place}
@@ -13,7 +14,7 @@ use Rattle.sieve_reading.specs.declared.reading.Comparison.{Comparison}
 use Rattle.sieve_reading.specs.declared.reading.FlagChange.{FlagChange}
 use Rattle.sieve_reading.specs.declared.reading.FlagChange.TheVariants as change
 use Rattle.sieve_reading.specs.declared.reading.MatchType.{MatchType}
-use Rattle.sieve_reading.specs.declared.reading.MatchType.TheVariants.{Is, Contains, Matches}
+use Rattle.sieve_reading.specs.declared.reading.MatchType.TheVariants.{Is, Contains, Matches, Value, Count}
 use Rattle.sieve_variables.specs.Part.{Part, literal, variable_part, match_part}
 use Rattle.sieve_variables.specs.Variable.{Variable, local_variable, global_variable}
 use Rattle.sieve_variables.specs.declared.modifier.LetterCase.{LetterCase}
@@ -49,14 +50,18 @@ string_text (part ∷ parts) = separated (codes "+") part_text (part ∷ parts)
 unfoldable pub list_text : List (List Part) → List ℕ
 list_text strings = codes "[" ++ separated (codes ", ") string_text strings ++ codes "]"
 
+-- the word of a match type; behind that of `:value` or `:count` stands the relation (RFC 5231, section 4)
 abbrev pub match_word : MatchType → List ℕ
 match_word Is = codes "is"
 match_word Contains = codes "contains"
 match_word Matches = codes "matches"
+match_word (Value relation) = codes "value-" ++ relation_word relation
+match_word (Count relation) = codes "count-" ++ relation_word relation
 
 abbrev pub collation_word : Collation → List ℕ
 collation_word Octet = codes "octet"
 collation_word Casemap = codes "casemap"
+collation_word Numeric = codes "numeric"
 
 abbrev pub address_part_word : AddressPart → List ℕ
 address_part_word address_part.All = codes "all"

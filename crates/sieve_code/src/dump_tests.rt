@@ -1,15 +1,44 @@
 //! The tests of a dump.
 ghost use Rattle.std.specs.Prelude.{◌≡◌, ◌++◌, codes};
+ghost use Rattle.match_text.specs.Relation.{relation_word};
 ghost use Rattle.sieve_base.specs.Writers.{Writes};
 ghost use Rattle.sieve_code.specs.Dump.{address_part_word, address_words, collation_word, comparing_words, further_list, internal_list, match_word, source_text};
 ghost use Rattle.sieve_effects.specs.view.Ops.{source_op_as};
 
 use crate::dump_strings::write_further_list;
-use match_text::Collation;
+use match_text::{Collation, Relation};
 use message_text::AddressPart;
 use sieve_base::{Piece, Sink, WriteFault, write_out, write_pieces};
 use sieve_effects::{SourceOp, Strings};
 use sieve_reading::{Comparison, MatchType};
+
+/// The word of a match type that compares values, by its relation (RFC 5231, section 4.1).
+fn value_word(relation: Relation) -> &'static [u8]
+    ensures { result.now ≡ codes "value-" ++ relation_word relation }
+{
+    match relation {
+        Relation::Gt => b"value-gt",
+        Relation::Ge => b"value-ge",
+        Relation::Lt => b"value-lt",
+        Relation::Le => b"value-le",
+        Relation::Eq => b"value-eq",
+        Relation::Ne => b"value-ne",
+    }
+}
+
+/// The word of a match type that compares their number, by its relation (RFC 5231, section 4.2).
+fn count_word(relation: Relation) -> &'static [u8]
+    ensures { result.now ≡ codes "count-" ++ relation_word relation }
+{
+    match relation {
+        Relation::Gt => b"count-gt",
+        Relation::Ge => b"count-ge",
+        Relation::Lt => b"count-lt",
+        Relation::Le => b"count-le",
+        Relation::Eq => b"count-eq",
+        Relation::Ne => b"count-ne",
+    }
+}
 
 /// The word of a match type.
 fn match_word(match_type: MatchType) -> &'static [u8]
@@ -19,6 +48,8 @@ fn match_word(match_type: MatchType) -> &'static [u8]
         MatchType::Is => b"is",
         MatchType::Contains => b"contains",
         MatchType::Matches => b"matches",
+        MatchType::Value(relation) => value_word(relation),
+        MatchType::Count(relation) => count_word(relation),
     }
 }
 
@@ -29,6 +60,7 @@ fn collation_word(collation: Collation) -> &'static [u8]
     match collation {
         Collation::Octet => b"octet",
         Collation::Casemap => b"casemap",
+        Collation::Numeric => b"numeric",
     }
 }
 

@@ -3,7 +3,7 @@ use Rattle.std.proofs.Common.{◌≡◌, ℕ, Bool, true, false, ◌||◌, List,
 use Rattle.std.specs.Prelude.{if◌then◌else◌}
 use Rattle.std.specs.List.{list_any}
 use Rattle.std.specs.Option.{option_or}
-use Rattle.match_text.specs.Comparator.{fold_of, same}
+use Rattle.match_text.specs.Order.{are_equal}
 use Rattle.match_text.specs.declared.comparators.Collation.{Collation}
 use Rattle.match_text.specs.Flags.{has_key}
 use Rattle.sieve_effects.specs.Matching.{Pair, first_match, first_some, match_by, pairs_with}
@@ -26,11 +26,11 @@ any_map : {X Y : Type 0} (test : Y → Bool) (f : X → Y) (xs : List X) → lis
 any_map test f [] = refl
 any_map test f (x ∷ xs) = ap (λ b. test (f x) || b) (any_map test f xs)
 
--- under `:is`, the first match of a value with keys is there where some key is the same as the value, and it sets nothing
-of_one : (collation : Collation) (keys : List (List ℕ)) (value : List ℕ) → first_match (record { match_type = Is; collation = collation }) (pairs_with keys value) ≡ plain (list_any (same (fold_of collation) value) keys)
+-- under `:is`, the first match of a value with keys is there where some key is equal to the value, and it sets nothing
+of_one : (collation : Collation) (keys : List (List ℕ)) (value : List ℕ) → first_match (record { match_type = Is; collation = collation }) (pairs_with keys value) ≡ plain (list_any (are_equal collation value) keys)
 of_one collation keys value =
-    first_plain (λ (pair : Pair). match_by Is (fold_of collation) pair.value pair.key) (λ pair. same (fold_of collation) pair.value pair.key) (λ pair. refl) (pairs_with keys value)
-    ∙ ap plain (any_map (λ (pair : Pair). same (fold_of collation) pair.value pair.key) (λ key. record { value = value; key = key }) keys)
+    first_plain (λ (pair : Pair). match_by Is collation pair.value pair.key) (λ pair. are_equal collation pair.value pair.key) (λ pair. refl) (pairs_with keys value)
+    ∙ ap plain (any_map (λ (pair : Pair). are_equal collation pair.value pair.key) (λ key. record { value = value; key = key }) keys)
 
 -- some member passes one of two tests where some member passes the first test or some member the second
 either : {X : Type 0} (p q : X → Bool) (xs : List X) → list_any (λ x. p x || q x) xs ≡ (list_any p xs || list_any q xs)
@@ -47,13 +47,13 @@ none_any : {X : Type 0} (xs : List X) → list_any (λ x. false) xs ≡ false
 none_any [] = refl
 none_any (x ∷ xs) = none_any xs
 
--- some flag is the same as one of the keys where some key is the same as one of the flags
-turned_over : (fold : ℕ → ℕ) (flags keys : List (List ℕ)) → list_any (λ flag. list_any (same fold flag) keys) flags ≡ list_any (has_key fold flags) keys
-turned_over fold [] keys = sym (none_any keys)
-turned_over fold (flag ∷ flags) keys = ap (λ b. list_any (same fold flag) keys || b) (turned_over fold flags keys) ∙ sym (either (same fold flag) (has_key fold flags) keys)
+-- some flag is equal to one of the keys where some key is equal to one of the flags
+turned_over : (equal : List ℕ → List ℕ → Bool) (flags keys : List (List ℕ)) → list_any (λ flag. list_any (equal flag) keys) flags ≡ list_any (has_key equal flags) keys
+turned_over equal [] keys = sym (none_any keys)
+turned_over equal (flag ∷ flags) keys = ap (λ b. list_any (equal flag) keys || b) (turned_over equal flags keys) ∙ sym (either (equal flag) (has_key equal flags) keys)
 
 -- under `:is`, the first match of flags with keys is there where some key is among the flags, and it sets nothing
-pub found_among : (collation : Collation) (flags keys : List (List ℕ)) → first_some (λ flag. first_match (record { match_type = Is; collation = collation }) (pairs_with keys flag)) flags ≡ (if list_any (has_key (fold_of collation) flags) keys then Some [] else None)
+pub found_among : (collation : Collation) (flags keys : List (List ℕ)) → first_some (λ flag. first_match (record { match_type = Is; collation = collation }) (pairs_with keys flag)) flags ≡ (if list_any (has_key (are_equal collation) flags) keys then Some [] else None)
 found_among collation flags keys =
-    first_plain (λ flag. first_match (record { match_type = Is; collation = collation }) (pairs_with keys flag)) (λ flag. list_any (same (fold_of collation) flag) keys) (of_one collation keys) flags
-    ∙ ap plain (turned_over (fold_of collation) flags keys)
+    first_plain (λ flag. first_match (record { match_type = Is; collation = collation }) (pairs_with keys flag)) (λ flag. list_any (are_equal collation flag) keys) (of_one collation keys) flags
+    ∙ ap plain (turned_over (are_equal collation) flags keys)

@@ -1,5 +1,5 @@
 -- How many of the internal flags are known to be among an action's own, while the internal flags and the actions change.
-use Rattle.std.proofs.Common.{◌≡◌, ℕ, zero, suc, ◌+◌, ◌<◌, ◌≤◌, length, take, drop, get_or, remove, Bool, true, false, not, ◌||◌, List, [], ◌∷◌, ◌++◌, map, slice_set, refl, add-one, append-nil, append_assoc, sym, ap, subst, ◌∙◌, arith}
+use Rattle.std.proofs.Common.{◌≡◌, ℕ, zero, suc, ◌+◌, ◌<◌, ◌≤◌, length, take, drop, get_or, remove, Bool, true, false, ◌||◌, List, [], ◌∷◌, ◌++◌, map, slice_set, refl, add-one, append-nil, append_assoc, sym, ap, subst, ◌∙◌, arith}
 use Rattle.std.specs.Prelude.{if◌then◌else◌}
 use Rattle.std.specs.List.{All, list_any}
 use Rattle.std.proofs.lemmas.List.{drop_all, length-append, take-append-le, take_all}

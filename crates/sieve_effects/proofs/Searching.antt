@@ -18,7 +18,7 @@ use Rattle.sieve_table.specs.Address.{is_address_field}
 use Rattle.sieve_effects.specs.Delivery.{Delivery, envelope_of}
 use Rattle.match_text.specs.Flags.{flag_keys_of_texts, flag_list}
 use Rattle.sieve_effects.specs.State.{RunState}
-use Rattle.sieve_effects.specs.Matching.{envelope_named, envelope_text, first_match, first_some, match_found, match_of, pairs_with, address_parts, decoded_named, parts_named, parts_of_envelope, parts_of_value, values_named, values_of, keys_from, keys_of}
+use Rattle.sieve_effects.specs.Matching.{compared_of, envelope_named, envelope_text, first_match, first_some, match_found, match_of, pairs_with, address_parts, decoded_named, parts_named, parts_of_envelope, parts_of_value, values_named, values_of, keys_from, keys_of}
 use Rattle.sieve_effects.specs.view.FieldTests.{cuts_keys, field_found, field_source, name_found, part_found, path_found, path_name_found, value_found}
 
 -- a function of what is made of an element in two steps
@@ -234,11 +234,11 @@ module _ (find : List ℕ → Option (List (List ℕ))) (delivery : Delivery) (s
 
 -- what a test finds is the first match of its values with the octets of its keys
 module _ (comparison : Comparison) (delivery : Delivery) (state : RunState) where
-  pub keyed_found : (source : ValueSource) (keys : List (List Part)) (keyed : List (List ℕ)) → keyed ≡ keys_of state source keys → first_some (λ value. first_match comparison (pairs_with keyed value)) (values_of delivery state source) ≡ match_found delivery state source comparison keys
+  pub keyed_found : (source : ValueSource) (keys : List (List Part)) (keyed : List (List ℕ)) → keyed ≡ keys_of state source keys → first_some (λ value. first_match comparison (pairs_with keyed value)) (compared_of comparison.match_type delivery state source) ≡ match_found delivery state source comparison keys
   unfolding match_found
   keyed_found source keys keyed is =
-      ap (λ ks. first_some (λ value. first_match comparison (pairs_with ks value)) (values_of delivery state source)) is
-      ∙ sym (first_flat (λ pair. match_of comparison pair.value pair.key) (pairs_with (keys_of state source keys)) (values_of delivery state source))
+      ap (λ ks. first_some (λ value. first_match comparison (pairs_with ks value)) (compared_of comparison.match_type delivery state source)) is
+      ∙ sym (first_flat (λ pair. match_of comparison pair.value pair.key) (pairs_with (keys_of state source keys)) (compared_of comparison.match_type delivery state source))
 
 -- the keys of a test are the pieces of their texts where its source cuts keys at spaces, and else the whole texts
 pub cut_keys : (source : ValueSource) (texts : List (List ℕ)) → cuts_keys source ≡ true → flag_keys_of_texts texts ≡ keys_from source texts

@@ -1,22 +1,25 @@
 -- What tests find in a delivery: fields, addresses and parts of the envelope by name, and whether a value matches a key (RFC 5228,
 -- sections 2.7 and 5).
-use Rattle.std.specs.Prelude.{ℕ, Bool, false, ◌||◌, List, [], ◌∷◌, Option, None, Some, is_some, map, filter, length, nat_eq, nat_lt, if◌then◌else◌, codes, option_to_list}
+use Rattle.std.specs.Prelude.{ℕ, Bool, false, ◌||◌, List, [], ◌∷◌, Option, None, Some, is_some, map, filter, length, nat_eq, nat_lt, if◌then◌else◌, codes, decimal, option_to_list}
 use Rattle.std.specs.List.{filter_map, flat_map, list_any, list_all}
 use Rattle.std.specs.Option.{option_or}
 use Rattle.std.specs.Str.{str_eq_ignore_ascii_case}
 use lib.Pointwise.{pointwise}
 use Rattle.encoded_words.specs.Scan.{decoded_of}
 use Rattle.sieve_profile.specs.Profile.{Profile}
-use Rattle.match_text.specs.Comparator.{same, is_part, fold_of}
 use Rattle.match_text.specs.Flags.{flag_keys_of_texts, flag_list}
-use Rattle.match_text.specs.Wildcard.{matched}
+use Rattle.match_text.specs.Order.{are_equal, contains_under, matched_under, order_of}
+use Rattle.match_text.specs.Relation.{stands_in}
+use Rattle.match_text.specs.declared.comparators.Collation.{Collation}
 use Rattle.message_text.specs.Addresses.{AddrSpec, part_of_address, addresses_of, part_of_path}
 use Rattle.message_text.specs.Fields.{Field, fields_of, is_field_named}
 use Rattle.message_text.specs.declared.addressing.AddressPart.{AddressPart}
+use Rattle.message_text.specs.declared.addressing.AddressPart.TheVariants.{All}
+use Rattle.sieve_base.specs.Octet.{is_filled}
 use Rattle.sieve_reading.specs.Reading.{ValueSource, header_values, address_values, envelope_values, string_values, flag_values, Ask, compares, exists_ask, over_ask, under_ask, mailboxes_ask, duplicate_ask}
 use Rattle.sieve_reading.specs.declared.reading.Comparison.{Comparison}
 use Rattle.sieve_reading.specs.declared.reading.MatchType.{MatchType}
-use Rattle.sieve_reading.specs.declared.reading.MatchType.TheVariants.{Is, Contains, Matches}
+use Rattle.sieve_reading.specs.declared.reading.MatchType.TheVariants.{Is, Contains, Matches, Value, Count}
 use Rattle.sieve_table.specs.Address.{is_address_field}
 use Rattle.sieve_effects.specs.Delivery.{Delivery, envelope_of, mailbox_names}
 use Rattle.sieve_effects.specs.State.{RunState}
@@ -24,16 +27,19 @@ use Rattle.sieve_effects.specs.declared.envelope.Envelope.{Envelope}
 use Rattle.sieve_variables.specs.Part.{Part}
 use Rattle.sieve_variables.specs.Value.{Values, text_value, with_matched}
 
--- Whether a value matches a key (RFC 5228, section 2.7.1), and what `${0}`, `${1}` and so on are behind it (RFC 5229, section 3.2): under `:matches` the
--- value and what each wildcard took; the other match types set none of them.
-abbrev pub match_by : MatchType → (ℕ → ℕ) → List ℕ → List ℕ → Option (List (List ℕ))
-match_by Is fold value key = if same fold value key then Some [] else None
-match_by Contains fold value key = if is_part fold value key then Some [] else None
-match_by Matches fold value key = matched fold value key
+-- Whether a value matches a key under a comparator (RFC 5228, section 2.7.1), and what `${0}`, `${1}` and so on are behind it (RFC 5229,
+-- section 3.2): under `:matches` the value and what each wildcard took; the other match types set none of them. Under `:value` and
+-- `:count` it matches where it stands in the relation to the key (RFC 5231, section 4); what `:count` compares is a number.
+abbrev pub match_by : MatchType → Collation → List ℕ → List ℕ → Option (List (List ℕ))
+match_by Is collation value key = if are_equal collation value key then Some [] else None
+match_by Contains collation value key = if contains_under collation value key then Some [] else None
+match_by Matches collation value key = matched_under collation value key
+match_by (Value relation) collation value key = if stands_in relation (order_of collation value key) then Some [] else None
+match_by (Count relation) collation value key = if stands_in relation (order_of collation value key) then Some [] else None
 
 -- the same, as a test compares
 abbrev pub match_of : Comparison → List ℕ → List ℕ → Option (List (List ℕ))
-match_of comparison value key = match_by comparison.match_type (fold_of comparison.collation) value key
+match_of comparison value key = match_by comparison.match_type comparison.collation value key
 
 -- a value and a key to compare
 pub record Pair : Type 0 where
@@ -78,8 +84,8 @@ parts_of_envelope part (Some text) = option_to_list (part_of_path part text)
 abbrev pub envelope_named : AddressPart → Envelope → List ℕ → List (List ℕ)
 envelope_named part envelope name = parts_of_envelope part (envelope_text envelope name)
 
--- What a test compares with its keys, by names, then by fields, then by addresses; an absent field gives nothing. Strings stand for
--- what they do when the test begins.
+-- The values of a test, by names, then by fields, then by addresses; an absent field gives nothing. Strings stand for what they do when
+-- the test begins.
 abbrev pub values_of : Delivery → RunState → ValueSource → List (List ℕ)
 values_of delivery state (header_values names) = flat_map (decoded_named delivery.arrival.profile (fields_of delivery.arrival.message)) (map (text_value state.values) names)
 values_of delivery state (address_values part names) = flat_map (parts_named part (fields_of delivery.arrival.message)) (map (text_value state.values) names)
@@ -87,6 +93,24 @@ values_of delivery state (envelope_values part names) = flat_map (envelope_named
 values_of delivery state (string_values texts) = map (text_value state.values) texts
 values_of delivery state (flag_values None) = state.flags
 values_of delivery state (flag_values (Some variables)) = flat_map flag_list (map (text_value state.values) variables)
+
+-- The values that `:count` counts (RFC 5231, section 4.2): each field of each name, each address, each address of the envelope that
+-- isn't empty, each string that isn't empty (RFC 5229, section 5), and each flag (RFC 5232, section 4). An address counts whatever part of
+-- it the test names, and whether it has that part or not.
+abbrev pub counted_of : Delivery → RunState → ValueSource → List (List ℕ)
+counted_of delivery state (header_values names) = values_of delivery state (header_values names)
+counted_of delivery state (address_values part names) = values_of delivery state (address_values All names)
+counted_of delivery state (envelope_values part names) = filter is_filled (values_of delivery state (envelope_values All names))
+counted_of delivery state (string_values texts) = filter is_filled (values_of delivery state (string_values texts))
+counted_of delivery state (flag_values variables) = values_of delivery state (flag_values variables)
+
+-- what a test compares with its keys by its match type: under `:count` the number of the values alone, in decimal (RFC 5231, section 4.2)
+abbrev pub compared_of : MatchType → Delivery → RunState → ValueSource → List (List ℕ)
+compared_of Is delivery state source = values_of delivery state source
+compared_of Contains delivery state source = values_of delivery state source
+compared_of Matches delivery state source = values_of delivery state source
+compared_of (Value relation) delivery state source = values_of delivery state source
+compared_of (Count relation) delivery state source = decimal (length (counted_of delivery state source)) ∷ []
 
 -- what a test compares values with: its keys; those of flags are cut at spaces (RFC 5232, section 4)
 abbrev pub keys_from : ValueSource → List (List ℕ) → List (List ℕ)
@@ -126,7 +150,7 @@ first_match comparison pairs = first_some (λ pair. match_of comparison pair.val
 
 -- what a test finds that compares values with keys
 unfoldable pub match_found : Delivery → RunState → ValueSource → Comparison → List (List Part) → Option (List (List ℕ))
-match_found delivery state source comparison keys = first_match comparison (pairs_of (values_of delivery state source) (keys_of state source keys))
+match_found delivery state source comparison keys = first_match comparison (pairs_of (compared_of comparison.match_type delivery state source) (keys_of state source keys))
 
 -- Whether what a test asks is so: header, address, envelope, string and hasflag, where some pair matches (RFC 5228, sections 5.7, 5.1
 -- and 5.4; RFC 5229, section 5; RFC 5232, section 4), exists (RFC 5228, section 5.5), size (section 5.9), where a message of exactly
@@ -147,6 +171,8 @@ with_found Matches (Some matched) values = with_matched matched values
 with_found Matches None values = values
 with_found Is found values = values
 with_found Contains found values = values
+with_found (Value relation) found values = values
+with_found (Count relation) found values = values
 
 -- the variables behind what a test asks
 unfoldable pub values_behind : Delivery → RunState → Ask → Values

@@ -1,13 +1,14 @@
 //! What tests ask of a delivery, and what they find (RFC 5228, sections 2.7 and 5).
-ghost use Rattle.std.specs.Prelude.{◌≡◌, IfOk, length, map, nat_lt};
+ghost use Rattle.std.specs.Prelude.{◌≡◌, IfOk, decimal, length, map, nat_lt};
 ghost use Rattle.sieve_reading.specs.Reading.{compares, exists_ask};
-ghost use Rattle.sieve_effects.specs.Matching.{behind_test, first_match, first_some, match_found, pairs_with, truth_of, values_of};
+ghost use Rattle.sieve_effects.specs.Matching.{behind_test, compared_of, counted_of, first_match, first_some, match_found, pairs_with, truth_of, values_of};
 ghost use Rattle.sieve_effects.specs.view.Delivery.{delivery_as};
 ghost use Rattle.sieve_effects.specs.view.FieldTests.{cuts_keys, found_with, key_texts};
 ghost use Rattle.sieve_effects.specs.view.Ops.{source_op_as};
 ghost use Rattle.sieve_effects.specs.view.State.{state_of};
 ghost use Rattle.sieve_variables.specs.Value.{text_value};
 
+use crate::counting::count_in_source;
 use crate::delivery::Delivery;
 use crate::field_names::FieldNames;
 use crate::field_reads::FieldReads;
@@ -19,8 +20,9 @@ use crate::path_values::find_in_paths;
 use crate::state::State;
 use crate::string_values::find_in_strings;
 use crate::strings::Strings;
+use itoa::Buffer;
 use match_text::flag_keys_of_texts;
-use sieve_reading::Comparison;
+use sieve_reading::{Comparison, MatchType};
 use std::alloc::AllocError;
 
 /// What the first value of a source gives that matches some key.
@@ -50,7 +52,25 @@ fn find_in_source(
     }
 }
 
-/// What the first value of a source gives that matches one of these keys.
+/// What the number of the values of a source gives, in decimal (RFC 5231, section 4.2).
+fn find_by_count(
+    delivery: &Delivery<'_>,
+    fields: &mut FieldReads<'_>,
+    state: &State,
+    source: &SourceOp<'_>,
+    matcher: &Matcher<'_>,
+) -> Result<Option<MatchValues>, AllocError>
+    requires { fields.old ≡ (delivery_as delivery.now).arrival }
+    ensures arrival { fields.new ≡ fields.old }
+    ensures found { IfOk result (λ found. found ≡ found_with matcher.now (decimal (length (counted_of (delivery_as delivery.now) (state_of state.now) (source_op_as source.now))))) }
+{
+    let count = count_in_source(delivery, fields, state, source)?;
+    let mut buffer = Buffer::new();
+    let digits = buffer.format(count);
+    matcher.first_match(delivery.alloc, digits.as_bytes())
+}
+
+/// What the first gives that matches one of these keys: of the values of a source, or their number under `:count`.
 fn find_keyed(
     delivery: &Delivery<'_>,
     fields: &mut FieldReads<'_>,
@@ -61,10 +81,15 @@ fn find_keyed(
 ) -> Result<Option<MatchValues>, AllocError>
     requires { fields.old ≡ (delivery_as delivery.now).arrival }
     ensures arrival { fields.new ≡ fields.old }
-    ensures found { IfOk result (λ found. found ≡ first_some (λ value. first_match comparison (pairs_with (key_texts keys.entry) value)) (values_of (delivery_as delivery.now) (state_of state.now) (source_op_as source.now))) }
+    ensures found { IfOk result (λ found. found ≡ first_some (λ value. first_match comparison (pairs_with (key_texts keys.entry) value)) (compared_of comparison.match_type (delivery_as delivery.now) (state_of state.now) (source_op_as source.now))) }
 {
     let matcher = Matcher { comparison, keys };
-    find_in_source(delivery, fields, state, source, &matcher)
+    match comparison.match_type {
+        MatchType::Count(_) => find_by_count(delivery, fields, state, source, &matcher),
+        MatchType::Is | MatchType::Contains | MatchType::Matches | MatchType::Value(_) => {
+            find_in_source(delivery, fields, state, source, &matcher)
+        }
+    }
 }
 
 /// Whether the keys of a test are cut at spaces (RFC 5232, section 4).
@@ -90,7 +115,7 @@ fn are_borrowed(strings: &Strings<'_>) -> bool {
     true
 }
 
-/// What the first value of a source gives that matches one of these keys. Keys that have to be made are made first, since each value is
+/// What the first gives that matches one of these keys: of the values of a source, or their number under `:count`. Keys that have to be made are made first, since each value is
 /// compared with each.
 fn find_whole(
     delivery: &Delivery<'_>,
@@ -102,7 +127,7 @@ fn find_whole(
 ) -> Result<Option<MatchValues>, AllocError>
     requires { fields.old ≡ (delivery_as delivery.now).arrival }
     ensures arrival { fields.new ≡ fields.old }
-    ensures found { IfOk result (λ found. found ≡ first_some (λ value. first_match comparison (pairs_with (map (text_value (state_of state.now).values) keys.now) value)) (values_of (delivery_as delivery.now) (state_of state.now) (source_op_as source.now))) }
+    ensures found { IfOk result (λ found. found ≡ first_some (λ value. first_match comparison (pairs_with (map (text_value (state_of state.now).values) keys.now) value)) (compared_of comparison.match_type (delivery_as delivery.now) (state_of state.now) (source_op_as source.now))) }
 {
     let values = &state.values;
     if are_borrowed(keys) {
@@ -137,8 +162,8 @@ fn find_match(
     find_keyed(delivery, fields, state, source, comparison, keys)
 }
 
-/// Whether some value of a source matches some key (RFC 5228, sections 5.1, 5.4 and 5.7; RFC 5229, section 5; RFC 5232, section 4). Under
-/// `:matches` the first that does sets the match variables (RFC 5229, section 3.2). All strings stand for what they do when the test begins.
+/// Whether some value of a source matches some key (RFC 5228, sections 5.1, 5.4 and 5.7; RFC 5229, section 5; RFC 5232, section 4), or
+/// their number under `:count` (RFC 5231, section 4.2). Under `:matches` the first that does sets the match variables (RFC 5229, section 3.2). All strings stand for what they do when the test begins.
 /// What is made of the message's fields is kept. Fails where memory is refused.
 #[tactic(auto, unfolding(crate::specs::Matching::truth_of, crate::specs::Matching::values_behind))]
 pub fn compare(

@@ -1,8 +1,8 @@
 //! What a test finds in flags (RFC 5232, section 4).
 ghost use Rattle.std.specs.Prelude.{◌≡◌, IfOk, Some};
 ghost use Rattle.std.specs.List.{list_any};
-ghost use Rattle.match_text.specs.Comparator.{fold_of};
 ghost use Rattle.match_text.specs.Flags.{flag_list, has_key};
+ghost use Rattle.match_text.specs.Order.{are_equal};
 ghost use Rattle.sieve_reading.specs.Reading.{flag_values};
 ghost use Rattle.sieve_effects.specs.Matching.{first_some, values_of};
 ghost use Rattle.sieve_effects.specs.view.Delivery.{delivery_as};
@@ -21,7 +21,7 @@ use std::borrow::CowSlice;
 
 /// Whether one of these keys is among flags.
 fn has_some(flags: &FlagList, collation: Collation, keys: &[CowSlice<'_, u8>]) -> bool
-    ensures { result ≡ list_any (has_key (fold_of collation) flags.now) (octets_of_each keys.now) }
+    ensures { result ≡ list_any (has_key (are_equal collation) flags.now) (octets_of_each keys.now) }
 {
     for key in keys {
         if flags.has(collation, key.as_slice()) {

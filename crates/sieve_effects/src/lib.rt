@@ -6,6 +6,7 @@ mod acting;
 mod action;
 mod actions;
 mod asking;
+mod counting;
 mod delivery;
 mod envelope;
 mod error;

@@ -1,5 +1,7 @@
 //! How a test compares a value with keys (RFC 5228, section 2.7.1).
 ghost use Rattle.std.specs.Prelude.{◌≡◌, [], IfOk, None, Some, is_some, map, if◌then◌else◌};
+ghost use Rattle.match_text.specs.Order.{order_of};
+ghost use Rattle.match_text.specs.Relation.{stands_in};
 ghost use Rattle.match_text.specs.Wildcard.{matched};
 ghost use Rattle.sieve_effects.specs.Matching.{match_of, with_found};
 ghost use Rattle.sieve_base.specs.view.Texts.{octets_of_each};
@@ -11,7 +13,8 @@ ghost use Rattle.sieve_variables.specs.Value.{text_value};
 use crate::state::State;
 use crate::strings::Strings;
 use match_text::{
-    AsciiCasemap, Captures, Collation, Comparator, Octet, contains, contains_in, is, matches,
+    AsciiCasemap, Captures, Collation, Comparator, Octet, Relation, contains, contains_in, equals,
+    matches, stands,
 };
 use sieve_base::Octets;
 use sieve_reading::{Comparison, MatchType};
@@ -75,6 +78,8 @@ pub(crate) fn keep_found(
         (MatchType::Matches, None) => false,
         (MatchType::Is, found) => found.is_some(),
         (MatchType::Contains, found) => found.is_some(),
+        (MatchType::Value(_), found) => found.is_some(),
+        (MatchType::Count(_), found) => found.is_some(),
     }
 }
 
@@ -87,6 +92,19 @@ pub(crate) fn plain_match(alloc: Global, is_match: bool) -> Option<MatchValues>
     } else {
         None
     }
+}
+
+/// What a value gives that stands in a relation to a key (RFC 5231, section 4).
+fn related_match(
+    alloc: Global,
+    relation: Relation,
+    collation: Collation,
+    value: &[u8],
+    key: &[u8],
+) -> Option<MatchValues>
+    ensures { result ≡ if stands_in relation (order_of collation value.now key.now) then Some [] else None }
+{
+    plain_match(alloc, stands(relation, collation, value, key))
 }
 
 /// What the wildcards of a pattern took, where the value matches it.
@@ -133,10 +151,7 @@ impl Matcher<'_> {
         ensures { IfOk result (λ found. found ≡ match_of self.now.comparison value.now key.now) }
     {
         match (self.comparison.match_type, self.comparison.collation) {
-            (MatchType::Is, Collation::Octet) => Ok(plain_match(alloc, is::<Octet>(value, key))),
-            (MatchType::Is, Collation::Casemap) => {
-                Ok(plain_match(alloc, is::<AsciiCasemap>(value, key)))
-            }
+            (MatchType::Is, collation) => Ok(plain_match(alloc, equals(collation, value, key))),
             (MatchType::Contains, Collation::Octet) => {
                 Ok(plain_match(alloc, contains::<Octet>(value, key)))
             }
@@ -147,6 +162,14 @@ impl Matcher<'_> {
             (MatchType::Matches, Collation::Octet) => wildcard_match::<Octet>(alloc, value, key),
             (MatchType::Matches, Collation::Casemap) => {
                 wildcard_match::<AsciiCasemap>(alloc, value, key)
+            }
+            (MatchType::Contains, Collation::Numeric) => Ok(None),
+            (MatchType::Matches, Collation::Numeric) => Ok(None),
+            (MatchType::Value(relation), collation) => {
+                Ok(related_match(alloc, relation, collation, value, key))
+            }
+            (MatchType::Count(relation), collation) => {
+                Ok(related_match(alloc, relation, collation, value, key))
             }
         }
     }

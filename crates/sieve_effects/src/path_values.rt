@@ -41,7 +41,7 @@ fn recipient_of<'a>(own: Option<&'a Addresses>, envelope: &'a Envelope) -> &'a [
 }
 
 /// The address of the envelope's part of that name.
-fn envelope_text<'a>(arrival: &'a Arrival<'a>, name: &[u8]) -> Option<&'a [u8]>
+pub(crate) fn envelope_text<'a>(arrival: &'a Arrival<'a>, name: &[u8]) -> Option<&'a [u8]>
     ensures { option_map (λ octets. octets.now) result ≡ envelope_text (envelope_of (arrival_as arrival.now)) name.now }
 {
     if b"from".eq_ignore_ascii_case(name) {
@@ -54,7 +54,7 @@ fn envelope_text<'a>(arrival: &'a Arrival<'a>, name: &[u8]) -> Option<&'a [u8]>
 }
 
 /// Whether there is no address, or the null path (RFC 5321, section 4.5.5).
-fn is_null_path(text: &[u8]) -> bool
+pub(crate) fn is_null_path(text: &[u8]) -> bool
     ensures { result ≡ is_null_path text.now }
 {
     text.is_empty() || b"<>".as_slice() == text

@@ -5,14 +5,17 @@ use lib.Pointwise.{pointwise}
 use Rattle.sieve_profile.specs.Every.{every}
 use Rattle.sieve_profile.specs.contracts.extension.Extension.{enum, the_type}
 use Rattle.sieve_profile.specs.declared.extension.Extension.{Extension}
-use Rattle.sieve_profile.specs.declared.extension.Extension.TheVariants.{Charsets, Duplicate, Envelopes, Lines, Mailbox, SpecialUse, Subaddress, Unused}
+use Rattle.sieve_profile.specs.declared.extension.Extension.TheVariants.{AsciiNumeric, Charsets, Duplicate, EncodedCharacter, Envelopes, Lines, Mailbox, Relational, SpecialUse, Subaddress, Unused}
 
 abbrev pub extension_name : Extension → List ℕ
 extension_name Charsets = codes "charsets"
+extension_name AsciiNumeric = codes "comparator-i;ascii-numeric"
 extension_name Duplicate = codes "duplicate"
+extension_name EncodedCharacter = codes "encoded-character"
 extension_name Envelopes = codes "envelopes"
 extension_name Lines = codes "lines"
 extension_name Mailbox = codes "mailbox"
+extension_name Relational = codes "relational"
 extension_name SpecialUse = codes "special-use"
 extension_name Subaddress = codes "subaddress"
 extension_name Unused = codes "unused"

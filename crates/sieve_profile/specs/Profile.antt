@@ -2,7 +2,7 @@
 use Rattle.std.specs.Prelude.{Bool, false, ◌||◌}
 use Rattle.sieve_profile.specs.Extension.{same_extension}
 use Rattle.sieve_profile.specs.declared.extension.Extension.{Extension}
-use Rattle.sieve_profile.specs.declared.extension.Extension.TheVariants.{Charsets, Duplicate, Envelopes, Lines, Mailbox, SpecialUse, Subaddress, Unused}
+use Rattle.sieve_profile.specs.declared.extension.Extension.TheVariants.{AsciiNumeric, Charsets, Duplicate, EncodedCharacter, Envelopes, Lines, Mailbox, Relational, SpecialUse, Subaddress, Unused}
 use Rattle.sieve_profile.specs.declared.profile.Profile as profiles
 
 -- whether each extension is in it
@@ -11,24 +11,42 @@ Profile = profiles.Profile
 
 abbrev pub has : Profile → Extension → Bool
 has profile Charsets = profile.charsets
+has profile AsciiNumeric = profile.ascii_numeric
 has profile Duplicate = profile.duplicate
+has profile EncodedCharacter = profile.encoded_character
 has profile Envelopes = profile.envelopes
 has profile Lines = profile.lines
 has profile Mailbox = profile.mailbox
+has profile Relational = profile.relational
 has profile SpecialUse = profile.special_use
 has profile Subaddress = profile.subaddress
 has profile Unused = profile.unused
 
 abbrev pub empty_profile : Profile
-empty_profile = record { charsets = false; duplicate = false; envelopes = false; lines = false; mailbox = false; special_use = false; subaddress = false; unused = false }
+empty_profile = record {
+  charsets = false;
+  ascii_numeric = false;
+  duplicate = false;
+  encoded_character = false;
+  envelopes = false;
+  lines = false;
+  mailbox = false;
+  relational = false;
+  special_use = false;
+  subaddress = false;
+  unused = false;
+}
 
 abbrev pub with_extension : Profile → Extension → Profile
 with_extension profile extension = record {
   charsets = profile.charsets || same_extension extension Charsets;
+  ascii_numeric = profile.ascii_numeric || same_extension extension AsciiNumeric;
   duplicate = profile.duplicate || same_extension extension Duplicate;
+  encoded_character = profile.encoded_character || same_extension extension EncodedCharacter;
   envelopes = profile.envelopes || same_extension extension Envelopes;
   lines = profile.lines || same_extension extension Lines;
   mailbox = profile.mailbox || same_extension extension Mailbox;
+  relational = profile.relational || same_extension extension Relational;
   special_use = profile.special_use || same_extension extension SpecialUse;
   subaddress = profile.subaddress || same_extension extension Subaddress;
   unused = profile.unused || same_extension extension Unused;

@@ -7,14 +7,20 @@ ghost use Rattle.sieve_profile.specs.Extension.{extension_name, extension_named,
 pub enum Extension {
     /// `charsets`: encoded words of further charsets are decoded.
     Charsets,
+    /// `comparator-i;ascii-numeric`: texts are compared as numbers (RFC 4790, section 9.1).
+    AsciiNumeric,
     /// `duplicate`: whether the message came before (RFC 7352).
     Duplicate,
+    /// `encoded-character`: characters that strings write by their numbers (RFC 5228, section 2.4.2.4).
+    EncodedCharacter,
     /// `envelopes`: a message may have addresses of its own.
     Envelopes,
     /// `lines`: which line of which script entered an action.
     Lines,
     /// `mailbox`: a mailbox that is made where it lacks, and which there are (RFC 5490).
     Mailbox,
+    /// `relational`: which of a value and a key is greater, and how many values there are (RFC 5231).
+    Relational,
     /// `special-use`: a mailbox by its use (RFC 8579).
     SpecialUse,
     /// `subaddress`: the parts of a local part at its first `+` (RFC 5233).
@@ -24,12 +30,15 @@ pub enum Extension {
 }
 
 /// All of them, in the order of their names.
-pub const EXTENSIONS: [Extension; 8] = [
+pub const EXTENSIONS: [Extension; 11] = [
     Extension::Charsets,
+    Extension::AsciiNumeric,
     Extension::Duplicate,
+    Extension::EncodedCharacter,
     Extension::Envelopes,
     Extension::Lines,
     Extension::Mailbox,
+    Extension::Relational,
     Extension::SpecialUse,
     Extension::Subaddress,
     Extension::Unused,
@@ -49,10 +58,13 @@ impl Extension {
     {
         match self {
             Extension::Charsets => b"charsets",
+            Extension::AsciiNumeric => b"comparator-i;ascii-numeric",
             Extension::Duplicate => b"duplicate",
+            Extension::EncodedCharacter => b"encoded-character",
             Extension::Envelopes => b"envelopes",
             Extension::Lines => b"lines",
             Extension::Mailbox => b"mailbox",
+            Extension::Relational => b"relational",
             Extension::SpecialUse => b"special-use",
             Extension::Subaddress => b"subaddress",
             Extension::Unused => b"unused",

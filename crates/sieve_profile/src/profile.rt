@@ -9,10 +9,13 @@ use crate::extension::Extension;
 #[derive(Clone, Copy)]
 pub struct Profile {
     pub charsets: bool,
+    pub ascii_numeric: bool,
     pub duplicate: bool,
+    pub encoded_character: bool,
     pub envelopes: bool,
     pub lines: bool,
     pub mailbox: bool,
+    pub relational: bool,
     pub special_use: bool,
     pub subaddress: bool,
     pub unused: bool,
@@ -25,10 +28,13 @@ impl Profile {
     {
         Profile {
             charsets: false,
+            ascii_numeric: false,
             duplicate: false,
+            encoded_character: false,
             envelopes: false,
             lines: false,
             mailbox: false,
+            relational: false,
             special_use: false,
             subaddress: false,
             unused: false,
@@ -41,10 +47,13 @@ impl Profile {
     {
         match extension {
             Extension::Charsets => self.charsets,
+            Extension::AsciiNumeric => self.ascii_numeric,
             Extension::Duplicate => self.duplicate,
+            Extension::EncodedCharacter => self.encoded_character,
             Extension::Envelopes => self.envelopes,
             Extension::Lines => self.lines,
             Extension::Mailbox => self.mailbox,
+            Extension::Relational => self.relational,
             Extension::SpecialUse => self.special_use,
             Extension::Subaddress => self.subaddress,
             Extension::Unused => self.unused,
@@ -56,14 +65,17 @@ impl Profile {
         ensures { profile_as result ≡ with_extension (profile_as self) extension }
     {
         Profile {
-            charsets: self.charsets || extension == Extension::Charsets,
-            duplicate: self.duplicate || extension == Extension::Duplicate,
-            envelopes: self.envelopes || extension == Extension::Envelopes,
-            lines: self.lines || extension == Extension::Lines,
-            mailbox: self.mailbox || extension == Extension::Mailbox,
-            special_use: self.special_use || extension == Extension::SpecialUse,
-            subaddress: self.subaddress || extension == Extension::Subaddress,
-            unused: self.unused || extension == Extension::Unused,
+            charsets: self.charsets | (extension == Extension::Charsets),
+            ascii_numeric: self.ascii_numeric | (extension == Extension::AsciiNumeric),
+            duplicate: self.duplicate | (extension == Extension::Duplicate),
+            encoded_character: self.encoded_character | (extension == Extension::EncodedCharacter),
+            envelopes: self.envelopes | (extension == Extension::Envelopes),
+            lines: self.lines | (extension == Extension::Lines),
+            mailbox: self.mailbox | (extension == Extension::Mailbox),
+            relational: self.relational | (extension == Extension::Relational),
+            special_use: self.special_use | (extension == Extension::SpecialUse),
+            subaddress: self.subaddress | (extension == Extension::Subaddress),
+            unused: self.unused | (extension == Extension::Unused),
         }
     }
 }

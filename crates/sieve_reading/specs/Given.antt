@@ -4,6 +4,9 @@ use Rattle.std.specs.Prelude.{ℕ, Bool, false, List, [], ◌∷◌, Option, Som
 use Rattle.match_text.specs.Comparator.{collation_named}
 use Rattle.match_text.specs.declared.comparators.Collation.{Collation}
 use Rattle.match_text.specs.declared.comparators.Collation.TheVariants.{Casemap}
+use Rattle.match_text.specs.Relation.{relation_named}
+use Rattle.match_text.specs.declared.relation.Relation.{Relation}
+use Rattle.match_text.specs.declared.relation.Relation.TheVariants.{Eq}
 use Rattle.message_text.specs.declared.addressing.AddressPart.{AddressPart}
 use Rattle.message_text.specs.declared.addressing.AddressPart.TheVariants as part
 use Rattle.sieve_reading.specs.Role.{first_role}
@@ -13,7 +16,7 @@ use Rattle.sieve_reading.specs.Tree.{Argument, strings, number, tag}
 use Rattle.sieve_reading.specs.declared.label.Label.{Label}
 use Rattle.sieve_reading.specs.declared.label.Label.TheVariants.{Tagged, OtherTag, Own, InSlot, Unfit}
 use Rattle.sieve_reading.specs.declared.reading.MatchType.{MatchType}
-use Rattle.sieve_reading.specs.declared.reading.MatchType.TheVariants.{Is, Contains, Matches}
+use Rattle.sieve_reading.specs.declared.reading.MatchType.TheVariants.{Is, Contains, Matches, Value, Count}
 use Rattle.sieve_syntax.specs.view.Tree.{octets_of}
 use Rattle.sieve_table.specs.declared.row.Role.{Role}
 use Rattle.sieve_table.specs.declared.row.TagKind.{TagKind}
@@ -102,6 +105,15 @@ collation_or_casemap (Some collation) = collation
 abbrev pub collation_by : Option Argument → Collation
 collation_by argument = collation_or_casemap (collation_named (literal_in argument))
 
+-- the relation, which is that of equality where none is named (RFC 5231, section 4), and where a word isn't known, which a script without a breach
+-- doesn't have
+abbrev pub relation_or_eq : Option Relation → Relation
+relation_or_eq None = Eq
+relation_or_eq (Some relation) = relation
+
+abbrev pub relation_by : Option Argument → Relation
+relation_by argument = relation_or_eq (relation_named (literal_in argument))
+
 -- TAGS
 
 -- a tag of that kind
@@ -137,14 +149,16 @@ Tags = TagKind → Option Tag
 abbrev pub tags_of : List Label → Tags
 tags_of labels = λ k. tag_given k labels
 
--- the match type, which is `:is` where none is given (RFC 5228, section 2.7.1)
-abbrev pub match_type_by : Option Tag → MatchType
-match_type_by (Some tag.Contains) = Contains
-match_type_by (Some tag.Matches) = Matches
-match_type_by other = Is
+-- the match type, which is `:is` where none is given (RFC 5228, section 2.7.1); two of them go by a relation (RFC 5231, section 4)
+abbrev pub match_type_by : Option Tag → Relation → MatchType
+match_type_by (Some tag.Contains) relation = Contains
+match_type_by (Some tag.Matches) relation = Matches
+match_type_by (Some tag.Value) relation = Value relation
+match_type_by (Some tag.Count) relation = Count relation
+match_type_by other relation = Is
 
-unfoldable pub match_type_of : Tags → MatchType
-match_type_of tags = match_type_by (tags kind.MatchType)
+unfoldable pub match_type_of : Tags → Relation → MatchType
+match_type_of tags relation = match_type_by (tags kind.MatchType) relation
 
 -- the part of an address, which is all of it where none is named (RFC 5228, section 2.7.4; RFC 5233, section 4)
 abbrev pub address_part_by : Option Tag → AddressPart

@@ -11,13 +11,16 @@ use Rattle.sieve_table.specs.declared.table.Tag.{Tag}
 use Rattle.sieve_table.specs.declared.table.Tag.TheVariants as tag
 use Rattle.sieve_table.specs.declared.table.TestKind.{TestKind}
 use Rattle.sieve_table.specs.declared.table.TestKind.TheVariants as test_kind
-use Rattle.sieve_reading.specs.Given.{Tags, tags_of, in_role, texts_in, given_texts, number_in, collation_by, match_type_of, address_part_of}
+use Rattle.sieve_reading.specs.Given.{Tags, tags_of, in_role, texts_in, given_texts, number_in, collation_by, relation_by, match_type_of, address_part_of}
 use Rattle.sieve_reading.specs.Shape.{row_labels}
 use Rattle.sieve_reading.specs.Reading.{ValueSource, header_values, address_values, envelope_values, string_values, flag_values, Ask, compares, exists_ask, over_ask, under_ask, mailboxes_ask, duplicate_ask, TestReading, reads_always, reads_never, reads_ask, reads_all, reads_any, reads_not}
 
--- how a test compares (RFC 5228, section 2.7)
+-- how a test compares (RFC 5228, section 2.7; RFC 5231, section 4)
 abbrev pub comparison_by : List Label → List Argument → Comparison
-comparison_by labels args = record { match_type = match_type_of (tags_of labels); collation = collation_by (in_role role.ComparatorName labels args) }
+comparison_by labels args = record {
+  match_type = match_type_of (tags_of labels) (relation_by (in_role role.Relation labels args));
+  collation = collation_by (in_role role.ComparatorName labels args);
+}
 
 -- what a test asks that compares values with keys
 abbrev pub compares_by : ValueSource → List Label → List Argument → Ask

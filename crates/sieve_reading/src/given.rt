@@ -9,7 +9,7 @@ ghost use Rattle.sieve_syntax.specs.view.Tree.{octets_of};
 
 use crate::reading::MatchType;
 use crate::tags::Tags;
-use match_text::{Collation, collation_named};
+use match_text::{Collation, Relation, collation_named, relation_named};
 use message_text::AddressPart;
 use sieve_syntax::{Argument, Text, octets_in};
 use sieve_table::{Tag, TagKind};
@@ -171,23 +171,35 @@ pub(crate) fn collation_by(argument: Option<&Argument>) -> Collation
     }
 }
 
-/// The match type that a tag names, which is `:is` where none does.
-fn match_type_by(tag: Option<Tag>) -> MatchType
-    ensures { result ≡ spec.match_type_by tag }
+/// The relation that an argument names, which is that of equality where none does.
+fn relation_by(argument: Option<&Argument>) -> Relation
+    ensures { result ≡ spec.relation_by (option_map (λ a. argument_of a.now) argument.entry) }
+{
+    match relation_named(literal_in(argument)) {
+        Some(relation) => relation,
+        None => Relation::Eq,
+    }
+}
+
+/// The match type that a tag names, with the relation that is given beside, which is `:is` where none does.
+fn match_type_by(tag: Option<Tag>, relation: Option<&Argument>) -> MatchType
+    ensures { result ≡ spec.match_type_by tag (spec.relation_by (option_map (λ a. argument_of a.now) relation.entry)) }
 {
     match tag {
         Some(Tag::Contains) => MatchType::Contains,
         Some(Tag::Matches) => MatchType::Matches,
+        Some(Tag::Value) => MatchType::Value(relation_by(relation)),
+        Some(Tag::Count) => MatchType::Count(relation_by(relation)),
         _ => MatchType::Is,
     }
 }
 
-/// The match type of a test.
+/// The match type of a test, with the relation that is given.
 #[tactic(auto, unfolding(crate::specs::Given::match_type_of))]
-pub(crate) fn match_type_of(tags: Tags) -> MatchType
-    ensures { result ≡ spec.match_type_of (tags_as tags) }
+pub(crate) fn match_type_of(tags: Tags, relation: Option<&Argument>) -> MatchType
+    ensures { result ≡ spec.match_type_of (tags_as tags) (spec.relation_by (option_map (λ a. argument_of a.now) relation.entry)) }
 {
-    match_type_by(tags.of(TagKind::MatchType))
+    match_type_by(tags.of(TagKind::MatchType), relation)
 }
 
 /// The part of an address that a tag names, which is all of it where none does.

@@ -1,13 +1,13 @@
 //! What the commands and tests of a checked script are, with defaults filled in (RFC 5228, sections 3, 4 and 5). A reading has the
 //! strings of the arguments that it is made of.
 
-use match_text::Collation;
+use match_text::{Collation, Relation};
 use message_text::AddressPart;
 use sieve_base::Place;
 use sieve_syntax::Text;
 use sieve_variables::{Literal, Modifiers, Parts, Variable};
 
-/// How a test compares values with keys (RFC 5228, section 2.7.1).
+/// How a test compares values with keys (RFC 5228, section 2.7.1; RFC 5231, section 4).
 #[derive(Clone, Copy, PartialEq, Eq)]
 pub enum MatchType {
     /// A value is a key.
@@ -16,6 +16,10 @@ pub enum MatchType {
     Contains,
     /// A value is what the wildcards of a key may stand for.
     Matches,
+    /// A value stands in that relation to a key.
+    Value(Relation),
+    /// The number of values, in decimal, stands in that relation to a key.
+    Count(Relation),
 }
 
 /// How a test compares a value with a key (RFC 5228, section 2.7).

@@ -18,13 +18,13 @@ use sieve_syntax::Argument;
 use sieve_table::{Role, Row, Tag, TagKind, TestKind};
 use std::alloc::Global;
 
-/// How a test compares.
+/// How a test compares (RFC 5228, section 2.7; RFC 5231, section 4).
 fn comparison_of(tags: Tags, row: &Row, args: &[Argument]) -> Comparison
     requires { tags_as tags ≡ tags_of (labels_in row.now args.now) }
     ensures { result ≡ spec.comparison_by (labels_in row.now args.now) (map argument_of args.now) }
 {
     Comparison {
-        match_type: match_type_of(tags),
+        match_type: match_type_of(tags, argument_in(row, Role::Relation, args)),
         collation: collation_by(argument_in(row, Role::ComparatorName, args)),
     }
 }

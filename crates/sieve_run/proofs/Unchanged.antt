@@ -2,7 +2,7 @@
 use Rattle.std.proofs.Common.{◌≡◌, ℕ, Bool, true, false, List, Option, None, Some, refl, ap, ◌∙◌}
 use Rattle.sieve_reading.specs.Reading.{Ask, Leaf, compares, exists_ask, over_ask, under_ask, mailboxes_ask, duplicate_ask}
 use Rattle.sieve_reading.specs.declared.reading.MatchType.{MatchType}
-use Rattle.sieve_reading.specs.declared.reading.MatchType.TheVariants.{Is, Contains, Matches}
+use Rattle.sieve_reading.specs.declared.reading.MatchType.TheVariants.{Is, Contains, Matches, Value, Count}
 use Rattle.sieve_reading.specs.Script.{Condition, always, never, asks, negated, both, either, Commands, stops, returns}
 use Rattle.sieve_effects.specs.Delivery.{Delivery}
 use Rattle.sieve_effects.specs.Matching.{behind_test, match_found, values_behind, with_found}
@@ -31,6 +31,8 @@ found_keeps Matches (Some matched) state = (matched, refl)
 found_keeps Matches None state = (state.values.matched, refl)
 found_keeps Is found state = (state.values.matched, refl)
 found_keeps Contains found state = (state.values.matched, refl)
+found_keeps (Value relation) found state = (state.values.matched, refl)
+found_keeps (Count relation) found state = (state.values.matched, refl)
 
 ask_keeps : (delivery : Delivery) (ask : Ask) (state : RunState) → SetsMatched state (behind_test delivery ask state)
 unfolding values_behind

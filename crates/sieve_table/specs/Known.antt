@@ -1,8 +1,7 @@
 -- What a bench of a profile knows: what needs a capability that it lacks isn't there.
-use Rattle.std.specs.Prelude.{ℕ, Bool, true, not, ◌&&◌, ◌||◌, List, Option, None, Some, if◌then◌else◌, codes, nat_eq}
+use Rattle.std.specs.Prelude.{ℕ, Bool, true, not, ◌&&◌, ◌||◌, List, Option, None, Some, if◌then◌else◌}
 use Rattle.std.specs.List.{list_all, list_any}
 use Rattle.std.specs.Option.{option_and_then}
-use lib.Pointwise.{pointwise}
 use Rattle.sieve_profile.specs.Profile.{Profile, has}
 use Rattle.sieve_profile.specs.declared.extension.Extension.{Extension}
 use Rattle.sieve_profile.specs.declared.extension.Extension.TheVariants as extension
@@ -26,8 +25,11 @@ extension_of capability.Subaddress = Some extension.Subaddress
 extension_of capability.Mailbox = Some extension.Mailbox
 extension_of capability.SpecialUse = Some extension.SpecialUse
 extension_of capability.Duplicate = Some extension.Duplicate
+extension_of capability.Relational = Some extension.Relational
+extension_of capability.EncodedCharacter = Some extension.EncodedCharacter
 extension_of capability.OctetComparator = None
 extension_of capability.CasemapComparator = None
+extension_of capability.NumericComparator = Some extension.AsciiNumeric
 
 abbrev pub is_asked_for : Profile → Option Extension → Bool
 is_asked_for profile None = true
@@ -45,7 +47,7 @@ names_known profile name = list_any (λ capability. is_name_of name capability &
 -- A capability whose use no word shows: what it brings are sequences in strings (RFC 5228, section 2.4.2.4). So it may not be required where it isn't
 -- known.
 abbrev pub is_shown_by_no_word : List ℕ → Bool
-is_shown_by_no_word name = pointwise nat_eq name (codes "encoded-character")
+is_shown_by_no_word name = is_name_of name capability.EncodedCharacter
 
 -- whether a `require` may name it: with `unused` also one that isn't known, as mail clients require all that they know, used or not
 abbrev pub may_be_required : Profile → List ℕ → Bool

@@ -20,7 +20,7 @@ names_variable given = has_role role.NameToSet given || has_role role.NamesToRea
 
 -- The roles of strings in which references to variables stand for values (RFC 5229, section 3). RFC 5229 leaves out the name of a `set`
 -- (section 4), and RFC 6609 the names of scripts (section 3.2) and those that are declared (section 3.4.1). That the strings of
--- `require`, comparators, and the names that flag commands and flag tests have are left out too is this project's choice: they are
+-- `require`, comparators, relations, and the names that flag commands and flag tests have are left out too is this project's choice: they are
 -- known before the script runs. So are those by which a server would know a message that came before: no run looks at them.
 abbrev pub is_expanded : Role → Bool
 is_expanded role.Capabilities = false
@@ -37,5 +37,6 @@ is_expanded role.NameToSet = false
 is_expanded role.NamesToRead = false
 is_expanded role.NamesToDeclare = false
 is_expanded role.ScriptName = false
+is_expanded role.Relation = false
 is_expanded role.Tracking = false
 is_expanded role.Text = true

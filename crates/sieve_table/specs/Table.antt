@@ -83,6 +83,10 @@ bare name = record { name = name; tags = []; one_of = None; front = None; slots 
 abbrev pub bare_tag : List ℕ → TagKind → TagRow
 bare_tag name kind = record { name = name; kind = kind; takes = None; needs = None }
 
+-- a match type that takes a relation (RFC 5231, section 4)
+abbrev pub relation_tag : List ℕ → TagRow
+relation_tag name = record { name = name; kind = kind.MatchType; takes = Some (slot form.One role.Relation); needs = Some capability.Relational }
+
 -- a tag of `duplicate` that takes an argument (RFC 7352, section 3)
 abbrev pub tracking_tag : List ℕ → TagKind → Slot → TagRow
 tracking_tag name kind taken = record { name = name; kind = kind; takes = Some taken; needs = Some capability.Duplicate }
@@ -96,6 +100,9 @@ tag_row tag.Comparator = record (bare_tag (codes "comparator") kind.Comparator) 
 tag_row tag.Is = bare_tag (codes "is") kind.MatchType
 tag_row tag.Contains = bare_tag (codes "contains") kind.MatchType
 tag_row tag.Matches = bare_tag (codes "matches") kind.MatchType
+-- RFC 5231, section 4
+tag_row tag.Value = relation_tag (codes "value")
+tag_row tag.Count = relation_tag (codes "count")
 -- RFC 5228, section 2.7.4
 tag_row tag.All = bare_tag (codes "all") kind.AddressPart
 tag_row tag.LocalPart = bare_tag (codes "localpart") kind.AddressPart
@@ -135,9 +142,9 @@ tag_row tag.Global = bare_tag (codes "global") kind.Location
 tag_row tag.Once = bare_tag (codes "once") kind.Once
 tag_row tag.Optional = bare_tag (codes "optional") kind.Optional
 
--- the match types
+-- the match types (RFC 5228, section 2.7.1; RFC 5231, section 4)
 abbrev pub match_tags : List Tag
-match_tags = tag.Is ∷ tag.Contains ∷ tag.Matches ∷ []
+match_tags = tag.Is ∷ tag.Contains ∷ tag.Matches ∷ tag.Value ∷ tag.Count ∷ []
 
 -- how values are compared with keys (RFC 5228, section 2.7)
 abbrev pub comparing_tags : List Tag

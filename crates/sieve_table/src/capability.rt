@@ -25,14 +25,20 @@ pub enum Capability {
     SpecialUse,
     /// Messages that came before (RFC 7352).
     Duplicate,
+    /// Relations, and how many values there are (RFC 5231).
+    Relational,
+    /// Characters by their numbers (RFC 5228, section 2.4.2.4).
+    EncodedCharacter,
     /// The comparator `i;octet` (RFC 5228, section 2.7.3).
     OctetComparator,
     /// The comparator `i;ascii-casemap` (RFC 5228, section 2.7.3).
     CasemapComparator,
+    /// The comparator `i;ascii-numeric` (RFC 4790, section 9.1).
+    NumericComparator,
 }
 
 /// The capabilities that there are.
-pub(crate) const CAPABILITIES: [Capability; 12] = [
+pub(crate) const CAPABILITIES: [Capability; 15] = [
     Capability::Fileinto,
     Capability::Envelope,
     Capability::Variables,
@@ -43,8 +49,11 @@ pub(crate) const CAPABILITIES: [Capability; 12] = [
     Capability::Mailbox,
     Capability::SpecialUse,
     Capability::Duplicate,
+    Capability::Relational,
+    Capability::EncodedCharacter,
     Capability::OctetComparator,
     Capability::CasemapComparator,
+    Capability::NumericComparator,
 ];
 
 impl Capability {
@@ -63,8 +72,11 @@ impl Capability {
             Capability::Mailbox => b"mailbox",
             Capability::SpecialUse => b"special-use",
             Capability::Duplicate => b"duplicate",
+            Capability::Relational => b"relational",
+            Capability::EncodedCharacter => b"encoded-character",
             Capability::OctetComparator => b"comparator-i;octet",
             Capability::CasemapComparator => b"comparator-i;ascii-casemap",
+            Capability::NumericComparator => b"comparator-i;ascii-numeric",
         }
     }
 

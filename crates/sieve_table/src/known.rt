@@ -20,6 +20,9 @@ fn extension_of(capability: Capability) -> Option<Extension>
         Capability::Mailbox => Some(Extension::Mailbox),
         Capability::SpecialUse => Some(Extension::SpecialUse),
         Capability::Duplicate => Some(Extension::Duplicate),
+        Capability::Relational => Some(Extension::Relational),
+        Capability::EncodedCharacter => Some(Extension::EncodedCharacter),
+        Capability::NumericComparator => Some(Extension::AsciiNumeric),
         Capability::Fileinto
         | Capability::Envelope
         | Capability::Variables
@@ -32,7 +35,7 @@ fn extension_of(capability: Capability) -> Option<Extension>
 }
 
 /// Whether a capability is known.
-fn is_known(profile: Profile, capability: Capability) -> bool
+pub fn is_known(profile: Profile, capability: Capability) -> bool
     ensures { result ≡ spec.is_known (profile_as profile) capability }
 {
     match extension_of(capability) {
@@ -53,7 +56,7 @@ fn names_known(profile: Profile, name: &[u8]) -> bool
 fn is_shown_by_no_word(name: &[u8]) -> bool
     ensures { result ≡ spec.is_shown_by_no_word name.now }
 {
-    name == b"encoded-character".as_slice()
+    is_name_of(name, Capability::EncodedCharacter)
 }
 
 /// Whether a `require` may name a capability: one that is known, or with `unused` one that isn't.

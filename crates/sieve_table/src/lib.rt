@@ -16,7 +16,7 @@ mod test_rows;
 
 pub use address::{is_address_field, is_envelope_part};
 pub use capability::Capability;
-pub use known::{known_command, known_tag, known_test, may_be_required};
+pub use known::{is_known, known_command, known_tag, known_test, may_be_required};
 pub use required::Required;
 pub use role::{has_role, is_expanded, names_variable};
 pub use row::{Form, Inner, Role, Row, Slot, TagKind, TagRow, same_kind};

@@ -48,6 +48,7 @@ pub fn is_expanded(role: Role) -> bool
         | Role::NamesToRead
         | Role::NamesToDeclare
         | Role::ScriptName
+        | Role::Relation
         | Role::Tracking => false,
     }
 }

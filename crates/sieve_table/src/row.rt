@@ -47,6 +47,8 @@ pub enum Role {
     NamesToDeclare,
     /// A script (RFC 6609, section 3.2).
     ScriptName,
+    /// A relation of a value to a key (RFC 5231, section 4).
+    Relation,
     /// What a server would know a message by that came before, and for how long (RFC 7352, section 3).
     Tracking,
     /// Any other text.

@@ -38,10 +38,16 @@ pub enum Rule {
     NotAddressHeader = 15,
     /// A script sets too many local variables (RFC 5229, section 6).
     TooManyVariables = 16,
+    /// A string writes a character that there isn't (RFC 5228, section 2.4.2.4).
+    BadCharacter = 17,
+    /// There is no such relation (RFC 5231, section 4).
+    BadRelation = 18,
+    /// A comparator without substrings is to find them (RFC 4790, section 9.1).
+    UnfitComparator = 19,
 }
 
 impl Rule {
-    /// The rule's number, from 1 to 16.
+    /// The rule's number, from 1 to 19.
     pub fn number(self) -> u8
         ensures { result ≡ rule_number self }
     {
@@ -69,6 +75,9 @@ impl Rule {
             Rule::BadEnvelopePart => b"bad-envelope-part",
             Rule::NotAddressHeader => b"not-address-header",
             Rule::TooManyVariables => b"too-many-variables",
+            Rule::BadCharacter => b"bad-character",
+            Rule::BadRelation => b"bad-relation",
+            Rule::UnfitComparator => b"unfit-comparator",
         }
     }
 }

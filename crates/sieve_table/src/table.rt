@@ -1,6 +1,6 @@
 //! The table: a row for each command, test and tag that there is.
 ghost use Rattle.std.specs.Prelude.{◌≡◌, find};
-ghost use Rattle.sieve_table.specs.Table.{bare_tag, command_named, command_row, is_named, same_tag, tag_named, tag_row, test_named, test_row, tracking_tag};
+ghost use Rattle.sieve_table.specs.Table.{bare_tag, command_named, command_row, is_named, relation_tag, same_tag, tag_named, tag_row, test_named, test_row, tracking_tag};
 ghost use Rattle.sieve_table.specs.view.Row.{row_as, tag_row_as};
 
 use crate::capability::Capability;
@@ -88,6 +88,10 @@ pub enum Tag {
     Contains,
     /// `:matches` (RFC 5228, section 2.7.1).
     Matches,
+    /// `:value`, which takes the string after it (RFC 5231, section 4.1).
+    Value,
+    /// `:count`, which takes the string after it (RFC 5231, section 4.2).
+    Count,
     /// `:all` (RFC 5228, section 2.7.4).
     All,
     /// `:localpart` (RFC 5228, section 2.7.4).
@@ -187,6 +191,13 @@ const COMPARATOR_NAME: Slot = Slot {
     needs: None,
 };
 
+/// A relation.
+const RELATION: Slot = Slot {
+    form: Form::One,
+    role: Role::Relation,
+    needs: None,
+};
+
 /// The use of a mailbox.
 const USE: Slot = Slot {
     form: Form::One,
@@ -220,6 +231,18 @@ fn bare_tag(name: &'static [u8], kind: TagKind) -> TagRow
     }
 }
 
+/// The row of a match type that takes a relation (RFC 5231, section 4).
+fn relation_tag(name: &'static [u8]) -> TagRow
+    ensures { tag_row_as result ≡ relation_tag name.entry.now }
+{
+    TagRow {
+        name,
+        kind: TagKind::MatchType,
+        takes: Some(RELATION),
+        needs: Some(Capability::Relational),
+    }
+}
+
 /// The row of a tag of `duplicate` that takes an argument (RFC 7352, section 3).
 fn tracking_tag(name: &'static [u8], kind: TagKind, slot: Slot) -> TagRow
     ensures { tag_row_as result ≡ tracking_tag name.entry.now kind slot }
@@ -245,6 +268,8 @@ impl Tag {
             Tag::Is => bare_tag(b"is", TagKind::MatchType),
             Tag::Contains => bare_tag(b"contains", TagKind::MatchType),
             Tag::Matches => bare_tag(b"matches", TagKind::MatchType),
+            Tag::Value => relation_tag(b"value"),
+            Tag::Count => relation_tag(b"count"),
             Tag::All => bare_tag(b"all", TagKind::AddressPart),
             Tag::LocalPart => bare_tag(b"localpart", TagKind::AddressPart),
             Tag::Domain => bare_tag(b"domain", TagKind::AddressPart),

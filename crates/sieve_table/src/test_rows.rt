@@ -8,11 +8,18 @@ use crate::capability::Capability;
 use crate::row::{BARE, Form, Inner, Role, Row, Slot, TagKind};
 use crate::table::Tag;
 
-/// The tags that say how values are compared with keys (RFC 5228, section 2.7).
-const COMPARING_TAGS: [Tag; 4] = [Tag::Comparator, Tag::Is, Tag::Contains, Tag::Matches];
+/// The tags that say how values are compared with keys (RFC 5228, section 2.7; RFC 5231, section 4).
+const COMPARING_TAGS: [Tag; 6] = [
+    Tag::Comparator,
+    Tag::Is,
+    Tag::Contains,
+    Tag::Matches,
+    Tag::Value,
+    Tag::Count,
+];
 
 /// The tags that name a part of an address (RFC 5228, section 2.7.4; RFC 5233, section 4), and those that say how values are compared.
-const ADDRESS_TAGS: [Tag; 9] = [
+const ADDRESS_TAGS: [Tag; 11] = [
     Tag::All,
     Tag::LocalPart,
     Tag::Domain,
@@ -22,6 +29,8 @@ const ADDRESS_TAGS: [Tag; 9] = [
     Tag::Is,
     Tag::Contains,
     Tag::Matches,
+    Tag::Value,
+    Tag::Count,
 ];
 
 /// A list of the names of header fields.

@@ -50,6 +50,9 @@ fn later_rules_have_their_numbers_and_words(rt: HostRuntime) {
             (Rule::BadEnvelopePart, 14, b"bad-envelope-part"),
             (Rule::NotAddressHeader, 15, b"not-address-header"),
             (Rule::TooManyVariables, 16, b"too-many-variables"),
+            (Rule::BadCharacter, 17, b"bad-character"),
+            (Rule::BadRelation, 18, b"bad-relation"),
+            (Rule::UnfitComparator, 19, b"unfit-comparator"),
         ],
     );
 }
