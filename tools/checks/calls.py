@@ -157,6 +157,7 @@ CALLS = {
     # Texts, flags and mails.
     "contains_in": Told(lines("true")),
     "matches": Told(each(VALUE, b"quick brown", b"s", b" the lazy dog, and then over the lazy ", b"wice.")),
+    "replaced": Told(each("é, € and ${hex:4".encode())),
     "flags_of": Told(each(*FLAGS)),
     "union": Told(each(*FLAGS, *ADDED)),
     "without": Told(each(b"a")),
@@ -211,6 +212,8 @@ CALLS = {
 # These take no memory, and so are never refused.
 UNREFUSED = {
     "is": Told(lines("false")),
+    "stands": Told(lines("true false")),
+    "replaced/plain": Told(each(b"${hex:400}")),
     "contains": Told(lines("true")),
     "contains_in/short": Told(lines("true")),
     "Captures": Told(lines("4", '"quick brown"')),

@@ -19,15 +19,16 @@ ROOM, LINE = 65_536, 16_386
 class Linear:
     """Two sessions of one kind that report so many mails, with little and with much of something."""
 
-    def __init__(self, room, title, sessions, mails=1):
-        self.title, self.command, self.sessions = f"no work is done again: {title}", "sievebench session", sessions
+    def __init__(self, room, title, sessions, mails=1, names=""):
+        asked = f" --with '{names}'" if names else ""
+        self.title, self.command, self.sessions = f"no work is done again: {title}", f"sievebench session{asked}", sessions
         self.last = lines(f"total {mails} messages 0 errors")
         self.paths = [room / f"{len(list(room.iterdir()))}.{number}" for number in range(2)]
 
     def spent(self, path, name):
         """The processor time of a session, in seconds, or what is wrong with it."""
         with name.open("rb") as given, name.with_suffix(".replies").open("w+b") as replies:
-            command, env = ["sh", "-c", f"ulimit -t {SECONDS}; exec sievebench session"], {**os.environ, "PATH": path}
+            command, env = ["sh", "-c", f"ulimit -t {SECONDS}; exec {self.command}"], {**os.environ, "PATH": path}
             done = subprocess.Popen(command, stdin=given, stdout=replies, env=env)
             _, status, usage = os.wait4(done.pid, 0)
             done.returncode = os.waitstatus_to_exitcode(status)
@@ -86,6 +87,17 @@ def of_times(room):
     yield Linear(room, "a message for each report", [judged(b"", [b"x" * 10_000_000], count) for count in (3, 300)])
     yield Linear(room, "a script for each report", [judged(b"keep;\n" * 100_000, [b""], count) for count in (3, 300)])
     yield Linear(room, "the lines of a text for each token", [judged(b"keep;\n" * count, [b""]) for count in (1_000, 50_000)])
+    for title, text in ("an open sequence", b"${hex:"), ("a long number that is none", b"0"), ("octets of a sequence", b"41 "), ("sequences", b"${unicode:41}"):
+        front, end = (b"${unicode:", b"") if text == b"0" else (b"${hex:", b"}") if text == b"41 " else (b"", b"")
+        strings = [b'require "encoded-character"; if header "x" "' + front + text * (size // len(text)) + end + b'" { discard; }' for size in (10_000, 900_000)]
+        yield Linear(room, f"{title} for each octet of a string", [judged(script, [b""]) for script in strings], names="encoded-character")
+    names, require = "comparator-i;ascii-numeric,relational", b'require ["comparator-i;ascii-numeric", "relational"];\n'
+    compared = b'header :value "gt" :comparator "i;ascii-numeric" "x" "%s"'
+    numbers = [require + b"if anyof (%s) { discard; }" % b", ".join([compared % (b"1" * size)] * 20) for size in (500, 40_000)]
+    yield Linear(room, "the digits of a number", [judged(script, [b"X: %s\n\n" % (b"1" * size)]) for script, size in zip(numbers, (500, 40_000))], names=names)
+    mail = [b"To: " + b"a@b.example," * 100_000 + b"\n\n"]
+    counts = [require + anyof(b'address :count "lt" :comparator "i;ascii-numeric" "to" "%d"', count) for count in (3, 300)]
+    yield Linear(room, "the addresses of a field for each count", [judged(script, mail) for script in counts], names=names)
     sizes = [(b"a" * size, b"a" * 10 * size) for size in (1_000, 20_000)]
     for title, search in ("a long key", b':contains "subject" "%sb"'), ("a long part of a pattern", b':matches "subject" "*%sb*"'):
         searches = [judged(b"if header " + search % key + b" { discard; }", [b"Subject: %s\n\n" % value]) for key, value in sizes]

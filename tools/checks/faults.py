@@ -9,7 +9,7 @@ from .runs import Run, lines
 
 TOP = pathlib.Path(__file__).resolve().parent.parent.parent
 TABLE, TOOL = TOP / "docs/faults.tsv", TOP / "tools/sievebench-site"
-COLUMNS = ["word", "sentence", "wrong", "right", "cause", "told", "front", "scripts"]
+COLUMNS = ["word", "sentence", "wrong", "right", "cause", "told", "front", "scripts", "with"]
 # The functions that give the words, in the order in which the table has them.
 SOURCES = [TOP / "crates" / path for path in ("sieve_check/src/judged.rt", "sieve_table/src/rule.rt", "sieve_effects/src/error.rt")]
 WORD = re.compile(r'=> b"([a-z-]+)"')
@@ -58,14 +58,15 @@ def of_table(room):
             for name, text in scripts:
                 (folder / f"{name}.sieve").write_text(text)
             (folder / "mail").write_bytes(b"")
-            yield run(f"docs/faults.tsv, {it['word']}, {kind}", folder, it["told"], kind == "wrong")
+            yield run(f"docs/faults.tsv, {it['word']}, {kind}", folder, it["told"], kind == "wrong", it["with"])
 
 
-def run(title, folder, told, wrong):
+def run(title, folder, told, wrong, names):
     """The run of a script that is told so, or of the one that isn't wrong."""
-    test = "sievebench test --personal . main.sieve mail"
+    asked = f" --with '{names}'" if names else ""
+    test = f"sievebench test{asked} --personal . main.sieve mail"
     if told.startswith("script "):
-        return Run(title, folder, "sievebench dump main.sieve", lines(told), status=1) if wrong else Run(title, folder, f"{test} > /dev/null")
+        return Run(title, folder, f"sievebench dump{asked} main.sieve", lines(told), status=1) if wrong else Run(title, folder, f"{test} > /dev/null")
     if wrong:
         return Run(title, folder, f"{test} | grep '^  error '", lines(f"  {told}"))
     return Run(title, folder, f"{test} | tail -n 1", lines("total 1 messages 0 errors"))

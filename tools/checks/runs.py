@@ -1,5 +1,6 @@
 """A run of the program, and the sessions and reports that the checks have in common."""
 import os
+import shlex
 import subprocess
 
 SECONDS = 60
@@ -65,7 +66,7 @@ def session(room, title, octets, replies, status=0, names=""):
     """A session of its own file, under the profile of these names."""
     path = room / f"{len(list(room.iterdir()))}.session"
     path.write_bytes(octets)
-    words = f"session --with {names.replace(' ', ',')}" if names else "session"
+    words = f"session --with {shlex.quote(names.replace(' ', ','))}" if names else "session"
     return Run(title, room, f"sievebench {words} < {path.name}", replies, status=status)
 
 
