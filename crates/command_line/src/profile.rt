@@ -38,12 +38,15 @@ fn brings(extension: Extension) -> &'static str {
         Extension::Duplicate => "the test duplicate, which is false (RFC 7352)",
         Extension::EncodedCharacter => "${hex:..} and ${unicode:..} in strings (RFC 5228)",
         Extension::Envelopes => "a message may have an envelope of its own",
+        Extension::Ereject => "the command ereject (RFC 5429)",
         Extension::Lines => "a report says which line entered each action",
         Extension::Mailbox => "fileinto :create, and the test mailboxexists (RFC 5490)",
+        Extension::Reject => "the command reject (RFC 5429)",
         Extension::Relational => "the match types :value and :count (RFC 5231)",
         Extension::SpecialUse => "fileinto :specialuse (RFC 8579)",
         Extension::Subaddress => "the address parts :user and :detail (RFC 5233)",
         Extension::Unused => "a capability that is not known may be required where it is not used",
+        Extension::Vacation => "the command vacation (RFC 5230)",
     }
 }
 

@@ -5,12 +5,13 @@ use Rattle.match_text.specs.Relation.{relation_named}
 use Rattle.sieve_check.specs.Asked.{AreAlike, asked_by_command, asked_by_test, changing_flags, comparing, gives_all}
 use Rattle.sieve_reading.specs.CommandReading as commands
 use Rattle.sieve_reading.specs.Given.{address_part_of, collation_or_casemap, given_text, given_texts, has_tag, in_role, match_type_of, relation_or_eq, tags_of}
-use Rattle.sieve_reading.specs.Reading.{ValueSource, address_values, compares, envelope_values, exists_ask, fileinto_leaf, flag_leaf, flag_values, header_values, include_leaf, keep_leaf, mailboxes_ask, reads_act, reads_ask, redirect_leaf, set_leaf, string_values}
+use Rattle.sieve_reading.specs.Reading.{ValueSource, address_values, compares, envelope_values, exists_ask, fileinto_leaf, flag_leaf, flag_values, header_values, include_leaf, keep_leaf, mailboxes_ask, reads_act, reads_ask, redirect_leaf, reject_leaf, set_leaf, string_values, vacation_leaf}
 use Rattle.sieve_reading.specs.TestReading as tests
 use Rattle.sieve_reading.specs.Tree.{Argument}
 use Rattle.sieve_reading.specs.declared.label.Label.{Label}
 use Rattle.sieve_reading.specs.declared.reading.FlagChange.{FlagChange}
 use Rattle.sieve_reading.specs.declared.reading.FlagChange.TheVariants as change
+use Rattle.sieve_reading.specs.declared.reading.Rejection.TheVariants as rejection
 use Rattle.sieve_profile.proofs.Each.{of_each}
 use Rattle.sieve_table.specs.Table.{command_row, test_row}
 use Rattle.sieve_table.specs.contracts.table.CommandKind as every_command
@@ -80,6 +81,11 @@ module _ (labels others : List Label) (args arguments : List Argument) (same_tag
   commands_alike command.Include alike = two (λ t name. reads_act (include_leaf (commands.place_of t) (has_tag tag_kind.Once t) (has_tag tag_kind.Optional t) name)) same_tags alike.0
   commands_alike command.Return alike = refl
   commands_alike command.Global alike = refl
+  commands_alike command.Vacation alike =
+      three (λ f m g. reads_act (vacation_leaf (f m g))) (three (λ reason days subject m g. record { reason = reason; days = days; subject = subject; from = g.0; addresses = g.1.0; mime = m; handle = g.1.1 }) alike.0 alike.1.0 alike.1.1.0)
+      (ap (has_tag tag_kind.Mime) same_tags) (three (λ from addresses handle. (from, addresses, handle)) alike.1.1.1.0 alike.1.1.1.1.0 alike.1.1.1.1.1.0)
+  commands_alike command.Reject alike = ap (λ reason. reads_act (reject_leaf rejection.Reject reason)) alike.0
+  commands_alike command.Ereject alike = ap (λ reason. reads_act (reject_leaf rejection.Ereject reason)) alike.0
 
 pub tests_by_asked : (kind : TestKind) (labels others : List Label) (args arguments : List Argument) → tags_of labels ≡ tags_of others → AreAlike (asked_by_test kind) labels others args arguments → tests.test_reading_by kind labels args ≡ tests.test_reading_by kind others arguments
 tests_by_asked kind labels others args arguments same_tags alike = tests_alike labels others args arguments same_tags kind alike

@@ -1,9 +1,9 @@
 -- Which arguments the reading of a command or a test asks for (RFC 5228, sections 4 and 5; RFC 5229, sections 4 and 5; RFC 5232, sections 3 to
--- 5; RFC 6609, section 3; RFC 5490, section 3; RFC 8579, section 4).
+-- 5; RFC 6609, section 3; RFC 5490, section 3; RFC 8579, section 4; RFC 5230, section 4; RFC 5429, section 2).
 use Rattle.std.specs.Prelude.{◌≡◌, Bool, true, false, not, ◌&&◌, List, [], ◌∷◌, ◌++◌, Option, Some, None}
 use Rattle.std.specs.List.{filter, flat_map, list_all, list_any}
 use denote.Enum.Bare.{sameb}
-use Rattle.sieve_reading.specs.Given.{given_text, given_texts, given_variable, in_role, literal_in, number_in, text_in, texts_in, variable_in}
+use Rattle.sieve_reading.specs.Given.{given_number, given_text, given_texts, given_variable, in_role, literal_in, number_in, text_in, texts_in, variable_in}
 use Rattle.sieve_reading.specs.Tree.{Argument}
 use Rattle.sieve_reading.specs.declared.label.Label.{Label}
 use Rattle.sieve_table.specs.Role.{is_expanded, names_variable, same_role}
@@ -91,6 +91,9 @@ asked_by_command command.RemoveFlag = changing_flags
 asked_by_command command.Include = must one_literal role.ScriptName ∷ []
 asked_by_command command.Return = []
 asked_by_command command.Global = []
+asked_by_command command.Vacation = must one_text role.Text ∷ may one_number role.Days ∷ may one_text role.Subject ∷ may one_text role.Sender ∷ may texts role.OwnAddresses ∷ may one_text role.Handle ∷ []
+asked_by_command command.Reject = must one_text role.Text ∷ []
+asked_by_command command.Ereject = must one_text role.Text ∷ []
 
 -- THE ROW
 
@@ -167,7 +170,9 @@ ReadsSame variables presence argument other = given_texts argument ≡ given_tex
 ReadsSame one_variable always argument other = variable_in argument ≡ variable_in other
 ReadsSame one_variable perhaps argument other = given_variable argument ≡ given_variable other
 ReadsSame one_variable never argument other = given_variable argument ≡ given_variable other
-ReadsSame one_number presence argument other = number_in argument ≡ number_in other
+ReadsSame one_number always argument other = number_in argument ≡ number_in other
+ReadsSame one_number perhaps argument other = given_number argument ≡ given_number other
+ReadsSame one_number never argument other = given_number argument ≡ given_number other
 
 abbrev pub AreAlike : List Asked → (labels others : List Label) → (args arguments : List Argument) → Type 0
 AreAlike [] labels others args arguments = Unit {0}

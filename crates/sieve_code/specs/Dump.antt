@@ -9,11 +9,12 @@ use Rattle.sieve_base.specs.Writers.{quoted}
 use Rattle.sieve_base.specs.declared.place.Place.{Place}
 use Rattle.message_text.specs.declared.addressing.AddressPart.{AddressPart}
 use Rattle.message_text.specs.declared.addressing.AddressPart.TheVariants as address_part
-use Rattle.sieve_reading.specs.Reading.{header_values, address_values, envelope_values, string_values, flag_values, ValueSource, Ask, compares, exists_ask, over_ask, under_ask, mailboxes_ask, duplicate_ask, Settings, Leaf, keep_leaf, fileinto_leaf, redirect_leaf, discard_leaf, set_leaf, flag_leaf, include_leaf}
+use Rattle.sieve_reading.specs.Reading.{header_values, address_values, envelope_values, string_values, flag_values, ValueSource, Ask, compares, exists_ask, over_ask, under_ask, mailboxes_ask, duplicate_ask, Settings, Vacation, Leaf, keep_leaf, fileinto_leaf, redirect_leaf, discard_leaf, set_leaf, flag_leaf, include_leaf, vacation_leaf, reject_leaf, rejection_word}
 use Rattle.sieve_reading.specs.declared.reading.Comparison.{Comparison}
 use Rattle.sieve_reading.specs.declared.reading.FlagChange.{FlagChange}
 use Rattle.sieve_reading.specs.declared.reading.FlagChange.TheVariants as change
 use Rattle.sieve_reading.specs.declared.reading.MatchType.{MatchType}
+use Rattle.sieve_reading.specs.declared.reading.Rejection.{Rejection}
 use Rattle.sieve_reading.specs.declared.reading.MatchType.TheVariants.{Is, Contains, Matches, Value, Count}
 use Rattle.sieve_variables.specs.Part.{Part, literal, variable_part, match_part}
 use Rattle.sieve_variables.specs.Variable.{Variable, local_variable, global_variable}
@@ -125,14 +126,14 @@ copy_word copy = given_word copy (codes " copy")
 unfoldable pub create_word : Bool → List ℕ
 create_word create = given_word create (codes " create")
 
--- the use of the mailbox to store into, where one is named
-unfoldable pub use_words : Option (List Part) → List ℕ
-use_words None = []
-use_words (Some special_use) = codes " special-use " ++ string_text special_use
+-- a string behind a word, where it is given
+unfoldable pub given_string_text : List ℕ → Option (List Part) → List ℕ
+given_string_text word None = []
+given_string_text word (Some string) = word ++ string_text string
 
 -- what a command says of the mailbox that it stores into
 unfoldable pub filing_words : Settings → List ℕ
-filing_words settings = create_word settings.create ++ use_words settings.special_use
+filing_words settings = create_word settings.create ++ given_string_text (codes " special-use ") settings.special_use
 
 -- what a command says of the store, beside its flags
 unfoldable pub store_words : Settings → List ℕ
@@ -183,6 +184,33 @@ changing_words how (Some variable) = change_word how ++ codes " " ++ scope_word 
 unfoldable pub include_words : Place → (once optional : Bool) → List ℕ → List ℕ
 include_words place once optional name = codes "include " ++ place_word place ++ given_word once (codes " once") ++ given_word optional (codes " optional") ++ codes " " ++ quoted name
 
+-- what is given of a `vacation` beside its text, each behind its word
+unfoldable pub days_words : Option ℕ → List ℕ
+days_words None = []
+days_words (Some days) = codes " days " ++ decimal days
+
+unfoldable pub addresses_words : Option (List (List Part)) → List ℕ
+addresses_words None = []
+addresses_words (Some addresses) = codes " addresses " ++ list_text addresses
+
+unfoldable pub mime_word : Bool → List ℕ
+mime_word mime = given_word mime (codes " mime")
+
+unfoldable pub vacation_words : Vacation → List ℕ
+vacation_words vacation =
+    days_words vacation.days
+    ++ (given_string_text (codes " subject ") vacation.subject
+    ++ (given_string_text (codes " from ") vacation.from
+    ++ (addresses_words vacation.addresses
+    ++ (mime_word vacation.mime
+    ++ given_string_text (codes " handle ") vacation.handle))))
+
+unfoldable pub vacation_text : Vacation → List ℕ
+vacation_text vacation = codes "vacation" ++ (vacation_words vacation ++ worded_text (codes " ") vacation.reason)
+
+unfoldable pub reject_text : Rejection → List Part → List ℕ
+reject_text how reason = rejection_word how ++ worded_text (codes " ") reason
+
 unfoldable pub leaf_text : Leaf → List ℕ
 leaf_text (keep_leaf settings) = worded_settings (codes "keep") settings
 leaf_text (fileinto_leaf mailbox settings) = worded_text (codes "fileinto ") mailbox ++ stored_text settings
@@ -191,6 +219,8 @@ leaf_text discard_leaf = codes "discard"
 leaf_text (set_leaf variable modifiers value) = worded_text (set_words variable modifiers) value
 leaf_text (flag_leaf how variable flags) = changing_words how variable ++ list_text flags
 leaf_text (include_leaf place once optional name) = include_words place once optional name
+leaf_text (vacation_leaf vacation) = vacation_text vacation
+leaf_text (reject_leaf how reason) = reject_text how reason
 
 -- a command's line behind what it does
 abbrev pub at_line : ℕ → List ℕ

@@ -3,18 +3,19 @@ use Rattle.std.specs.Prelude.{◌≡◌, ℕ, false, List, [], ◌++◌, Option,
 use Rattle.std.specs.List.{slice_get}
 use Rattle.std.specs.Option.{option_map}
 use Rattle.match_text.specs.declared.comparators.Collation.TheVariants.{Octet}
-use Rattle.sieve_reading.specs.Reading.{Settings}
+use Rattle.sieve_reading.specs.Reading.{Settings, Vacation}
 use Rattle.sieve_reading.specs.declared.reading.MatchType.TheVariants.{Is}
 use Rattle.sieve_effects.specs.Joined.{Lists, list_in, lists_plus, no_lists}
 use Rattle.sieve_variables.specs.Part.{Part}
 use Rattle.sieve_variables.specs.Variable.{Variable}
 use Rattle.sieve_code.specs.declared.op.PackedSettings.{PackedSettings}
 use Rattle.sieve_code.specs.declared.op.PackedTest.{PackedTest}
+use Rattle.sieve_code.specs.declared.op.PackedVacation.{PackedVacation}
 use Rattle.sieve_code.specs.declared.op.SourceKind.TheVariants as source
 use Rattle.sieve_code.specs.declared.pools.Target.{Target}
 
 -- strings, each by its parts; lists of strings; lists of names of fields; what commands change; names of scripts; and what tests that
--- compare and commands that store or redirect say beside their strings
+-- compare, commands that store or redirect, and those that answer the sender say beside their strings
 pub record Pool : Type 0 where
   pub strings : List (List Part)
   pub lists : Lists
@@ -23,9 +24,10 @@ pub record Pool : Type 0 where
   pub scripts : List (List ℕ)
   pub tests : List PackedTest
   pub settings : List PackedSettings
+  pub vacations : List PackedVacation
 
 abbrev pub no_pool : Pool
-no_pool = record { strings = []; lists = no_lists; names = no_lists; targets = []; scripts = []; tests = []; settings = [] }
+no_pool = record { strings = []; lists = no_lists; names = no_lists; targets = []; scripts = []; tests = []; settings = []; vacations = [] }
 
 -- with more behind each
 abbrev pub plus : Pool → Pool → Pool
@@ -37,6 +39,7 @@ plus pool more = record {
   scripts = pool.scripts ++ more.scripts;
   tests = pool.tests ++ more.tests;
   settings = pool.settings ++ more.settings;
+  vacations = pool.vacations ++ more.vacations;
 }
 
 -- the place of what isn't given
@@ -72,6 +75,27 @@ unpacked pool packed = record { flags = given_list pool packed.flags; copy = pac
 
 abbrev pub settings_in : Pool → ℕ → Settings
 settings_in pool place = unpacked pool (packed_in pool place)
+
+-- what a `vacation` says; past the end, nothing
+abbrev pub no_vacation : PackedVacation
+no_vacation = record { reason = nowhere; days = None; subject = nowhere; from = nowhere; addresses = nowhere; mime = false; handle = nowhere }
+
+abbrev pub vacation_packed_in : Pool → ℕ → PackedVacation
+vacation_packed_in pool place = slice_index_or pool.vacations place no_vacation
+
+abbrev pub vacation_unpacked : Pool → PackedVacation → Vacation
+vacation_unpacked pool packed = record {
+  reason = slice_index_or pool.strings packed.reason [];
+  days = packed.days;
+  subject = given_string pool packed.subject;
+  from = given_string pool packed.from;
+  addresses = given_list pool packed.addresses;
+  mime = packed.mime;
+  handle = given_string pool packed.handle;
+}
+
+abbrev pub vacation_in : Pool → ℕ → Vacation
+vacation_in pool place = vacation_unpacked pool (vacation_packed_in pool place)
 
 -- A pool with more behind it, whatever stands behind that.
 abbrev pub Grows : Pool → Pool → Type 0

@@ -3,20 +3,20 @@ ghost use Rattle.std.specs.Prelude.{◌≡◌, ◌<◌, [], length, Some, slice_
 ghost use Rattle.std.specs.Option.{option_copied};
 ghost use Rattle.sieve_base.specs.Writers.{Writes};
 ghost use Rattle.sieve_effects.specs.Joined.{list_in};
-ghost use Rattle.sieve_effects.specs.view.Ops.{settings_op_as, source_op_as};
+ghost use Rattle.sieve_effects.specs.view.Ops.{settings_op_as, source_op_as, vacation_op_as};
 ghost use Rattle.sieve_code.specs.Choice.{AllGoForward};
 ghost use Rattle.sieve_code.specs.Compiles.{IsCode};
 ghost use Rattle.sieve_code.specs.Dump.{line_at};
-ghost use Rattle.sieve_code.specs.Pool.{given_list, given_string, given_variable, no_test, packed_in, plain_packed, settings_in, test_in};
+ghost use Rattle.sieve_code.specs.Pool.{given_list, given_string, given_variable, no_test, no_vacation, packed_in, plain_packed, settings_in, test_in, vacation_in, vacation_packed_in};
 ghost use Rattle.sieve_code.specs.view.Op.{ops_in, source_in};
 ghost use Rattle.sieve_code.specs.view.Pools.{pool_as};
 
 use crate::dump::write_line;
-use crate::op::{NOWHERE, Op, PackedSettings, PackedTest, SourceKind};
+use crate::op::{NOWHERE, Op, PackedSettings, PackedTest, PackedVacation, SourceKind};
 use crate::pools::{Pools, Target};
 use match_text::Collation;
 use sieve_base::{Sink, WriteFault};
-use sieve_effects::{FieldNames, SettingsOp, SourceOp, Strings};
+use sieve_effects::{FieldNames, SettingsOp, SourceOp, Strings, VacationOp};
 use sieve_reading::{Comparison, MatchType};
 use sieve_variables::{Part, Variable};
 
@@ -52,6 +52,21 @@ fn plain_packed() -> PackedSettings
         copy: false,
         create: false,
         special_use: NOWHERE,
+    }
+}
+
+/// What a place past the end says: a `vacation` of which nothing is given.
+fn no_vacation() -> PackedVacation
+    ensures { result ≡ no_vacation }
+{
+    PackedVacation {
+        reason: NOWHERE,
+        days: None,
+        subject: NOWHERE,
+        from: NOWHERE,
+        addresses: NOWHERE,
+        mime: false,
+        handle: NOWHERE,
     }
 }
 
@@ -181,6 +196,32 @@ impl Code {
             copy: packed.copy,
             create: packed.create,
             special_use: self.given_string(packed.special_use),
+        }
+    }
+
+    /// What a `vacation` says, by its place, as it is kept.
+    fn packed_vacation(&self, place: u32) -> PackedVacation
+        ensures { result ≡ vacation_packed_in (pool_of self.now) place }
+    {
+        match self.pools.vacations.get(place as usize) {
+            Some(vacation) => *vacation,
+            None => no_vacation(),
+        }
+    }
+
+    /// What a `vacation` says, by its place. Takes no memory.
+    pub fn vacation(&self, place: u32) -> VacationOp<'_>
+        ensures { vacation_op_as result ≡ vacation_in (pool_of self.now) place }
+    {
+        let packed = self.packed_vacation(place);
+        VacationOp {
+            reason: self.string(packed.reason),
+            days: packed.days,
+            subject: self.given_string(packed.subject),
+            from: self.given_string(packed.from),
+            addresses: self.given(packed.addresses),
+            mime: packed.mime,
+            handle: self.given_string(packed.handle),
         }
     }
 

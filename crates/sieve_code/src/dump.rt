@@ -3,7 +3,7 @@ ghost use Rattle.std.specs.Prelude.{◌++◌, codes, decimal};
 ghost use Rattle.sieve_base.specs.Writers.{Writes};
 ghost use Rattle.sieve_reading.specs.Reading.{discard_leaf};
 ghost use Rattle.sieve_code.specs.Dump.{at_line, leaf_text, line_text, operation_text};
-ghost use Rattle.sieve_code.specs.declared.op.Op.TheVariants.{Compares, Fileinto, Flags, Include, Keep, MailboxExists, Redirect, Set};
+ghost use Rattle.sieve_code.specs.declared.op.Op.TheVariants.{Compares, Fileinto, Flags, Include, Keep, MailboxExists, Redirect, Reject, Set, Vacation};
 ghost use Rattle.sieve_code.specs.view.Code.{jump_place_of, op_of};
 
 use crate::code::Code;
@@ -11,11 +11,12 @@ use crate::dump_commands::{
     write_fileinto, write_flags, write_include, write_line_number, write_redirect, write_set,
     write_worded_settings,
 };
+use crate::dump_responses::{write_reject, write_vacation};
 use crate::dump_strings::{write_list, write_number};
 use crate::dump_tests::write_compares;
 use crate::op::{Inclusion, Op};
 use sieve_base::{Piece, Sink, WriteFault, write_out, write_pieces};
-use sieve_reading::FlagChange;
+use sieve_reading::{FlagChange, Rejection};
 
 /// Writes a test that compares values with keys.
 #[tactic(auto, unfolding(crate::specs::Dump::operation_text, crate::specs::Dump::ask_text))]
@@ -162,6 +163,35 @@ fn write_including<W: Sink>(
     write_line_number(line, writer)
 }
 
+/// Writes a `vacation` and its line.
+#[tactic(auto, using(sieve_base::proofs::Writing::writing), unfolding(crate::specs::Dump::operation_text, crate::specs::Dump::leaf_text))]
+fn write_answering<W: Sink>(
+    code: &Code,
+    vacation: u32,
+    line: u32,
+    writer: &mut W,
+) -> Result<(), WriteFault>
+    ensures { Writes W.contents W.fault_count result writer.old writer.new (operation_text (op_of code.now (Vacation line vacation))) }
+{
+    write_vacation(&code.vacation(vacation), writer)?;
+    write_line_number(line, writer)
+}
+
+/// Writes a command that rejects the message, and its line.
+#[tactic(auto, using(sieve_base::proofs::Writing::writing), unfolding(crate::specs::Dump::operation_text, crate::specs::Dump::leaf_text))]
+fn write_rejecting<W: Sink>(
+    code: &Code,
+    how: Rejection,
+    reason: u32,
+    line: u32,
+    writer: &mut W,
+) -> Result<(), WriteFault>
+    ensures { Writes W.contents W.fault_count result writer.old writer.new (operation_text (op_of code.now (Reject how line reason))) }
+{
+    write_reject(how, code.string(reason), writer)?;
+    write_line_number(line, writer)
+}
+
 /// Writes an operation.
 #[tactic(auto, using(sieve_base::proofs::Writing::writing), unfolding(crate::specs::Dump::operation_text, crate::specs::Dump::ask_text, crate::specs::Dump::leaf_text))]
 fn write_op<W: Sink>(code: &Code, op: Op, writer: &mut W) -> Result<(), WriteFault>
@@ -204,6 +234,8 @@ fn write_op<W: Sink>(code: &Code, op: Op, writer: &mut W) -> Result<(), WriteFau
             flags,
         } => write_changing(code, change, variable, flags, line, writer),
         Op::Include(inclusion) => write_including(code, inclusion, writer),
+        Op::Vacation { line, vacation } => write_answering(code, vacation, line, writer),
+        Op::Reject { how, line, reason } => write_rejecting(code, how, reason, line, writer),
         Op::Stop => write_out(b"stop", writer),
         Op::Return => write_out(b"return", writer),
     }

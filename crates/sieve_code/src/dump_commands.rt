@@ -13,7 +13,11 @@ use sieve_variables::{LetterCase, Modifiers, Part, Variable};
 
 /// Writes a command's word and then a string.
 #[tactic(auto, unfolding(crate::specs::Dump::worded_text))]
-fn write_worded<W: Sink>(word: &[u8], string: &[Part], writer: &mut W) -> Result<(), WriteFault>
+pub(crate) fn write_worded<W: Sink>(
+    word: &[u8],
+    string: &[Part],
+    writer: &mut W,
+) -> Result<(), WriteFault>
     ensures { Writes W.contents W.fault_count result writer.old writer.new (spec.worded_text word.now string.now) }
 {
     write_string(word, string, writer)
@@ -31,7 +35,7 @@ fn write_stored_flags<W: Sink>(settings: &SettingsOp<'_>, writer: &mut W) -> Res
 }
 
 /// A word, where it is given.
-fn given_word<'a>(is_given: bool, word: &'a [u8]) -> &'a [u8]
+pub(crate) fn given_word<'a>(is_given: bool, word: &'a [u8]) -> &'a [u8]
     ensures { result.now ≡ spec.given_word is_given word.now }
 {
     if is_given { word } else { b"" }
@@ -53,13 +57,17 @@ fn write_create<W: Sink>(settings: &SettingsOp<'_>, writer: &mut W) -> Result<()
     write_out(given_word(settings.create, b" create"), writer)
 }
 
-/// Writes the use of the mailbox to store into, where a command names one.
-#[tactic(auto, unfolding(crate::specs::Dump::use_words))]
-fn write_use<W: Sink>(settings: &SettingsOp<'_>, writer: &mut W) -> Result<(), WriteFault>
-    ensures { Writes W.contents W.fault_count result writer.old writer.new (spec.use_words (settings_op_as settings.now).special_use) }
+/// Writes a string behind a word, where it is given.
+#[tactic(auto, unfolding(crate::specs::Dump::given_string_text))]
+pub(crate) fn write_given_string<W: Sink>(
+    word: &[u8],
+    string: Option<&[Part]>,
+    writer: &mut W,
+) -> Result<(), WriteFault>
+    ensures { Writes W.contents W.fault_count result writer.old writer.new (spec.given_string_text word.now (option_copied string)) }
 {
-    match settings.special_use {
-        Some(special_use) => write_string(b" special-use ", special_use, writer),
+    match string {
+        Some(string) => write_string(word, string, writer),
         None => write_out(b"", writer),
     }
 }
@@ -70,7 +78,7 @@ fn write_filing_words<W: Sink>(settings: &SettingsOp<'_>, writer: &mut W) -> Res
     ensures { Writes W.contents W.fault_count result writer.old writer.new (spec.filing_words (settings_op_as settings.now)) }
 {
     write_create(settings, writer)?;
-    write_use(settings, writer)
+    write_given_string(b" special-use ", settings.special_use, writer)
 }
 
 /// Writes what a command says of the store, beside its flags.

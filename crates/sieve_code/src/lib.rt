@@ -7,6 +7,7 @@ mod command_code;
 mod compiler;
 mod dump;
 mod dump_commands;
+mod dump_responses;
 mod dump_strings;
 mod dump_tests;
 pub mod laws;

@@ -1,7 +1,7 @@
 //! The operations of code.
 use message_text::AddressPart;
 use sieve_base::Place;
-use sieve_reading::{Comparison, FlagChange};
+use sieve_reading::{Comparison, FlagChange, Rejection};
 use std::mem::size_of;
 
 /// The place of what isn't given.
@@ -44,6 +44,25 @@ pub(crate) struct PackedSettings {
     pub(crate) special_use: u32,
 }
 
+/// What a `vacation` says (RFC 5230, section 4), whose strings and list lie at places.
+#[derive(Clone, Copy)]
+pub(crate) struct PackedVacation {
+    /// The place of the text of the response.
+    pub(crate) reason: u32,
+    /// For how many days a sender gets no other response, where that is said (section 4.1).
+    pub(crate) days: Option<u64>,
+    /// The place of the subject, if one is said (section 4.3).
+    pub(crate) subject: u32,
+    /// The place of whom the response is from, if that is said (section 4.3).
+    pub(crate) from: u32,
+    /// The place of further addresses of the user, if any are given (section 4.5).
+    pub(crate) addresses: u32,
+    /// Whether the text is a MIME entity (section 4.4).
+    pub(crate) mime: bool,
+    /// The place of what a server would know such a response by, if that is said (section 4.2).
+    pub(crate) handle: u32,
+}
+
 /// What an `include` says (RFC 6609, section 3.2).
 #[derive(Clone, Copy)]
 pub struct Inclusion {
@@ -61,7 +80,8 @@ pub struct Inclusion {
 
 /// An operation. Code has one truth register, which tests set. Where an operation has strings, a variable or the name of a script, it says
 /// their places, and the [`Code`](crate::Code) that it is one of has what lies there; it also knows the place of what isn't given, and to
-/// which place a jump goes. What a test that compares, a store or a redirect says beside its strings lies at a place too, so that it may grow.
+/// which place a jump goes. What a test that compares, a store, a redirect or a `vacation` says beside its strings lies at a place too, so that
+/// it may grow.
 #[derive(Clone, Copy)]
 pub enum Op {
     /// Sets the register to true.
@@ -159,6 +179,22 @@ pub enum Op {
     },
     /// Runs another script (RFC 6609, section 3.2).
     Include(Inclusion),
+    /// Answers the sender (RFC 5230).
+    Vacation {
+        /// The command's line.
+        line: u32,
+        /// The place of what the command says.
+        vacation: u32,
+    },
+    /// Rejects the message (RFC 5429).
+    Reject {
+        /// By which action.
+        how: Rejection,
+        /// The command's line.
+        line: u32,
+        /// The place of the reason.
+        reason: u32,
+    },
     /// Ends the run (RFC 5228, section 3.3).
     Stop,
     /// Ends its script (RFC 6609, section 3.3).

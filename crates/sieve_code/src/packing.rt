@@ -1,7 +1,7 @@
 //! The operations of tests that ask and of commands that act, with what they say in pools.
 ghost use Rattle.std.specs.Prelude.{◌≡◌, IfOk};
-ghost use Rattle.sieve_reading.specs.Reading.{compares, exists_ask, fileinto_leaf, flag_leaf, include_leaf, keep_leaf, mailboxes_ask, redirect_leaf, set_leaf};
-ghost use Rattle.sieve_reading.specs.view.Reading.{ask_as, leaf_as, settings_as, source_as, texts_as};
+ghost use Rattle.sieve_reading.specs.Reading.{compares, exists_ask, fileinto_leaf, flag_leaf, include_leaf, keep_leaf, mailboxes_ask, redirect_leaf, reject_leaf, set_leaf, vacation_leaf};
+ghost use Rattle.sieve_reading.specs.view.Reading.{ask_as, leaf_as, settings_as, source_as, texts_as, vacation_as};
 ghost use Rattle.sieve_code.specs.Operation.{act_op, test_op};
 ghost use Rattle.sieve_code.specs.Pool.{Kept};
 ghost use Rattle.sieve_code.specs.view.Op.{op_in, source_in};
@@ -10,7 +10,9 @@ ghost use Rattle.sieve_code.specs.view.Pools.{pool_as};
 use crate::op::{Inclusion, Op, PackedTest, SourceKind};
 use crate::pools::{Pools, Target};
 use sieve_base::Place;
-use sieve_reading::{Ask, Comparison, FlagChange, Leaf, Settings, Text, ValueSource};
+use sieve_reading::{
+    Ask, Comparison, FlagChange, Leaf, Rejection, Settings, Text, Vacation, ValueSource,
+};
 use sieve_variables::{Literal, Modifiers, Parts, Variable};
 use std::alloc::AllocError;
 
@@ -199,6 +201,22 @@ impl Pools {
         }))
     }
 
+    /// The operation of a `vacation`.
+    fn pack_vacation(&mut self, vacation: Vacation, line: u32) -> Result<Op, AllocError>
+        ensures { IfOk result (λ op. Kept (pool_as self.old) (pool_as self.new) (λ p. op_in p op) (act_op (vacation_leaf (vacation_as vacation)) line)) }
+    {
+        let vacation = self.keep_vacation(vacation)?;
+        Ok(Op::Vacation { line, vacation })
+    }
+
+    /// The operation of a command that rejects the message.
+    fn pack_reject(&mut self, how: Rejection, reason: Parts, line: u32) -> Result<Op, AllocError>
+        ensures { IfOk result (λ op. Kept (pool_as self.old) (pool_as self.new) (λ p. op_in p op) (act_op (reject_leaf how reason) line)) }
+    {
+        let reason = self.keep_string(reason)?;
+        Ok(Op::Reject { how, line, reason })
+    }
+
     /// The operation of a command of a line that acts.
     pub(crate) fn pack_act(&mut self, leaf: Leaf, line: u32) -> Result<Op, AllocError>
         ensures { IfOk result (λ op. Kept (pool_as self.old) (pool_as self.new) (λ p. op_in p op) (act_op (leaf_as leaf) line)) }
@@ -224,6 +242,8 @@ impl Pools {
                 optional,
                 name,
             } => self.pack_include(place, once, optional, name, line),
+            Leaf::Vacation { vacation } => self.pack_vacation(vacation, line),
+            Leaf::Reject { how, reason } => self.pack_reject(how, reason, line),
         }
     }
 }

@@ -3,14 +3,14 @@ ghost use Rattle.std.specs.Prelude.{◌≡◌, ◌<◌, [], true, IfOk, None, So
 ghost use Rattle.std.specs.List.{slice_get};
 ghost use Rattle.std.specs.Option.{option_map};
 ghost use Rattle.sieve_reading.specs.Reading.{plain_settings};
-ghost use Rattle.sieve_reading.specs.view.Reading.{settings_as, texts_as};
+ghost use Rattle.sieve_reading.specs.view.Reading.{settings_as, texts_as, vacation_as};
 ghost use Rattle.sieve_effects.specs.Joined.{list_in};
-ghost use Rattle.sieve_code.specs.Pool.{Kept, given_list, given_string, given_variable, no_pool, packed_in, settings_in, test_in};
+ghost use Rattle.sieve_code.specs.Pool.{Kept, given_list, given_string, given_variable, no_pool, packed_in, settings_in, test_in, vacation_in, vacation_packed_in};
 ghost use Rattle.sieve_code.specs.view.Pools.{pool_as};
 
-use crate::op::{NOWHERE, PackedSettings, PackedTest};
+use crate::op::{NOWHERE, PackedSettings, PackedTest, PackedVacation};
 use sieve_effects::{JoinedStrings, NameLists, StringLists};
-use sieve_reading::{Settings, Text};
+use sieve_reading::{Settings, Text, Vacation};
 use sieve_variables::{Literal, Modifiers, Parts, Variable};
 use std::alloc::{AllocError, Global};
 
@@ -33,6 +33,7 @@ pub(crate) struct Pools {
     pub(crate) scripts: Vec<Literal>,
     pub(crate) tests: Vec<PackedTest>,
     pub(crate) settings: Vec<PackedSettings>,
+    pub(crate) vacations: Vec<PackedVacation>,
 }
 
 /// The number of items as the place of the next. 4,294,967,295 and more are answered as want of memory.
@@ -79,6 +80,7 @@ impl Pools {
             scripts: Vec::new(alloc),
             tests: Vec::new(alloc),
             settings: Vec::new(alloc),
+            vacations: Vec::new(alloc),
         }
     }
 
@@ -93,6 +95,7 @@ impl Pools {
         self.scripts.shrink_to_fit();
         self.tests.shrink_to_fit();
         self.settings.shrink_to_fit();
+        self.vacations.shrink_to_fit();
     }
 
     /// Keeps a string. Answers its place.
@@ -220,6 +223,36 @@ impl Pools {
             copy,
             create,
             special_use,
+        })
+    }
+    /// Keeps what a `vacation` says, whose strings and list lie at their places. Answers its place.
+    fn put_vacation(&mut self, vacation: PackedVacation) -> Result<u32, AllocError>
+        ensures { IfOk result (λ place. Kept (pool_as self.old) (pool_as self.new) (λ p. vacation_packed_in p place) vacation) }
+    {
+        let place = place_of(self.vacations.len())?;
+        self.vacations.push(vacation)?;
+        Ok(place)
+    }
+
+    /// Keeps what a `vacation` says. Answers its place.
+    pub(crate) fn keep_vacation(&mut self, vacation: Vacation) -> Result<u32, AllocError>
+        ensures { IfOk result (λ place. Kept (pool_as self.old) (pool_as self.new) (λ p. vacation_in p place) (vacation_as vacation)) }
+    {
+        let days = vacation.days;
+        let mime = vacation.mime;
+        let reason = self.keep_string(vacation.reason)?;
+        let subject = self.keep_given_string(vacation.subject)?;
+        let from = self.keep_given_string(vacation.from)?;
+        let addresses = self.keep_given(vacation.addresses)?;
+        let handle = self.keep_given_string(vacation.handle)?;
+        self.put_vacation(PackedVacation {
+            reason,
+            days,
+            subject,
+            from,
+            addresses,
+            mime,
+            handle,
         })
     }
 }

@@ -1,5 +1,5 @@
 -- What commands do that act (RFC 5228, sections 2.10 and 4; RFC 5229, section 4; RFC 5232, sections 3 and 5; RFC 3894, section 3; RFC
--- 5490, section 3.2; RFC 8579, section 4).
+-- 5490, section 3.2; RFC 8579, section 4; RFC 5230, section 4; RFC 5429, section 2).
 use Rattle.std.specs.Prelude.{◌==◌, ℕ, List, [], ◌∷◌, ◌++◌, length, map, take, Bool, true, false, not, ◌&&◌, ◌||◌, Option, None, Some, is_some, if◌then◌else◌, nat_eq, nat_lt, nat_le}
 use Rattle.std.specs.List.{list_all, list_any}
 use Rattle.std.specs.Option.{option_map, option_or}
@@ -8,18 +8,20 @@ use Rattle.match_text.specs.Flags.{flag_list, is_keyword, flag_text, flag_union,
 use Rattle.message_text.specs.Addresses.{AddrSpec, addresses_of}
 use Rattle.sieve_base.specs.Limits.{action_limit, mailbox_limit, value_limit}
 use Rattle.sieve_base.specs.Octet.{octet_of}
-use Rattle.sieve_reading.specs.Reading.{Settings, plain_settings, Leaf, keep_leaf, fileinto_leaf, redirect_leaf, discard_leaf, set_leaf, flag_leaf, include_leaf}
+use Rattle.sieve_reading.specs.Reading.{Settings, plain_settings, Vacation, Leaf, keep_leaf, fileinto_leaf, redirect_leaf, discard_leaf, set_leaf, flag_leaf, include_leaf, vacation_leaf, reject_leaf}
 use Rattle.sieve_reading.specs.declared.reading.FlagChange.{FlagChange}
 use Rattle.sieve_reading.specs.declared.reading.FlagChange.TheVariants as change
+use Rattle.sieve_reading.specs.declared.reading.Rejection.{Rejection}
 use Rattle.sieve_base.specs.declared.name.ScriptName.{ScriptName}
 use Rattle.sieve_effects.specs.declared.action.Action.{Action}
 use Rattle.sieve_effects.specs.declared.action.Deed.{Deed}
 use Rattle.sieve_effects.specs.declared.action.Filing.{Filing}
 use Rattle.sieve_effects.specs.declared.action.Origin.{Origin}
-use Rattle.sieve_effects.specs.declared.action.Action.TheVariants.{Store, Redirect, Discard}
+use Rattle.sieve_effects.specs.declared.response.Response.{Response}
+use Rattle.sieve_effects.specs.declared.action.Action.TheVariants.{Store, Redirect, Discard, Respond, Reject}
 use Rattle.sieve_effects.specs.declared.error.RunError.{RunError}
 use Rattle.sieve_effects.specs.declared.error.ErrorKind.{ErrorKind}
-use Rattle.sieve_effects.specs.declared.error.ErrorKind.TheVariants.{BadAddress, TooManyActions, TooManyGlobals, BadMailbox}
+use Rattle.sieve_effects.specs.declared.error.ErrorKind.TheVariants.{BadAddress, TooManyActions, TooManyGlobals, BadMailbox, SecondVacation, ConflictingActions}
 use Rattle.sieve_effects.specs.Delivery.{Delivery}
 use Rattle.sieve_effects.specs.State.{RunState}
 use Rattle.sieve_variables.specs.Modifier.{modified}
@@ -45,18 +47,15 @@ state_behind (failed error state) = state
 
 -- ACTIONS
 
--- whether two actions are one: stores into one mailbox (RFC 5228, section 2.10.3), redirects to one address, octet for octet, and
--- discards
+-- Whether two actions are one: stores into one mailbox (RFC 5228, section 2.10.3), redirects to one address, octet for octet, and
+-- discards. Of responses and of rejections there is one at most, so two are one.
 abbrev pub same_action : Action → Action → Bool
 same_action (Store mailbox flags filing) (Store other there kept) = pointwise nat_eq mailbox other
-same_action (Store mailbox flags filing) (Redirect other) = false
-same_action (Store mailbox flags filing) Discard = false
-same_action (Redirect address) (Store other there kept) = false
 same_action (Redirect address) (Redirect other) = pointwise nat_eq address other
-same_action (Redirect address) Discard = false
-same_action Discard (Store other there kept) = false
-same_action Discard (Redirect other) = false
 same_action Discard Discard = true
+same_action (Respond response) (Respond other) = true
+same_action (Reject how reason) (Reject other why) = true
+same_action action other = false
 
 -- How a mailbox is filed into, where another store into it asks for this: it is made where either asks for it (RFC 5490, section 3.2), and the
 -- first use that is named stands (RFC 8579, section 4).
@@ -67,28 +66,61 @@ filing_with brought there = record { create = there.create || brought.create; sp
 -- 5232, section 5, lets the last list of flags stand in place of the union.
 abbrev pub brought_by : Action → Action → Action
 brought_by (Store mailbox flags filing) (Store other there kept) = Store other (flag_union there flags) (filing_with filing kept)
-brought_by (Store mailbox flags filing) (Redirect other) = Redirect other
-brought_by (Store mailbox flags filing) Discard = Discard
-brought_by (Redirect address) other = other
-brought_by Discard other = other
+brought_by action other = other
 
 -- an action that is there, joined with one that is performed, where the two are one
 abbrev pub joined_with : Action → Action → Action
 joined_with action there = if same_action action there then brought_by action there else there
 
+-- WHICH ACTIONS STAND IN EACH OTHER'S WAY
+
+abbrev pub is_response : Action → Bool
+is_response (Respond response) = true
+is_response other = false
+
+abbrev pub is_rejection : Action → Bool
+is_rejection (Reject how reason) = true
+is_rejection other = false
+
+-- A rejection goes with a discard alone: not with what delivers the message, a store or a redirect (RFC 5429, section 2.4), not with a response
+-- (RFC 5429, section 2.4; RFC 5230, section 4.7), and not with another rejection (RFC 5429, section 2.4).
+abbrev pub goes_with_rejections : Action → Bool
+goes_with_rejections Discard = true
+goes_with_rejections other = false
+
+-- Two responses stand in each other's way, for a `vacation` is executed once at most (RFC 5230, section 4.7), and so do a rejection and what
+-- doesn't go with one, whichever of the two comes first; this is the error.
+abbrev pub conflict_of : (performed there : Action) → Option ErrorKind
+conflict_of performed there =
+    if is_response performed && is_response there then Some SecondVacation else
+    if is_rejection performed && not (goes_with_rejections there) || is_rejection there && not (goes_with_rejections performed) then Some ConflictingActions else None
+
+-- the error of an action that is performed where some are there: that of the first in its way
+abbrev pub conflict_among : Action → List Action → Option ErrorKind
+conflict_among performed [] = None
+conflict_among performed (there ∷ actions) = option_or (conflict_of performed there) (conflict_among performed actions)
+
 -- what becomes of the actions of a run where one is performed: they are then these, the last of which is the new one, or they are these,
--- which it joined, or there is one too many
+-- which it joined, or it isn't performed, for this error
 pub data Performed : Type 0 where
   entered : (actions : List Action) → Performed
   joined : (actions : List Action) → Performed
-  one_too_many : Performed
+  refused : (kind : ErrorKind) → Performed
+
+abbrev pub unless : Option ErrorKind → Performed → Performed
+unless None performed = performed
+unless (Some kind) performed = refused kind
 
 -- an action that is there already adds no entry, and none is taken away (RFC 5228, sections 2.10.1 and 2.10.3); past so many there is one
 -- too many (section 2.10.4)
-abbrev pub with_action : Action → List Action → Performed
-with_action action actions =
+abbrev pub with_room : Action → List Action → Performed
+with_room action actions =
     if list_any (same_action action) actions then joined (map (joined_with action) actions) else
-    if nat_lt (length actions) action_limit then entered (actions ++ action ∷ []) else one_too_many
+    if nat_lt (length actions) action_limit then entered (actions ++ action ∷ []) else refused TooManyActions
+
+-- where nothing stands in its way
+abbrev pub with_action : Action → List Action → Performed
+with_action action actions = unless (conflict_among action actions) (with_room action actions)
 
 -- WHAT COMMANDS DO
 
@@ -98,21 +130,22 @@ fails_at delivery line kind state = failed (record { script = delivery.script; l
 
 -- an action with what its command says of it
 abbrev pub deed_of : Action → Settings → Deed
-deed_of action settings = record { action = action; copy = settings.copy }
+deed_of action settings = record { action = action; leaves_keep = settings.copy }
 
 -- the command at a line of the script that runs
 abbrev pub origin_at : Delivery → ℕ → Origin
 origin_at delivery line = record { script = delivery.script; line = line }
 
--- an action takes the place of the implicit keep (RFC 5228, section 2.10.2), but for a copy (RFC 3894, section 3)
+-- an action takes the place of the implicit keep (RFC 5228, section 2.10.2), but for a copy (RFC 3894, section 3) and a response (RFC 5230,
+-- section 4.7)
 abbrev pub cancelled_by : Deed → RunState → Bool
-cancelled_by deed state = not deed.copy || state.cancelled
+cancelled_by deed state = not deed.leaves_keep || state.cancelled
 
 -- a new action is entered by its command; one that joined others leaves them with the commands that entered them
 abbrev pub ends_with : Delivery → ℕ → Deed → Performed → RunState → Ending
 ends_with delivery line deed (entered actions) state = goes_on (record state { actions = actions; origins = state.origins ++ origin_at delivery line ∷ []; cancelled = cancelled_by deed state })
 ends_with delivery line deed (joined actions) state = goes_on (record state { actions = actions; cancelled = cancelled_by deed state })
-ends_with delivery line deed one_too_many state = fails_at delivery line TooManyActions state
+ends_with delivery line deed (refused kind) state = fails_at delivery line kind state
 
 -- a command performs an action
 abbrev pub performs : Delivery → ℕ → Deed → RunState → Ending
@@ -213,6 +246,36 @@ sends delivery address settings line state = redirects delivery line (only_addre
 abbrev pub discards : Delivery → ℕ → RunState → Ending
 discards delivery line state = performs delivery line (deed_of Discard plain_settings) state
 
+-- what a `vacation` answers, with what its strings stand for (RFC 5230, section 4)
+abbrev pub response_of : Values → Vacation → Response
+response_of values vacation = record {
+  reason = text_value values vacation.reason;
+  days = vacation.days;
+  subject = option_map (text_value values) vacation.subject;
+  from = option_map (text_value values) vacation.from;
+  addresses = option_map (map (text_value values)) vacation.addresses;
+  mime = vacation.mime;
+  handle = option_map (text_value values) vacation.handle;
+}
+
+-- whom a response may be from: exactly one address, with a local part and a domain, where that is said (RFC 5230, section 4.3)
+abbrev pub may_be_from : Option (List ℕ) → Bool
+may_be_from None = true
+may_be_from (Some from) = is_some (only_address (addresses_of from))
+
+-- a response is performed where it may be from whom it says; else the command fails
+abbrev pub answers : Delivery → ℕ → Response → RunState → Ending
+answers delivery line response state =
+    if may_be_from response.from then performs delivery line (record { action = Respond response; leaves_keep = true }) state else fails_at delivery line BadAddress state
+
+-- vacation answers the sender (RFC 5230, section 4)
+abbrev pub responds : Delivery → Vacation → ℕ → RunState → Ending
+responds delivery vacation line state = answers delivery line (response_of state.values vacation) state
+
+-- reject and ereject refuse the message, for a reason (RFC 5429, section 2)
+abbrev pub rejects : Delivery → Rejection → List Part → ℕ → RunState → Ending
+rejects delivery how reason line state = performs delivery line (record { action = Reject how (text_value state.values reason); leaves_keep = false }) state
+
 -- set gives a variable a value (RFC 5229, section 4)
 abbrev pub sets : Delivery → Variable → Modifiers → List Part → ℕ → RunState → Ending
 sets delivery variable modifiers value line state = gives delivery line variable (modified modifiers (text_value state.values value)) state
@@ -227,3 +290,5 @@ act_by include delivery discard_leaf line state = discards delivery line state
 act_by include delivery (set_leaf variable modifiers value) line state = sets delivery variable modifiers value line state
 act_by include delivery (flag_leaf how variable flags) line state = changes delivery line how variable flags state
 act_by include delivery (include_leaf place once optional name) line state = include (record { place = place; name = name }) once optional line state
+act_by include delivery (vacation_leaf vacation) line state = responds delivery vacation line state
+act_by include delivery (reject_leaf how reason) line state = rejects delivery how reason line state

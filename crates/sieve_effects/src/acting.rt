@@ -21,6 +21,7 @@ use crate::error::ErrorKind;
 use crate::flagging::flags_named;
 use crate::flow::{Flow, fail};
 use crate::ops::SettingsOp;
+use crate::response::given_text;
 use crate::state::State;
 use match_text::is_keyword;
 use message_text::{Address, AddressPart, addresses};
@@ -29,8 +30,9 @@ use sieve_base::limits::MAX_MAILBOX;
 use sieve_variables::{Modifiers, Part, Values, Variable};
 use std::alloc::AllocError;
 
-/// Performs an action, which takes the place of the implicit keep (RFC 5228, section 2.10.2) unless it is a copy (RFC 3894, section 3).
-fn perform(
+/// Performs an action, which takes the place of the implicit keep (RFC 5228, section 2.10.2) unless it leaves it (RFC 3894, section 3; RFC
+/// 5230, section 4.7).
+pub(crate) fn perform(
     delivery: &Delivery<'_>,
     deed: Deed,
     line: u64,
@@ -39,18 +41,18 @@ fn perform(
     ensures { IfOk result (λ flow. ending_by flow (state_of state.new) ≡ spec.performs (delivery_as delivery.now) line deed (state_of state.old)) }
 {
     let added = state.actions.add(delivery.alloc, deed.action)?;
-    end_with(delivery, added, deed.copy, line, state)
+    end_with(delivery, added, deed.leaves_keep, line, state)
 }
 
 /// Ends a command that performed an action, where there was room for it. One that is new is entered by the command.
 fn end_with(
     delivery: &Delivery<'_>,
     added: Added,
-    copy: bool,
+    leaves_keep: bool,
     line: u64,
     state: &mut State,
 ) -> Result<Flow, AllocError>
-    ensures { (performed : spec.Performed) (deed : deeds.Deed) → performed_as added (state_of state.old).actions ≡ performed → deed.copy ≡ copy → IfOk result (λ flow. ending_by flow (state_of state.new) ≡ spec.ends_with (delivery_as delivery.now) line deed performed (state_of state.old)) }
+    ensures { (performed : spec.Performed) (deed : deeds.Deed) → performed_as added (state_of state.old).actions ≡ performed → deed.leaves_keep ≡ leaves_keep → IfOk result (λ flow. ending_by flow (state_of state.new) ≡ spec.ends_with (delivery_as delivery.now) line deed performed (state_of state.old)) }
 {
     match added {
         Added::Entered => {
@@ -58,9 +60,9 @@ fn end_with(
             state.origins.push(Origin { script, line })?;
         }
         Added::Joined => {}
-        Added::NoRoom => return fail(delivery, line, ErrorKind::TooManyActions),
+        Added::Refused(kind) => return fail(delivery, line, kind),
     }
-    state.cancelled = !copy || state.cancelled;
+    state.cancelled = !leaves_keep || state.cancelled;
     Ok(Flow::GoesOn)
 }
 
@@ -72,16 +74,9 @@ fn filing_of(
 ) -> Result<Filing, AllocError>
     ensures { IfOk result (λ filing. filing ≡ spec.filing_of values.now (settings_op_as settings.now)) }
 {
-    let special_use = match settings.special_use {
-        Some(parts) => {
-            let text = values.expanded_string(delivery.alloc, parts)?;
-            Some(Octets::copied(delivery.alloc, text.as_slice())?)
-        }
-        None => None,
-    };
     Ok(Filing {
         create: settings.create,
-        special_use,
+        special_use: given_text(delivery.alloc, values, settings.special_use)?,
     })
 }
 
@@ -97,7 +92,7 @@ fn store(
     requires { filing ≡ spec.filing_of (state_of state.old).values (settings_op_as settings.now) }
     ensures { IfOk result (λ flow. ending_by flow (state_of state.new) ≡ spec.performs (delivery_as delivery.now) line (spec.store_deed (state_of state.old) mailbox (settings_op_as settings.now)) (state_of state.old)) }
 {
-    let copy = settings.copy;
+    let leaves_keep = settings.copy;
     match &settings.flags {
         Some(texts) => {
             let flags = flags_named(delivery, &*state, texts)?;
@@ -106,11 +101,19 @@ fn store(
                 flags,
                 filing,
             };
-            perform(delivery, Deed { action, copy }, line, state)
+            perform(
+                delivery,
+                Deed {
+                    action,
+                    leaves_keep,
+                },
+                line,
+                state,
+            )
         }
         None => {
             let added = state.actions.store(delivery.alloc, mailbox, filing)?;
-            end_with(delivery, added, copy, line, state)
+            end_with(delivery, added, leaves_keep, line, state)
         }
     }
 }
@@ -135,8 +138,16 @@ pub fn discard(delivery: &Delivery<'_>, line: u64, state: &mut State) -> Result<
     ensures { IfOk result (λ flow. ending_by flow (state_of state.new) ≡ spec.discards (delivery_as delivery.now) line (state_of state.old)) }
 {
     let action = Action::Discard;
-    let copy = false;
-    perform(delivery, Deed { action, copy }, line, state)
+    let leaves_keep = false;
+    perform(
+        delivery,
+        Deed {
+            action,
+            leaves_keep,
+        },
+        line,
+        state,
+    )
 }
 
 /// Whether an octet is no control character of ASCII.
@@ -232,7 +243,7 @@ fn whole_address(address: &Address) -> Option<&[u8]>
 }
 
 /// The one address, where it has a local part and a domain.
-fn only_address(found: &[Address]) -> Option<&[u8]>
+pub(crate) fn only_address(found: &[Address]) -> Option<&[u8]>
     ensures { option_map (λ octets. octets.now) result ≡ spec.only_address found.now }
 {
     match found {
@@ -273,8 +284,16 @@ pub fn redirect(
     match address_named(delivery, &state.values, address)? {
         Some(address) => {
             let action = Action::Redirect { address };
-            let copy = settings.copy;
-            perform(delivery, Deed { action, copy }, line, state)
+            let leaves_keep = settings.copy;
+            perform(
+                delivery,
+                Deed {
+                    action,
+                    leaves_keep,
+                },
+                line,
+                state,
+            )
         }
         None => fail(delivery, line, ErrorKind::BadAddress),
     }

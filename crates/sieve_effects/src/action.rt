@@ -1,6 +1,8 @@
 //! Actions (RFC 5228, section 2.10).
+use crate::response::Response;
 use match_text::FlagList;
 use sieve_base::{Octets, ScriptName};
+use sieve_reading::Rejection;
 
 /// What is done with a message (RFC 5228, section 2.10).
 #[derive(Drop)]
@@ -17,6 +19,15 @@ pub enum Action {
     },
     /// The message is discarded (RFC 5228, section 4.4).
     Discard,
+    /// The sender is answered (RFC 5230).
+    Respond {
+        response: Response,
+    },
+    /// The message is rejected (RFC 5429).
+    Reject {
+        how: Rejection,
+        reason: Octets,
+    },
 }
 
 /// What a store asks for beside its mailbox.
@@ -41,6 +52,6 @@ pub struct Origin {
 #[derive(Drop)]
 pub struct Deed {
     pub action: Action,
-    /// Whether the action leaves the implicit keep as it is (RFC 3894, section 3).
-    pub copy: bool,
+    /// Whether the action leaves the implicit keep as it is (RFC 3894, section 3; RFC 5230, section 4.7).
+    pub leaves_keep: bool,
 }

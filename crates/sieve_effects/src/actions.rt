@@ -1,14 +1,16 @@
 //! The actions of a run (RFC 5228, section 2.10), and the internal flags that its stores take (RFC 5232, section 5).
 ghost use Rattle.std.specs.Prelude.{◌≡◌, ◌∷◌, List, ℕ, ◌++◌, IfOk, OnErr, OnOk, false, map, []};
 ghost use Rattle.std.specs.List.{list_any};
-ghost use Rattle.sieve_effects.specs.Act.{filing_with, joined_with, same_action, with_action};
+ghost use Rattle.sieve_effects.specs.Act.{conflict_among, conflict_of, filing_with, goes_with_rejections, is_rejection, is_response, joined_with, same_action, with_action, with_room};
 ghost use Rattle.sieve_effects.specs.declared.action.Action as acts;
 ghost use Rattle.sieve_effects.specs.declared.action.Action.TheVariants.{Store};
-ghost use Rattle.sieve_effects.specs.declared.actions.Added.TheVariants.{NoRoom};
+ghost use Rattle.sieve_effects.specs.declared.actions.Added.TheVariants.{Refused};
+ghost use Rattle.sieve_effects.specs.declared.error.ErrorKind.{ErrorKind};
 ghost use Rattle.sieve_effects.specs.view.Actions.{AreKnown, IsKnown, lowered, performed_as, stores_into};
 ghost use Rattle.match_text.specs.Flags.{flag_union, flags_in, flags_without};
 
 use crate::action::{Action, Filing};
+use crate::error::ErrorKind;
 use match_text::laws::flags_are_taken_out_in_turn;
 use match_text::{FlagList, next_flag};
 use sieve_base::Octets;
@@ -24,8 +26,8 @@ pub(crate) enum Added {
     Entered,
     /// It joined one that is there.
     Joined,
-    /// There was no room for it (RFC 5228, section 2.10.4).
-    NoRoom,
+    /// It wasn't performed, for this error.
+    Refused(ErrorKind),
 }
 
 /// The actions of a run in their order, and the internal flags. Contracts see both.
@@ -77,10 +79,13 @@ impl Actions {
 
     /// Adds an action, or joins it with the one that is there already. Answers what became of it.
     pub(crate) fn add(&mut self, alloc: Global, action: Action) -> Result<Added, AllocError>
-        ensures kept { IfOk result (λ added. added ≡ NoRoom → self.new.actions ≡ self.old.actions) }
+        ensures kept { IfOk result (λ added. (kind : ErrorKind) → added ≡ Refused kind → self.new.actions ≡ self.old.actions) }
         ensures value { IfOk result (λ added. performed_as added self.new.actions ≡ with_action action self.old.actions) }
         ensures flags { OnOk result (self.new.flags ≡ self.old.flags) }
     {
+        if let Some(kind) = conflict_among(&action, &self.actions) {
+            return Ok(Added::Refused(kind));
+        }
         if has_action(&action, &self.actions) {
             self.join(alloc, &action)?;
             return Ok(Added::Joined);
@@ -90,12 +95,12 @@ impl Actions {
 
     /// Adds an action that isn't there, where there is room for it.
     fn push(&mut self, action: Action) -> Result<Added, AllocError>
-        ensures kept { IfOk result (λ added. added ≡ NoRoom → self.new.actions ≡ self.old.actions) }
-        ensures value { IfOk result (λ added. list_any (same_action action) self.old.actions ≡ false → performed_as added self.new.actions ≡ with_action action self.old.actions) }
+        ensures kept { IfOk result (λ added. (kind : ErrorKind) → added ≡ Refused kind → self.new.actions ≡ self.old.actions) }
+        ensures value { IfOk result (λ added. list_any (same_action action) self.old.actions ≡ false → performed_as added self.new.actions ≡ with_room action self.old.actions) }
         ensures flags { OnOk result (self.new.flags ≡ self.old.flags) }
     {
         if self.actions.len() >= MAX_ACTIONS {
-            return Ok(Added::NoRoom);
+            return Ok(Added::Refused(ErrorKind::TooManyActions));
         }
         push_action(&mut self.actions, action)?;
         Ok(Added::Entered)
@@ -120,10 +125,13 @@ impl Actions {
         mailbox: Octets,
         filing: Filing,
     ) -> Result<Added, AllocError>
-        ensures kept { IfOk result (λ added. added ≡ NoRoom → self.new.actions ≡ self.old.actions) }
+        ensures kept { IfOk result (λ added. (kind : ErrorKind) → added ≡ Refused kind → self.new.actions ≡ self.old.actions) }
         ensures value { IfOk result (λ added. performed_as added self.new.actions ≡ with_action (Store mailbox self.old.flags filing) self.old.actions) }
         ensures flags { OnOk result (self.new.flags ≡ self.old.flags) }
     {
+        if has_rejection(&self.actions) {
+            return Ok(Added::Refused(ErrorKind::ConflictingActions));
+        }
         if has_store(mailbox.as_slice(), &self.actions) {
             self.join_flags(alloc, mailbox.as_slice(), &filing)?;
             return Ok(Added::Joined);
@@ -234,8 +242,65 @@ fn same_action(action: &Action, other: &Action) -> bool
             a.as_slice() == b.as_slice()
         }
         (Action::Discard, Action::Discard) => true,
+        (Action::Respond { .. }, Action::Respond { .. }) => true,
+        (Action::Reject { .. }, Action::Reject { .. }) => true,
         _ => false,
     }
+}
+
+/// Whether an action answers the sender.
+fn is_response(action: &Action) -> bool
+    ensures { result ≡ is_response action.now }
+{
+    matches!(action, Action::Respond { .. })
+}
+
+/// Whether an action rejects the message.
+fn is_rejection(action: &Action) -> bool
+    ensures { result ≡ is_rejection action.now }
+{
+    matches!(action, Action::Reject { .. })
+}
+
+/// Whether an action goes with one that rejects the message (RFC 5429, section 2.4).
+fn goes_with_rejections(action: &Action) -> bool
+    ensures { result ≡ goes_with_rejections action.now }
+{
+    matches!(action, Action::Discard)
+}
+
+/// The error of two actions that stand in each other's way.
+fn conflict_of(performed: &Action, there: &Action) -> Option<ErrorKind>
+    ensures { result ≡ conflict_of performed.now there.now }
+{
+    if is_response(performed) && is_response(there) {
+        return Some(ErrorKind::SecondVacation);
+    }
+    if is_rejection(performed) && !goes_with_rejections(there)
+        || is_rejection(there) && !goes_with_rejections(performed)
+    {
+        return Some(ErrorKind::ConflictingActions);
+    }
+    None
+}
+
+/// The error of an action that is performed where some are there.
+fn conflict_among(performed: &Action, actions: &[Action]) -> Option<ErrorKind>
+    ensures { result ≡ conflict_among performed.now actions.now }
+{
+    for there in actions {
+        if let Some(kind) = conflict_of(performed, there) {
+            return Some(kind);
+        }
+    }
+    None
+}
+
+/// Whether one of some actions rejects the message.
+fn has_rejection(actions: &[Action]) -> bool
+    ensures { result ≡ list_any is_rejection actions.now }
+{
+    actions.iter().any(is_rejection)
 }
 
 /// Whether an action is there already.
@@ -251,7 +316,7 @@ fn stores_into(mailbox: &[u8], action: &Action) -> bool
 {
     match action {
         Action::Store { mailbox: other, .. } => mailbox == other.as_slice(),
-        Action::Redirect { .. } | Action::Discard => false,
+        _ => false,
     }
 }
 
@@ -353,8 +418,7 @@ fn with_flags(
             };
             Ok((action, flags.len()))
         }
-        Action::Redirect { address } => Ok((Action::Redirect { address }, known)),
-        Action::Discard => Ok((Action::Discard, known)),
+        other => Ok((other, known)),
     }
 }
 

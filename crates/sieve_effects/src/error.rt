@@ -25,6 +25,10 @@ pub enum ErrorKind {
     TooManyGlobals = 8,
     /// A mailbox has no legal name (RFC 5228, section 4.1).
     BadMailbox = 9,
+    /// A second response (RFC 5230, section 4.7).
+    SecondVacation = 10,
+    /// A rejection, and an action that doesn't go with one (RFC 5429, section 2.4).
+    ConflictingActions = 11,
 }
 
 impl ErrorKind {
@@ -42,6 +46,8 @@ impl ErrorKind {
             ErrorKind::TooManyActions => b"too-many-actions",
             ErrorKind::TooManyGlobals => b"too-many-globals",
             ErrorKind::BadMailbox => b"bad-mailbox",
+            ErrorKind::SecondVacation => b"second-vacation",
+            ErrorKind::ConflictingActions => b"conflicting-actions",
         }
     }
 }

@@ -51,3 +51,22 @@ pub struct SettingsOp<'a> {
     /// The use of the mailbox to store into, where it is named (RFC 8579, section 4).
     pub special_use: Option<&'a [Part]>,
 }
+
+/// What a `vacation` says (RFC 5230, section 4).
+#[derive(Drop)]
+pub struct VacationOp<'a> {
+    /// The text of the response.
+    pub reason: &'a [Part],
+    /// For how many days a sender gets no other response, where that is said (section 4.1).
+    pub days: Option<u64>,
+    /// The subject of the response, where it is said (section 4.3).
+    pub subject: Option<&'a [Part]>,
+    /// Whom the response is from, where that is said (section 4.3).
+    pub from: Option<&'a [Part]>,
+    /// Further addresses of the user, where they are given (section 4.5).
+    pub addresses: Option<Strings<'a>>,
+    /// Whether the text is a MIME entity (section 4.4).
+    pub mime: bool,
+    /// What a server would know such a response by, where that is said (section 4.2).
+    pub handle: Option<&'a [Part]>,
+}

@@ -4,7 +4,7 @@ use Rattle.sieve_profile.specs.Extension.{same_extension}
 use Rattle.sieve_profile.specs.Profile.{Profile, empty_profile, has, with_extension}
 use Rattle.sieve_profile.specs.contracts.extension.Extension.{enum}
 use Rattle.sieve_profile.specs.declared.extension.Extension.{Extension}
-use Rattle.sieve_profile.specs.declared.extension.Extension.TheVariants.{AsciiNumeric, Charsets, Duplicate, EncodedCharacter, Envelopes, Lines, Mailbox, Relational, SpecialUse, Subaddress, Unused}
+use Rattle.sieve_profile.specs.declared.extension.Extension.TheVariants.{AsciiNumeric, Charsets, Duplicate, EncodedCharacter, Envelopes, Ereject, Lines, Mailbox, Reject, Relational, SpecialUse, Subaddress, Unused, Vacation}
 use Rattle.sieve_profile.proofs.Each.{of_each}
 
 not_false : (b : Bool) → not b ≡ true → b ≡ false
@@ -20,9 +20,12 @@ with_has_more profile extension AsciiNumeric = refl
 with_has_more profile extension Duplicate = refl
 with_has_more profile extension EncodedCharacter = refl
 with_has_more profile extension Envelopes = refl
+with_has_more profile extension Ereject = refl
 with_has_more profile extension Lines = refl
 with_has_more profile extension Mailbox = refl
+with_has_more profile extension Reject = refl
 with_has_more profile extension Relational = refl
 with_has_more profile extension SpecialUse = refl
 with_has_more profile extension Subaddress = refl
 with_has_more profile extension Unused = refl
+with_has_more profile extension Vacation = refl

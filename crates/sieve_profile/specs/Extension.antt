@@ -5,7 +5,7 @@ use lib.Pointwise.{pointwise}
 use Rattle.sieve_profile.specs.Every.{every}
 use Rattle.sieve_profile.specs.contracts.extension.Extension.{enum, the_type}
 use Rattle.sieve_profile.specs.declared.extension.Extension.{Extension}
-use Rattle.sieve_profile.specs.declared.extension.Extension.TheVariants.{AsciiNumeric, Charsets, Duplicate, EncodedCharacter, Envelopes, Lines, Mailbox, Relational, SpecialUse, Subaddress, Unused}
+use Rattle.sieve_profile.specs.declared.extension.Extension.TheVariants.{AsciiNumeric, Charsets, Duplicate, EncodedCharacter, Envelopes, Ereject, Lines, Mailbox, Reject, Relational, SpecialUse, Subaddress, Unused, Vacation}
 
 abbrev pub extension_name : Extension → List ℕ
 extension_name Charsets = codes "charsets"
@@ -13,12 +13,15 @@ extension_name AsciiNumeric = codes "comparator-i;ascii-numeric"
 extension_name Duplicate = codes "duplicate"
 extension_name EncodedCharacter = codes "encoded-character"
 extension_name Envelopes = codes "envelopes"
+extension_name Ereject = codes "ereject"
 extension_name Lines = codes "lines"
 extension_name Mailbox = codes "mailbox"
+extension_name Reject = codes "reject"
 extension_name Relational = codes "relational"
 extension_name SpecialUse = codes "special-use"
 extension_name Subaddress = codes "subaddress"
 extension_name Unused = codes "unused"
+extension_name Vacation = codes "vacation"
 
 -- all of them, in the order of their names
 abbrev pub extensions : List Extension

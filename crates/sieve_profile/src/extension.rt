@@ -15,10 +15,14 @@ pub enum Extension {
     EncodedCharacter,
     /// `envelopes`: a message may have addresses of its own.
     Envelopes,
+    /// `ereject`: the message is refused with a reason, as early as can be (RFC 5429).
+    Ereject,
     /// `lines`: which line of which script entered an action.
     Lines,
     /// `mailbox`: a mailbox that is made where it lacks, and which there are (RFC 5490).
     Mailbox,
+    /// `reject`: the message is refused with a reason (RFC 5429).
+    Reject,
     /// `relational`: which of a value and a key is greater, and how many values there are (RFC 5231).
     Relational,
     /// `special-use`: a mailbox by its use (RFC 8579).
@@ -27,21 +31,26 @@ pub enum Extension {
     Subaddress,
     /// `unused`: a capability that isn't known may be required.
     Unused,
+    /// `vacation`: an answer to the sender (RFC 5230).
+    Vacation,
 }
 
 /// All of them, in the order of their names.
-pub const EXTENSIONS: [Extension; 11] = [
+pub const EXTENSIONS: [Extension; 14] = [
     Extension::Charsets,
     Extension::AsciiNumeric,
     Extension::Duplicate,
     Extension::EncodedCharacter,
     Extension::Envelopes,
+    Extension::Ereject,
     Extension::Lines,
     Extension::Mailbox,
+    Extension::Reject,
     Extension::Relational,
     Extension::SpecialUse,
     Extension::Subaddress,
     Extension::Unused,
+    Extension::Vacation,
 ];
 
 /// Whether octets are its name, octet for octet.
@@ -62,12 +71,15 @@ impl Extension {
             Extension::Duplicate => b"duplicate",
             Extension::EncodedCharacter => b"encoded-character",
             Extension::Envelopes => b"envelopes",
+            Extension::Ereject => b"ereject",
             Extension::Lines => b"lines",
             Extension::Mailbox => b"mailbox",
+            Extension::Reject => b"reject",
             Extension::Relational => b"relational",
             Extension::SpecialUse => b"special-use",
             Extension::Subaddress => b"subaddress",
             Extension::Unused => b"unused",
+            Extension::Vacation => b"vacation",
         }
     }
 

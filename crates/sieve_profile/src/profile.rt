@@ -13,12 +13,15 @@ pub struct Profile {
     pub duplicate: bool,
     pub encoded_character: bool,
     pub envelopes: bool,
+    pub ereject: bool,
     pub lines: bool,
     pub mailbox: bool,
+    pub reject: bool,
     pub relational: bool,
     pub special_use: bool,
     pub subaddress: bool,
     pub unused: bool,
+    pub vacation: bool,
 }
 
 impl Profile {
@@ -32,12 +35,15 @@ impl Profile {
             duplicate: false,
             encoded_character: false,
             envelopes: false,
+            ereject: false,
             lines: false,
             mailbox: false,
+            reject: false,
             relational: false,
             special_use: false,
             subaddress: false,
             unused: false,
+            vacation: false,
         }
     }
 
@@ -51,12 +57,15 @@ impl Profile {
             Extension::Duplicate => self.duplicate,
             Extension::EncodedCharacter => self.encoded_character,
             Extension::Envelopes => self.envelopes,
+            Extension::Ereject => self.ereject,
             Extension::Lines => self.lines,
             Extension::Mailbox => self.mailbox,
+            Extension::Reject => self.reject,
             Extension::Relational => self.relational,
             Extension::SpecialUse => self.special_use,
             Extension::Subaddress => self.subaddress,
             Extension::Unused => self.unused,
+            Extension::Vacation => self.vacation,
         }
     }
 
@@ -70,12 +79,15 @@ impl Profile {
             duplicate: self.duplicate | (extension == Extension::Duplicate),
             encoded_character: self.encoded_character | (extension == Extension::EncodedCharacter),
             envelopes: self.envelopes | (extension == Extension::Envelopes),
+            ereject: self.ereject | (extension == Extension::Ereject),
             lines: self.lines | (extension == Extension::Lines),
             mailbox: self.mailbox | (extension == Extension::Mailbox),
+            reject: self.reject | (extension == Extension::Reject),
             relational: self.relational | (extension == Extension::Relational),
             special_use: self.special_use | (extension == Extension::SpecialUse),
             subaddress: self.subaddress | (extension == Extension::Subaddress),
             unused: self.unused | (extension == Extension::Unused),
+            vacation: self.vacation | (extension == Extension::Vacation),
         }
     }
 }

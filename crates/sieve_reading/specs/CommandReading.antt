@@ -1,5 +1,5 @@
 -- How a command is read (RFC 5228, sections 3 and 4; RFC 5229, section 4; RFC 5232, sections 3 and 5; RFC 6609, section 3; RFC 3894,
--- section 3; RFC 5490, section 3.2; RFC 8579, section 4), by its arguments and their labels.
+-- section 3; RFC 5490, section 3.2; RFC 8579, section 4; RFC 5230, section 4; RFC 5429, section 2), by its arguments and their labels.
 use Rattle.std.specs.Prelude.{List, Option, Some, None}
 use Rattle.std.specs.Option.{option_map}
 use Rattle.sieve_base.specs.declared.place.Place.{Place}
@@ -9,6 +9,8 @@ use Rattle.sieve_reading.specs.Tree.{Argument, Node, node}
 use Rattle.sieve_reading.specs.declared.label.Label.{Label}
 use Rattle.sieve_reading.specs.declared.reading.FlagChange.{FlagChange}
 use Rattle.sieve_reading.specs.declared.reading.FlagChange.TheVariants as change
+use Rattle.sieve_reading.specs.declared.reading.Rejection.{Rejection}
+use Rattle.sieve_reading.specs.declared.reading.Rejection.TheVariants as rejection
 use Rattle.sieve_table.specs.declared.row.Role.TheVariants as role
 use Rattle.sieve_table.specs.declared.row.TagKind.TheVariants as kind
 use Rattle.sieve_table.specs.declared.table.CommandKind.{CommandKind}
@@ -18,9 +20,9 @@ use Rattle.sieve_table.specs.declared.table.Tag.TheVariants as tag
 use Rattle.sieve_variables.specs.declared.modifier.LetterCase.{LetterCase}
 use Rattle.sieve_variables.specs.declared.modifier.LetterCase.TheVariants as letter_case
 use Rattle.sieve_variables.specs.declared.modifier.Modifiers.{Modifiers}
-use Rattle.sieve_reading.specs.Given.{Tags, tags_of, in_role, texts_in, given_texts, text_in, given_text, variable_in, given_variable, literal_in, has_tag}
+use Rattle.sieve_reading.specs.Given.{Tags, tags_of, in_role, texts_in, given_texts, text_in, given_text, given_number, variable_in, given_variable, literal_in, has_tag}
 use Rattle.sieve_reading.specs.Shape.{row_labels}
-use Rattle.sieve_reading.specs.Reading.{Settings, Leaf, keep_leaf, fileinto_leaf, redirect_leaf, discard_leaf, set_leaf, flag_leaf, include_leaf, CommandReading, reads_if, reads_elsif, reads_else, reads_stop, reads_return, reads_nothing, reads_act}
+use Rattle.sieve_reading.specs.Reading.{Settings, Leaf, keep_leaf, fileinto_leaf, redirect_leaf, discard_leaf, set_leaf, flag_leaf, include_leaf, vacation_leaf, reject_leaf, CommandReading, reads_if, reads_elsif, reads_else, reads_stop, reads_return, reads_nothing, reads_act}
 
 -- what a command says beside its mailbox or its address (RFC 5232, section 5; RFC 3894, section 3; RFC 5490, section 3.2; RFC 8579,
 -- section 4)
@@ -82,6 +84,22 @@ abbrev pub include_by : List Label → List Argument → Leaf
 include_by labels args =
     include_leaf (place_of (tags_of labels)) (has_tag kind.Once (tags_of labels)) (has_tag kind.Optional (tags_of labels)) (literal_in (in_role role.ScriptName labels args))
 
+-- what a `vacation` does (RFC 5230, section 4)
+abbrev pub vacation_by : List Label → List Argument → Leaf
+vacation_by labels args = vacation_leaf (record {
+  reason = text_in (in_role role.Text labels args);
+  days = given_number (in_role role.Days labels args);
+  subject = given_text (in_role role.Subject labels args);
+  from = given_text (in_role role.Sender labels args);
+  addresses = given_texts (in_role role.OwnAddresses labels args);
+  mime = has_tag kind.Mime (tags_of labels);
+  handle = given_text (in_role role.Handle labels args);
+})
+
+-- what `reject` and `ereject` do (RFC 5429, section 2)
+abbrev pub reject_by : Rejection → List Label → List Argument → Leaf
+reject_by how labels args = reject_leaf how (text_in (in_role role.Text labels args))
+
 abbrev pub command_reading_by : CommandKind → List Label → List Argument → CommandReading
 command_reading_by command.Require labels args = reads_nothing
 command_reading_by command.If labels args = reads_if
@@ -99,6 +117,9 @@ command_reading_by command.RemoveFlag labels args = reads_act (flags_by change.R
 command_reading_by command.Include labels args = reads_act (include_by labels args)
 command_reading_by command.Return labels args = reads_return
 command_reading_by command.Global labels args = reads_nothing
+command_reading_by command.Vacation labels args = reads_act (vacation_by labels args)
+command_reading_by command.Reject labels args = reads_act (reject_by rejection.Reject labels args)
+command_reading_by command.Ereject labels args = reads_act (reject_by rejection.Ereject labels args)
 
 -- what a command of a kind is with these arguments
 abbrev pub command_kind_reading : CommandKind → List Argument → CommandReading

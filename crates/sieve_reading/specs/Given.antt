@@ -96,6 +96,11 @@ number_in (Some (number None line)) = 0
 number_in (Some (number (Some value) line)) = value
 number_in (Some (tag name line)) = 0
 
+-- the number that an argument is that may be left out
+abbrev pub given_number : Option Argument → Option ℕ
+given_number None = None
+given_number (Some a) = Some (number_in (Some a))
+
 -- the comparator, which is `i;ascii-casemap` where none is named (RFC 5228, section 2.7.3), and where a name isn't known, which a script without
 -- a breach doesn't have
 abbrev pub collation_or_casemap : Option Collation → Collation

@@ -1,9 +1,11 @@
 -- What the commands and tests of a checked tree are (RFC 5228, sections 3, 4 and 5), with defaults filled in.
-use Rattle.std.specs.Prelude.{ℕ, Bool, false, List, Option, None}
+use Rattle.std.specs.Prelude.{ℕ, Bool, false, List, Option, None, codes}
 use Rattle.message_text.specs.declared.addressing.AddressPart.{AddressPart}
 use Rattle.sieve_base.specs.declared.place.Place.{Place}
 use Rattle.sieve_reading.specs.declared.reading.FlagChange.{FlagChange}
 use Rattle.sieve_reading.specs.declared.reading.Comparison.{Comparison}
+use Rattle.sieve_reading.specs.declared.reading.Rejection.{Rejection}
+use Rattle.sieve_reading.specs.declared.reading.Rejection.TheVariants.{Reject, Ereject}
 use Rattle.sieve_variables.specs.Part.{Part}
 use Rattle.sieve_variables.specs.Variable.{Variable}
 use Rattle.sieve_variables.specs.declared.modifier.Modifiers.{Modifiers}
@@ -42,9 +44,27 @@ pub record Settings : Type 0 where
 abbrev pub plain_settings : Settings
 plain_settings = record { flags = None; copy = false; create = false; special_use = None }
 
+-- What a `vacation` says (RFC 5230, section 4): the text of the response; for how many days a sender gets no other (section 4.1); its subject, and
+-- whom it is from (section 4.3); further addresses of the user (section 4.5); whether the text is a MIME entity (section 4.4); and what a server
+-- would know such a response by (section 4.2). All but the text may be left out.
+pub record Vacation : Type 0 where
+  pub reason : List Part
+  pub days : Option ℕ
+  pub subject : Option (List Part)
+  pub from : Option (List Part)
+  pub addresses : Option (List (List Part))
+  pub mime : Bool
+  pub handle : Option (List Part)
+
+-- the word of an action by which a message is rejected (RFC 5429, sections 2.2 and 2.1)
+abbrev pub rejection_word : Rejection → List ℕ
+rejection_word Reject = codes "reject"
+rejection_word Ereject = codes "ereject"
+
 -- A command that acts. One that changes flags changes those that a variable holds, or else the internal ones (RFC 5232, section 3).
 -- One that includes a script names its place and its name, and says whether the script runs once at most, and whether it may be
--- missing (RFC 6609, section 3.2).
+-- missing (RFC 6609, section 3.2). One that answers the sender is a `vacation` (RFC 5230); one that rejects the message says by which action, and
+-- for which reason (RFC 5429).
 pub data Leaf : Type 0 where
   keep_leaf : (settings : Settings) → Leaf
   fileinto_leaf : (mailbox : List Part) (settings : Settings) → Leaf
@@ -53,6 +73,8 @@ pub data Leaf : Type 0 where
   set_leaf : (variable : Variable) (modifiers : Modifiers) (value : List Part) → Leaf
   flag_leaf : (change : FlagChange) (variable : Option Variable) (flags : List (List Part)) → Leaf
   include_leaf : (place : Place) (once optional : Bool) (name : List ℕ) → Leaf
+  vacation_leaf : (vacation : Vacation) → Leaf
+  reject_leaf : (how : Rejection) (reason : List Part) → Leaf
 
 -- a test apart from the tests in it: always or never so (RFC 5228, sections 5.10 and 5.6), asked of the delivery, or a join of
 -- the tests in it (RFC 5228, sections 5.2, 5.3 and 5.8)

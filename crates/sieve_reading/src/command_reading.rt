@@ -1,5 +1,5 @@
 //! How a command is read (RFC 5228, sections 3 and 4; RFC 5229, section 4; RFC 5232, section 3; RFC 6609, section 3; RFC 5490,
-//! section 3.2; RFC 8579, section 4).
+//! section 3.2; RFC 8579, section 4; RFC 5230, section 4; RFC 5429, section 2).
 ghost use Rattle.std.specs.Prelude.{◌≡◌, false, map};
 ghost use Rattle.std.specs.Option.{option_map};
 ghost use Rattle.sieve_reading.specs.CommandReading as spec;
@@ -15,8 +15,9 @@ use crate::given::{
     given_text, given_texts, given_variable, name_in, text_in, texts_in, variable_in,
 };
 use crate::labelled::{into_argument, into_arguments, into_three};
-use crate::reading::{CommandReading, FlagChange, Leaf, Settings};
+use crate::reading::{CommandReading, FlagChange, Leaf, Rejection, Settings};
 use crate::tags::Tags;
+use crate::vacation::vacation_leaf;
 use sieve_base::Place;
 use sieve_syntax::Argument;
 use sieve_table::{CommandKind, Role, Row, Tag, TagKind};
@@ -159,6 +160,14 @@ fn include_leaf(row: &Row, args: Vec<Argument>) -> Leaf
     }
 }
 
+/// What a command does that rejects the message.
+fn reject_leaf(how: Rejection, row: &Row, args: Vec<Argument>) -> Leaf
+    ensures { leaf_as result ≡ spec.reject_by how (labels_in row.now args.items) (map argument_of args.items) }
+{
+    let reason = text_in(into_argument(row, Role::Text, args));
+    Leaf::Reject { how, reason }
+}
+
 /// What a command of a kind is, by its row.
 fn reading_by(alloc: Global, kind: CommandKind, row: &Row, args: Vec<Argument>) -> CommandReading
     ensures { command_reading_as result ≡ spec.command_reading_by kind (labels_in row.now args.items) (map argument_of args.items) }
@@ -180,6 +189,9 @@ fn reading_by(alloc: Global, kind: CommandKind, row: &Row, args: Vec<Argument>) 
         CommandKind::Include => include_leaf(row, args),
         CommandKind::Return => return CommandReading::Return,
         CommandKind::Global => return CommandReading::Nothing,
+        CommandKind::Vacation => vacation_leaf(alloc, row, args),
+        CommandKind::Reject => reject_leaf(Rejection::Reject, row, args),
+        CommandKind::Ereject => reject_leaf(Rejection::Ereject, row, args),
     };
     CommandReading::Act(leaf)
 }

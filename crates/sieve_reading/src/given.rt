@@ -161,6 +161,16 @@ pub(crate) fn number_in(argument: Option<&Argument>) -> u64
     }
 }
 
+/// The number that an argument is that may be left out.
+pub(crate) fn given_number(argument: Option<&Argument>) -> Option<u64>
+    ensures { result ≡ spec.given_number (option_map (λ a. argument_of a.now) argument.entry) }
+{
+    match argument {
+        Some(argument) => Some(number_in(Some(argument))),
+        None => None,
+    }
+}
+
 /// The comparator of a test, which is `i;ascii-casemap` where none is named.
 pub(crate) fn collation_by(argument: Option<&Argument>) -> Collation
     ensures { result ≡ spec.collation_by (option_map (λ a. argument_of a.now) argument.entry) }

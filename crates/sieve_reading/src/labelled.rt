@@ -42,7 +42,7 @@ pub(crate) fn into_argument(row: &Row, wanted: Role, args: Vec<Argument>) -> Opt
 }
 
 /// The one that is there already, or the other.
-fn first_or(first: Option<Argument>, other: Argument) -> Option<Argument>
+pub(crate) fn first_or(first: Option<Argument>, other: Argument) -> Option<Argument>
     ensures { option_map argument_of result ≡ first_or (option_map argument_of first) (Some (argument_of other)) }
 {
     match first {

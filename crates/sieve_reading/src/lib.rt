@@ -12,13 +12,14 @@ mod role;
 mod shape;
 mod tags;
 mod test_reading;
+mod vacation;
 
 pub use command_reading::read_command;
 pub use given::literal_in_parts;
 pub use label::Label;
 pub use reading::{
-    Ask, CommandReading, Comparison, FlagChange, Leaf, MatchType, Settings, TestReading,
-    ValueSource,
+    Ask, CommandReading, Comparison, FlagChange, Leaf, MatchType, Rejection, Settings, TestReading,
+    Vacation, ValueSource,
 };
 pub use role::role_of;
 pub use shape::{AsOctets, AsParts, RowLabels, StringView, known_labels};

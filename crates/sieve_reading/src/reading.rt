@@ -1,5 +1,7 @@
 //! What the commands and tests of a checked script are, with defaults filled in (RFC 5228, sections 3, 4 and 5). A reading has the
 //! strings of the arguments that it is made of.
+ghost use Rattle.std.specs.Prelude.{◌≡◌};
+ghost use Rattle.sieve_reading.specs.Reading.{rejection_word};
 
 use match_text::{Collation, Relation};
 use message_text::AddressPart;
@@ -142,6 +144,46 @@ pub struct Settings {
     pub special_use: Option<Parts>,
 }
 
+/// What a `vacation` says (RFC 5230, section 4).
+#[derive(Drop)]
+pub struct Vacation {
+    /// The text of the response, as its parts.
+    pub reason: Parts,
+    /// For how many days a sender gets no other response, where that is said (section 4.1).
+    pub days: Option<u64>,
+    /// The subject of the response, where it is said (section 4.3).
+    pub subject: Option<Parts>,
+    /// Whom the response is from, where that is said (section 4.3).
+    pub from: Option<Parts>,
+    /// Further addresses of the user, where they are given (section 4.5).
+    pub addresses: Option<Vec<Text>>,
+    /// Whether the text is a MIME entity (section 4.4).
+    pub mime: bool,
+    /// What a server would know such a response by, where that is said (section 4.2).
+    pub handle: Option<Parts>,
+}
+
+/// The action by which a message is rejected (RFC 5429, section 2).
+#[derive(Clone, Copy, PartialEq, Eq)]
+pub enum Rejection {
+    /// `reject` (RFC 5429, section 2.2).
+    Reject,
+    /// `ereject` (RFC 5429, section 2.1).
+    Ereject,
+}
+
+impl Rejection {
+    /// The word of the command, and of its line in a dump and a verdict. Takes no memory.
+    pub fn word(self) -> &'static [u8]
+        ensures { result.now ≡ rejection_word self }
+    {
+        match self {
+            Rejection::Reject => b"reject",
+            Rejection::Ereject => b"ereject",
+        }
+    }
+}
+
 /// What a command does that acts.
 #[derive(Drop)]
 pub enum Leaf {
@@ -194,6 +236,18 @@ pub enum Leaf {
         optional: bool,
         /// The script's name.
         name: Literal,
+    },
+    /// A command that answers the sender (RFC 5230).
+    Vacation {
+        /// What the command says.
+        vacation: Vacation,
+    },
+    /// A command that rejects the message (RFC 5429).
+    Reject {
+        /// By which action.
+        how: Rejection,
+        /// Why, as its parts.
+        reason: Parts,
     },
 }
 

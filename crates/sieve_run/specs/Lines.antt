@@ -7,18 +7,25 @@ use Rattle.sieve_base.specs.Writers.{name_text, quoted}
 use Rattle.sieve_base.specs.declared.name.ScriptName.{ScriptName}
 use Rattle.sieve_effects.specs.ErrorKind.{error_word}
 use Rattle.sieve_effects.specs.declared.action.Action.{Action}
-use Rattle.sieve_effects.specs.declared.action.Action.TheVariants.{Store, Redirect, Discard}
+use Rattle.sieve_effects.specs.declared.action.Action.TheVariants.{Store, Redirect, Discard, Respond, Reject}
 use Rattle.sieve_effects.specs.declared.action.Filing.{Filing}
 use Rattle.sieve_effects.specs.declared.action.Origin.{Origin}
 use Rattle.sieve_effects.specs.declared.error.RunError.{RunError}
+use Rattle.sieve_effects.specs.declared.response.Response.{Response}
+use Rattle.sieve_reading.specs.Reading.{rejection_word}
 use Rattle.sieve_run.specs.Verdict.{Verdict}
 
--- a flag behind a space
-abbrev pub flag_word : List ℕ → List ℕ
-flag_word flag = codes " " ++ quoted flag
+-- a text behind a space, and texts so
+abbrev pub spaced_word : List ℕ → List ℕ
+spaced_word text = codes " " ++ quoted text
 
-abbrev pub flag_words : List (List ℕ) → List ℕ
-flag_words flags = flat_map flag_word flags
+abbrev pub spaced_words : List (List ℕ) → List ℕ
+spaced_words texts = flat_map spaced_word texts
+
+-- a text behind a word, where it is given
+abbrev pub given_words : List ℕ → Option (List ℕ) → List ℕ
+given_words word None = []
+given_words word (Some text) = word ++ quoted text
 
 -- a word and a mailbox
 unfoldable pub mailbox_words : List ℕ → List ℕ → List ℕ
@@ -26,7 +33,7 @@ mailbox_words word mailbox = word ++ quoted mailbox
 
 -- the line of a word and a mailbox with flags
 unfoldable pub mailbox_line : List ℕ → List ℕ → List (List ℕ) → List ℕ
-mailbox_line word mailbox flags = mailbox_words word mailbox ++ flag_words flags
+mailbox_line word mailbox flags = mailbox_words word mailbox ++ spaced_words flags
 
 -- what a store asks for beside: that its mailbox is made where it isn't there (RFC 5490, section 3.2), and the use of the mailbox to store into where
 -- there is one of that use (RFC 8579, section 4)
@@ -34,18 +41,42 @@ abbrev pub create_word : Bool → List ℕ
 create_word false = []
 create_word true = codes " create"
 
-abbrev pub use_words : Option (List ℕ) → List ℕ
-use_words None = []
-use_words (Some used) = codes " special-use " ++ quoted used
-
 unfoldable pub filing_words : Filing → List ℕ
-filing_words filing = create_word filing.create ++ use_words filing.special_use
+filing_words filing = create_word filing.create ++ given_words (codes " special-use ") filing.special_use
+
+-- what is given of a response beside its text (RFC 5230, sections 4.1 to 4.5)
+abbrev pub days_words : Option ℕ → List ℕ
+days_words None = []
+days_words (Some days) = codes " days " ++ decimal days
+
+abbrev pub addresses_words : Option (List (List ℕ)) → List ℕ
+addresses_words None = []
+addresses_words (Some addresses) = codes " addresses" ++ spaced_words addresses
+
+abbrev pub mime_word : Bool → List ℕ
+mime_word false = []
+mime_word true = codes " mime"
+
+unfoldable pub response_words : Response → List ℕ
+response_words response =
+    days_words response.days
+    ++ (given_words (codes " subject ") response.subject
+    ++ (given_words (codes " from ") response.from
+    ++ (addresses_words response.addresses
+    ++ (mime_word response.mime
+    ++ given_words (codes " handle ") response.handle))))
+
+-- the line of a response
+unfoldable pub response_line : Response → List ℕ
+response_line response = (codes "vacation " ++ quoted response.reason) ++ response_words response
 
 -- the line of an action
 unfoldable pub action_line : Action → List ℕ
 action_line (Store mailbox flags filing) = mailbox_line (codes "store ") mailbox flags ++ filing_words filing
 action_line (Redirect address) = codes "redirect " ++ quoted address
 action_line Discard = codes "discard"
+action_line (Respond response) = response_line response
+action_line (Reject how reason) = rejection_word how ++ spaced_word reason
 
 -- the line of the implicit keep with its flags
 unfoldable pub implicit_line : (mailbox : List ℕ) → List (List ℕ) → List ℕ

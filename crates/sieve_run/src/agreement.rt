@@ -6,6 +6,7 @@ ghost use Rattle.sieve_base.specs.Writers.{octet_spelling, quoted, name_text, pi
 ghost use Rattle.sieve_run.specs.Lines as spec;
 ghost use Rattle.sieve_run.specs.view.Left.{behind_front, is_whole, left_says};
 
+use crate::response_agreement::{skip_reject, skip_response};
 use itoa::Buffer;
 use match_text::FlagList;
 use message_text::next_line;
@@ -15,7 +16,7 @@ use sieve_base::{Octets, Piece, ScriptName};
 use sieve_effects::{Action, Filing, RunError};
 
 /// What follows these octets, where the text begins with them.
-fn skip_octets<'a>(text: &'a [u8], octets: &[u8]) -> Option<&'a [u8]>
+pub(crate) fn skip_octets<'a>(text: &'a [u8], octets: &[u8]) -> Option<&'a [u8]>
     ensures { option_copied result ≡ behind_front octets.now text.now }
 {
     text.strip_prefix(octets)
@@ -81,7 +82,7 @@ fn skip_piece<'a>(text: &'a [u8], piece: &Piece<'_>) -> Option<&'a [u8]>
 
 /// What follows pieces in turn.
 #[tactic(auto, using(crate::proofs::Left::left))]
-fn skip_pieces<'a>(text: &'a [u8], pieces: &[Piece<'_>]) -> Option<&'a [u8]>
+pub(crate) fn skip_pieces<'a>(text: &'a [u8], pieces: &[Piece<'_>]) -> Option<&'a [u8]>
     ensures { option_copied result ≡ behind_front (pieces_text pieces.now) text.now }
 {
     let mut left = text;
@@ -91,21 +92,21 @@ fn skip_pieces<'a>(text: &'a [u8], pieces: &[Piece<'_>]) -> Option<&'a [u8]>
     Some(left)
 }
 
-/// What follows a flag behind a space.
-fn skip_flag<'a>(text: &'a [u8], flag: &[u8]) -> Option<&'a [u8]>
-    ensures { option_copied result ≡ behind_front (spec.flag_word flag.now) text.now }
+/// What follows a text behind a space.
+pub(crate) fn skip_spaced<'a>(text: &'a [u8], word: &[u8]) -> Option<&'a [u8]>
+    ensures { option_copied result ≡ behind_front (spec.spaced_word word.now) text.now }
 {
-    skip_pieces(text, &[Piece::Raw(b" "), Piece::Quoted(flag)])
+    skip_pieces(text, &[Piece::Raw(b" "), Piece::Quoted(word)])
 }
 
 /// What follows flags, each behind a space.
 #[tactic(auto, using(crate::proofs::Left::left))]
 fn skip_flags<'a>(text: &'a [u8], flags: &FlagList) -> Option<&'a [u8]>
-    ensures { option_copied result ≡ behind_front (spec.flag_words flags.now) text.now }
+    ensures { option_copied result ≡ behind_front (spec.spaced_words flags.now) text.now }
 {
     let mut left = text;
     for i in 0..flags.len() {
-        left = skip_flag(left, flags.get(i))?;
+        left = skip_spaced(left, flags.get(i))?;
     }
     Some(left)
 }
@@ -140,15 +141,16 @@ fn skip_create(text: &[u8], create: bool) -> Option<&[u8]>
     skip_octets(text, word)
 }
 
-/// What follows the use of the mailbox that a store asks for, where it does.
-fn skip_use<'a>(text: &'a [u8], special_use: &Option<Octets>) -> Option<&'a [u8]>
-    ensures { option_copied result ≡ behind_front (spec.use_words special_use.now) text.now }
+/// What follows a text behind a word, where it is given.
+pub(crate) fn skip_given<'a>(
+    text: &'a [u8],
+    word: &[u8],
+    given: &Option<Octets>,
+) -> Option<&'a [u8]>
+    ensures { option_copied result ≡ behind_front (spec.given_words word.now given.now) text.now }
 {
-    match special_use {
-        Some(used) => skip_pieces(
-            text,
-            &[Piece::Raw(b" special-use "), Piece::Quoted(used.as_slice())],
-        ),
+    match given {
+        Some(given) => skip_pieces(text, &[Piece::Raw(word), Piece::Quoted(given.as_slice())]),
         None => skip_octets(text, b""),
     }
 }
@@ -159,7 +161,7 @@ fn skip_filing<'a>(text: &'a [u8], filing: &Filing) -> Option<&'a [u8]>
     ensures { option_copied result ≡ behind_front (spec.filing_words filing.now) text.now }
 {
     let left = skip_create(text, filing.create)?;
-    skip_use(left, &filing.special_use)
+    skip_given(left, b" special-use ", &filing.special_use)
 }
 
 /// What follows the line of a store.
@@ -192,6 +194,8 @@ fn skip_action<'a>(text: &'a [u8], action: &Action) -> Option<&'a [u8]>
             &[Piece::Raw(b"redirect "), Piece::Quoted(address.as_slice())],
         ),
         Action::Discard => skip_octets(text, b"discard"),
+        Action::Respond { response } => skip_response(text, response),
+        Action::Reject { how, reason } => skip_reject(text, *how, reason.as_slice()),
     }
 }
 

@@ -12,6 +12,8 @@ mod meter;
 mod operations;
 mod outcome;
 mod reads;
+mod response_agreement;
+mod response_lines;
 mod script;
 mod shelf;
 mod steps;
@@ -29,5 +31,6 @@ pub use script::Script;
 pub use shelf::Shelf;
 pub use sieve_base::{Octets, Place, ScriptName};
 pub use sieve_effects::{
-    Action, Addresses, Envelope, ErrorKind, Filing, Origin, RunError, mailbox_count,
+    Action, Addresses, Envelope, ErrorKind, Filing, Origin, Response, RunError, Texts,
+    mailbox_count,
 };

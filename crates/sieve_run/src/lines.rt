@@ -1,26 +1,27 @@
 //! The lines of a verdict: what becomes of a message, and which names were looked up. Writing them takes no memory.
 ghost use Rattle.sieve_base.specs.Writers.{Writes};
 ghost use Rattle.std.specs.Prelude.{◌++◌, codes};
-ghost use Rattle.sieve_run.specs.Lines.{action_line, create_word, error_line, filing_words, flag_word, flag_words, implicit_line, mailbox_line, mailbox_words, origin_line, read_line, use_words};
+ghost use Rattle.sieve_run.specs.Lines.{action_line, create_word, error_line, filing_words, given_words, implicit_line, mailbox_line, mailbox_words, origin_line, read_line, spaced_word, spaced_words};
 
+use crate::response_lines::{write_reject, write_response};
 use match_text::FlagList;
 use sieve_base::{Octets, Piece, ScriptName, Sink, WriteFault, write_out, write_pieces};
 use sieve_effects::{Action, Filing, Origin, RunError};
 
-/// Writes a flag behind a space.
-fn write_flag<W: Sink>(flag: &[u8], writer: &mut W) -> Result<(), WriteFault>
-    ensures { Writes W.contents W.fault_count result writer.old writer.new (flag_word flag.now) }
+/// Writes a text behind a space.
+pub(crate) fn write_spaced<W: Sink>(text: &[u8], writer: &mut W) -> Result<(), WriteFault>
+    ensures { Writes W.contents W.fault_count result writer.old writer.new (spaced_word text.now) }
 {
-    write_pieces(&[Piece::Raw(b" "), Piece::Quoted(flag)], writer)
+    write_pieces(&[Piece::Raw(b" "), Piece::Quoted(text)], writer)
 }
 
 /// Writes flags, each behind a space.
 #[tactic(auto, using(sieve_base::proofs::Writing::writing_items))]
 fn write_flags<W: Sink>(flags: &FlagList, writer: &mut W) -> Result<(), WriteFault>
-    ensures { Writes W.contents W.fault_count result writer.old writer.new (flag_words flags.now) }
+    ensures { Writes W.contents W.fault_count result writer.old writer.new (spaced_words flags.now) }
 {
     for i in 0..flags.len() {
-        write_flag(flags.get(i), writer)?;
+        write_spaced(flags.get(i), writer)?;
     }
     Ok(())
 }
@@ -53,7 +54,7 @@ fn write_filing<W: Sink>(filing: &Filing, writer: &mut W) -> Result<(), WriteFau
     ensures { Writes W.contents W.fault_count result writer.old writer.new (filing_words filing.now) }
 {
     write_create(filing.create, writer)?;
-    write_use(&filing.special_use, writer)
+    write_given(b" special-use ", &filing.special_use, writer)
 }
 
 /// Writes that a store asks for its mailbox to be made, where it does.
@@ -64,15 +65,16 @@ fn write_create<W: Sink>(create: bool, writer: &mut W) -> Result<(), WriteFault>
     write_out(word, writer)
 }
 
-/// Writes the use of the mailbox that a store asks for, where it does.
-fn write_use<W: Sink>(special_use: &Option<Octets>, writer: &mut W) -> Result<(), WriteFault>
-    ensures { Writes W.contents W.fault_count result writer.old writer.new (use_words special_use.now) }
+/// Writes a text behind a word, where it is given.
+pub(crate) fn write_given<W: Sink>(
+    word: &[u8],
+    text: &Option<Octets>,
+    writer: &mut W,
+) -> Result<(), WriteFault>
+    ensures { Writes W.contents W.fault_count result writer.old writer.new (given_words word.now text.now) }
 {
-    match special_use {
-        Some(used) => write_pieces(
-            &[Piece::Raw(b" special-use "), Piece::Quoted(used.as_slice())],
-            writer,
-        ),
+    match text {
+        Some(text) => write_pieces(&[Piece::Raw(word), Piece::Quoted(text.as_slice())], writer),
         None => write_out(b"", writer),
     }
 }
@@ -107,6 +109,8 @@ pub fn write_action<W: Sink>(action: &Action, writer: &mut W) -> Result<(), Writ
             writer,
         ),
         Action::Discard => write_out(b"discard", writer),
+        Action::Respond { response } => write_response(response, writer),
+        Action::Reject { how, reason } => write_reject(*how, reason.as_slice(), writer),
     }
 }
 

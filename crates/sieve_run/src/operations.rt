@@ -1,6 +1,6 @@
 //! Carries out the operations of tests, and of commands that include nothing.
 ghost use Rattle.std.specs.Prelude.{◌≡◌, IfOk};
-ghost use Rattle.sieve_code.specs.declared.op.Op.TheVariants.{Compares, Discard, Duplicate, Exists, Fileinto, Flags, Keep, MailboxExists, Over, Redirect, Set, Under};
+ghost use Rattle.sieve_code.specs.declared.op.Op.TheVariants.{Compares, Discard, Duplicate, Exists, Fileinto, Flags, Keep, MailboxExists, Over, Redirect, Reject, Set, Under, Vacation};
 ghost use Rattle.sieve_effects.specs.Act.{act_by};
 ghost use Rattle.sieve_effects.specs.State.{RunState};
 ghost use Rattle.sieve_effects.specs.view.Delivery.{delivery_as};
@@ -10,9 +10,9 @@ ghost use Rattle.sieve_run.specs.view.Step.{Acts, Carries, Includes};
 use crate::turn::{Step, Turn, proceed};
 use sieve_effects::{
     FieldReads, State, change, compare, discard, exists, file_into, is_over, is_under, keep,
-    mailboxes_exist, redirect, set,
+    mailboxes_exist, redirect, reject, respond, set,
 };
-use sieve_reading::FlagChange;
+use sieve_reading::{FlagChange, Rejection};
 use std::alloc::AllocError;
 
 /// Asks whether some value matches some key.
@@ -173,5 +173,34 @@ pub(crate) fn act_flags(
     let variable = turn.code.variable(variable);
     let flags = turn.code.list(flags);
     let flow = change(turn.delivery, how, variable, &flags, line as u64, state);
+    turn.acted(flow)
+}
+
+/// Answers the sender.
+pub(crate) fn act_vacation(
+    turn: &Turn<'_>,
+    line: u32,
+    vacation: u32,
+    state: &mut State,
+) -> Result<Step, AllocError>
+    ensures { (include : Includes) → IfOk result (λ step. Carries (act_by include (delivery_as turn.now.delivery.now)) turn.now (Vacation line vacation) (state_of state.old) step (state_of state.new)) }
+{
+    let vacation = turn.code.vacation(vacation);
+    let flow = respond(turn.delivery, &vacation, line as u64, state);
+    turn.acted(flow)
+}
+
+/// Rejects the message.
+pub(crate) fn act_reject(
+    turn: &Turn<'_>,
+    how: Rejection,
+    line: u32,
+    reason: u32,
+    state: &mut State,
+) -> Result<Step, AllocError>
+    ensures { (include : Includes) → IfOk result (λ step. Carries (act_by include (delivery_as turn.now.delivery.now)) turn.now (Reject how line reason) (state_of state.old) step (state_of state.new)) }
+{
+    let reason = turn.code.string(reason);
+    let flow = reject(turn.delivery, how, reason, line as u64, state);
     turn.acted(flow)
 }

@@ -16,8 +16,8 @@ use crate::including::{
 };
 use crate::library::{Found, Library};
 use crate::operations::{
-    act_discard, act_fileinto, act_flags, act_keep, act_redirect, act_set, ask_compares,
-    ask_duplicate, ask_exists, ask_mailboxes, ask_over, ask_under,
+    act_discard, act_fileinto, act_flags, act_keep, act_redirect, act_reject, act_set,
+    act_vacation, ask_compares, ask_duplicate, ask_exists, ask_mailboxes, ask_over, ask_under,
 };
 use crate::reads::note_read;
 use crate::turn::{Step, Turn, proceed};
@@ -147,6 +147,8 @@ fn carry_out<L: Library>(
             flags,
         } => act_flags(turn, change, line, variable, flags, state),
         Op::Include(inclusion) => turn.acted(include_named(running, inclusion, fields, state)),
+        Op::Vacation { line, vacation } => act_vacation(turn, line, vacation, state),
+        Op::Reject { how, line, reason } => act_reject(turn, how, line, reason, state),
         Op::Stop => Ok(Step::Ended(Flow::Stopped)),
         Op::Return => Ok(Step::Ended(Flow::Returned)),
     }

@@ -1,5 +1,5 @@
 -- The names of the table and of the capabilities: each is found by its name, which no other has.
-use Rattle.std.proofs.Common.{◌≡◌, ℕ, Bool, true, false, not, ◌&&◌, ◌||◌, cond, nat_eq, List, [], ◌∷◌, Option, None, Some, is_none, filter, find, refl, sym, ap, ◌∙◌, arith}
+use Rattle.std.proofs.Common.{◌≡◌, ℕ, Bool, true, false, not, ◌&&◌, ◌||◌, cond, nat_eq, List, [], ◌∷◌, Option, None, Some, is_none, filter, find, map, refl, sym, ap, ◌∙◌, arith}
 use Rattle.std.proofs.lemmas.Bool.{and_parts}
 use Rattle.std.proofs.lemmas.Bool.Decides.{nat_tests}
 use Rattle.std.specs.List.{list_all, list_any}
@@ -9,7 +9,7 @@ use denote.Enum.Bare.{Bare, same_true, sameb}
 use denote.Enum.Declared.{Record, declared}
 use Rattle.sieve_table.specs.Capability.{capabilities, capability_name, capability_named, is_name_of, same_capability}
 use Rattle.sieve_table.specs.Known.{is_known, names_known}
-use Rattle.sieve_table.specs.Table.{all_tags, command_named, command_row, tag_named, tag_row, test_named, test_row}
+use Rattle.sieve_table.specs.Table.{command_named, command_row, tag_named, tag_row, test_named, test_row}
 use Rattle.sieve_table.specs.contracts.capability.Capability as every_capability
 use Rattle.sieve_table.specs.contracts.table.CommandKind as every_command
 use Rattle.sieve_table.specs.contracts.table.Tag as every_tag
@@ -39,8 +39,23 @@ pub test_found : (kind : TestKind) → test_named (test_row kind).name ≡ Some 
 unfolding test_named
 test_found kind = found every_test.enum tt kind (test_named (test_row kind).name) (of_each every_test.enum tt (λ k. is_found every_test.enum k (test_named (test_row k).name)) refl kind)
 
-pub tag_found : (tag : Tag) → tag_named all_tags (tag_row tag).name ≡ Some tag
-tag_found tag = found every_tag.enum tt tag (tag_named all_tags (tag_row tag).name) (of_each every_tag.enum tt (λ t. is_found every_tag.enum t (tag_named all_tags (tag_row t).name)) refl tag)
+-- whether each of some tags is found among all by the name of its row
+abbrev are_found : (tags all : List Tag) → Bool
+are_found tags all = list_all (λ tag. is_found every_tag.enum tag (tag_named all (tag_row tag).name)) tags
+
+tags_found : (tags all : List Tag) → are_found tags all ≡ true → map (λ tag. tag_named all (tag_row tag).name) tags ≡ map Some tags
+tags_found [] all is = refl
+tags_found (tag ∷ tags) all is =
+    let parts = and_parts (is_found every_tag.enum tag (tag_named all (tag_row tag).name)) (are_found tags all) is in
+    let first = found every_tag.enum tt tag (tag_named all (tag_row tag).name) parts.0 in
+    let rest = tags_found tags all parts.1 in
+    (λ i. first i ∷ rest i)
+
+pub command_tags_found : (kind : CommandKind) → map (λ tag. tag_named (command_row kind).tags (tag_row tag).name) (command_row kind).tags ≡ map Some (command_row kind).tags
+command_tags_found kind = tags_found (command_row kind).tags (command_row kind).tags (of_each every_command.enum tt (λ k. are_found (command_row k).tags (command_row k).tags) refl kind)
+
+pub test_tags_found : (kind : TestKind) → map (λ tag. tag_named (test_row kind).tags (tag_row tag).name) (test_row kind).tags ≡ map Some (test_row kind).tags
+test_tags_found kind = tags_found (test_row kind).tags (test_row kind).tags (of_each every_test.enum tt (λ k. are_found (test_row k).tags (test_row k).tags) refl kind)
 
 abbrev is_alone : Capability → List Capability → Bool
 is_alone c [] = false
@@ -158,4 +173,4 @@ named_alone name c = by_found (capability_named name) refl
     by_found None is = not_false (is_name_of name c) (of_each every_capability.enum tt (λ d. not (is_name_of name d)) (finding name capabilities ∙ ap is_none is) c)
     by_found (Some d) is = ap (λ n. is_name_of n c) (sym (same_octets (capability_name d) name (found_names name capabilities d is))) ∙ one_name c d
 
-pub ruleset names = (command_found, test_found, tag_found, capability_found, capability_alone)
+pub ruleset names = (command_found, test_found, command_tags_found, test_tags_found, capability_found, capability_alone)

@@ -83,13 +83,24 @@ bare name = record { name = name; tags = []; one_of = None; front = None; slots 
 abbrev pub bare_tag : List ℕ → TagKind → TagRow
 bare_tag name kind = record { name = name; kind = kind; takes = None; needs = None }
 
+-- a tag that takes nothing, and one that takes an argument, for which a capability has to be required
+abbrev pub needing_tag : List ℕ → TagKind → Capability → TagRow
+needing_tag name kind needed = record { name = name; kind = kind; takes = None; needs = Some needed }
+
+abbrev pub taking_tag : List ℕ → TagKind → Slot → Capability → TagRow
+taking_tag name kind taken needed = record { name = name; kind = kind; takes = Some taken; needs = Some needed }
+
 -- a match type that takes a relation (RFC 5231, section 4)
 abbrev pub relation_tag : List ℕ → TagRow
-relation_tag name = record { name = name; kind = kind.MatchType; takes = Some (slot form.One role.Relation); needs = Some capability.Relational }
+relation_tag name = taking_tag name kind.MatchType (slot form.One role.Relation) capability.Relational
 
 -- a tag of `duplicate` that takes an argument (RFC 7352, section 3)
-abbrev pub tracking_tag : List ℕ → TagKind → Slot → TagRow
-tracking_tag name kind taken = record { name = name; kind = kind; takes = Some taken; needs = Some capability.Duplicate }
+abbrev pub tracking_tag : List ℕ → TagKind → Form → TagRow
+tracking_tag name kind form = taking_tag name kind (slot form role.Tracking) capability.Duplicate
+
+-- a tag of `vacation` that takes an argument (RFC 5230, section 4)
+abbrev pub response_tag : List ℕ → TagKind → Form → Role → TagRow
+response_tag name kind form role = taking_tag name kind (slot form role) capability.Vacation
 
 -- THE ROWS
 
@@ -108,8 +119,8 @@ tag_row tag.All = bare_tag (codes "all") kind.AddressPart
 tag_row tag.LocalPart = bare_tag (codes "localpart") kind.AddressPart
 tag_row tag.Domain = bare_tag (codes "domain") kind.AddressPart
 -- RFC 5233, section 4
-tag_row tag.User = record (bare_tag (codes "user") kind.AddressPart) { needs = Some capability.Subaddress }
-tag_row tag.Detail = record (bare_tag (codes "detail") kind.AddressPart) { needs = Some capability.Subaddress }
+tag_row tag.User = needing_tag (codes "user") kind.AddressPart capability.Subaddress
+tag_row tag.Detail = needing_tag (codes "detail") kind.AddressPart capability.Subaddress
 -- RFC 5228, section 5.9
 tag_row tag.Over = bare_tag (codes "over") kind.Bound
 tag_row tag.Under = bare_tag (codes "under") kind.Bound
@@ -123,19 +134,26 @@ tag_row tag.QuoteWildcard = bare_tag (codes "quotewildcard") kind.QuoteWildcard
 -- RFC 5229, section 4.1.1
 tag_row tag.Length = bare_tag (codes "length") kind.Length
 -- RFC 5232, section 5
-tag_row tag.Flags = record (bare_tag (codes "flags") kind.Flags) { takes = Some (slot form.List role.Flags); needs = Some capability.Imap4flags }
+tag_row tag.Flags = taking_tag (codes "flags") kind.Flags (slot form.List role.Flags) capability.Imap4flags
 -- RFC 3894, section 3
-tag_row tag.Copy = record (bare_tag (codes "copy") kind.Copy) { needs = Some capability.Copy }
+tag_row tag.Copy = needing_tag (codes "copy") kind.Copy capability.Copy
 -- RFC 5490, section 3.2
-tag_row tag.Create = record (bare_tag (codes "create") kind.Create) { needs = Some capability.Mailbox }
+tag_row tag.Create = needing_tag (codes "create") kind.Create capability.Mailbox
 -- RFC 8579, section 4
-tag_row tag.SpecialUse = record (bare_tag (codes "specialuse") kind.SpecialUse) { takes = Some (slot form.One role.Text); needs = Some capability.SpecialUse }
+tag_row tag.SpecialUse = taking_tag (codes "specialuse") kind.SpecialUse (slot form.One role.Text) capability.SpecialUse
 -- RFC 7352, sections 3.1, 3.2 and 3.3: of `:header` and `:uniqueid` one may be given
-tag_row tag.Handle = tracking_tag (codes "handle") kind.Handle (slot form.One role.Tracking)
-tag_row tag.Header = tracking_tag (codes "header") kind.UniqueId (slot form.One role.Tracking)
-tag_row tag.UniqueId = tracking_tag (codes "uniqueid") kind.UniqueId (slot form.One role.Tracking)
-tag_row tag.Seconds = tracking_tag (codes "seconds") kind.Seconds (slot form.Number role.Tracking)
-tag_row tag.Last = record (bare_tag (codes "last") kind.Last) { needs = Some capability.Duplicate }
+tag_row tag.Handle = tracking_tag (codes "handle") kind.Handle form.One
+tag_row tag.Header = tracking_tag (codes "header") kind.UniqueId form.One
+tag_row tag.UniqueId = tracking_tag (codes "uniqueid") kind.UniqueId form.One
+tag_row tag.Seconds = tracking_tag (codes "seconds") kind.Seconds form.Number
+tag_row tag.Last = needing_tag (codes "last") kind.Last capability.Duplicate
+-- RFC 5230, sections 4.1 to 4.5
+tag_row tag.Days = response_tag (codes "days") kind.Days form.Number role.Days
+tag_row tag.Subject = response_tag (codes "subject") kind.Subject form.One role.Subject
+tag_row tag.From = response_tag (codes "from") kind.From form.One role.Sender
+tag_row tag.Addresses = response_tag (codes "addresses") kind.Addresses form.List role.OwnAddresses
+tag_row tag.Mime = needing_tag (codes "mime") kind.Mime capability.Vacation
+tag_row tag.ResponseHandle = response_tag (codes "handle") kind.Handle form.One role.Handle
 -- RFC 6609, section 3.2
 tag_row tag.Personal = bare_tag (codes "personal") kind.Location
 tag_row tag.Global = bare_tag (codes "global") kind.Location
@@ -161,6 +179,10 @@ modifier_tags = tag.Lower ∷ tag.Upper ∷ tag.LowerFirst ∷ tag.UpperFirst �
 -- a command that changes flags, those of a variable where one is named (RFC 5232, section 3)
 abbrev pub flag_command : List ℕ → Row
 flag_command name = record (bare name) { front = Some (naming_slot form.One role.NameToSet); slots = slot form.List role.Flags ∷ []; needs = capability.Imap4flags ∷ [] }
+
+-- a command that refuses the message, for a reason (RFC 5429, section 2)
+abbrev pub refusing_command : List ℕ → Capability → Row
+refusing_command name needed = record (bare name) { slots = slot form.One role.Text ∷ []; needs = needed ∷ [] }
 
 abbrev pub command_row : CommandKind → Row
 -- RFC 5228, section 3.2
@@ -191,6 +213,11 @@ command_row command.Include = record (bare (codes "include")) { tags = tag.Perso
 command_row command.Return = record (bare (codes "return")) { needs = capability.Include ∷ [] }
 -- RFC 6609, section 3.4.1
 command_row command.Global = record (bare (codes "global")) { slots = slot form.List role.NamesToDeclare ∷ []; needs = capability.Include ∷ capability.Variables ∷ [] }
+-- RFC 5230, section 4
+command_row command.Vacation = record (bare (codes "vacation")) { tags = tag.Days ∷ tag.Subject ∷ tag.From ∷ tag.Addresses ∷ tag.Mime ∷ tag.ResponseHandle ∷ []; slots = slot form.One role.Text ∷ []; needs = capability.Vacation ∷ [] }
+-- RFC 5429, sections 2.2 and 2.1
+command_row command.Reject = refusing_command (codes "reject") capability.Reject
+command_row command.Ereject = refusing_command (codes "ereject") capability.Ereject
 
 abbrev pub test_row : TestKind → Row
 -- RFC 5228, section 5.7

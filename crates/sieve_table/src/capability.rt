@@ -29,6 +29,12 @@ pub enum Capability {
     Relational,
     /// Characters by their numbers (RFC 5228, section 2.4.2.4).
     EncodedCharacter,
+    /// Answers to the sender (RFC 5230).
+    Vacation,
+    /// Refusals with a reason (RFC 5429, section 2.2).
+    Reject,
+    /// Refusals with a reason, as early as can be (RFC 5429, section 2.1).
+    Ereject,
     /// The comparator `i;octet` (RFC 5228, section 2.7.3).
     OctetComparator,
     /// The comparator `i;ascii-casemap` (RFC 5228, section 2.7.3).
@@ -38,7 +44,7 @@ pub enum Capability {
 }
 
 /// The capabilities that there are.
-pub(crate) const CAPABILITIES: [Capability; 15] = [
+pub(crate) const CAPABILITIES: [Capability; 18] = [
     Capability::Fileinto,
     Capability::Envelope,
     Capability::Variables,
@@ -51,6 +57,9 @@ pub(crate) const CAPABILITIES: [Capability; 15] = [
     Capability::Duplicate,
     Capability::Relational,
     Capability::EncodedCharacter,
+    Capability::Vacation,
+    Capability::Reject,
+    Capability::Ereject,
     Capability::OctetComparator,
     Capability::CasemapComparator,
     Capability::NumericComparator,
@@ -74,6 +83,9 @@ impl Capability {
             Capability::Duplicate => b"duplicate",
             Capability::Relational => b"relational",
             Capability::EncodedCharacter => b"encoded-character",
+            Capability::Vacation => b"vacation",
+            Capability::Reject => b"reject",
+            Capability::Ereject => b"ereject",
             Capability::OctetComparator => b"comparator-i;octet",
             Capability::CasemapComparator => b"comparator-i;ascii-casemap",
             Capability::NumericComparator => b"comparator-i;ascii-numeric",

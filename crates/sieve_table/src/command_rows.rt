@@ -23,6 +23,13 @@ const FLAG_COMMAND: Row = Row {
     ..BARE
 };
 
+/// What a response or a rejection says.
+const REASON: Slot = Slot {
+    form: Form::One,
+    role: Role::Text,
+    needs: None,
+};
+
 /// `require` (RFC 5228, section 3.2).
 pub(crate) fn require_row() -> Row
     ensures { row_as result ≡ command_row command.Require }
@@ -238,6 +245,50 @@ pub(crate) fn global_row() -> Row
             needs: None,
         }],
         needs: &[Capability::Include, Capability::Variables],
+        ..BARE
+    }
+}
+
+/// `vacation` (RFC 5230, section 4).
+pub(crate) fn vacation_row() -> Row
+    ensures { row_as result ≡ command_row command.Vacation }
+{
+    Row {
+        name: b"vacation",
+        tags: &[
+            Tag::Days,
+            Tag::Subject,
+            Tag::From,
+            Tag::Addresses,
+            Tag::Mime,
+            Tag::ResponseHandle,
+        ],
+        slots: &[REASON],
+        needs: &[Capability::Vacation],
+        ..BARE
+    }
+}
+
+/// `reject` (RFC 5429, section 2.2).
+pub(crate) fn reject_row() -> Row
+    ensures { row_as result ≡ command_row command.Reject }
+{
+    Row {
+        name: b"reject",
+        slots: &[REASON],
+        needs: &[Capability::Reject],
+        ..BARE
+    }
+}
+
+/// `ereject` (RFC 5429, section 2.1).
+pub(crate) fn ereject_row() -> Row
+    ensures { row_as result ≡ command_row command.Ereject }
+{
+    Row {
+        name: b"ereject",
+        slots: &[REASON],
+        needs: &[Capability::Ereject],
         ..BARE
     }
 }

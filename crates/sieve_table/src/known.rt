@@ -22,6 +22,9 @@ fn extension_of(capability: Capability) -> Option<Extension>
         Capability::Duplicate => Some(Extension::Duplicate),
         Capability::Relational => Some(Extension::Relational),
         Capability::EncodedCharacter => Some(Extension::EncodedCharacter),
+        Capability::Vacation => Some(Extension::Vacation),
+        Capability::Reject => Some(Extension::Reject),
+        Capability::Ereject => Some(Extension::Ereject),
         Capability::NumericComparator => Some(Extension::AsciiNumeric),
         Capability::Fileinto
         | Capability::Envelope

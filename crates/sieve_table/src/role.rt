@@ -40,6 +40,10 @@ pub fn is_expanded(role: Role) -> bool
         | Role::Mailbox
         | Role::Address
         | Role::Flags
+        | Role::Subject
+        | Role::Sender
+        | Role::OwnAddresses
+        | Role::Handle
         | Role::Text => true,
         Role::Capabilities
         | Role::ComparatorName
@@ -49,6 +53,7 @@ pub fn is_expanded(role: Role) -> bool
         | Role::NamesToDeclare
         | Role::ScriptName
         | Role::Relation
-        | Role::Tracking => false,
+        | Role::Tracking
+        | Role::Days => false,
     }
 }

@@ -51,6 +51,16 @@ pub enum Role {
     Relation,
     /// What a server would know a message by that came before, and for how long (RFC 7352, section 3).
     Tracking,
+    /// For how many days a sender isn't answered again (RFC 5230, section 4.1).
+    Days,
+    /// The subject of an answer (RFC 5230, section 4.3).
+    Subject,
+    /// Whom an answer is from (RFC 5230, section 4.3).
+    Sender,
+    /// Further addresses of the user (RFC 5230, section 4.5).
+    OwnAddresses,
+    /// What a server would know an answer by that it sent before (RFC 5230, section 4.2).
+    Handle,
     /// Any other text.
     Text,
 }
@@ -97,7 +107,7 @@ pub enum TagKind {
     Create,
     /// `:specialuse` (RFC 8579, section 4).
     SpecialUse,
-    /// `:handle` (RFC 7352, section 3.2).
+    /// `:handle` (RFC 7352, section 3.2; RFC 5230, section 4.2).
     Handle,
     /// `:header` and `:uniqueid` (RFC 7352, section 3.1).
     UniqueId,
@@ -105,6 +115,16 @@ pub enum TagKind {
     Seconds,
     /// `:last` (RFC 7352, section 3.3).
     Last,
+    /// `:days` (RFC 5230, section 4.1).
+    Days,
+    /// `:subject` (RFC 5230, section 4.3).
+    Subject,
+    /// `:from` (RFC 5230, section 4.3).
+    From,
+    /// `:addresses` (RFC 5230, section 4.5).
+    Addresses,
+    /// `:mime` (RFC 5230, section 4.4).
+    Mime,
 }
 
 /// What is said of a tag.

@@ -1,10 +1,10 @@
 //! The table: a row for each command, test and tag that there is.
 ghost use Rattle.std.specs.Prelude.{◌≡◌, find};
-ghost use Rattle.sieve_table.specs.Table.{bare_tag, command_named, command_row, is_named, relation_tag, same_tag, tag_named, tag_row, test_named, test_row, tracking_tag};
+ghost use Rattle.sieve_table.specs.Table.{response_tag, bare_tag, command_named, command_row, is_named, needing_tag, relation_tag, same_tag, slot, tag_named, tag_row, taking_tag, test_named, test_row, tracking_tag};
 ghost use Rattle.sieve_table.specs.view.Row.{row_as, tag_row_as};
 
 use crate::capability::Capability;
-use crate::row::{FLAGS, Form, Role, Row, Slot, TagKind, TagRow};
+use crate::row::{Form, Role, Row, Slot, TagKind, TagRow};
 use crate::{command_rows, test_rows};
 
 /// A command that there is.
@@ -42,6 +42,12 @@ pub enum CommandKind {
     Return,
     /// `global` (RFC 6609, section 3.4.1).
     Global,
+    /// `vacation` (RFC 5230, section 4).
+    Vacation,
+    /// `reject` (RFC 5429, section 2.2).
+    Reject,
+    /// `ereject` (RFC 5429, section 2.1).
+    Ereject,
 }
 
 /// A test that there is.
@@ -134,7 +140,7 @@ pub enum Tag {
     Create,
     /// `:specialuse`, which takes the string after it (RFC 8579, section 4).
     SpecialUse,
-    /// `:handle`, which takes the string after it (RFC 7352, section 3.2).
+    /// `:handle` of `duplicate`, which takes the string after it (RFC 7352, section 3.2).
     Handle,
     /// `:header`, which takes the string after it (RFC 7352, section 3.1).
     Header,
@@ -144,10 +150,22 @@ pub enum Tag {
     Seconds,
     /// `:last` (RFC 7352, section 3.3).
     Last,
+    /// `:days`, which takes the number after it (RFC 5230, section 4.1).
+    Days,
+    /// `:subject`, which takes the string after it (RFC 5230, section 4.3).
+    Subject,
+    /// `:from`, which takes the string after it (RFC 5230, section 4.3).
+    From,
+    /// `:addresses`, which takes the list after it (RFC 5230, section 4.5).
+    Addresses,
+    /// `:mime` (RFC 5230, section 4.4).
+    Mime,
+    /// `:handle` of `vacation`, which takes the string after it (RFC 5230, section 4.2).
+    ResponseHandle,
 }
 
 /// All commands.
-const COMMANDS: [CommandKind; 16] = [
+const COMMANDS: [CommandKind; 19] = [
     CommandKind::Require,
     CommandKind::If,
     CommandKind::Elsif,
@@ -164,6 +182,9 @@ const COMMANDS: [CommandKind; 16] = [
     CommandKind::Include,
     CommandKind::Return,
     CommandKind::Global,
+    CommandKind::Vacation,
+    CommandKind::Reject,
+    CommandKind::Ereject,
 ];
 
 /// All tests.
@@ -184,40 +205,16 @@ const TESTS: [TestKind; 14] = [
     TestKind::Duplicate,
 ];
 
-/// A comparator's name.
-const COMPARATOR_NAME: Slot = Slot {
-    form: Form::One,
-    role: Role::ComparatorName,
-    needs: None,
-};
-
-/// A relation.
-const RELATION: Slot = Slot {
-    form: Form::One,
-    role: Role::Relation,
-    needs: None,
-};
-
-/// The use of a mailbox.
-const USE: Slot = Slot {
-    form: Form::One,
-    role: Role::Text,
-    needs: None,
-};
-
-/// What a server would know a message by that came before.
-const TRACKING: Slot = Slot {
-    form: Form::One,
-    role: Role::Tracking,
-    needs: None,
-};
-
-/// For how long it would know it.
-const TRACKING_TIME: Slot = Slot {
-    form: Form::Number,
-    role: Role::Tracking,
-    needs: None,
-};
+/// An argument of this form and role, for which nothing need be required.
+fn slot(form: Form, role: Role) -> Slot
+    ensures { result ≡ slot form role }
+{
+    Slot {
+        form,
+        role,
+        needs: None,
+    }
+}
 
 /// The row of a tag that takes nothing.
 fn bare_tag(name: &'static [u8], kind: TagKind) -> TagRow
@@ -231,28 +228,59 @@ fn bare_tag(name: &'static [u8], kind: TagKind) -> TagRow
     }
 }
 
-/// The row of a match type that takes a relation (RFC 5231, section 4).
-fn relation_tag(name: &'static [u8]) -> TagRow
-    ensures { tag_row_as result ≡ relation_tag name.entry.now }
-{
-    TagRow {
-        name,
-        kind: TagKind::MatchType,
-        takes: Some(RELATION),
-        needs: Some(Capability::Relational),
-    }
-}
-
-/// The row of a tag of `duplicate` that takes an argument (RFC 7352, section 3).
-fn tracking_tag(name: &'static [u8], kind: TagKind, slot: Slot) -> TagRow
-    ensures { tag_row_as result ≡ tracking_tag name.entry.now kind slot }
+/// The row of a tag that takes nothing, and for which a capability has to be required.
+fn needing_tag(name: &'static [u8], kind: TagKind, needs: Capability) -> TagRow
+    ensures { tag_row_as result ≡ needing_tag name.entry.now kind needs }
 {
     TagRow {
         name,
         kind,
-        takes: Some(slot),
-        needs: Some(Capability::Duplicate),
+        takes: None,
+        needs: Some(needs),
     }
+}
+
+/// The row of a tag that takes an argument, and for which a capability has to be required.
+fn taking_tag(name: &'static [u8], kind: TagKind, takes: Slot, needs: Capability) -> TagRow
+    ensures { tag_row_as result ≡ taking_tag name.entry.now kind takes needs }
+{
+    TagRow {
+        name,
+        kind,
+        takes: Some(takes),
+        needs: Some(needs),
+    }
+}
+
+/// The row of a match type that takes a relation (RFC 5231, section 4).
+fn relation_tag(name: &'static [u8]) -> TagRow
+    ensures { tag_row_as result ≡ relation_tag name.entry.now }
+{
+    taking_tag(
+        name,
+        TagKind::MatchType,
+        slot(Form::One, Role::Relation),
+        Capability::Relational,
+    )
+}
+
+/// The row of a tag of `duplicate` that takes an argument (RFC 7352, section 3).
+fn tracking_tag(name: &'static [u8], kind: TagKind, form: Form) -> TagRow
+    ensures { tag_row_as result ≡ tracking_tag name.entry.now kind form }
+{
+    taking_tag(
+        name,
+        kind,
+        slot(form, Role::Tracking),
+        Capability::Duplicate,
+    )
+}
+
+/// The row of a tag of `vacation` that takes an argument (RFC 5230, section 4).
+fn response_tag(name: &'static [u8], kind: TagKind, form: Form, role: Role) -> TagRow
+    ensures { tag_row_as result ≡ response_tag name.entry.now kind form role }
+{
+    taking_tag(name, kind, slot(form, role), Capability::Vacation)
 }
 
 impl Tag {
@@ -262,7 +290,7 @@ impl Tag {
     {
         match self {
             Tag::Comparator => TagRow {
-                takes: Some(COMPARATOR_NAME),
+                takes: Some(slot(Form::One, Role::ComparatorName)),
                 ..bare_tag(b"comparator", TagKind::Comparator)
             },
             Tag::Is => bare_tag(b"is", TagKind::MatchType),
@@ -273,14 +301,8 @@ impl Tag {
             Tag::All => bare_tag(b"all", TagKind::AddressPart),
             Tag::LocalPart => bare_tag(b"localpart", TagKind::AddressPart),
             Tag::Domain => bare_tag(b"domain", TagKind::AddressPart),
-            Tag::User => TagRow {
-                needs: Some(Capability::Subaddress),
-                ..bare_tag(b"user", TagKind::AddressPart)
-            },
-            Tag::Detail => TagRow {
-                needs: Some(Capability::Subaddress),
-                ..bare_tag(b"detail", TagKind::AddressPart)
-            },
+            Tag::User => needing_tag(b"user", TagKind::AddressPart, Capability::Subaddress),
+            Tag::Detail => needing_tag(b"detail", TagKind::AddressPart, Capability::Subaddress),
             Tag::Over => bare_tag(b"over", TagKind::Bound),
             Tag::Under => bare_tag(b"under", TagKind::Bound),
             Tag::Lower => bare_tag(b"lower", TagKind::Case),
@@ -289,36 +311,45 @@ impl Tag {
             Tag::UpperFirst => bare_tag(b"upperfirst", TagKind::FirstLetter),
             Tag::QuoteWildcard => bare_tag(b"quotewildcard", TagKind::QuoteWildcard),
             Tag::Length => bare_tag(b"length", TagKind::Length),
-            Tag::Flags => TagRow {
-                takes: Some(FLAGS),
-                needs: Some(Capability::Imap4flags),
-                ..bare_tag(b"flags", TagKind::Flags)
-            },
+            Tag::Flags => taking_tag(
+                b"flags",
+                TagKind::Flags,
+                slot(Form::List, Role::Flags),
+                Capability::Imap4flags,
+            ),
             Tag::Personal => bare_tag(b"personal", TagKind::Location),
             Tag::Global => bare_tag(b"global", TagKind::Location),
             Tag::Once => bare_tag(b"once", TagKind::Once),
             Tag::Optional => bare_tag(b"optional", TagKind::Optional),
-            Tag::Copy => TagRow {
-                needs: Some(Capability::Copy),
-                ..bare_tag(b"copy", TagKind::Copy)
-            },
-            Tag::Create => TagRow {
-                needs: Some(Capability::Mailbox),
-                ..bare_tag(b"create", TagKind::Create)
-            },
-            Tag::SpecialUse => TagRow {
-                takes: Some(USE),
-                needs: Some(Capability::SpecialUse),
-                ..bare_tag(b"specialuse", TagKind::SpecialUse)
-            },
-            Tag::Handle => tracking_tag(b"handle", TagKind::Handle, TRACKING),
-            Tag::Header => tracking_tag(b"header", TagKind::UniqueId, TRACKING),
-            Tag::UniqueId => tracking_tag(b"uniqueid", TagKind::UniqueId, TRACKING),
-            Tag::Seconds => tracking_tag(b"seconds", TagKind::Seconds, TRACKING_TIME),
-            Tag::Last => TagRow {
-                needs: Some(Capability::Duplicate),
-                ..bare_tag(b"last", TagKind::Last)
-            },
+            Tag::Copy => needing_tag(b"copy", TagKind::Copy, Capability::Copy),
+            Tag::Create => needing_tag(b"create", TagKind::Create, Capability::Mailbox),
+            Tag::SpecialUse => taking_tag(
+                b"specialuse",
+                TagKind::SpecialUse,
+                slot(Form::One, Role::Text),
+                Capability::SpecialUse,
+            ),
+            Tag::Handle => tracking_tag(b"handle", TagKind::Handle, Form::One),
+            Tag::Header => tracking_tag(b"header", TagKind::UniqueId, Form::One),
+            Tag::UniqueId => tracking_tag(b"uniqueid", TagKind::UniqueId, Form::One),
+            Tag::Seconds => tracking_tag(b"seconds", TagKind::Seconds, Form::Number),
+            Tag::Last => needing_tag(b"last", TagKind::Last, Capability::Duplicate),
+            Tag::Days => response_tag(b"days", TagKind::Days, Form::Number, Role::Days),
+            Tag::Subject => response_tag(b"subject", TagKind::Subject, Form::One, Role::Subject),
+            Tag::From => response_tag(b"from", TagKind::From, Form::One, Role::Sender),
+            Tag::Addresses => response_tag(
+                b"addresses",
+                TagKind::Addresses,
+                Form::List,
+                Role::OwnAddresses,
+            ),
+            Tag::Mime => needing_tag(b"mime", TagKind::Mime, Capability::Vacation),
+            Tag::ResponseHandle => response_tag(
+                b"handle",
+                TagKind::Handle,
+                Form::One,
+                Role::Handle,
+            ),
         }
     }
 }
@@ -345,6 +376,9 @@ impl CommandKind {
             CommandKind::Include => command_rows::include_row(),
             CommandKind::Return => command_rows::return_row(),
             CommandKind::Global => command_rows::global_row(),
+            CommandKind::Vacation => command_rows::vacation_row(),
+            CommandKind::Reject => command_rows::reject_row(),
+            CommandKind::Ereject => command_rows::ereject_row(),
         }
     }
 }

@@ -3,9 +3,9 @@ use Rattle.sieve_variables.specs.Part.{Part}
 use Rattle.std.specs.Prelude.{ℕ, ◌-◌, Bool, true, false, List, [], map, length, Option, Some, None, slice_index_or}
 use Rattle.std.specs.List.{slice_get}
 use Rattle.sieve_effects.specs.Joined.{list_in}
-use Rattle.sieve_reading.specs.Reading.{ValueSource, Ask, compares, exists_ask, over_ask, under_ask, mailboxes_ask, duplicate_ask, header_values, address_values, envelope_values, string_values, flag_values, keep_leaf, fileinto_leaf, redirect_leaf, discard_leaf, set_leaf, flag_leaf, include_leaf}
+use Rattle.sieve_reading.specs.Reading.{ValueSource, Ask, compares, exists_ask, over_ask, under_ask, mailboxes_ask, duplicate_ask, header_values, address_values, envelope_values, string_values, flag_values, keep_leaf, fileinto_leaf, redirect_leaf, discard_leaf, set_leaf, flag_leaf, include_leaf, vacation_leaf, reject_leaf}
 use Rattle.sieve_code.specs.Operation.{Operation, set_op, invert_op, test_op, jump_op, jump_if_op, act_op, stop_op, return_op, targeting}
-use Rattle.sieve_code.specs.Pool.{Pool, no_pool, given_list, given_variable, settings_in, test_in}
+use Rattle.sieve_code.specs.Pool.{Pool, no_pool, given_list, given_variable, settings_in, test_in, vacation_in}
 use Rattle.sieve_code.specs.declared.pools.Target.{Target}
 use Rattle.sieve_code.specs.declared.op.PackedTest.{PackedTest}
 use Rattle.sieve_code.specs.declared.op.SourceKind.{SourceKind}
@@ -51,6 +51,8 @@ op_in pool (op.Discard line) = act_op discard_leaf line
 op_in pool (op.Set line target value) = set_in (slice_get pool.targets target) line (slice_index_or pool.strings value [])
 op_in pool (op.Flags change line variable flags) = act_op (flag_leaf change (given_variable pool variable) (list_in pool.lists flags)) line
 op_in pool (op.Include i) = act_op (include_leaf i.place i.once i.optional (slice_index_or pool.scripts i.name [])) i.line
+op_in pool (op.Vacation line vacation) = act_op (vacation_leaf (vacation_in pool vacation)) line
+op_in pool (op.Reject how line reason) = act_op (reject_leaf how (slice_index_or pool.strings reason [])) line
 op_in pool op.Stop = stop_op
 op_in pool op.Return = return_op
 

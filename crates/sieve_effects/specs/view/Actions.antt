@@ -4,10 +4,10 @@ use Rattle.std.specs.List.{All}
 use lib.Pointwise.{pointwise}
 use Rattle.match_text.specs.Flags.{has_flag}
 use Rattle.sieve_effects.specs.declared.action.Action.{Action}
-use Rattle.sieve_effects.specs.declared.action.Action.TheVariants.{Store, Redirect, Discard}
+use Rattle.sieve_effects.specs.declared.action.Action.TheVariants.{Store}
 use Rattle.sieve_effects.specs.declared.actions.Added.{Added}
-use Rattle.sieve_effects.specs.declared.actions.Added.TheVariants.{Entered, Joined, NoRoom}
-use Rattle.sieve_effects.specs.Act.{Performed, entered, joined, one_too_many}
+use Rattle.sieve_effects.specs.declared.actions.Added.TheVariants.{Entered, Joined, Refused}
+use Rattle.sieve_effects.specs.Act.{Performed, entered, joined, refused}
 
 pub record ActionsAndFlags : Type 0 where
   pub actions : List Action
@@ -17,19 +17,17 @@ pub record ActionsAndFlags : Type 0 where
 abbrev pub performed_as : Added → List Action → Performed
 performed_as Entered actions = entered actions
 performed_as Joined actions = joined actions
-performed_as NoRoom actions = one_too_many
+performed_as (Refused kind) actions = refused kind
 
 -- whether an action stores into a mailbox
 abbrev pub stores_into : List ℕ → Action → Bool
 stores_into mailbox (Store other flags filing) = pointwise nat_eq mailbox other
-stores_into mailbox (Redirect address) = false
-stores_into mailbox Discard = false
+stores_into mailbox other = false
 
 -- the first flags, as many as `known`, are among those of a store
 abbrev pub AreAmong : (flags : List (List ℕ)) → (known : ℕ) → Action → Type 0
 AreAmong flags known (Store mailbox own filing) = All (λ flag. has_flag own flag ≡ true) (take known flags)
-AreAmong flags known (Redirect address) = ⊤
-AreAmong flags known Discard = ⊤
+AreAmong flags known other = ⊤
 
 -- what is known of an action: no more flags than there are, and they are among its own
 pub record IsKnown (flags : List (List ℕ)) (known : ℕ) (action : Action) : Type 0 where

@@ -1,10 +1,11 @@
 -- Where the tests of compiled code take values from, and what its commands say beside.
 use Rattle.std.specs.Option.{option_copied}
-use Rattle.sieve_reading.specs.Reading.{Settings}
+use Rattle.sieve_reading.specs.Reading.{Settings, Vacation}
 use Rattle.sieve_reading.specs.Reading as reading
 use Rattle.sieve_effects.specs.declared.ops.SettingsOp.{SettingsOp}
 use Rattle.sieve_effects.specs.declared.ops.SourceOp.{SourceOp}
 use Rattle.sieve_effects.specs.declared.ops.SourceOp.TheVariants as source
+use Rattle.sieve_effects.specs.declared.ops.VacationOp.{VacationOp}
 
 abbrev pub source_op_as : SourceOp → reading.ValueSource
 source_op_as (source.Header names) = reading.header_values names
@@ -15,3 +16,14 @@ source_op_as (source.Flags variables) = reading.flag_values variables
 
 abbrev pub settings_op_as : SettingsOp → Settings
 settings_op_as s = record { flags = s.flags; copy = s.copy; create = s.create; special_use = option_copied s.special_use }
+
+abbrev pub vacation_op_as : VacationOp → Vacation
+vacation_op_as v = record {
+  reason = v.reason;
+  days = v.days;
+  subject = option_copied v.subject;
+  from = option_copied v.from;
+  addresses = v.addresses;
+  mime = v.mime;
+  handle = option_copied v.handle;
+}

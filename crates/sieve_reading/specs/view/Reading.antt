@@ -10,7 +10,8 @@ use Rattle.sieve_reading.specs.declared.reading.CommandReading.{CommandReading}
 use Rattle.sieve_reading.specs.declared.reading.CommandReading.TheVariants.{If, Elsif, Else, Stop, Return, Nothing, Act}
 use Rattle.sieve_reading.specs.declared.reading.Leaf.{Leaf}
 use Rattle.sieve_reading.specs.declared.reading.Settings.{Settings}
-use Rattle.sieve_reading.specs.declared.reading.Leaf.TheVariants.{Keep, Fileinto, Redirect, Discard, Set, Flags, Include}
+use Rattle.sieve_reading.specs.declared.reading.Leaf.TheVariants.{Keep, Fileinto, Redirect, Discard, Set, Flags, Include, Vacation, Reject}
+use Rattle.sieve_reading.specs.declared.reading.Vacation as vacations
 use Rattle.sieve_reading.specs.declared.reading.ValueSource.{ValueSource}
 use Rattle.sieve_reading.specs.declared.reading.ValueSource.TheVariants as source
 use Rattle.sieve_reading.specs.declared.reading.TestReading.{TestReading}
@@ -47,6 +48,17 @@ test_reading_as Not = reading.reads_not
 abbrev pub settings_as : Settings → reading.Settings
 settings_as s = record { flags = option_map (λ texts. texts_as texts.items) s.flags; copy = s.copy; create = s.create; special_use = s.special_use }
 
+abbrev pub vacation_as : vacations.Vacation → reading.Vacation
+vacation_as v = record {
+  reason = v.reason;
+  days = v.days;
+  subject = v.subject;
+  from = v.from;
+  addresses = option_map (λ texts. texts_as texts.items) v.addresses;
+  mime = v.mime;
+  handle = v.handle;
+}
+
 abbrev pub leaf_as : Leaf → reading.Leaf
 leaf_as (Keep settings) = reading.keep_leaf (settings_as settings)
 leaf_as (Fileinto mailbox settings) = reading.fileinto_leaf mailbox (settings_as settings)
@@ -55,6 +67,8 @@ leaf_as Discard = reading.discard_leaf
 leaf_as (Set variable modifiers value) = reading.set_leaf variable modifiers value
 leaf_as (Flags change variable flags) = reading.flag_leaf change variable (texts_as flags.items)
 leaf_as (Include place once optional name) = reading.include_leaf place once optional name
+leaf_as (Vacation vacation) = reading.vacation_leaf (vacation_as vacation)
+leaf_as (Reject how reason) = reading.reject_leaf how reason
 
 abbrev pub command_reading_as : CommandReading → reading.CommandReading
 command_reading_as If = reading.reads_if

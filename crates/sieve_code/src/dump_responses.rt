@@ -1,0 +1,87 @@
+//! Commands of a dump that answer the sender or reject the message.
+ghost use Rattle.std.specs.Prelude.{◌++◌};
+ghost use Rattle.sieve_base.specs.Writers.{Writes};
+ghost use Rattle.sieve_code.specs.Dump as spec;
+ghost use Rattle.sieve_effects.specs.view.Ops.{vacation_op_as};
+
+use crate::dump_commands::{given_word, write_given_string, write_worded};
+use crate::dump_strings::{write_list, write_number};
+use sieve_base::{Sink, WriteFault, write_out};
+use sieve_effects::{Strings, VacationOp};
+use sieve_reading::Rejection;
+use sieve_variables::Part;
+
+/// Writes for how many days a sender gets no other response, where that is said.
+#[tactic(auto, unfolding(crate::specs::Dump::days_words))]
+fn write_days<W: Sink>(days: Option<u64>, writer: &mut W) -> Result<(), WriteFault>
+    ensures { Writes W.contents W.fault_count result writer.old writer.new (spec.days_words days) }
+{
+    match days {
+        Some(days) => write_number(b" days ", days, writer),
+        None => write_out(b"", writer),
+    }
+}
+
+/// Writes further addresses of the user, where they are given.
+#[tactic(auto, unfolding(crate::specs::Dump::addresses_words))]
+fn write_addresses<W: Sink>(
+    addresses: &Option<Strings<'_>>,
+    writer: &mut W,
+) -> Result<(), WriteFault>
+    ensures { Writes W.contents W.fault_count result writer.old writer.new (spec.addresses_words addresses.now) }
+{
+    match addresses {
+        Some(addresses) => write_list(b" addresses ", addresses, writer),
+        None => write_out(b"", writer),
+    }
+}
+
+/// Writes that a response is a MIME entity, where it is one.
+#[tactic(auto, unfolding(crate::specs::Dump::mime_word))]
+fn write_mime<W: Sink>(mime: bool, writer: &mut W) -> Result<(), WriteFault>
+    ensures { Writes W.contents W.fault_count result writer.old writer.new (spec.mime_word mime) }
+{
+    write_out(given_word(mime, b" mime"), writer)
+}
+
+/// Writes what is given of a `vacation` beside its text.
+#[tactic(auto, using(sieve_base::proofs::Writing::writing), unfolding(crate::specs::Dump::vacation_words))]
+fn write_vacation_words<W: Sink>(
+    vacation: &VacationOp<'_>,
+    writer: &mut W,
+) -> Result<(), WriteFault>
+    ensures { Writes W.contents W.fault_count result writer.old writer.new (spec.vacation_words (vacation_op_as vacation.now)) }
+{
+    write_days(vacation.days, writer)?;
+    write_given_string(b" subject ", vacation.subject, writer)?;
+    write_given_string(b" from ", vacation.from, writer)?;
+    write_addresses(&vacation.addresses, writer)?;
+    write_mime(vacation.mime, writer)?;
+    write_given_string(b" handle ", vacation.handle, writer)
+}
+
+/// Writes a `vacation`.
+#[tactic(auto, using(sieve_base::proofs::Writing::writing), unfolding(crate::specs::Dump::vacation_text))]
+pub(crate) fn write_vacation<W: Sink>(
+    vacation: &VacationOp<'_>,
+    writer: &mut W,
+) -> Result<(), WriteFault>
+    ensures { Writes W.contents W.fault_count result writer.old writer.new (spec.vacation_text (vacation_op_as vacation.now)) }
+{
+    write_out(b"vacation", writer)?;
+    write_vacation_words(vacation, writer)?;
+    write_worded(b" ", vacation.reason, writer)
+}
+
+/// Writes a command that rejects the message.
+#[tactic(auto, using(sieve_base::proofs::Writing::writing), unfolding(crate::specs::Dump::reject_text))]
+pub(crate) fn write_reject<W: Sink>(
+    how: Rejection,
+    reason: &[Part],
+    writer: &mut W,
+) -> Result<(), WriteFault>
+    ensures { Writes W.contents W.fault_count result writer.old writer.new (spec.reject_text how reason.now) }
+{
+    write_out(how.word(), writer)?;
+    write_worded(b" ", reason, writer)
+}

@@ -1,0 +1,92 @@
+//! Whether a text says what a response (RFC 5230) or a rejection (RFC 5429) is.
+ghost use Rattle.std.specs.Prelude.{◌≡◌, ◌++◌};
+ghost use Rattle.std.specs.Option.{option_copied};
+ghost use Rattle.sieve_reading.specs.Reading.{rejection_word};
+ghost use Rattle.sieve_run.specs.Lines as spec;
+ghost use Rattle.sieve_run.specs.view.Left.{behind_front};
+
+use crate::agreement::{skip_given, skip_octets, skip_pieces, skip_spaced};
+use sieve_base::Piece;
+use sieve_effects::{Response, Texts};
+use sieve_reading::Rejection;
+
+/// What follows for how many days a sender gets no other response, where that is said.
+fn skip_days(text: &[u8], days: Option<u64>) -> Option<&[u8]>
+    ensures { option_copied result ≡ behind_front (spec.days_words days) text.now }
+{
+    match days {
+        Some(days) => skip_pieces(text, &[Piece::Raw(b" days "), Piece::Number(days)]),
+        None => skip_octets(text, b""),
+    }
+}
+
+/// What follows texts, each behind a space.
+#[tactic(auto, using(crate::proofs::Left::left))]
+fn skip_texts<'a>(text: &'a [u8], texts: &Texts) -> Option<&'a [u8]>
+    ensures { option_copied result ≡ behind_front (spec.spaced_words texts.now) text.now }
+{
+    let mut left = text;
+    for i in 0..texts.len() {
+        left = skip_spaced(left, texts.get(i))?;
+    }
+    Some(left)
+}
+
+/// What follows further addresses of the user, where they are given.
+#[tactic(auto, using(crate::proofs::Left::left))]
+fn skip_addresses<'a>(text: &'a [u8], addresses: &Option<Texts>) -> Option<&'a [u8]>
+    ensures { option_copied result ≡ behind_front (spec.addresses_words addresses.now) text.now }
+{
+    match addresses {
+        Some(addresses) => {
+            let left = skip_octets(text, b" addresses")?;
+            skip_texts(left, addresses)
+        }
+        None => skip_octets(text, b""),
+    }
+}
+
+/// What follows the word of a response that is a MIME entity, where it is one.
+fn skip_mime(text: &[u8], mime: bool) -> Option<&[u8]>
+    ensures { option_copied result ≡ behind_front (spec.mime_word mime) text.now }
+{
+    let word: &[u8] = if mime { b" mime" } else { b"" };
+    skip_octets(text, word)
+}
+
+/// What follows what is given of a response beside its text.
+#[tactic(auto, using(crate::proofs::Left::left), unfolding(crate::specs::Lines::response_words))]
+fn skip_response_words<'a>(text: &'a [u8], response: &Response) -> Option<&'a [u8]>
+    ensures { option_copied result ≡ behind_front (spec.response_words response.now) text.now }
+{
+    let left = skip_days(text, response.days)?;
+    let left = skip_given(left, b" subject ", &response.subject)?;
+    let left = skip_given(left, b" from ", &response.from)?;
+    let left = skip_addresses(left, &response.addresses)?;
+    let left = skip_mime(left, response.mime)?;
+    skip_given(left, b" handle ", &response.handle)
+}
+
+/// What follows the line of a response.
+#[tactic(auto, using(crate::proofs::Left::left), unfolding(crate::specs::Lines::response_line))]
+pub(crate) fn skip_response<'a>(text: &'a [u8], response: &Response) -> Option<&'a [u8]>
+    ensures { option_copied result ≡ behind_front (spec.response_line response.now) text.now }
+{
+    let left = skip_pieces(
+        text,
+        &[
+            Piece::Raw(b"vacation "),
+            Piece::Quoted(response.reason.as_slice()),
+        ],
+    )?;
+    skip_response_words(left, response)
+}
+
+/// What follows the line of a rejection.
+#[tactic(auto, using(crate::proofs::Left::left))]
+pub(crate) fn skip_reject<'a>(text: &'a [u8], how: Rejection, reason: &[u8]) -> Option<&'a [u8]>
+    ensures { option_copied result ≡ behind_front (rejection_word how ++ spec.spaced_word reason.now) text.now }
+{
+    let left = skip_octets(text, how.word())?;
+    skip_spaced(left, reason)
+}

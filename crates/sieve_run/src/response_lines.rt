@@ -1,0 +1,94 @@
+//! The lines of responses (RFC 5230) and rejections (RFC 5429).
+ghost use Rattle.sieve_base.specs.Writers.{Writes};
+ghost use Rattle.std.specs.Prelude.{◌++◌};
+ghost use Rattle.sieve_reading.specs.Reading.{rejection_word};
+ghost use Rattle.sieve_run.specs.Lines.{addresses_words, days_words, mime_word, response_line, response_words, spaced_word, spaced_words};
+
+use crate::lines::{write_given, write_spaced};
+use sieve_base::{Piece, Sink, WriteFault, write_out, write_pieces};
+use sieve_effects::{Response, Texts};
+use sieve_reading::Rejection;
+
+/// Writes for how many days a sender gets no other response, where that is said.
+fn write_days<W: Sink>(days: Option<u64>, writer: &mut W) -> Result<(), WriteFault>
+    ensures { Writes W.contents W.fault_count result writer.old writer.new (days_words days) }
+{
+    match days {
+        Some(days) => write_pieces(&[Piece::Raw(b" days "), Piece::Number(days)], writer),
+        None => write_out(b"", writer),
+    }
+}
+
+/// Writes texts, each behind a space.
+#[tactic(auto, using(sieve_base::proofs::Writing::writing_items))]
+fn write_texts<W: Sink>(texts: &Texts, writer: &mut W) -> Result<(), WriteFault>
+    ensures { Writes W.contents W.fault_count result writer.old writer.new (spaced_words texts.now) }
+{
+    for i in 0..texts.len() {
+        write_spaced(texts.get(i), writer)?;
+    }
+    Ok(())
+}
+
+/// Writes further addresses of the user, where they are given.
+#[tactic(auto, using(sieve_base::proofs::Writing::writing))]
+fn write_addresses<W: Sink>(addresses: &Option<Texts>, writer: &mut W) -> Result<(), WriteFault>
+    ensures { Writes W.contents W.fault_count result writer.old writer.new (addresses_words addresses.now) }
+{
+    match addresses {
+        Some(addresses) => {
+            write_out(b" addresses", writer)?;
+            write_texts(addresses, writer)
+        }
+        None => write_out(b"", writer),
+    }
+}
+
+/// Writes that a response is a MIME entity, where it is one.
+fn write_mime<W: Sink>(mime: bool, writer: &mut W) -> Result<(), WriteFault>
+    ensures { Writes W.contents W.fault_count result writer.old writer.new (mime_word mime) }
+{
+    let word: &[u8] = if mime { b" mime" } else { b"" };
+    write_out(word, writer)
+}
+
+/// Writes what is given of a response beside its text.
+#[tactic(auto, using(sieve_base::proofs::Writing::writing), unfolding(crate::specs::Lines::response_words))]
+fn write_response_words<W: Sink>(response: &Response, writer: &mut W) -> Result<(), WriteFault>
+    ensures { Writes W.contents W.fault_count result writer.old writer.new (response_words response.now) }
+{
+    write_days(response.days, writer)?;
+    write_given(b" subject ", &response.subject, writer)?;
+    write_given(b" from ", &response.from, writer)?;
+    write_addresses(&response.addresses, writer)?;
+    write_mime(response.mime, writer)?;
+    write_given(b" handle ", &response.handle, writer)
+}
+
+/// Writes the line of a response.
+#[tactic(auto, using(sieve_base::proofs::Writing::writing), unfolding(crate::specs::Lines::response_line))]
+pub(crate) fn write_response<W: Sink>(response: &Response, writer: &mut W) -> Result<(), WriteFault>
+    ensures { Writes W.contents W.fault_count result writer.old writer.new (response_line response.now) }
+{
+    write_pieces(
+        &[
+            Piece::Raw(b"vacation "),
+            Piece::Quoted(response.reason.as_slice()),
+        ],
+        writer,
+    )?;
+    write_response_words(response, writer)
+}
+
+/// Writes the line of a rejection.
+#[tactic(auto, using(sieve_base::proofs::Writing::writing))]
+pub(crate) fn write_reject<W: Sink>(
+    how: Rejection,
+    reason: &[u8],
+    writer: &mut W,
+) -> Result<(), WriteFault>
+    ensures { Writes W.contents W.fault_count result writer.old writer.new (rejection_word how ++ spaced_word reason.now) }
+{
+    write_out(how.word(), writer)?;
+    write_spaced(reason, writer)
+}
