@@ -108,8 +108,10 @@ Standard output is the report:
   script PLACE \"NAME\" line N KIND        or its first fault: syntax, or the broken rule's word
   message \"MAIL\"
     store \"BOX\" \"FLAG\"..                for each action: mail is stored, with these flags,
-    redirect \"ADDRESS\"                   sent on
-    discard                              or dropped
+    redirect \"ADDRESS\"                   sent on,
+    discard                              dropped,
+    vacation \"REASON\"..                  answered, with what else the command gives,
+    reject \"REASON\"                      or rejected, or so with ereject for reject
     at PLACE \"NAME\" line N               with lines, after each action: the command that entered it
     implicit \"BOX\" \"FLAG\"..             no action took the mail over: it is kept
     error PLACE \"NAME\" line N KIND       the run failed there, and the mail is kept; on line 0 the

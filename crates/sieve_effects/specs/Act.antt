@@ -48,7 +48,7 @@ state_behind (failed error state) = state
 -- ACTIONS
 
 -- Whether two actions are one: stores into one mailbox (RFC 5228, section 2.10.3), redirects to one address, octet for octet, and
--- discards. Of responses and of rejections there is one at most, so two are one.
+-- discards. Two responses are one too, and two rejections; but they never join, since one stands in the other's way.
 abbrev pub same_action : Action → Action → Bool
 same_action (Store mailbox flags filing) (Store other there kept) = pointwise nat_eq mailbox other
 same_action (Redirect address) (Redirect other) = pointwise nat_eq address other
@@ -258,7 +258,7 @@ response_of values vacation = record {
   handle = option_map (text_value values) vacation.handle;
 }
 
--- whom a response may be from: exactly one address, with a local part and a domain, where that is said (RFC 5230, section 4.3)
+-- whom a response may be from: exactly one address, with a local part and a domain, where that is said (RFC 5230, section 4.3, lets there be several)
 abbrev pub may_be_from : Option (List ℕ) → Bool
 may_be_from None = true
 may_be_from (Some from) = is_some (only_address (addresses_of from))

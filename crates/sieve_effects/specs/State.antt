@@ -11,7 +11,7 @@ pub record RunState : Type 0 where
   -- of each action the command that entered it first
   pub origins : List Origin
   -- whether an action that was performed cancelled the implicit keep, be it one that added no entry (RFC 5228, section 2.10.2; RFC
-  -- 3894, section 3)
+  -- 3894, section 3; RFC 5230, section 4.7; RFC 5429, section 2.4)
   pub cancelled : Bool
   -- the names looked up so far, each present or missing
   pub reads : List (ScriptName × Bool)

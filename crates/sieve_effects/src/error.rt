@@ -17,7 +17,7 @@ pub enum ErrorKind {
     IncludeDepth = 4,
     /// Too many scripts are included (RFC 6609, section 3.1, lets an implementation limit them).
     IncludeCount = 5,
-    /// A redirect isn't to one address (RFC 5228, section 4.2).
+    /// A redirect isn't to one address (RFC 5228, section 4.2), or a response from one (RFC 5230, section 4.3).
     BadAddress = 6,
     /// Too many actions (RFC 5228, section 2.10.4).
     TooManyActions = 7,

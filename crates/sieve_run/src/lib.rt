@@ -34,3 +34,4 @@ pub use sieve_effects::{
     Action, Addresses, Envelope, ErrorKind, Filing, Origin, Response, RunError, Texts,
     mailbox_count,
 };
+pub use sieve_reading::Rejection;

@@ -1,5 +1,5 @@
 -- The names of the table and of the capabilities: each is found by its name, which no other has.
-use Rattle.std.proofs.Common.{◌≡◌, ℕ, Bool, true, false, not, ◌&&◌, ◌||◌, cond, nat_eq, List, [], ◌∷◌, Option, None, Some, is_none, filter, find, map, refl, sym, ap, ◌∙◌, arith}
+use Rattle.std.proofs.Common.{◌≡◌, ℕ, Bool, true, false, not, ◌&&◌, ◌||◌, cond, nat_eq, List, [], ◌∷◌, ◌++◌, Option, None, Some, is_none, filter, find, map, refl, sym, ap, ◌∙◌, arith}
 use Rattle.std.proofs.lemmas.Bool.{and_parts}
 use Rattle.std.proofs.lemmas.Bool.Decides.{nat_tests}
 use Rattle.std.specs.List.{list_all, list_any}
@@ -9,7 +9,7 @@ use denote.Enum.Bare.{Bare, same_true, sameb}
 use denote.Enum.Declared.{Record, declared}
 use Rattle.sieve_table.specs.Capability.{capabilities, capability_name, capability_named, is_name_of, same_capability}
 use Rattle.sieve_table.specs.Known.{is_known, names_known}
-use Rattle.sieve_table.specs.Table.{command_named, command_row, tag_named, tag_row, test_named, test_row}
+use Rattle.sieve_table.specs.Table.{command_named, command_row, commands, same_tag, tag_named, tag_row, test_named, test_row, tests}
 use Rattle.sieve_table.specs.contracts.capability.Capability as every_capability
 use Rattle.sieve_table.specs.contracts.table.CommandKind as every_command
 use Rattle.sieve_table.specs.contracts.table.Tag as every_tag
@@ -56,6 +56,9 @@ command_tags_found kind = tags_found (command_row kind).tags (command_row kind).
 
 pub test_tags_found : (kind : TestKind) → map (λ tag. tag_named (test_row kind).tags (tag_row tag).name) (test_row kind).tags ≡ map Some (test_row kind).tags
 test_tags_found kind = tags_found (test_row kind).tags (test_row kind).tags (of_each every_test.enum tt (λ k. are_found (test_row k).tags (test_row k).tags) refl kind)
+
+pub tag_taken : (tag : Tag) → list_any (λ tags. list_any (same_tag tag) tags) (map (λ kind. (command_row kind).tags) commands ++ map (λ kind. (test_row kind).tags) tests) ≡ true
+tag_taken tag = of_each every_tag.enum tt (λ t. list_any (λ tags. list_any (same_tag t) tags) (map (λ kind. (command_row kind).tags) commands ++ map (λ kind. (test_row kind).tags) tests)) refl tag
 
 abbrev is_alone : Capability → List Capability → Bool
 is_alone c [] = false
@@ -173,4 +176,4 @@ named_alone name c = by_found (capability_named name) refl
     by_found None is = not_false (is_name_of name c) (of_each every_capability.enum tt (λ d. not (is_name_of name d)) (finding name capabilities ∙ ap is_none is) c)
     by_found (Some d) is = ap (λ n. is_name_of n c) (sym (same_octets (capability_name d) name (found_names name capabilities d is))) ∙ one_name c d
 
-pub ruleset names = (command_found, test_found, command_tags_found, test_tags_found, capability_found, capability_alone)
+pub ruleset names = (command_found, test_found, command_tags_found, test_tags_found, tag_taken, capability_found, capability_alone)

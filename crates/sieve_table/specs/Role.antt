@@ -21,7 +21,8 @@ names_variable given = has_role role.NameToSet given || has_role role.NamesToRea
 -- The roles of strings in which references to variables stand for values (RFC 5229, section 3). RFC 5229 leaves out the name of a `set`
 -- (section 4), and RFC 6609 the names of scripts (section 3.2) and those that are declared (section 3.4.1). That the strings of
 -- `require`, comparators, relations, and the names that flag commands and flag tests have are left out too is this project's choice: they are
--- known before the script runs. So are those by which a server would know a message that came before: no run looks at them.
+-- known before the script runs. So are those by which a server would know a message that came before: no run looks at them, and no report
+-- says them; the handle of a response is said.
 abbrev pub is_expanded : Role → Bool
 is_expanded role.Capabilities = false
 is_expanded role.ComparatorName = false

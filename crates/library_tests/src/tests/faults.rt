@@ -79,6 +79,8 @@ fn errors_have_their_numbers_and_words(rt: HostRuntime) {
             (ErrorKind::TooManyActions, 7, b"too-many-actions"),
             (ErrorKind::TooManyGlobals, 8, b"too-many-globals"),
             (ErrorKind::BadMailbox, 9, b"bad-mailbox"),
+            (ErrorKind::SecondVacation, 10, b"second-vacation"),
+            (ErrorKind::ConflictingActions, 11, b"conflicting-actions"),
         ],
     );
 }
