@@ -81,9 +81,15 @@ module _ (labels others : List Label) (args arguments : List Argument) (same_tag
   commands_alike command.Include alike = two (λ t name. reads_act (include_leaf (commands.place_of t) (has_tag tag_kind.Once t) (has_tag tag_kind.Optional t) name)) same_tags alike.0
   commands_alike command.Return alike = refl
   commands_alike command.Global alike = refl
-  commands_alike command.Vacation alike =
-      three (λ f m g. reads_act (vacation_leaf (f m g))) (three (λ reason days subject m g. record { reason = reason; days = days; subject = subject; from = g.0; addresses = g.1.0; mime = m; handle = g.1.1 }) alike.0 alike.1.0 alike.1.1.0)
-      (ap (has_tag tag_kind.Mime) same_tags) (three (λ from addresses handle. (from, addresses, handle)) alike.1.1.1.0 alike.1.1.1.1.0 alike.1.1.1.1.1.0)
+  commands_alike command.Vacation alike = λ i. reads_act (vacation_leaf (record {
+    reason = alike.0 i;
+    days = alike.1.0 i;
+    subject = alike.1.1.0 i;
+    from = alike.1.1.1.0 i;
+    addresses = alike.1.1.1.1.0 i;
+    mime = has_tag tag_kind.Mime (same_tags i);
+    handle = alike.1.1.1.1.1.0 i;
+  }))
   commands_alike command.Reject alike = ap (λ reason. reads_act (reject_leaf rejection.Reject reason)) alike.0
   commands_alike command.Ereject alike = ap (λ reason. reads_act (reject_leaf rejection.Ereject reason)) alike.0
 

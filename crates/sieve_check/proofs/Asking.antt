@@ -1,5 +1,5 @@
 -- What is asked for by name has the name of its capability.
-use Rattle.std.proofs.Common.{◌≡◌, None, Some, refl, ap}
+use Rattle.std.proofs.Common.{◌≡◌, Some, ap}
 use Rattle.sieve_profile.specs.Extension.{extension_name}
 use Rattle.sieve_profile.specs.declared.extension.Extension.{Extension}
 use Rattle.sieve_profile.specs.declared.extension.Extension.TheVariants as extension
