@@ -1,7 +1,7 @@
 -- How many of the internal flags are known to be among an action's own, while the internal flags and the actions change.
 use Rattle.std.proofs.Common.{◌≡◌, ℕ, zero, suc, ◌+◌, ◌<◌, ◌≤◌, length, take, drop, get_or, remove, Bool, true, false, ◌||◌, List, [], ◌∷◌, ◌++◌, map, slice_set, refl, add-one, append-nil, append_assoc, sym, ap, subst, ◌∙◌, arith}
 use Rattle.std.specs.Prelude.{if◌then◌else◌}
-use Rattle.std.specs.List.{All, list_any}
+use Rattle.std.specs.List.{All}
 use Rattle.std.proofs.lemmas.List.{drop_all, length-append, take-append-le, take_all}
 use Rattle.std.proofs.lemmas.List.Edits.{length-remove}
 use Rattle.std.proofs.lemmas.List.Elements.{All-cons, All-head, All-nil, All-tail, All-weaker}
@@ -13,25 +13,12 @@ use Rattle.sieve_effects.specs.Act.{brought_by, cancelled_by, ends_with, fails_a
 use Rattle.sieve_effects.specs.Delivery.{Delivery}
 use Rattle.sieve_effects.specs.State.{RunState}
 use Rattle.sieve_effects.specs.declared.action.Deed.{Deed}
-use Rattle.sieve_effects.specs.declared.error.ErrorKind.TheVariants.{TooManyActions}
+use Rattle.sieve_effects.specs.declared.error.ErrorKind.{ErrorKind}
 use Rattle.sieve_effects.specs.declared.action.Action.{Action}
-use Rattle.sieve_effects.specs.declared.action.Action.TheVariants.{Store, Redirect, Discard}
-use Rattle.sieve_effects.specs.declared.action.Filing.{Filing}
+use Rattle.sieve_effects.specs.declared.action.Action.TheVariants.{Store, Redirect, Discard, Respond, Reject}
 use Rattle.sieve_effects.specs.declared.actions.Added.{Added}
-use Rattle.sieve_effects.specs.declared.actions.Added.TheVariants.{Entered, Joined, NoRoom}
-use Rattle.sieve_effects.specs.view.Actions.{ActionsAndFlags, AreAmong, AreKnown, IsKnown, lowered, performed_as, stores_into}
-
--- STORES
-
--- a store is the same as a store into its mailbox, whatever its flags and what it asks for
-same_store : (mailbox : List ℕ) (flags : List (List ℕ)) (filing : Filing) (action : Action) → same_action (Store mailbox flags filing) action ≡ stores_into mailbox action
-same_store mailbox flags filing (Store other there kept) = refl
-same_store mailbox flags filing (Redirect address) = refl
-same_store mailbox flags filing Discard = refl
-
-pub any_store : (mailbox : List ℕ) (flags : List (List ℕ)) (filing : Filing) (actions : List Action) → list_any (same_action (Store mailbox flags filing)) actions ≡ list_any (stores_into mailbox) actions
-any_store mailbox flags filing [] = refl
-any_store mailbox flags filing (action ∷ actions) = λ j. same_store mailbox flags filing action j || any_store mailbox flags filing actions j
+use Rattle.sieve_effects.specs.declared.actions.Added.TheVariants.{Entered, Joined, Refused}
+use Rattle.sieve_effects.specs.view.Actions.{ActionsAndFlags, AreAmong, AreKnown, IsKnown, lowered, performed_as}
 
 -- WHAT IS KNOWN
 
@@ -44,8 +31,12 @@ among_joined : (flags : List (List ℕ)) (n : ℕ) (action there : Action) → A
 among_joined flags n (Store mailbox more filing) (Store other own kept) among = All-weaker (λ x. has_flag own x ≡ true) (λ x. has_flag (flag_union own more) x ≡ true) (own_grows own more) (take n flags) among
 among_joined flags n (Store mailbox more filing) (Redirect address) among = among
 among_joined flags n (Store mailbox more filing) Discard among = among
+among_joined flags n (Store mailbox more filing) (Respond response) among = among
+among_joined flags n (Store mailbox more filing) (Reject how reason) among = among
 among_joined flags n (Redirect address) there among = among
 among_joined flags n Discard there among = among
+among_joined flags n (Respond response) there among = among
+among_joined flags n (Reject how reason) there among = among
 
 known_joined : (flags : List (List ℕ)) (n : ℕ) (action there : Action) → IsKnown flags n there → IsKnown flags n (joined_with action there)
 known_joined flags n action there known = record { within = known.within; among = by (same_action action there) }
@@ -71,6 +62,8 @@ among_longer : (flags more : List (List ℕ)) (n : ℕ) (action : Action) → n 
 among_longer flags more n (Store mailbox own filing) within among = subst (λ (l : List (List ℕ)). All (λ (x : List ℕ). has_flag own x ≡ true) l) (sym (take-append-le n flags more within)) among
 among_longer flags more n (Redirect address) within among = among
 among_longer flags more n Discard within among = among
+among_longer flags more n (Respond response) within among = among
+among_longer flags more n (Reject how reason) within among = among
 
 known_longer : (flags more : List (List ℕ)) (n : ℕ) (action : Action) → IsKnown flags n action → IsKnown (flags ++ more) n action
 known_longer flags more n action known =
@@ -108,6 +101,8 @@ among_lowered : (flags : List (List ℕ)) (i n : ℕ) (action : Action) → i < 
 among_lowered flags i n (Store mailbox own filing) below among = all_lowered (λ x. has_flag own x ≡ true) flags i n below among
 among_lowered flags i n (Redirect address) below among = among
 among_lowered flags i n Discard below among = among
+among_lowered flags i n (Respond response) below among = among
+among_lowered flags i n (Reject how reason) below among = among
 
 known_lowered : (flags : List (List ℕ)) (i n : ℕ) (action : Action) → i < length flags → IsKnown flags n action → IsKnown (remove flags i) (lowered i n) action
 known_lowered flags i n action below known =
@@ -181,12 +176,12 @@ module _ (change : List (List ℕ) → List (List ℕ) → List (List ℕ)) wher
 
 -- HOW A COMMAND ENDS THAT PERFORMS AN ACTION
 
--- a command that performs an action ends by what became of the action, where without room the actions are as they were
-pub ended_so : (delivery : Delivery) (line : ℕ) (deed : Deed) (old new : RunState) (added : Added) → (added ≡ NoRoom → new.actions ≡ old.actions) → performed_as added new.actions ≡ with_action deed.action old.actions
+-- a command that performs an action ends by what became of the action, where the actions are as they were if it was refused
+pub ended_so : (delivery : Delivery) (line : ℕ) (deed : Deed) (old new : RunState) (added : Added) → ((kind : ErrorKind) → added ≡ Refused kind → new.actions ≡ old.actions) → performed_as added new.actions ≡ with_action deed.action old.actions
     → new ≡ record old { actions = new.actions } → ends_with delivery line deed (performed_as added new.actions) new ≡ performs delivery line deed old
 ended_so delivery line deed old new Entered kept value is =
     ap (λ (s : RunState). goes_on (record s { actions = new.actions; origins = s.origins ++ origin_at delivery line ∷ []; cancelled = cancelled_by deed s })) is ∙ ap (λ p. ends_with delivery line deed p old) value
 ended_so delivery line deed old new Joined kept value is =
     ap (λ (s : RunState). goes_on (record s { actions = new.actions; cancelled = cancelled_by deed s })) is ∙ ap (λ p. ends_with delivery line deed p old) value
-ended_so delivery line deed old new NoRoom kept value is =
-    ap (λ (s : RunState). fails_at delivery line TooManyActions s) (is ∙ ap (λ (l : List Action). record old { actions = l }) (kept refl)) ∙ ap (λ p. ends_with delivery line deed p old) value
+ended_so delivery line deed old new (Refused kind) kept value is =
+    ap (λ (s : RunState). fails_at delivery line kind s) (is ∙ ap (λ (l : List Action). record old { actions = l }) (kept kind refl)) ∙ ap (λ p. ends_with delivery line deed p old) value

@@ -1,3 +1,4 @@
+pub mod InTheWay
 pub mod Copying
 pub mod Holding
 pub mod Joining

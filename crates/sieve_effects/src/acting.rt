@@ -44,7 +44,7 @@ pub(crate) fn perform(
     end_with(delivery, added, deed.leaves_keep, line, state)
 }
 
-/// Ends a command that performed an action, where there was room for it. One that is new is entered by the command.
+/// Ends a command by what became of the action that it performed. One that is new is entered by the command.
 fn end_with(
     delivery: &Delivery<'_>,
     added: Added,
@@ -119,7 +119,8 @@ fn store(
 }
 
 /// Stores into the mailbox of the delivery (RFC 5228, section 4.3), with the flags that are named or else the internal ones (RFC 5232,
-/// section 5). One action too many is an error of the script (RFC 5228, section 2.10.4). Fails where memory is refused.
+/// section 5). Where the message was rejected before, that is an error of the script (RFC 5429, section 2.4), and so is one action too many
+/// (RFC 5228, section 2.10.4). Fails where memory is refused.
 pub fn keep(
     delivery: &Delivery<'_>,
     settings: &SettingsOp<'_>,
@@ -209,8 +210,8 @@ fn may_be_used(filing: &Filing) -> bool
 
 /// Stores into the mailbox of that name (RFC 5228, section 4.1), with the flags that are named or else the internal ones (RFC 5232,
 /// section 5). Under `:copy` the implicit keep stays as it is (RFC 3894, section 3). A name that no mailbox may have is an error of the
-/// script, and so are a use that none may have (RFC 8579, section 4) and one action too many (RFC 5228, section 2.10.4). Fails where memory
-/// is refused.
+/// script, and so are a use that none may have (RFC 8579, section 4), a store where the message was rejected before (RFC 5429, section 2.4)
+/// and one action too many (RFC 5228, section 2.10.4). Fails where memory is refused.
 #[tactic(auto, using(crate::proofs::Named::filing))]
 pub fn file_into(
     delivery: &Delivery<'_>,
@@ -269,8 +270,9 @@ fn address_named(
 }
 
 /// Sends the message on to the address that a string gives (RFC 5228, section 4.2). Where it isn't exactly one, with a local part and a
-/// domain, that is an error of the script, and so is one action too many (section 2.10.4). Under `:copy` the implicit keep stays as it is
-/// (RFC 3894, section 3). Fails where memory is refused.
+/// domain, that is an error of the script, and so are a redirect where the message was rejected before (RFC 5429, section 2.4) and one
+/// action too many (RFC 5228, section 2.10.4). Under `:copy` the implicit keep stays as it is (RFC 3894, section 3). Fails where memory is
+/// refused.
 #[tactic(auto, using(crate::proofs::Named::sending))]
 pub fn redirect(
     delivery: &Delivery<'_>,

@@ -1,4 +1,7 @@
 //! Actions (RFC 5228, section 2.10).
+ghost use Rattle.std.specs.Prelude.{◌≡◌};
+ghost use Rattle.sieve_effects.specs.Act as spec;
+
 use crate::response::Response;
 use match_text::FlagList;
 use sieve_base::{Octets, ScriptName};
@@ -54,4 +57,22 @@ pub struct Deed {
     pub action: Action,
     /// Whether the action leaves the implicit keep as it is (RFC 3894, section 3; RFC 5230, section 4.7).
     pub leaves_keep: bool,
+}
+
+/// Whether two actions are one.
+pub(crate) fn same_action(action: &Action, other: &Action) -> bool
+    ensures { result ≡ spec.same_action action.now other.now }
+{
+    match (action, other) {
+        (Action::Store { mailbox: a, .. }, Action::Store { mailbox: b, .. }) => {
+            a.as_slice() == b.as_slice()
+        }
+        (Action::Redirect { address: a }, Action::Redirect { address: b }) => {
+            a.as_slice() == b.as_slice()
+        }
+        (Action::Discard, Action::Discard) => true,
+        (Action::Respond { .. }, Action::Respond { .. }) => true,
+        (Action::Reject { .. }, Action::Reject { .. }) => true,
+        _ => false,
+    }
 }

@@ -1,7 +1,7 @@
 //! The actions of a run (RFC 5228, section 2.10), and the internal flags that its stores take (RFC 5232, section 5).
 ghost use Rattle.std.specs.Prelude.{◌≡◌, ◌∷◌, List, ℕ, ◌++◌, IfOk, OnErr, OnOk, false, map, []};
 ghost use Rattle.std.specs.List.{list_any};
-ghost use Rattle.sieve_effects.specs.Act.{conflict_among, conflict_of, filing_with, goes_with_rejections, is_rejection, is_response, joined_with, same_action, with_action, with_room};
+ghost use Rattle.sieve_effects.specs.Act.{filing_with, joined_with, same_action, with_action, with_room};
 ghost use Rattle.sieve_effects.specs.declared.action.Action as acts;
 ghost use Rattle.sieve_effects.specs.declared.action.Action.TheVariants.{Store};
 ghost use Rattle.sieve_effects.specs.declared.actions.Added.TheVariants.{Refused};
@@ -9,7 +9,8 @@ ghost use Rattle.sieve_effects.specs.declared.error.ErrorKind.{ErrorKind};
 ghost use Rattle.sieve_effects.specs.view.Actions.{AreKnown, IsKnown, lowered, performed_as, stores_into};
 ghost use Rattle.match_text.specs.Flags.{flag_union, flags_in, flags_without};
 
-use crate::action::{Action, Filing};
+use crate::action::{Action, Filing, same_action};
+use crate::conflicts::{conflict_among, has_rejection};
 use crate::error::ErrorKind;
 use match_text::laws::flags_are_taken_out_in_turn;
 use match_text::{FlagList, next_flag};
@@ -230,79 +231,6 @@ fn lower_all(known: &mut Vec<usize>, place: usize)
     }
 }
 
-/// Whether two actions are one.
-fn same_action(action: &Action, other: &Action) -> bool
-    ensures { result ≡ same_action action.now other.now }
-{
-    match (action, other) {
-        (Action::Store { mailbox: a, .. }, Action::Store { mailbox: b, .. }) => {
-            a.as_slice() == b.as_slice()
-        }
-        (Action::Redirect { address: a }, Action::Redirect { address: b }) => {
-            a.as_slice() == b.as_slice()
-        }
-        (Action::Discard, Action::Discard) => true,
-        (Action::Respond { .. }, Action::Respond { .. }) => true,
-        (Action::Reject { .. }, Action::Reject { .. }) => true,
-        _ => false,
-    }
-}
-
-/// Whether an action answers the sender.
-fn is_response(action: &Action) -> bool
-    ensures { result ≡ is_response action.now }
-{
-    matches!(action, Action::Respond { .. })
-}
-
-/// Whether an action rejects the message.
-fn is_rejection(action: &Action) -> bool
-    ensures { result ≡ is_rejection action.now }
-{
-    matches!(action, Action::Reject { .. })
-}
-
-/// Whether an action goes with one that rejects the message (RFC 5429, section 2.4).
-fn goes_with_rejections(action: &Action) -> bool
-    ensures { result ≡ goes_with_rejections action.now }
-{
-    matches!(action, Action::Discard)
-}
-
-/// The error of two actions that stand in each other's way.
-fn conflict_of(performed: &Action, there: &Action) -> Option<ErrorKind>
-    ensures { result ≡ conflict_of performed.now there.now }
-{
-    if is_response(performed) && is_response(there) {
-        return Some(ErrorKind::SecondVacation);
-    }
-    if is_rejection(performed) && !goes_with_rejections(there)
-        || is_rejection(there) && !goes_with_rejections(performed)
-    {
-        return Some(ErrorKind::ConflictingActions);
-    }
-    None
-}
-
-/// The error of an action that is performed where some are there.
-fn conflict_among(performed: &Action, actions: &[Action]) -> Option<ErrorKind>
-    ensures { result ≡ conflict_among performed.now actions.now }
-{
-    for there in actions {
-        if let Some(kind) = conflict_of(performed, there) {
-            return Some(kind);
-        }
-    }
-    None
-}
-
-/// Whether one of some actions rejects the message.
-fn has_rejection(actions: &[Action]) -> bool
-    ensures { result ≡ list_any is_rejection actions.now }
-{
-    actions.iter().any(is_rejection)
-}
-
 /// Whether an action is there already.
 fn has_action(action: &Action, actions: &[Action]) -> bool
     ensures { result ≡ list_any (same_action action.now) actions.now }
@@ -418,7 +346,10 @@ fn with_flags(
             };
             Ok((action, flags.len()))
         }
-        other => Ok((other, known)),
+        Action::Redirect { address } => Ok((Action::Redirect { address }, known)),
+        Action::Discard => Ok((Action::Discard, known)),
+        Action::Respond { response } => Ok((Action::Respond { response }, known)),
+        Action::Reject { how, reason } => Ok((Action::Reject { how, reason }, known)),
     }
 }
 

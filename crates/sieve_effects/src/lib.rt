@@ -1,11 +1,13 @@
 //! What tests find in a delivery (RFC 5228, sections 2.7 and 5; RFC 5229, section 5; RFC 5232, section 4), and what commands do that
-//! act (RFC 5228, section 4; RFC 5229, section 4; RFC 5232, sections 3 and 5), over the state of a run.
+//! act (RFC 5228, section 4; RFC 5229, section 4; RFC 5230, section 4; RFC 5232, sections 3 and 5; RFC 5429, section 2), over the state of a
+//! run.
 #![tactic(auto)]
 
 mod acting;
 mod action;
 mod actions;
 mod asking;
+mod conflicts;
 mod counting;
 mod delivery;
 mod envelope;

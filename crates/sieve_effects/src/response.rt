@@ -104,7 +104,7 @@ pub(crate) fn given_text(
     values: &Values,
     string: Option<&[Part]>,
 ) -> Result<Option<Octets>, AllocError>
-    ensures { IfOk result (λ text. text ≡ option_map (text_value values.now) (option_copied string)) }
+    ensures { IfOk result (λ text. text ≡ option_map (text_value values.now) (option_copied string.entry)) }
 {
     match string {
         Some(string) => Ok(Some(kept_text(alloc, values, string)?)),

@@ -6,7 +6,7 @@ use Rattle.std.specs.Prelude.{if◌then◌else◌}
 use Rattle.std.specs.List.{list_any}
 use Rattle.message_text.specs.Addresses.{addresses_of}
 use Rattle.sieve_base.specs.Limits.{action_limit, include_depth, include_limit}
-use Rattle.sieve_reading.specs.Reading.{Settings, plain_settings, Leaf, keep_leaf, fileinto_leaf, redirect_leaf, discard_leaf, set_leaf, flag_leaf, include_leaf}
+use Rattle.sieve_reading.specs.Reading.{Settings, plain_settings, Leaf, keep_leaf, fileinto_leaf, redirect_leaf, discard_leaf, set_leaf, flag_leaf, include_leaf, vacation_leaf, reject_leaf}
 use Rattle.sieve_reading.specs.declared.reading.FlagChange.{FlagChange}
 use Rattle.sieve_reading.specs.Script.{script_of}
 use Rattle.sieve_reading.specs.Tree.{Node}
@@ -15,15 +15,18 @@ use Rattle.sieve_effects.specs.Delivery.{Arrival, Delivery, inside}
 use Rattle.sieve_run.specs.Library.{Lookup, missing, invalid, present, found_at}
 use Rattle.sieve_effects.specs.Matching.{behind_test, truth_of}
 use Rattle.sieve_run.specs.Perform.{perform}
-use Rattle.sieve_effects.specs.Act.{deed_of, store_deed, Ending, goes_on, returned, stopped, failed, entered, joined, one_too_many, same_action, joined_with, changes, ends_with, gives, origin_at, performs, fails_at, filing_of, is_mailbox, may_be_used, only_address, redirects, held_flags, changed_flags, flags_named, state_behind}
+use Rattle.sieve_effects.specs.Act.{deed_of, store_deed, Ending, goes_on, returned, stopped, failed, Performed, entered, joined, refused, unless, conflict_among, same_action, joined_with, changes, ends_with, gives, origin_at, performs, fails_at, filing_of, is_mailbox, may_be_from, may_be_used, only_address, redirects, response_of, held_flags, changed_flags, flags_named, state_behind}
 use Rattle.sieve_run.specs.Run.{entering, included, include_of, includes, is_running, is_script, is_there, looked_up, act_of, and_then, answer_of, begun, chosen, delivery_to, exec, resumed, run_of, running, verdict_at, verdict_of, outcome_of, with_found_script, with_read}
 use Rattle.sieve_effects.specs.State.{RunState}
 use Rattle.sieve_effects.specs.declared.flow.Flow.{Flow}
 use Rattle.sieve_effects.specs.declared.flow.Flow.TheVariants as flow
 use Rattle.sieve_base.specs.declared.name.ScriptName.{ScriptName}
 use Rattle.sieve_effects.specs.declared.action.Deed.{Deed}
-use Rattle.sieve_effects.specs.declared.action.Action.TheVariants.{Redirect, Discard}
-use Rattle.sieve_effects.specs.declared.error.ErrorKind.TheVariants.{BadMailbox, TooManyGlobals, IncludeCount}
+use Rattle.sieve_effects.specs.declared.action.Origin.{Origin}
+use Rattle.sieve_effects.specs.declared.action.Action.{Action}
+use Rattle.sieve_effects.specs.declared.action.Action.TheVariants.{Redirect, Discard, Respond, Reject}
+use Rattle.sieve_effects.specs.declared.error.ErrorKind.{ErrorKind}
+use Rattle.sieve_effects.specs.declared.error.ErrorKind.TheVariants.{BadAddress, BadMailbox, TooManyActions, TooManyGlobals, IncludeCount}
 use Rattle.sieve_effects.specs.view.Flow.{ending_by}
 use Rattle.sieve_run.specs.view.Step.{Acts, doing}
 use Rattle.sieve_variables.specs.Modifier.{modified}
@@ -32,6 +35,29 @@ use Rattle.sieve_variables.specs.Value.{Values, has_room_for, resumed_values, te
 use Rattle.sieve_variables.specs.Variable.{Variable}
 use Rattle.match_text.specs.Flags.{flag_list}
 use Rattle.sieve_run.proofs.Performing.{does_walk}
+
+-- A fact on the state of a run holds where an action is performed if it holds where the action joins others and where it is entered, for a
+-- refused one leaves the state. Nothing stands in the way of one that is not refused, and one that is entered is not there and has room.
+module _ (Holds : RunState → Type 0) (delivery : Delivery) (line : ℕ) (deed : Deed) (s : RunState) where
+  -- the fact holds where this became of the actions
+  abbrev Becomes : Performed → Type 0
+  Becomes performed = Holds (state_behind (ends_with delivery line deed performed s))
+
+  pub performed_holds : Holds s
+      → (conflict_among deed.action s.actions ≡ None → Becomes (joined (map (joined_with deed.action) s.actions)))
+      → (conflict_among deed.action s.actions ≡ None → list_any (same_action deed.action) s.actions ≡ false → nat_lt (length s.actions) action_limit ≡ true → Becomes (entered (s.actions ++ deed.action ∷ [])))
+      → Holds (state_behind (performs delivery line deed s))
+  performed_holds h joins enters =
+      by (conflict_among deed.action s.actions) (list_any (same_action deed.action) s.actions) (nat_lt (length s.actions) action_limit) joins enters
+    where
+      by : (conflict : Option ErrorKind) (there room : Bool)
+          → (conflict ≡ None → Becomes (joined (map (joined_with deed.action) s.actions)))
+          → (conflict ≡ None → there ≡ false → room ≡ true → Becomes (entered (s.actions ++ deed.action ∷ [])))
+          → Becomes (unless conflict (if there then joined (map (joined_with deed.action) s.actions) else if room then entered (s.actions ++ deed.action ∷ []) else refused TooManyActions))
+      by (Some kind) there room joins enters = h
+      by None true room joins enters = joins refl
+      by None false true joins enters = enters refl refl refl
+      by None false false joins enters = h
 
 -- What has to keep a fact on the state of a run for the fact to hold throughout: a change of variables, of the internal flags or of the names
 -- looked up, performing an action, and entering a script where there is room for one more.
@@ -47,9 +73,9 @@ module _ (Holds : RunState → Type 0) (kept : IsKept Holds) where
   abbrev Ends : Ending → Type 0
   Ends e = Holds (state_behind e)
 
-  filed : (delivery : Delivery) (line : ℕ) (deed : Deed) (s : RunState) → Holds s → (named : Bool) → Ends (if named then performs delivery line deed s else fails_at delivery line BadMailbox s)
-  filed delivery line deed s h true = kept.acts delivery line deed s h
-  filed delivery line deed s h false = h
+  allowed : (delivery : Delivery) (line : ℕ) (kind : ErrorKind) (deed : Deed) (s : RunState) → Holds s → (may : Bool) → Ends (if may then performs delivery line deed s else fails_at delivery line kind s)
+  allowed delivery line kind deed s h true = kept.acts delivery line deed s h
+  allowed delivery line kind deed s h false = h
 
   redirected : (delivery : Delivery) (line : ℕ) (address : Option (List ℕ)) (settings : Settings) (s : RunState) → Holds s → Ends (redirects delivery line address settings s)
   redirected delivery line None settings s h = h
@@ -136,12 +162,16 @@ module _ (Holds : RunState → Type 0) (kept : IsKept Holds) where
     acts_hold : (depth : ℕ) (delivery : Delivery) → ((name : ScriptName) (once optional : Bool) (line : ℕ) (s : RunState) → Holds s → Ends (included find depth delivery name once optional line s))
         → (leaf : Leaf) (line : ℕ) (s : RunState) → Holds s → Ends (act_of find depth delivery leaf line s)
     acts_hold depth delivery inner (keep_leaf settings) line s h = kept.acts delivery line (store_deed s delivery.arrival.envelope.mailbox settings) s h
-    acts_hold depth delivery inner (fileinto_leaf mailbox settings) line s h = filed delivery line (store_deed s (text_value s.values mailbox) settings) s h (is_mailbox (text_value s.values mailbox) && may_be_used (filing_of s.values settings).special_use)
+    acts_hold depth delivery inner (fileinto_leaf mailbox settings) line s h = allowed delivery line BadMailbox (store_deed s (text_value s.values mailbox) settings) s h (is_mailbox (text_value s.values mailbox) && may_be_used (filing_of s.values settings).special_use)
     acts_hold depth delivery inner (redirect_leaf address settings) line s h = redirected delivery line (only_address (addresses_of (text_value s.values address))) settings s h
     acts_hold depth delivery inner discard_leaf line s h = kept.acts delivery line (deed_of Discard plain_settings) s h
     acts_hold depth delivery inner (set_leaf variable modifiers value) line s h = given delivery line variable (modified modifiers (text_value s.values value)) s h
     acts_hold depth delivery inner (flag_leaf how variable flags) line s h = changed delivery line how variable flags s h
     acts_hold depth delivery inner (include_leaf place once optional name) line s h = inner (record { place = place; name = name }) once optional line s h
+    acts_hold depth delivery inner (vacation_leaf vacation) line s h =
+        let response = response_of s.values vacation in
+        allowed delivery line BadAddress (record { action = Respond response; leaves_keep = true }) s h (may_be_from response.from)
+    acts_hold depth delivery inner (reject_leaf how reason) line s h = kept.acts delivery line (record { action = Reject how (text_value s.values reason); leaves_keep = false }) s h
 
     included_holds : (depth : ℕ) (delivery : Delivery) (name : ScriptName) (once optional : Bool) (line : ℕ) (s : RunState) → Holds s → Ends (included find depth delivery name once optional line s)
     unfolding included
@@ -164,24 +194,42 @@ module _ (Holds : RunState → Type 0) (kept : IsKept Holds) where
     running_holds depth delivery tree s h =
         subst Ends (sym (does_walk (answer_of delivery) (act_of find depth delivery) tree s)) (running_walk_holds depth delivery (tree_walk tree) s h)
 
+-- VERDICTS
+
+-- what holds of no actions, and throughout a run of the actions with the commands that entered them, holds of those of a verdict
+module _ (Holds : List Origin → List Action → Type 0) (none : Holds [] []) (kept : IsKept (λ s. Holds s.origins s.actions)) where
+  verdict_holds : (e : Ending) → Holds (state_behind e).origins (state_behind e).actions → Holds (verdict_of e).origins (verdict_of e).actions
+  verdict_holds (goes_on s) h = h
+  verdict_holds (returned s) h = h
+  verdict_holds (stopped s) h = h
+  verdict_holds (failed error s) h = none
+
+  found_holds_of : (find : ScriptName → Lookup) (arrival : Arrival) (main : ScriptName) (lookup : Lookup) → Holds (verdict_at find arrival main lookup).origins (verdict_at find arrival main lookup).actions
+  found_holds_of find arrival main missing = none
+  found_holds_of find arrival main invalid = none
+  found_holds_of find arrival main (present tree) =
+      verdict_holds (run_of find arrival main tree) (running_holds (λ s. Holds s.origins s.actions) kept find include_depth (delivery_to arrival main) tree (begun main) none)
+
+  pub outcome_holds : (find : ScriptName → Lookup) (main : Option ScriptName) (arrival : Arrival) → Holds (outcome_of find main arrival).origins (outcome_of find main arrival).actions
+  unfolding outcome_of
+  outcome_holds find None arrival = none
+  outcome_holds find (Some main) arrival = found_holds_of find arrival main (found_at find main)
+
 -- ACTIONS
 
 -- a state has no more actions than it may
 abbrev pub IsBounded : RunState → Type 0
 IsBounded state = length state.actions ≤ action_limit
 
-with_room : (delivery : Delivery) (deed : Deed) (line : ℕ) (s : RunState) → IsBounded s → (there room : Bool) → nat_lt (length s.actions) action_limit ≡ room
-    → IsBounded (state_behind (ends_with delivery line deed (if there then joined (map (joined_with deed.action) s.actions) else if room then entered (s.actions ++ deed.action ∷ []) else one_too_many) s))
-with_room delivery deed line s bound true room is = subst (λ n. n ≤ action_limit) (sym (length-map s.actions (joined_with deed.action))) bound
-with_room delivery deed line s bound false true is = grind (arith, nat_tests, length_push s.actions deed.action)
-with_room delivery deed line s bound false false is = bound
+one_has_room : (action : Action) (actions : List Action) → nat_lt (length actions) action_limit ≡ true → length (actions ++ action ∷ []) ≤ action_limit
+one_has_room action actions room = grind (arith, nat_tests, length_push actions action)
 
 bounded : IsKept IsBounded
 bounded = record {
   values = λ s values h. h;
   flags = λ s flags h. h;
   reads = λ s reads h. h;
-  acts = λ delivery line deed s h. with_room delivery deed line s h (list_any (same_action deed.action) s.actions) (nat_lt (length s.actions) action_limit) refl;
+  acts = λ delivery line deed s h. performed_holds IsBounded delivery line deed s h (λ none. subst (λ n. n ≤ action_limit) (sym (length-map s.actions (joined_with deed.action))) h) (λ none apart room. one_has_room deed.action s.actions room);
   enters = λ name s few h. h;
 }
 
@@ -198,22 +246,8 @@ run_bounded find depth delivery w f old new none does =
     (subst (λ e. IsBounded (state_behind e)) does
     (running_walk_holds IsBounded bounded find depth delivery w old (subst (λ actions. length actions ≤ action_limit) (sym none) (omega arith))))
 
-verdict_bounded : (e : Ending) → IsBounded (state_behind e) → length (verdict_of e).actions ≤ action_limit
-verdict_bounded (goes_on s) bound = bound
-verdict_bounded (returned s) bound = bound
-verdict_bounded (stopped s) bound = bound
-verdict_bounded (failed error s) bound = omega arith
-
-found_bounded : (find : ScriptName → Lookup) (arrival : Arrival) (main : ScriptName) (lookup : Lookup) → length (verdict_at find arrival main lookup).actions ≤ action_limit
-found_bounded find arrival main missing = omega arith
-found_bounded find arrival main invalid = omega arith
-found_bounded find arrival main (present tree) =
-    verdict_bounded (run_of find arrival main tree) (running_holds IsBounded bounded find include_depth (delivery_to arrival main) tree (begun main) (omega arith))
-
 pub outcome_bounded : (find : ScriptName → Lookup) (main : Option ScriptName) (arrival : Arrival) → length (outcome_of find main arrival).actions ≤ action_limit
-unfolding outcome_of
-outcome_bounded find None arrival = omega arith
-outcome_bounded find (Some main) arrival = found_bounded find arrival main (found_at find main)
+outcome_bounded find main arrival = outcome_holds (λ origins actions. length actions ≤ action_limit) (omega arith) bounded find main arrival
 
 -- WHO ENTERED THEM
 
@@ -221,37 +255,18 @@ outcome_bounded find (Some main) arrival = found_bounded find arrival main (foun
 abbrev IsOriginated : RunState → Type 0
 IsOriginated state = length state.origins ≡ length state.actions
 
-originated_by : (delivery : Delivery) (deed : Deed) (line : ℕ) (s : RunState) → IsOriginated s → (there room : Bool)
-    → IsOriginated (state_behind (ends_with delivery line deed (if there then joined (map (joined_with deed.action) s.actions) else if room then entered (s.actions ++ deed.action ∷ []) else one_too_many) s))
-originated_by delivery deed line s each true room = each ∙ sym (length-map s.actions (joined_with deed.action))
-originated_by delivery deed line s each false true = length_push s.origins (origin_at delivery line) ∙ ap (λ n. n + 1) each ∙ sym (length_push s.actions deed.action)
-originated_by delivery deed line s each false false = each
-
 originated : IsKept IsOriginated
 originated = record {
   values = λ s values h. h;
   flags = λ s flags h. h;
   reads = λ s reads h. h;
-  acts = λ delivery line deed s h. originated_by delivery deed line s h (list_any (same_action deed.action) s.actions) (nat_lt (length s.actions) action_limit);
+  acts = λ delivery line deed s h. performed_holds IsOriginated delivery line deed s h (λ none. h ∙ sym (length-map s.actions (joined_with deed.action)))
+      (λ none apart room. length_push s.origins (origin_at delivery line) ∙ ap (λ n. n + 1) h ∙ sym (length_push s.actions deed.action));
   enters = λ name s few h. h;
 }
 
-verdict_originated : (e : Ending) → IsOriginated (state_behind e) → length (verdict_of e).origins ≡ length (verdict_of e).actions
-verdict_originated (goes_on s) each = each
-verdict_originated (returned s) each = each
-verdict_originated (stopped s) each = each
-verdict_originated (failed error s) each = refl
-
-found_originated : (find : ScriptName → Lookup) (arrival : Arrival) (main : ScriptName) (lookup : Lookup) → length (verdict_at find arrival main lookup).origins ≡ length (verdict_at find arrival main lookup).actions
-found_originated find arrival main missing = refl
-found_originated find arrival main invalid = refl
-found_originated find arrival main (present tree) =
-    verdict_originated (run_of find arrival main tree) (running_holds IsOriginated originated find include_depth (delivery_to arrival main) tree (begun main) refl)
-
 pub outcome_originated : (find : ScriptName → Lookup) (main : Option ScriptName) (arrival : Arrival) → length (outcome_of find main arrival).origins ≡ length (outcome_of find main arrival).actions
-unfolding outcome_of
-outcome_originated find None arrival = refl
-outcome_originated find (Some main) arrival = found_originated find arrival main (found_at find main)
+outcome_originated find main arrival = outcome_holds (λ origins actions. length origins ≡ length actions) refl originated find main arrival
 
 -- INCLUDES
 
@@ -262,17 +277,15 @@ IsShort state = length state.entered ≤ suc include_limit
 one_more : (name : ScriptName) (s : RunState) → nat_lt include_limit (length s.entered) ≡ false → length (s.entered ++ name ∷ []) ≤ suc include_limit
 one_more name s few = grind (arith, nat_tests, length_push s.entered name)
 
-performs_enters : (delivery : Delivery) (line : ℕ) (s : RunState) (there room : Bool) (deed : Deed) → (state_behind (ends_with delivery line deed (if there then joined (map (joined_with deed.action) s.actions) else if room then entered (s.actions ++ deed.action ∷ []) else one_too_many) s)).entered ≡ s.entered
-performs_enters delivery line s true room deed = refl
-performs_enters delivery line s false true deed = refl
-performs_enters delivery line s false false deed = refl
+performs_enters : (delivery : Delivery) (line : ℕ) (deed : Deed) (s : RunState) → (state_behind (performs delivery line deed s)).entered ≡ s.entered
+performs_enters delivery line deed s = performed_holds (λ t. t.entered ≡ s.entered) delivery line deed s refl (λ none. refl) (λ none apart room. refl)
 
 short : IsKept IsShort
 short = record {
   values = λ s values h. h;
   flags = λ s flags h. h;
   reads = λ s reads h. h;
-  acts = λ delivery line deed s h. subst (λ entered. length entered ≤ suc include_limit) (sym (performs_enters delivery line s (list_any (same_action deed.action) s.actions) (nat_lt (length s.actions) action_limit) deed)) h;
+  acts = λ delivery line deed s h. subst (λ entered. length entered ≤ suc include_limit) (sym (performs_enters delivery line deed s)) h;
   enters = λ name s few h. one_more name s few;
 }
 
@@ -289,7 +302,7 @@ keeping front = record {
   values = λ s values h. h;
   flags = λ s flags h. h;
   reads = λ s reads h. h;
-  acts = λ delivery line deed s h. (h.0, performs_enters delivery line s (list_any (same_action deed.action) s.actions) (nat_lt (length s.actions) action_limit) deed ∙ h.1);
+  acts = λ delivery line deed s h. (h.0, performs_enters delivery line deed s ∙ h.1);
   enters = λ name s few h. (h.0 ++ name ∷ [], ap (λ (entered : List ScriptName). entered ++ name ∷ []) h.1 ∙ append_assoc front h.0 (name ∷ []));
 }
 

@@ -1,22 +1,20 @@
 -- No two actions of a run are one.
-use Rattle.std.proofs.Common.{◌≡◌, ℕ, Bool, true, false, Option, None, Some, List, [], ◌∷◌, ◌++◌, length, map, nat_lt, refl, ◌∙◌}
+use Rattle.std.proofs.Common.{◌≡◌, Bool, true, false, Option, List, [], ◌∷◌, map, refl, ◌∙◌}
 use Rattle.std.proofs.lemmas.Map.Keys.{IsDistinct-push}
 use Rattle.std.specs.Cmp.{IsEquivalence}
 use Rattle.std.specs.Cmp.Lexicographic.{nat_list_eq_equiv}
-use Rattle.std.specs.List.{AllByRecursion, IsDistinct, list_any}
+use Rattle.std.specs.List.{AllByRecursion, IsDistinct}
 use Rattle.std.specs.Prelude.{if◌then◌else◌}
-use Rattle.sieve_base.specs.Limits.{action_limit, include_depth}
-use Rattle.sieve_effects.specs.Delivery.{Arrival, Delivery}
+use Rattle.sieve_effects.specs.Delivery.{Arrival}
 use Rattle.sieve_effects.specs.State.{RunState}
 use Rattle.sieve_effects.specs.declared.action.Action.{Action}
-use Rattle.sieve_effects.specs.declared.action.Action.TheVariants.{Store, Redirect, Discard}
-use Rattle.sieve_effects.specs.declared.action.Deed.{Deed}
+use Rattle.sieve_effects.specs.declared.action.Action.TheVariants.{Store, Redirect, Discard, Respond, Reject}
 use Rattle.sieve_base.specs.declared.name.ScriptName.{ScriptName}
-use Rattle.sieve_effects.specs.Act.{Ending, goes_on, returned, stopped, failed, entered, joined, one_too_many, ends_with, joined_with, same_action, state_behind, brought_by}
+use Rattle.sieve_effects.specs.Act.{brought_by, joined_with, same_action}
 use Rattle.sieve_run.specs.Distinct.{AreDistinct}
-use Rattle.sieve_run.specs.Library.{Lookup, missing, invalid, present, found_at}
-use Rattle.sieve_run.specs.Run.{begun, delivery_to, outcome_of, run_of, verdict_at, verdict_of}
-use Rattle.sieve_run.proofs.Bounds.{IsKept, running_holds}
+use Rattle.sieve_run.specs.Library.{Lookup}
+use Rattle.sieve_run.specs.Run.{outcome_of}
+use Rattle.sieve_run.proofs.Bounds.{IsKept, outcome_holds, performed_holds}
 
 -- WHEN TWO ACTIONS ARE ONE
 
@@ -24,32 +22,26 @@ same_itself : (a : Action) → same_action a a ≡ true
 same_itself (Store mailbox flags filing) = nat_list_eq_equiv.refl mailbox
 same_itself (Redirect address) = nat_list_eq_equiv.refl address
 same_itself Discard = refl
+same_itself (Respond response) = refl
+same_itself (Reject how reason) = refl
 
 same_back : (a b : Action) → same_action a b ≡ same_action b a
 same_back (Store mailbox flags filing) (Store other there kept) = nat_list_eq_equiv.symm mailbox other
-same_back (Store mailbox flags filing) (Redirect other) = refl
-same_back (Store mailbox flags filing) Discard = refl
-same_back (Redirect address) (Store other there kept) = refl
 same_back (Redirect address) (Redirect other) = nat_list_eq_equiv.symm address other
-same_back (Redirect address) Discard = refl
-same_back Discard (Store other there kept) = refl
-same_back Discard (Redirect other) = refl
 same_back Discard Discard = refl
+same_back (Respond response) (Respond other) = refl
+same_back (Reject how reason) (Reject other why) = refl
+same_back a b = refl
 
 same_too : (a b c : Action) → same_action a b ≡ true → same_action a c ≡ same_action b c
 same_too (Store mailbox flags filing) (Store other there kept) (Store third more its) is = nat_list_eq_equiv.congr mailbox other third is
-same_too (Store mailbox flags filing) (Store other there kept) (Redirect third) is = refl
-same_too (Store mailbox flags filing) (Store other there kept) Discard is = refl
-same_too (Store mailbox flags filing) (Redirect other) c is = absurd cc
-same_too (Store mailbox flags filing) Discard c is = absurd cc
-same_too (Redirect address) (Store other there kept) c is = absurd cc
-same_too (Redirect address) (Redirect other) (Store third more its) is = refl
+same_too (Store mailbox flags filing) (Store other there kept) c is = refl
 same_too (Redirect address) (Redirect other) (Redirect third) is = nat_list_eq_equiv.congr address other third is
-same_too (Redirect address) (Redirect other) Discard is = refl
-same_too (Redirect address) Discard c is = absurd cc
-same_too Discard (Store other there kept) c is = absurd cc
-same_too Discard (Redirect other) c is = absurd cc
+same_too (Redirect address) (Redirect other) c is = refl
 same_too Discard Discard c is = refl
+same_too (Respond response) (Respond other) c is = refl
+same_too (Reject how reason) (Reject other why) c is = refl
+same_too a b c is = absurd cc
 
 same_equiv : IsEquivalence same_action
 same_equiv = record { refl = same_itself; symm = same_back; congr = same_too }
@@ -59,12 +51,8 @@ same_equiv = record { refl = same_itself; symm = same_back; congr = same_too }
 -- an action that another is joined to is one with the actions that it was one with before
 brought_same : (action there a : Action) → same_action a (brought_by action there) ≡ same_action a there
 brought_same (Store mailbox flags filing) (Store other there kept) (Store third more its) = refl
-brought_same (Store mailbox flags filing) (Store other there kept) (Redirect third) = refl
-brought_same (Store mailbox flags filing) (Store other there kept) Discard = refl
-brought_same (Store mailbox flags filing) (Redirect other) a = refl
-brought_same (Store mailbox flags filing) Discard a = refl
-brought_same (Redirect address) there a = refl
-brought_same Discard there a = refl
+brought_same (Store mailbox flags filing) (Store other there kept) a = refl
+brought_same action there a = refl
 
 module _ (action : Action) where
   joined_same : (there a : Action) → same_action a (joined_with action there) ≡ same_action a there
@@ -92,18 +80,12 @@ module _ (action : Action) where
 abbrev ActsApart : RunState → Type 0
 ActsApart state = AreDistinct state.actions
 
-performed_apart : (delivery : Delivery) (line : ℕ) (deed : Deed) (s : RunState) → ActsApart s → (there room : Bool) → list_any (same_action deed.action) s.actions ≡ there
-    → ActsApart (state_behind (ends_with delivery line deed (if there then joined (map (joined_with deed.action) s.actions) else if room then entered (s.actions ++ deed.action ∷ []) else one_too_many) s))
-performed_apart delivery line deed s distinct true room is = distinct_joined deed.action s.actions distinct
-performed_apart delivery line deed s distinct false true is = IsDistinct-push same_equiv s.actions deed.action distinct is
-performed_apart delivery line deed s distinct false false is = distinct
-
 apart : IsKept ActsApart
 apart = record {
   values = λ s values h. h;
   flags = λ s flags h. h;
   reads = λ s reads h. h;
-  acts = λ delivery line deed s h. performed_apart delivery line deed s h (list_any (same_action deed.action) s.actions) (nat_lt (length s.actions) action_limit) refl;
+  acts = λ delivery line deed s h. performed_holds ActsApart delivery line deed s h (λ none. distinct_joined deed.action s.actions h) (λ none apart room. IsDistinct-push same_equiv s.actions deed.action h apart);
   enters = λ name s few h. h;
 }
 
@@ -111,20 +93,6 @@ none_distinct : AreDistinct []
 unfolding IsDistinct
 none_distinct = tt
 
-verdict_distinct : (e : Ending) → ActsApart (state_behind e) → AreDistinct (verdict_of e).actions
-verdict_distinct (goes_on s) distinct = distinct
-verdict_distinct (returned s) distinct = distinct
-verdict_distinct (stopped s) distinct = distinct
-verdict_distinct (failed error s) distinct = none_distinct
-
-found_distinct : (find : ScriptName → Lookup) (arrival : Arrival) (main : ScriptName) (lookup : Lookup) → AreDistinct (verdict_at find arrival main lookup).actions
-found_distinct find arrival main missing = none_distinct
-found_distinct find arrival main invalid = none_distinct
-found_distinct find arrival main (present tree) =
-    verdict_distinct (run_of find arrival main tree) (running_holds ActsApart apart find include_depth (delivery_to arrival main) tree (begun main) none_distinct)
-
 -- the actions of a verdict are distinct
 pub outcome_distinct : (find : ScriptName → Lookup) (main : Option ScriptName) (arrival : Arrival) → AreDistinct (outcome_of find main arrival).actions
-unfolding outcome_of
-outcome_distinct find None arrival = none_distinct
-outcome_distinct find (Some main) arrival = found_distinct find arrival main (found_at find main)
+outcome_distinct find main arrival = outcome_holds (λ origins actions. AreDistinct actions) none_distinct apart find main arrival

@@ -1,15 +1,14 @@
 -- A verdict depends on no more of a library than the names that it looked up.
-use Rattle.std.proofs.Common.{◌≡◌, ℕ, zero, suc, Bool, true, false, ◌&&◌, ◌||◌, Option, None, Some, List, [], ◌∷◌, ◌++◌, length, map, nat_lt, nat_eq, refl, subst, sym, ap, ◌∙◌, arith}
+use Rattle.std.proofs.Common.{◌≡◌, ℕ, zero, suc, Bool, true, false, ◌&&◌, ◌||◌, Option, None, Some, List, [], ◌∷◌, ◌++◌, length, nat_lt, nat_eq, refl, subst, sym, ap, ◌∙◌, arith}
 use Rattle.std.proofs.lemmas.Bool.Decides.{nat_tests}
 use Rattle.std.specs.Prelude.{if◌then◌else◌}
-use Rattle.std.specs.List.{list_any}
 use lib.Pointwise.{pointwise}
 use Rattle.message_text.specs.Addresses.{addresses_of}
 use Rattle.match_text.specs.Flags.{flag_list}
-use Rattle.sieve_base.specs.Limits.{action_limit, include_depth, include_limit, name_limit}
+use Rattle.sieve_base.specs.Limits.{include_depth, include_limit, name_limit}
 use Rattle.sieve_base.specs.declared.place.Place.{Place}
 use Rattle.sieve_base.specs.declared.place.Place.TheVariants.{Personal, Global}
-use Rattle.sieve_reading.specs.Reading.{Settings, plain_settings, Leaf, keep_leaf, fileinto_leaf, redirect_leaf, discard_leaf, set_leaf, flag_leaf, include_leaf}
+use Rattle.sieve_reading.specs.Reading.{Settings, plain_settings, Leaf, keep_leaf, fileinto_leaf, redirect_leaf, discard_leaf, set_leaf, flag_leaf, include_leaf, vacation_leaf, reject_leaf}
 use Rattle.sieve_reading.specs.declared.reading.FlagChange.{FlagChange}
 use Rattle.sieve_reading.specs.Script.{Condition, Commands, no_commands, stops, returns, acts, chooses, script_of}
 use Rattle.sieve_reading.specs.Tree.{Node}
@@ -17,18 +16,20 @@ use Rattle.sieve_effects.specs.Delivery.{Arrival, Delivery, inside}
 use Rattle.sieve_run.specs.Frame.{Agree, Texts, outcome_over}
 use Rattle.sieve_run.specs.Library.{Lookup, found_at, invalid, library_of, lookup_of, missing, present}
 use Rattle.sieve_base.specs.Name.{name_eq, place_eq}
-use Rattle.sieve_effects.specs.Act.{deed_of, store_deed, Ending, goes_on, returned, stopped, failed, entered, joined, one_too_many, same_action, joined_with, changes, changed_flags, ends_with, flags_named, held_flags, performs, fails_at, filing_of, is_mailbox, may_be_used, only_address, redirects, act_by, state_behind}
+use Rattle.sieve_effects.specs.Act.{deed_of, store_deed, Ending, goes_on, returned, stopped, failed, changes, changed_flags, flags_named, held_flags, performs, fails_at, filing_of, is_mailbox, may_be_from, may_be_used, only_address, redirects, response_of, act_by, state_behind}
 use Rattle.sieve_run.specs.Run.{entering, included, include_of, includes, is_read, is_running, is_script, is_there, looked_up, act_of, and_then, answer_of, begun, chosen, decide, delivery_to, exec, resumed, run_of, running, verdict_at, verdict_of, outcome_of, with_found_script, with_read}
 use Rattle.sieve_effects.specs.State.{RunState}
 use Rattle.sieve_base.specs.declared.name.ScriptName.{ScriptName}
 use Rattle.sieve_effects.specs.declared.action.Deed.{Deed}
-use Rattle.sieve_effects.specs.declared.action.Action.TheVariants.{Redirect, Discard}
-use Rattle.sieve_effects.specs.declared.error.ErrorKind.TheVariants.{BadMailbox, IncludeCount, TooManyGlobals}
+use Rattle.sieve_effects.specs.declared.action.Action.TheVariants.{Redirect, Discard, Respond, Reject}
+use Rattle.sieve_effects.specs.declared.error.ErrorKind.{ErrorKind}
+use Rattle.sieve_effects.specs.declared.error.ErrorKind.TheVariants.{BadAddress, BadMailbox, IncludeCount, TooManyGlobals}
 use Rattle.sieve_run.specs.view.Step.{Acts}
 use Rattle.sieve_variables.specs.Modifier.{modified}
 use Rattle.sieve_variables.specs.Part.{Part}
 use Rattle.sieve_variables.specs.Value.{Values, has_room_for, text_value, variable_value, with_variable}
 use Rattle.sieve_variables.specs.Variable.{Variable}
+use Rattle.sieve_run.proofs.Bounds.{performed_holds}
 use Rattle.sieve_run.proofs.Unchanged.{decide_keeps}
 
 -- NAMES THAT ARE READ
@@ -98,17 +99,12 @@ reads_stay s t same name r = subst (λ reads. is_read name reads ≡ true) (sym 
 
 -- WHAT COMMANDS READ THAT INCLUDE NOTHING
 
-performed_reads : (delivery : Delivery) (line : ℕ) (deed : Deed) (s : RunState) (there room : Bool) → (state_behind (ends_with delivery line deed (if there then joined (map (joined_with deed.action) s.actions) else if room then entered (s.actions ++ deed.action ∷ []) else one_too_many) s)).reads ≡ s.reads
-performed_reads delivery line deed s true room = refl
-performed_reads delivery line deed s false true = refl
-performed_reads delivery line deed s false false = refl
-
 performs_reads : (delivery : Delivery) (line : ℕ) (deed : Deed) (s : RunState) → (state_behind (performs delivery line deed s)).reads ≡ s.reads
-performs_reads delivery line deed s = performed_reads delivery line deed s (list_any (same_action deed.action) s.actions) (nat_lt (length s.actions) action_limit)
+performs_reads delivery line deed s = performed_holds (λ t. t.reads ≡ s.reads) delivery line deed s refl (λ none. refl) (λ none apart room. refl)
 
-filed_reads : (delivery : Delivery) (line : ℕ) (deed : Deed) (s : RunState) (named : Bool) → (state_behind (if named then performs delivery line deed s else fails_at delivery line BadMailbox s)).reads ≡ s.reads
-filed_reads delivery line deed s true = performs_reads delivery line deed s
-filed_reads delivery line deed s false = refl
+allowed_reads : (delivery : Delivery) (line : ℕ) (kind : ErrorKind) (deed : Deed) (s : RunState) (may : Bool) → (state_behind (if may then performs delivery line deed s else fails_at delivery line kind s)).reads ≡ s.reads
+allowed_reads delivery line kind deed s true = performs_reads delivery line deed s
+allowed_reads delivery line kind deed s false = refl
 
 redirected_reads : (delivery : Delivery) (line : ℕ) (address : Option (List ℕ)) (settings : Settings) (s : RunState) → (state_behind (redirects delivery line address settings s)).reads ≡ s.reads
 redirected_reads delivery line None settings s = refl
@@ -279,13 +275,17 @@ module _ (find other : ScriptName → Lookup) where
   acts_frames : (delivery : Delivery) (include include' : ScriptName → (once optional : Bool) → ℕ → RunState → Ending) → ((name : ScriptName) (once optional : Bool) (line : ℕ) → Frames (include name once optional line) (include' name once optional line))
       → (leaf : Leaf) (line : ℕ) → Frames (act_by include delivery leaf line) (act_by include' delivery leaf line)
   acts_frames delivery include include' frames (keep_leaf settings) line = own_frames _ (λ s. performs_reads delivery line (store_deed s delivery.arrival.envelope.mailbox settings) s)
-  acts_frames delivery include include' frames (fileinto_leaf mailbox settings) line = own_frames _ (λ s. filed_reads delivery line (store_deed s (text_value s.values mailbox) settings) s (is_mailbox (text_value s.values mailbox) && may_be_used (filing_of s.values settings).special_use))
+  acts_frames delivery include include' frames (fileinto_leaf mailbox settings) line = own_frames _ (λ s. allowed_reads delivery line BadMailbox (store_deed s (text_value s.values mailbox) settings) s (is_mailbox (text_value s.values mailbox) && may_be_used (filing_of s.values settings).special_use))
   acts_frames delivery include include' frames (redirect_leaf address settings) line = own_frames _ (λ s. redirected_reads delivery line (only_address (addresses_of (text_value s.values address))) settings s)
   acts_frames delivery include include' frames discard_leaf line = own_frames _ (λ s. performs_reads delivery line (deed_of Discard plain_settings) s)
   acts_frames delivery include include' frames (set_leaf variable modifiers value) line = own_frames _ (λ s. given_reads delivery line variable (modified modifiers (text_value s.values value)) s (has_room_for variable s.values))
   acts_frames delivery include include' frames (flag_leaf how variable flags) line = own_frames _ (λ s. changed_reads delivery line how variable flags s)
   acts_frames delivery include include' frames (include_leaf place once optional name) line =
       let all = frames (record { place = place; name = name }) once optional line in record { grows = all.grows; same = all.same }
+  acts_frames delivery include include' frames (vacation_leaf vacation) line =
+      own_frames _ (λ s. allowed_reads delivery line BadAddress (record { action = Respond (response_of s.values vacation); leaves_keep = true }) s (may_be_from (response_of s.values vacation).from))
+  acts_frames delivery include include' frames (reject_leaf how reason) line =
+      own_frames _ (λ s. performs_reads delivery line (record { action = Reject how (text_value s.values reason); leaves_keep = false }) s)
 
   included_frames : (depth : ℕ) (delivery : Delivery) (name : ScriptName) (once optional : Bool) (line : ℕ) → Frames (included find depth delivery name once optional line) (included other depth delivery name once optional line)
   unfolding included

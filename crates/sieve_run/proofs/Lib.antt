@@ -1,4 +1,5 @@
 mod AgreeRows
+mod AtPeace
 mod Bounds
 mod Depth
 mod Distinct

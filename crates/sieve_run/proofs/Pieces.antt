@@ -5,25 +5,25 @@ use Rattle.std.proofs.lemmas.List.{take_more}
 use Rattle.sieve_base.specs.Writers.{name_text}
 use Rattle.sieve_effects.specs.ErrorKind.{error_word}
 use Rattle.sieve_effects.specs.declared.error.RunError.{RunError}
-use Rattle.sieve_run.specs.Lines.{error_line, flag_word, flag_words}
+use Rattle.sieve_run.specs.Lines.{error_line, spaced_word, spaced_words}
 
 -- the line of an error, piece by piece
 pub error_pieces : (error : RunError) (word : List ℕ) → word ≡ error_word error.kind → error_line error ≡ codes "error " ++ (name_text error.script ++ (codes " line " ++ (decimal error.line ++ (codes " " ++ (word ++ [])))))
 unfolding error_line
 error_pieces error word is = rw (is, append-nil (error_word error.kind)) (simp append_assoc)
 
--- the flag that is found at a place is the one that is there, and has the word of that one
-pub flag_at : (flags : List (List ℕ)) (i : ℕ) (flag : List ℕ) → slice_get flags i ≡ Some flag → flag ≡ get_or flags i flag
-flag_at [] i flag at = cc
-flag_at (x ∷ xs) zero flag at = cc
-flag_at (x ∷ xs) (suc i) flag at = flag_at xs i flag at
+-- the text that is found at a place is the one that is there, and has the word of that one
+pub text_at : (texts : List (List ℕ)) (i : ℕ) (text : List ℕ) → slice_get texts i ≡ Some text → text ≡ get_or texts i text
+text_at [] i text at = cc
+text_at (x ∷ xs) zero text at = cc
+text_at (x ∷ xs) (suc i) text at = text_at xs i text at
 
-pub flag_there : (flags : List (List ℕ)) (i : ℕ) (flag : List ℕ) → slice_get flags i ≡ Some flag → flag_word flag ≡ flag_word (get_or flags i flag)
-flag_there flags i flag at = ap flag_word (flag_at flags i flag at)
+pub text_there : (texts : List (List ℕ)) (i : ℕ) (text : List ℕ) → slice_get texts i ≡ Some text → spaced_word text ≡ spaced_word (get_or texts i text)
+text_there texts i text at = ap spaced_word (text_at texts i text at)
 
--- the words of the flags in front of a place, and then that of the flag there, are the words of the flags in front of the next place
-pub flags_more : (flags : List (List ℕ)) (i : ℕ) (flag : List ℕ) → i < length flags → slice_get flags i ≡ Some flag → flag_words (take i flags) ++ flag_word flag ≡ flag_words (take (i + 1) flags)
-flags_more flags i flag below at =
-    ap (λ t. flag_words (take i flags) ++ t) (flag_there flags i flag at)
-    ∙ sym (ap flag_words (take_more flags i flag below) ∙ flat_map-append flag_word (take i flags) (get_or flags i flag ∷ [])
-    ∙ ap (λ t. flag_words (take i flags) ++ t) (append-nil (flag_word (get_or flags i flag))))
+-- the words of the texts before a place, and then that of the text there, are the words of the texts before the next place
+pub texts_more : (texts : List (List ℕ)) (i : ℕ) (text : List ℕ) → i < length texts → slice_get texts i ≡ Some text → spaced_words (take i texts) ++ spaced_word text ≡ spaced_words (take (i + 1) texts)
+texts_more texts i text below at =
+    ap (λ t. spaced_words (take i texts) ++ t) (text_there texts i text at)
+    ∙ sym (ap spaced_words (take_more texts i text below) ∙ flat_map-append spaced_word (take i texts) (get_or texts i text ∷ [])
+    ∙ ap (λ t. spaced_words (take i texts) ++ t) (append-nil (spaced_word (get_or texts i text))))

@@ -1,6 +1,7 @@
 //! Laws over the definitions. Each of these functions does nothing: its contract is the law.
 
-ghost use Rattle.std.specs.Prelude.{◌≡◌, ◌≤◌, ◌++◌, ℕ, suc, Bool, List, Option, length};
+ghost use Rattle.std.specs.Prelude.{◌≡◌, ◌≤◌, ◌++◌, ℕ, suc, Bool, true, not, List, Option, filter, length};
+ghost use Rattle.std.specs.List.{list_any};
 ghost use Rattle.sieve_reading.specs.Reading.{Ask, Leaf};
 ghost use Rattle.sieve_reading.specs.Script.{Commands, Condition, returns, script_of, stops};
 ghost use Rattle.sieve_reading.specs.Tree.{Node};
@@ -12,7 +13,7 @@ ghost use Rattle.sieve_run.specs.Distinct.{AreDistinct};
 ghost use Rattle.sieve_run.specs.Frame.{Agree, Texts, outcome_over};
 ghost use Rattle.sieve_run.specs.Library.{Lookup};
 ghost use Rattle.sieve_run.specs.Perform.{answers_of, do_gone, perform};
-ghost use Rattle.sieve_effects.specs.Act.{Ending, returned, state_behind, stopped};
+ghost use Rattle.sieve_effects.specs.Act.{Ending, goes_with_rejections, is_rejection, is_response, returned, state_behind, stopped};
 ghost use Rattle.sieve_run.specs.Run as spec;
 ghost use Rattle.sieve_effects.specs.State.{RunState};
 ghost use Rattle.sieve_base.specs.declared.name.ScriptName as names;
@@ -85,9 +86,17 @@ pub fn each_action_has_its_origin()
     ensures { (find : names.ScriptName → Lookup) (main : Option names.ScriptName) (arrival : Arrival) → length (spec.outcome_of find main arrival).origins ≡ length (spec.outcome_of find main arrival).actions }
 {}
 
-/// No two actions of a verdict are one: it has no two stores into one mailbox, no two redirects to one address, and no two discards
-/// (RFC 5228, section 2.10.3).
+/// No two actions of a verdict are one: it has no two stores into one mailbox, no two redirects to one address, and no two discards (RFC
+/// 5228, section 2.10.3), nor two responses or two rejections.
 #[tactic(auto, using(crate::proofs::Distinct::outcome_distinct))]
 pub fn no_run_acts_twice_alike()
     ensures { (find : names.ScriptName → Lookup) (main : Option names.ScriptName) (arrival : Arrival) → AreDistinct (spec.outcome_of find main arrival).actions }
+{}
+
+/// No verdict acts against itself: it answers the sender once at most (RFC 5230, section 4.7), and where it rejects the message it does that
+/// once, and does nothing else than discard it (RFC 5429, section 2.4).
+#[tactic(auto, using(crate::proofs::AtPeace::outcome_responses, crate::proofs::AtPeace::outcome_rejections))]
+pub fn no_run_acts_against_itself()
+    ensures responses { (find : names.ScriptName → Lookup) (main : Option names.ScriptName) (arrival : Arrival) → length (filter is_response (spec.outcome_of find main arrival).actions) ≤ 1 }
+    ensures rejections { (find : names.ScriptName → Lookup) (main : Option names.ScriptName) (arrival : Arrival) → list_any is_rejection (spec.outcome_of find main arrival).actions ≡ true → length (filter (λ action. not (goes_with_rejections action)) (spec.outcome_of find main arrival).actions) ≡ 1 }
 {}

@@ -19,7 +19,7 @@ settings_op_as s = record { flags = s.flags; copy = s.copy; create = s.create; s
 
 abbrev pub vacation_op_as : VacationOp → Vacation
 vacation_op_as v = record {
-  reason = v.reason;
+  reason = v.reason.now;
   days = v.days;
   subject = option_copied v.subject;
   from = option_copied v.from;

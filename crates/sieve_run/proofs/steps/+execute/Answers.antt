@@ -63,6 +63,16 @@ carry_out-returns-in-Include-clause-step g t c =
     (ap (op_of c.args.running.now.code.now) c.in-Include.is)
     c.include_named.ensures.ending c.acted.ensures
 
+pub carry_out-returns-in-Vacation-clause-step : goal.carry_out-returns-in-Vacation-clause-step
+carry_out-returns-in-Vacation-clause-step g t c =
+    let find : ScriptName → Lookup = library_of (g.L.Library.profile c.args.running.now.lib.now) (g.L.Library.texts c.args.running.now.lib.now) in
+    rw c.in-Vacation.is (c.act_vacation.ensures (included find c.args.running.now.depth (delivery_as c.args.running.now.delivery.now)))
+
+pub carry_out-returns-in-Reject-clause-step : goal.carry_out-returns-in-Reject-clause-step
+carry_out-returns-in-Reject-clause-step g t c =
+    let find : ScriptName → Lookup = library_of (g.L.Library.profile c.args.running.now.lib.now) (g.L.Library.texts c.args.running.now.lib.now) in
+    rw c.in-Reject.is (c.act_reject.ensures (included find c.args.running.now.depth (delivery_as c.args.running.now.delivery.now)))
+
 pub execute_inside-returns-clause-ending : goal.execute_inside-returns-clause-ending
 execute_inside-returns-clause-ending g t c =
     let find : ScriptName → Lookup = library_of (g.L.Library.profile c.args.running.now.lib.now) (g.L.Library.texts c.args.running.now.lib.now) in
