@@ -1,16 +1,18 @@
 -- What is kept in pools stays where it is.
-use Rattle.std.proofs.Common.{◌≡◌, ℕ, ◌<◌, ◌==◌, arith, Bool, true, false, if◌then◌else◌, List, [], ◌∷◌, ◌++◌, length, map, drop, get_or, Some, None, refl, sym, ap, ◌∙◌, subst}
+use Rattle.std.proofs.Common.{◌≡◌, ℕ, ◌<◌, ◌==◌, arith, Bool, true, false, if◌then◌else◌, List, [], ◌∷◌, ◌++◌, length, map, drop, get_or, Option, Some, None, refl, sym, ap, ◌∙◌, subst}
 use Rattle.std.specs.Option.{option_map}
 use Rattle.std.proofs.lemmas.Bool.{eqb-true}
 use Rattle.std.specs.List.{slice_get}
 use Rattle.std.proofs.Math.Seq.{get_or-append_seam}
 use Rattle.std.proofs.lemmas.List.{append-nil, append_assoc, drop-map}
 use Rattle.sieve_effects.specs.Joined.{Lists, list_in, lists_plus, lists_with, no_lists}
+use Rattle.sieve_reading.specs.Reading.{Vacation}
 use Rattle.sieve_variables.specs.Part.{Part}
 use Rattle.sieve_code.specs.declared.op.PackedSettings.{PackedSettings}
 use Rattle.sieve_code.specs.declared.op.PackedTest.{PackedTest}
+use Rattle.sieve_code.specs.declared.op.PackedVacation.{PackedVacation}
 use Rattle.sieve_code.specs.declared.pools.Target.{Target}
-use Rattle.sieve_code.specs.Pool.{Grows, Keeps, Kept, Pool, given_list, given_string, given_variable, no_pool, no_test, nowhere, packed_in, plain_packed, plus, test_in}
+use Rattle.sieve_code.specs.Pool.{Grows, Keeps, Kept, Pool, given_list, given_string, given_variable, no_pool, no_test, no_vacation, nowhere, packed_in, plain_packed, plus, test_in, vacation_packed_in, vacation_unpacked}
 use Rattle.sieve_code.specs.Operation.{Operation}
 use Rattle.sieve_code.specs.view.Op.{is_plain, op_in, plain_as}
 use Rattle.sieve_code.specs.declared.op.Op.{Op}
@@ -28,9 +30,10 @@ plus_none p =
     ∙ ap (λ (l : Lists). record (plus p no_pool) { strings = p.strings; lists = l }) (lists_none p.lists)
     ∙ ap (λ (n : Lists). record (plus p no_pool) { strings = p.strings; lists = p.lists; names = n }) (lists_none p.names)
     ∙ ap (λ (t : List Target). record (plus p no_pool) { strings = p.strings; lists = p.lists; names = p.names; targets = t }) (append-nil p.targets)
-    ∙ ap (λ (s : List (List ℕ)). record p { scripts = s; tests = p.tests ++ []; settings = p.settings ++ [] }) (append-nil p.scripts)
-    ∙ ap (λ (t : List PackedTest). record p { tests = t; settings = p.settings ++ [] }) (append-nil p.tests)
-    ∙ ap (λ (s : List PackedSettings). record p { settings = s }) (append-nil p.settings)
+    ∙ ap (λ (s : List (List ℕ)). record p { scripts = s; tests = p.tests ++ []; settings = p.settings ++ []; vacations = p.vacations ++ [] }) (append-nil p.scripts)
+    ∙ ap (λ (t : List PackedTest). record p { tests = t; settings = p.settings ++ []; vacations = p.vacations ++ [] }) (append-nil p.tests)
+    ∙ ap (λ (s : List PackedSettings). record p { settings = s; vacations = p.vacations ++ [] }) (append-nil p.settings)
+    ∙ ap (λ (v : List PackedVacation). record p { vacations = v }) (append-nil p.vacations)
 
 pub grows_self : (p : Pool) → Grows p p
 grows_self p = λ more. (more, refl)
@@ -113,6 +116,12 @@ module _ (p q : Pool) (place : ℕ) where
         ∙ ap (λ (l : List PackedSettings). get_or l place plain_packed) (append_assoc p.settings (settings ∷ []) more.settings) ∙ ap (λ n. get_or (p.settings ++ settings ∷ more.settings) n plain_packed) at ∙ get_or-append_seam p.settings settings more.settings plain_packed;
   })
 
+  pub vacation_kept : (vacation : PackedVacation) → place ≡ length p.vacations → q ≡ record p { vacations = p.vacations ++ vacation ∷ [] } → Kept p q (λ r. vacation_packed_in r place) vacation
+  vacation_kept vacation at is = subst (λ (q : Pool). Kept p q (λ r. vacation_packed_in r place) vacation) (sym is) (record {
+    grows = λ more. (record more { vacations = vacation ∷ more.vacations }, ap (λ (v : List PackedVacation). record (plus p more) { vacations = v }) (append_assoc p.vacations (vacation ∷ []) more.vacations));
+    keeps = λ more. ap (λ (l : List PackedVacation). get_or l place no_vacation) (append_assoc p.vacations (vacation ∷ []) more.vacations) ∙ ap (λ n. get_or (p.vacations ++ vacation ∷ more.vacations) n no_vacation) at ∙ get_or-append_seam p.vacations vacation more.vacations no_vacation;
+  })
+
 lists_more : (lists more : Lists) (texts : List (List Part)) → lists_plus (lists_with lists texts) more ≡ lists_plus lists (record { strings = texts ++ more.strings; ends = length (lists.strings ++ texts) ∷ more.ends })
 lists_more lists more texts =
     ap (λ (s : List (List Part)). record { strings = s; ends = (lists.ends ++ length (lists.strings ++ texts) ∷ []) ++ more.ends }) (append_assoc lists.strings texts more.strings)
@@ -151,6 +160,24 @@ variable_kept p q place target below kept = record {
   keeps = λ more. ap (λ b. if b then None else option_map (λ (t : Target). t.variable) (slice_get (plus q more).targets place)) (somewhere place below) ∙ ap (option_map (λ (t : Target). t.variable)) (kept.keeps more);
 }
 
+-- WHAT A VACATION SAYS
+
+abbrev said : PackedVacation → List Part → (subject from : Option (List Part)) → (addresses : Option (List (List Part))) → (handle : Option (List Part)) → Vacation
+said packed reason subject from addresses handle = record { reason = reason; days = packed.days; subject = subject; from = from; addresses = addresses; mime = packed.mime; handle = handle }
+
+-- its strings and its list are kept one behind another
+module _ (p q r s t u : Pool) (packed : PackedVacation) (reason : List Part) (subject from : Option (List Part)) (addresses : Option (List (List Part))) (handle : Option (List Part)) where
+  pub said_kept :
+      Kept p q (λ x. get_or x.strings packed.reason []) reason → Kept q r (λ x. given_string x packed.subject) subject
+      → Kept r s (λ x. given_string x packed.from) from → Kept s t (λ x. given_list x packed.addresses) addresses
+      → Kept t u (λ x. given_string x packed.handle) handle
+      → Kept p u (λ x. vacation_unpacked x packed) (said packed reason subject from addresses handle)
+  said_kept first second third fourth fifth =
+      let two = kept_two (said packed) p q r _ _ reason subject first second in
+      let three = kept_two (λ (f : Option (List Part) → Option (List (List Part)) → Option (List Part) → Vacation) (x : Option (List Part)). f x) p r s _ _ _ from two third in
+      let four = kept_two (λ (f : Option (List (List Part)) → Option (List Part) → Vacation) (x : Option (List (List Part))). f x) p s t _ _ _ addresses three fourth in
+      kept_two (λ (f : Option (List Part) → Vacation) (x : Option (List Part)). f x) p t u _ _ _ handle four fifth
+
 -- OPERATIONS
 
 -- what operations are in a pool, they are in all with more behind it
@@ -180,6 +207,8 @@ plain_in pool (op.Discard line) plain = absurd (no_plain plain)
 plain_in pool (op.Set line target value) plain = absurd (no_plain plain)
 plain_in pool (op.Flags change line variable flags) plain = absurd (no_plain plain)
 plain_in pool (op.Include inclusion) plain = absurd (no_plain plain)
+plain_in pool (op.Vacation line vacation) plain = absurd (no_plain plain)
+plain_in pool (op.Reject how line reason) plain = absurd (no_plain plain)
 
 module _ (pool : Pool) (ops ops' : List Op) (stays : Stays pool ops) where
   pub stays_same : ops' ≡ ops → Stays pool ops'

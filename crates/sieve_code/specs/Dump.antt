@@ -184,29 +184,33 @@ changing_words how (Some variable) = change_word how ++ codes " " ++ scope_word 
 unfoldable pub include_words : Place → (once optional : Bool) → List ℕ → List ℕ
 include_words place once optional name = codes "include " ++ place_word place ++ given_word once (codes " once") ++ given_word optional (codes " optional") ++ codes " " ++ quoted name
 
--- what is given of a `vacation` beside its text, each behind its word
+-- for how many days a sender gets no other response, where that is said
 unfoldable pub days_words : Option ℕ → List ℕ
 days_words None = []
 days_words (Some days) = codes " days " ++ decimal days
 
+-- further addresses of the user, where they are given
 unfoldable pub addresses_words : Option (List (List Part)) → List ℕ
 addresses_words None = []
 addresses_words (Some addresses) = codes " addresses " ++ list_text addresses
 
+-- the word that says that the text of a response is a MIME entity
 unfoldable pub mime_word : Bool → List ℕ
 mime_word mime = given_word mime (codes " mime")
 
-unfoldable pub vacation_words : Vacation → List ℕ
-vacation_words vacation =
-    days_words vacation.days
-    ++ (given_string_text (codes " subject ") vacation.subject
-    ++ (given_string_text (codes " from ") vacation.from
-    ++ (addresses_words vacation.addresses
-    ++ (mime_word vacation.mime
-    ++ given_string_text (codes " handle ") vacation.handle))))
+-- what is given of a `vacation` beside its text: how often a sender gets a response, its subject and whom it is from, and then the rest
+unfoldable pub sending_words : Vacation → List ℕ
+sending_words vacation = days_words vacation.days ++ given_string_text (codes " subject ") vacation.subject ++ given_string_text (codes " from ") vacation.from
+
+unfoldable pub further_words : Vacation → List ℕ
+further_words vacation = addresses_words vacation.addresses ++ mime_word vacation.mime ++ given_string_text (codes " handle ") vacation.handle
+
+-- all that, behind the command's word
+unfoldable pub vacation_words : List ℕ → Vacation → List ℕ
+vacation_words word vacation = word ++ sending_words vacation ++ further_words vacation
 
 unfoldable pub vacation_text : Vacation → List ℕ
-vacation_text vacation = codes "vacation" ++ (vacation_words vacation ++ worded_text (codes " ") vacation.reason)
+vacation_text vacation = vacation_words (codes "vacation") vacation ++ worded_text (codes " ") vacation.reason
 
 unfoldable pub reject_text : Rejection → List Part → List ℕ
 reject_text how reason = rejection_word how ++ worded_text (codes " ") reason

@@ -64,7 +64,7 @@ pub(crate) fn write_given_string<W: Sink>(
     string: Option<&[Part]>,
     writer: &mut W,
 ) -> Result<(), WriteFault>
-    ensures { Writes W.contents W.fault_count result writer.old writer.new (spec.given_string_text word.now (option_copied string)) }
+    ensures { Writes W.contents W.fault_count result writer.old writer.new (spec.given_string_text word.now (option_copied string.entry)) }
 {
     match string {
         Some(string) => write_string(word, string, writer),

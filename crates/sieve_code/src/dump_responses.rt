@@ -44,20 +44,38 @@ fn write_mime<W: Sink>(mime: bool, writer: &mut W) -> Result<(), WriteFault>
     write_out(given_word(mime, b" mime"), writer)
 }
 
-/// Writes what is given of a `vacation` beside its text.
-#[tactic(auto, using(sieve_base::proofs::Writing::writing), unfolding(crate::specs::Dump::vacation_words))]
-fn write_vacation_words<W: Sink>(
-    vacation: &VacationOp<'_>,
-    writer: &mut W,
-) -> Result<(), WriteFault>
-    ensures { Writes W.contents W.fault_count result writer.old writer.new (spec.vacation_words (vacation_op_as vacation.now)) }
+/// Writes how often a sender gets a response, its subject and whom it is from, where they are given.
+#[tactic(auto, using(sieve_base::proofs::Writing::writing), unfolding(crate::specs::Dump::sending_words))]
+fn write_sending<W: Sink>(vacation: &VacationOp<'_>, writer: &mut W) -> Result<(), WriteFault>
+    ensures { Writes W.contents W.fault_count result writer.old writer.new (spec.sending_words (vacation_op_as vacation.now)) }
 {
     write_days(vacation.days, writer)?;
     write_given_string(b" subject ", vacation.subject, writer)?;
-    write_given_string(b" from ", vacation.from, writer)?;
+    write_given_string(b" from ", vacation.from, writer)
+}
+
+/// Writes what else is given of a `vacation` beside its text.
+#[tactic(auto, using(sieve_base::proofs::Writing::writing), unfolding(crate::specs::Dump::further_words))]
+fn write_further<W: Sink>(vacation: &VacationOp<'_>, writer: &mut W) -> Result<(), WriteFault>
+    ensures { Writes W.contents W.fault_count result writer.old writer.new (spec.further_words (vacation_op_as vacation.now)) }
+{
     write_addresses(&vacation.addresses, writer)?;
     write_mime(vacation.mime, writer)?;
     write_given_string(b" handle ", vacation.handle, writer)
+}
+
+/// Writes a command's word and then what is given of a `vacation` beside its text.
+#[tactic(auto, using(sieve_base::proofs::Writing::writing), unfolding(crate::specs::Dump::vacation_words))]
+fn write_vacation_words<W: Sink>(
+    word: &[u8],
+    vacation: &VacationOp<'_>,
+    writer: &mut W,
+) -> Result<(), WriteFault>
+    ensures { Writes W.contents W.fault_count result writer.old writer.new (spec.vacation_words word.now (vacation_op_as vacation.now)) }
+{
+    write_out(word, writer)?;
+    write_sending(vacation, writer)?;
+    write_further(vacation, writer)
 }
 
 /// Writes a `vacation`.
@@ -68,8 +86,7 @@ pub(crate) fn write_vacation<W: Sink>(
 ) -> Result<(), WriteFault>
     ensures { Writes W.contents W.fault_count result writer.old writer.new (spec.vacation_text (vacation_op_as vacation.now)) }
 {
-    write_out(b"vacation", writer)?;
-    write_vacation_words(vacation, writer)?;
+    write_vacation_words(b"vacation", vacation, writer)?;
     write_worded(b" ", vacation.reason, writer)
 }
 

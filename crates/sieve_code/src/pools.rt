@@ -225,6 +225,7 @@ impl Pools {
             special_use,
         })
     }
+
     /// Keeps what a `vacation` says, whose strings and list lie at their places. Answers its place.
     fn put_vacation(&mut self, vacation: PackedVacation) -> Result<u32, AllocError>
         ensures { IfOk result (λ place. Kept (pool_as self.old) (pool_as self.new) (λ p. vacation_packed_in p place) vacation) }
