@@ -55,7 +55,7 @@ fn write_sending<W: Sink>(vacation: &VacationOp<'_>, writer: &mut W) -> Result<(
 }
 
 /// Writes what else is given of a `vacation` beside its text.
-#[tactic(auto, using(sieve_base::proofs::Writing::writing), unfolding(crate::specs::Dump::further_words))]
+#[tactic(auto, using(sieve_base::proofs::Writing::writing, sieve_base::proofs::Writing::middle_failed), unfolding(crate::specs::Dump::further_words))]
 fn write_further<W: Sink>(vacation: &VacationOp<'_>, writer: &mut W) -> Result<(), WriteFault>
     ensures { Writes W.contents W.fault_count result writer.old writer.new (spec.further_words (vacation_op_as vacation.now)) }
 {
@@ -65,7 +65,7 @@ fn write_further<W: Sink>(vacation: &VacationOp<'_>, writer: &mut W) -> Result<(
 }
 
 /// Writes a command's word and then what is given of a `vacation` beside its text.
-#[tactic(auto, using(sieve_base::proofs::Writing::writing), unfolding(crate::specs::Dump::vacation_words))]
+#[tactic(auto, using(sieve_base::proofs::Writing::writing, sieve_base::proofs::Writing::middle_failed), unfolding(crate::specs::Dump::vacation_words))]
 fn write_vacation_words<W: Sink>(
     word: &[u8],
     vacation: &VacationOp<'_>,

@@ -27,13 +27,17 @@ abbrev pub given_words : List ℕ → Option (List ℕ) → List ℕ
 given_words word None = []
 given_words word (Some text) = word ++ quoted text
 
--- a word and a mailbox
-unfoldable pub mailbox_words : List ℕ → List ℕ → List ℕ
-mailbox_words word mailbox = word ++ quoted mailbox
+-- a word and a text
+unfoldable pub worded_text : List ℕ → List ℕ → List ℕ
+worded_text word text = word ++ quoted text
+
+-- a word and texts, each behind a space
+unfoldable pub worded_texts : List ℕ → List (List ℕ) → List ℕ
+worded_texts word texts = word ++ spaced_words texts
 
 -- the line of a word and a mailbox with flags
 unfoldable pub mailbox_line : List ℕ → List ℕ → List (List ℕ) → List ℕ
-mailbox_line word mailbox flags = mailbox_words word mailbox ++ spaced_words flags
+mailbox_line word mailbox flags = worded_text word mailbox ++ spaced_words flags
 
 -- what a store asks for beside: that its mailbox is made where it isn't there (RFC 5490, section 3.2), and the use of the mailbox to store into where
 -- there is one of that use (RFC 8579, section 4)
@@ -44,31 +48,31 @@ create_word true = codes " create"
 unfoldable pub filing_words : Filing → List ℕ
 filing_words filing = create_word filing.create ++ given_words (codes " special-use ") filing.special_use
 
--- what is given of a response beside its text (RFC 5230, sections 4.1 to 4.5)
+-- for how many days a sender gets no other response (RFC 5230, section 4.1), where that is said
 abbrev pub days_words : Option ℕ → List ℕ
 days_words None = []
 days_words (Some days) = codes " days " ++ decimal days
 
+-- further addresses of the user (RFC 5230, section 4.5), where they are given
 abbrev pub addresses_words : Option (List (List ℕ)) → List ℕ
 addresses_words None = []
-addresses_words (Some addresses) = codes " addresses" ++ spaced_words addresses
+addresses_words (Some addresses) = worded_texts (codes " addresses") addresses
 
+-- the word of a response whose text is a MIME entity (RFC 5230, section 4.4)
 abbrev pub mime_word : Bool → List ℕ
 mime_word false = []
 mime_word true = codes " mime"
 
-unfoldable pub response_words : Response → List ℕ
-response_words response =
-    days_words response.days
-    ++ (given_words (codes " subject ") response.subject
-    ++ (given_words (codes " from ") response.from
-    ++ (addresses_words response.addresses
-    ++ (mime_word response.mime
-    ++ given_words (codes " handle ") response.handle))))
+-- what is given of a response beside its text: how often a sender gets one, its subject and whom it is from, and then the rest
+unfoldable pub sending_words : Response → List ℕ
+sending_words response = days_words response.days ++ given_words (codes " subject ") response.subject ++ given_words (codes " from ") response.from
+
+unfoldable pub further_words : Response → List ℕ
+further_words response = addresses_words response.addresses ++ mime_word response.mime ++ given_words (codes " handle ") response.handle
 
 -- the line of a response
 unfoldable pub response_line : Response → List ℕ
-response_line response = (codes "vacation " ++ quoted response.reason) ++ response_words response
+response_line response = worded_text (codes "vacation ") response.reason ++ sending_words response ++ further_words response
 
 -- the line of an action
 unfoldable pub action_line : Action → List ℕ

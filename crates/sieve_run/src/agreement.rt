@@ -111,12 +111,12 @@ fn skip_flags<'a>(text: &'a [u8], flags: &FlagList) -> Option<&'a [u8]>
     Some(left)
 }
 
-/// What follows a word and a mailbox.
-#[tactic(auto, unfolding(crate::specs::Lines::mailbox_words))]
-fn skip_mailbox<'a>(text: &'a [u8], word: &[u8], mailbox: &[u8]) -> Option<&'a [u8]>
-    ensures { option_copied result ≡ behind_front (spec.mailbox_words word.now mailbox.now) text.now }
+/// What follows a word and a text.
+#[tactic(auto, unfolding(crate::specs::Lines::worded_text))]
+pub(crate) fn skip_worded<'a>(text: &'a [u8], word: &[u8], wanted: &[u8]) -> Option<&'a [u8]>
+    ensures { option_copied result ≡ behind_front (spec.worded_text word.now wanted.now) text.now }
 {
-    skip_pieces(text, &[Piece::Raw(word), Piece::Quoted(mailbox)])
+    skip_pieces(text, &[Piece::Raw(word), Piece::Quoted(wanted)])
 }
 
 /// What follows a word and a mailbox with flags.
@@ -129,7 +129,7 @@ fn skip_mailbox_line<'a>(
 ) -> Option<&'a [u8]>
     ensures { option_copied result ≡ behind_front (spec.mailbox_line word.now mailbox.now flags.now) text.now }
 {
-    let left = skip_mailbox(text, word, mailbox)?;
+    let left = skip_worded(text, word, mailbox)?;
     skip_flags(left, flags)
 }
 

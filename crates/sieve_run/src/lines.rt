@@ -1,7 +1,7 @@
 //! The lines of a verdict: what becomes of a message, and which names were looked up. Writing them takes no memory.
 ghost use Rattle.sieve_base.specs.Writers.{Writes};
 ghost use Rattle.std.specs.Prelude.{◌++◌, codes};
-ghost use Rattle.sieve_run.specs.Lines.{action_line, create_word, error_line, filing_words, given_words, implicit_line, mailbox_line, mailbox_words, origin_line, read_line, spaced_word, spaced_words};
+ghost use Rattle.sieve_run.specs.Lines.{action_line, create_word, error_line, filing_words, given_words, implicit_line, mailbox_line, origin_line, read_line, spaced_word, spaced_words, worded_text};
 
 use crate::response_lines::{write_reject, write_response};
 use match_text::FlagList;
@@ -26,12 +26,16 @@ fn write_flags<W: Sink>(flags: &FlagList, writer: &mut W) -> Result<(), WriteFau
     Ok(())
 }
 
-/// Writes a word and a mailbox.
-#[tactic(auto, unfolding(crate::specs::Lines::mailbox_words))]
-fn write_mailbox<W: Sink>(word: &[u8], mailbox: &[u8], writer: &mut W) -> Result<(), WriteFault>
-    ensures { Writes W.contents W.fault_count result writer.old writer.new (mailbox_words word.now mailbox.now) }
+/// Writes a word and a text.
+#[tactic(auto, unfolding(crate::specs::Lines::worded_text))]
+pub(crate) fn write_worded<W: Sink>(
+    word: &[u8],
+    text: &[u8],
+    writer: &mut W,
+) -> Result<(), WriteFault>
+    ensures { Writes W.contents W.fault_count result writer.old writer.new (worded_text word.now text.now) }
 {
-    write_pieces(&[Piece::Raw(word), Piece::Quoted(mailbox)], writer)
+    write_pieces(&[Piece::Raw(word), Piece::Quoted(text)], writer)
 }
 
 /// Writes the line of a word and a mailbox with flags.
@@ -44,7 +48,7 @@ fn write_mailbox_line<W: Sink>(
 ) -> Result<(), WriteFault>
     ensures { Writes W.contents W.fault_count result writer.old writer.new (mailbox_line word.now mailbox.now flags.now) }
 {
-    write_mailbox(word, mailbox, writer)?;
+    write_worded(word, mailbox, writer)?;
     write_flags(flags, writer)
 }
 

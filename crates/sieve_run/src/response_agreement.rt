@@ -5,7 +5,7 @@ ghost use Rattle.sieve_reading.specs.Reading.{rejection_word};
 ghost use Rattle.sieve_run.specs.Lines as spec;
 ghost use Rattle.sieve_run.specs.view.Left.{behind_front};
 
-use crate::agreement::{skip_given, skip_octets, skip_pieces, skip_spaced};
+use crate::agreement::{skip_given, skip_octets, skip_pieces, skip_spaced, skip_worded};
 use sieve_base::Piece;
 use sieve_effects::{Response, Texts};
 use sieve_reading::Rejection;
@@ -32,16 +32,21 @@ fn skip_texts<'a>(text: &'a [u8], texts: &Texts) -> Option<&'a [u8]>
     Some(left)
 }
 
+/// What follows a word and texts, each behind a space.
+#[tactic(auto, using(crate::proofs::Left::left), unfolding(crate::specs::Lines::worded_texts))]
+fn skip_worded_texts<'a>(text: &'a [u8], word: &[u8], texts: &Texts) -> Option<&'a [u8]>
+    ensures { option_copied result ≡ behind_front (spec.worded_texts word.now texts.now) text.now }
+{
+    let left = skip_octets(text, word)?;
+    skip_texts(left, texts)
+}
+
 /// What follows further addresses of the user, where they are given.
-#[tactic(auto, using(crate::proofs::Left::left))]
 fn skip_addresses<'a>(text: &'a [u8], addresses: &Option<Texts>) -> Option<&'a [u8]>
     ensures { option_copied result ≡ behind_front (spec.addresses_words addresses.now) text.now }
 {
     match addresses {
-        Some(addresses) => {
-            let left = skip_octets(text, b" addresses")?;
-            skip_texts(left, addresses)
-        }
+        Some(addresses) => skip_worded_texts(text, b" addresses", addresses),
         None => skip_octets(text, b""),
     }
 }
@@ -54,15 +59,22 @@ fn skip_mime(text: &[u8], mime: bool) -> Option<&[u8]>
     skip_octets(text, word)
 }
 
-/// What follows what is given of a response beside its text.
-#[tactic(auto, using(crate::proofs::Left::left), unfolding(crate::specs::Lines::response_words))]
-fn skip_response_words<'a>(text: &'a [u8], response: &Response) -> Option<&'a [u8]>
-    ensures { option_copied result ≡ behind_front (spec.response_words response.now) text.now }
+/// What follows how often a sender gets a response, its subject and whom it is from, where they are given.
+#[tactic(auto, using(crate::proofs::Left::left), unfolding(crate::specs::Lines::sending_words))]
+fn skip_sending<'a>(text: &'a [u8], response: &Response) -> Option<&'a [u8]>
+    ensures { option_copied result ≡ behind_front (spec.sending_words response.now) text.now }
 {
     let left = skip_days(text, response.days)?;
     let left = skip_given(left, b" subject ", &response.subject)?;
-    let left = skip_given(left, b" from ", &response.from)?;
-    let left = skip_addresses(left, &response.addresses)?;
+    skip_given(left, b" from ", &response.from)
+}
+
+/// What follows what else is given of a response beside its text.
+#[tactic(auto, using(crate::proofs::Left::left), unfolding(crate::specs::Lines::further_words))]
+fn skip_further<'a>(text: &'a [u8], response: &Response) -> Option<&'a [u8]>
+    ensures { option_copied result ≡ behind_front (spec.further_words response.now) text.now }
+{
+    let left = skip_addresses(text, &response.addresses)?;
     let left = skip_mime(left, response.mime)?;
     skip_given(left, b" handle ", &response.handle)
 }
@@ -72,14 +84,9 @@ fn skip_response_words<'a>(text: &'a [u8], response: &Response) -> Option<&'a [u
 pub(crate) fn skip_response<'a>(text: &'a [u8], response: &Response) -> Option<&'a [u8]>
     ensures { option_copied result ≡ behind_front (spec.response_line response.now) text.now }
 {
-    let left = skip_pieces(
-        text,
-        &[
-            Piece::Raw(b"vacation "),
-            Piece::Quoted(response.reason.as_slice()),
-        ],
-    )?;
-    skip_response_words(left, response)
+    let left = skip_worded(text, b"vacation ", response.reason.as_slice())?;
+    let left = skip_sending(left, response)?;
+    skip_further(left, response)
 }
 
 /// What follows the line of a rejection.

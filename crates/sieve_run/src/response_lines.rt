@@ -2,9 +2,9 @@
 ghost use Rattle.sieve_base.specs.Writers.{Writes};
 ghost use Rattle.std.specs.Prelude.{◌++◌};
 ghost use Rattle.sieve_reading.specs.Reading.{rejection_word};
-ghost use Rattle.sieve_run.specs.Lines.{addresses_words, days_words, mime_word, response_line, response_words, spaced_word, spaced_words};
+ghost use Rattle.sieve_run.specs.Lines.{addresses_words, days_words, further_words, mime_word, response_line, sending_words, spaced_word, spaced_words, worded_texts};
 
-use crate::lines::{write_given, write_spaced};
+use crate::lines::{write_given, write_spaced, write_worded};
 use sieve_base::{Piece, Sink, WriteFault, write_out, write_pieces};
 use sieve_effects::{Response, Texts};
 use sieve_reading::Rejection;
@@ -30,16 +30,21 @@ fn write_texts<W: Sink>(texts: &Texts, writer: &mut W) -> Result<(), WriteFault>
     Ok(())
 }
 
+/// Writes a word and texts, each behind a space.
+#[tactic(auto, using(sieve_base::proofs::Writing::writing), unfolding(crate::specs::Lines::worded_texts))]
+fn write_worded_texts<W: Sink>(word: &[u8], texts: &Texts, writer: &mut W) -> Result<(), WriteFault>
+    ensures { Writes W.contents W.fault_count result writer.old writer.new (worded_texts word.now texts.now) }
+{
+    write_out(word, writer)?;
+    write_texts(texts, writer)
+}
+
 /// Writes further addresses of the user, where they are given.
-#[tactic(auto, using(sieve_base::proofs::Writing::writing))]
 fn write_addresses<W: Sink>(addresses: &Option<Texts>, writer: &mut W) -> Result<(), WriteFault>
     ensures { Writes W.contents W.fault_count result writer.old writer.new (addresses_words addresses.now) }
 {
     match addresses {
-        Some(addresses) => {
-            write_out(b" addresses", writer)?;
-            write_texts(addresses, writer)
-        }
+        Some(addresses) => write_worded_texts(b" addresses", addresses, writer),
         None => write_out(b"", writer),
     }
 }
@@ -52,32 +57,34 @@ fn write_mime<W: Sink>(mime: bool, writer: &mut W) -> Result<(), WriteFault>
     write_out(word, writer)
 }
 
-/// Writes what is given of a response beside its text.
-#[tactic(auto, using(sieve_base::proofs::Writing::writing), unfolding(crate::specs::Lines::response_words))]
-fn write_response_words<W: Sink>(response: &Response, writer: &mut W) -> Result<(), WriteFault>
-    ensures { Writes W.contents W.fault_count result writer.old writer.new (response_words response.now) }
+/// Writes how often a sender gets a response, its subject and whom it is from, where they are given.
+#[tactic(auto, using(sieve_base::proofs::Writing::writing), unfolding(crate::specs::Lines::sending_words))]
+fn write_sending<W: Sink>(response: &Response, writer: &mut W) -> Result<(), WriteFault>
+    ensures { Writes W.contents W.fault_count result writer.old writer.new (sending_words response.now) }
 {
     write_days(response.days, writer)?;
     write_given(b" subject ", &response.subject, writer)?;
-    write_given(b" from ", &response.from, writer)?;
+    write_given(b" from ", &response.from, writer)
+}
+
+/// Writes what else is given of a response beside its text.
+#[tactic(auto, using(sieve_base::proofs::Writing::writing, sieve_base::proofs::Writing::middle_failed), unfolding(crate::specs::Lines::further_words))]
+fn write_further<W: Sink>(response: &Response, writer: &mut W) -> Result<(), WriteFault>
+    ensures { Writes W.contents W.fault_count result writer.old writer.new (further_words response.now) }
+{
     write_addresses(&response.addresses, writer)?;
     write_mime(response.mime, writer)?;
     write_given(b" handle ", &response.handle, writer)
 }
 
 /// Writes the line of a response.
-#[tactic(auto, using(sieve_base::proofs::Writing::writing), unfolding(crate::specs::Lines::response_line))]
+#[tactic(auto, using(sieve_base::proofs::Writing::writing, sieve_base::proofs::Writing::middle_failed), unfolding(crate::specs::Lines::response_line))]
 pub(crate) fn write_response<W: Sink>(response: &Response, writer: &mut W) -> Result<(), WriteFault>
     ensures { Writes W.contents W.fault_count result writer.old writer.new (response_line response.now) }
 {
-    write_pieces(
-        &[
-            Piece::Raw(b"vacation "),
-            Piece::Quoted(response.reason.as_slice()),
-        ],
-        writer,
-    )?;
-    write_response_words(response, writer)
+    write_worded(b"vacation ", response.reason.as_slice(), writer)?;
+    write_sending(response, writer)?;
+    write_further(response, writer)
 }
 
 /// Writes the line of a rejection.
