@@ -264,6 +264,12 @@ def of_lints(room):
     order = sorted(faults, key=lambda fault: (not fault[0].startswith("global"), fault[0]))
     wanted = [f"lint/{place}: {word}: {sentence}" for place, word, sentence in order]
     yield run("faults, and what may stand behind them", room, "lint lint", lines(*wanted), status=1)
+    answers = b'require ["vacation", "variables"];\nvacation :days 1 :subject "a ${b}" :from "x\\\\" :mime "a";\nvacation :from "a@b.example" "b";\nvacation :from "x${c}" "d";\nvacation :from "a, b" "\\\"";\n'
+    write(room / "answers", {"personal/main.sieve": answers, "mains": b"main\n", "with": b"vacation\n"})
+    yield run("senders of responses", room, "lint answers", lines(*(f"answers/personal/main.sieve:{line}: bad-address: This isn't one address." for line in (2, 5))), status=1)
+    stores = b'require ["fileinto", "mailbox", "special-use", "copy"];\nfileinto :create :copy "";\nfileinto :specialuse "\\\\Junk" "\t";\n'
+    write(room / "stores", {"personal/main.sieve": stores, "mains": b"main\n", "with": b"mailbox\nspecial-use\n"})
+    yield run("mailboxes of stores that ask for more", room, "lint stores", lines(*(f"stores/personal/main.sieve:{line}: bad-mailbox: A mailbox can't have this name." for line in (2, 3))), status=1)
     write(room / "alone", {"personal/main.sieve": b'require "include"; include :global "a";', "global/a.sieve": b"", "personal/a.sieve": b"", "mains": b"main\n"})
     yield run("a script that no main one comes to", room, "lint alone", lines("alone/personal/a.sieve:0: unreached: No main script comes to it."))
     write(room / "once", {"personal/main.sieve": b'require "include"; include "t";', "personal/t.sieve": b'require "include"; include :once "main";', "mains": b"main\n"})
