@@ -1,0 +1,2 @@
+pub mod DayLemmas
+pub mod WordLemmas

@@ -1,6 +1,6 @@
 -- Dates of the years 0 to 9999, and their day numbers. Which dates there are, and how many days each is after 1970-01-01, is told
 -- by the calendar of `jiff_core`.
-use Rattle.std.specs.Prelude.{◌≡◌, ℕ, zero, suc, ◌+◌, ◌-◌, ◌*◌, ◌%◌, ◌≤◌, Bool, ◌&&◌, ◌==◌, nat_lt, ℤ, pos, ◌-ℤ◌, int_le, unsigned_abs, Option, Some, None, if◌then◌else◌}
+use Rattle.std.specs.Prelude.{ℕ, zero, suc, ◌+◌, ◌%◌, Bool, ◌&&◌, nat_lt, ℤ, pos, ◌-ℤ◌, int_le, unsigned_abs, Option, Some, None, if◌then◌else◌}
 use Rattle.jiff_core.specs.Calendar.{days_from_civil, days_in_month, weekday_number, IsCivilDate}
 use Rattle.sieve_base.specs.Octet.{is_between}
 

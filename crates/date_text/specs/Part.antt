@@ -1,5 +1,5 @@
 -- The parts of a date by their names (RFC 5260, section 4.2).
-use Rattle.std.specs.Prelude.{ℕ, Bool, List, Option, find, codes}
+use Rattle.std.specs.Prelude.{ℕ, List, Option, find, codes}
 use Rattle.std.specs.Str.{str_eq_ignore_ascii_case}
 use Rattle.sieve_profile.specs.Every.{every}
 use Rattle.date_text.specs.contracts.part.DatePart.{enum}

@@ -1,5 +1,5 @@
 -- Dates as they are written (RFC 5322, sections 3.3 and 4.3).
-use Rattle.std.specs.Prelude.{ℕ, ◌+◌, ◌*◌, Bool, false, ◌&&◌, ◌==◌, nat_le, nat_lt, pos, List, [], ◌∷◌, Option, Some, None, codes, position, if◌then◌else◌}
+use Rattle.std.specs.Prelude.{ℕ, ◌+◌, ◌*◌, Bool, false, ◌&&◌, ◌==◌, nat_le, nat_lt, List, [], ◌∷◌, Option, Some, None, codes, position, if◌then◌else◌}
 use Rattle.std.specs.List.{after_last, list_any}
 use Rattle.std.specs.Option.{option_and_then, option_map}
 use Rattle.sieve_base.specs.Octet.{octet_of}
@@ -7,7 +7,7 @@ use Rattle.date_text.specs.Calendar.{CivilDate, date_of, day_number}
 use Rattle.date_text.specs.Moment.{Moment, moment_at}
 use Rattle.date_text.specs.Number.{digit_number, four_number, pair_number, up_to}
 use Rattle.date_text.specs.Words.{Word, without_comments, words_of}
-use Rattle.date_text.specs.Zone.{Zone, is_same_name, zone_of_words}
+use Rattle.date_text.specs.Zone.{is_same_name, zone_of_words}
 
 -- NAMES
 

@@ -1,7 +1,6 @@
 -- The parts of a date as they are shown (RFC 5260, section 4.2).
-use Rattle.std.specs.Prelude.{ℕ, ◌+◌, ◌*◌, ◌-◌, ◌/◌, ◌%◌, ℤ, pos, ◌+ℤ◌, List, [], ◌∷◌, ◌++◌, Option, Some, None, codes, get_or, if◌then◌else◌}
+use Rattle.std.specs.Prelude.{ℕ, ◌+◌, ◌-◌, ◌/◌, ◌%◌, ℤ, pos, ◌+ℤ◌, List, [], ◌∷◌, ◌++◌, Option, Some, None, codes, get_or, if◌then◌else◌}
 use Rattle.std.specs.Fmt.{signed_decimal}
-use Rattle.sieve_base.specs.Octet.{octet_of}
 use Rattle.date_text.specs.Calendar.{CivilDate, date_at, is_in_years, weekday_at}
 use Rattle.date_text.specs.Moment.{Moment, day_in, minute_in}
 use Rattle.date_text.specs.Number.{digit, four_digits, two_digits}

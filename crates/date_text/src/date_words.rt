@@ -1,12 +1,11 @@
 //! The words of a date and a time, by what they stand for (RFC 5322, sections 3.3 and 4.3).
 ghost use Rattle.std.specs.Prelude.{◌≡◌, true, IfSome, length};
-ghost use Rattle.std.specs.List.{list_any};
 ghost use Rattle.std.specs.Option.{option_map};
 ghost use Rattle.date_text.specs.Reading.{after_second, after_weekday, date_words, is_sign, is_weekday, second_word};
 ghost use Rattle.date_text.specs.view.Words.{closes, date_words_as, words_in};
 
 use crate::words::next_word;
-use crate::zone_words::is_same_name;
+use crate::zone_words::is_one_of;
 
 /// The words of a date and a time, and the text whose words tell the zone.
 #[derive(Clone, Copy)]
@@ -29,7 +28,7 @@ pub(crate) const WEEKDAY_NAMES: [&[u8]; 7] = [
 fn is_weekday(word: &[u8]) -> bool
     ensures { result ≡ is_weekday word.now }
 {
-    WEEKDAY_NAMES.iter().any(|name| is_same_name(word, name))
+    is_one_of(word, &WEEKDAY_NAMES)
 }
 
 // Whether a word is one such octet.

@@ -5,7 +5,7 @@ ghost use Rattle.jiff_core.specs.Calendar.{IsEpochDay};
 ghost use Rattle.date_text.specs.Calendar.{is_in_years};
 ghost use Rattle.date_text.specs.Moment.{day_in};
 
-use crate::calendar::date_at;
+use crate::calendar::{date_at, day_of_minutes, minute_of_minutes, weekday_of};
 use crate::moment::Moment;
 use crate::zone::Zone;
 
@@ -41,15 +41,17 @@ impl LocalTime {
         ensures none { MatchOption result (is_in_years (day_in (moment_as moment.now) (zone_as zone)) ≡ false) (λ _. is_in_years (day_in (moment_as moment.now) (zone_as zone)) ≡ true) }
         ensures is { IfSome result (λ time. local_as time ≡ local (moment_as moment.now) (zone_as zone)) }
     {
-        let minutes = moment.minutes + zone.shift();
-        let date = date_at(minutes.div_euclid(1440))?;
+        let minutes = moment.minutes_in(&zone);
+        let Some(date) = date_at(day_of_minutes(minutes)) else {
+            return None;
+        };
         Some(LocalTime {
             year: date.year.unsigned_abs(),
             month: date.month,
             day: date.day,
-            weekday: date.weekday().to_sunday_zero_offset().unsigned_abs(),
+            weekday: weekday_of(date),
             number: date.to_unix_epoch_day(),
-            minute: minutes.rem_euclid(1440).unsigned_abs() as u16,
+            minute: minute_of_minutes(minutes),
             second: moment.second,
             zone,
         })

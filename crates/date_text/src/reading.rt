@@ -1,7 +1,7 @@
 //! Dates as they are written (RFC 5322, sections 3.3 and 4.3).
-ghost use Rattle.std.specs.Prelude.{◌≡◌, ◌≤◌, ◌<◌, ◌==◌, pos, true, IfSome, unsigned_abs};
+ghost use Rattle.std.specs.Prelude.{◌≡◌, ◌≤◌, ◌<◌, ◌==◌, pos, true, IfSome, not, unsigned_abs};
 ghost use Rattle.std.specs.Int.{IsInRange};
-ghost use Rattle.std.specs.List.{after_last};
+ghost use Rattle.std.specs.List.{after_last, suffix_len};
 ghost use Rattle.std.specs.Option.{option_map};
 ghost use Rattle.sieve_base.specs.Octet.{octet_of};
 ghost use Rattle.date_text.specs.Number.{pair_number};
@@ -15,7 +15,7 @@ use crate::date_words::{DateSlices, date_words};
 use crate::moment::Moment;
 use crate::number::{digit_number, four_number, pair_number, up_to};
 use crate::spot::is_closed;
-use crate::zone_words::{is_same_name, zone_in};
+use crate::zone_words::{place_of, zone_in};
 use jiff_core::civil::Date;
 
 /// The names of the months, from January on.
@@ -28,9 +28,7 @@ fn month_number(word: &[u8]) -> Option<u8>
     ensures is { result ≡ month_number word.now }
     ensures small { IfSome result (λ n. IsInRange 1 12 n) }
 {
-    let place = MONTH_NAMES
-        .iter()
-        .position(|name| is_same_name(word, name))?;
+    let place = place_of(word, &MONTH_NAMES)?;
     Some(place as u8 + 1)
 }
 
@@ -130,16 +128,29 @@ fn moment_of_words(words: &DateSlices<'_>) -> Option<Moment>
     Some(Moment::at(date.to_unix_epoch_day(), minute, second, zone))
 }
 
+// Whether an octet is no `;`.
+fn is_no_semicolon(octet: u8) -> bool
+    ensures { result ≡ not (octet == octet_of ";") }
+{
+    octet != b';'
+}
+
+// How many octets stand after the last `;`, or how many there are where there is none.
+fn tail_len(value: &[u8]) -> usize
+    ensures { result ≡ suffix_len (λ octet. not (octet == octet_of ";")) value.now }
+{
+    value
+        .iter()
+        .rev()
+        .take_while(|octet| is_no_semicolon(**octet))
+        .count()
+}
+
 // What stands after the last `;`, or all where there is none.
 fn after_last_semicolon(value: &[u8]) -> &[u8]
     ensures { result.now ≡ after_last (λ c. c == octet_of ";") value.now }
 {
-    let count = value
-        .iter()
-        .rev()
-        .take_while(|octet| **octet != b';')
-        .count();
-    let (_, text) = value.split_at(value.len() - count);
+    let (_, text) = value.split_at(value.len() - tail_len(value));
     text
 }
 

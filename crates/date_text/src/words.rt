@@ -3,7 +3,7 @@ ghost use Rattle.std.specs.Prelude.{◌≡◌, ◌+◌, ◌<◌, ◌≤◌, ◌^
 ghost use Rattle.std.specs.List.{list_all, prefix_len};
 ghost use Rattle.date_text.specs.Words.{is_closed, is_joined, is_letter};
 ghost use Rattle.date_text.specs.declared.spot.Spot.TheVariants.{Outside};
-ghost use Rattle.date_text.specs.view.Words.{begins_word, closes, depth_of, is_of_word, words_from, words_in};
+ghost use Rattle.date_text.specs.view.Words.{begins_word, closes, depth_of, is_of_word, is_word_at, words_from, words_in};
 
 use crate::spot::Spot;
 use sieve_base::octet::{is_digit, is_white};
@@ -45,6 +45,13 @@ fn is_of_word(octet: u8) -> bool
     !is_white(octet) && octet != b'('
 }
 
+// Whether an octet that stands there is one of a word.
+fn is_word_at(spot: Spot, octet: u8) -> bool
+    ensures { result ≡ is_word_at spot octet }
+{
+    spot.is_outside() && is_of_word(octet)
+}
+
 // What stands after the first octet of a text, if it is no octet of a word, and where that stands.
 fn after_blank(spot: Spot, text: &[u8]) -> Option<(Spot, &[u8])>
     requires { depth_of spot < 2 ^ 63 }
@@ -56,7 +63,7 @@ fn after_blank(spot: Spot, text: &[u8]) -> Option<(Spot, &[u8])>
     let [octet, rest @ ..] = text else {
         return None;
     };
-    if spot.is_outside() && is_of_word(*octet) {
+    if is_word_at(spot, *octet) {
         return None;
     }
     Some((spot.after(*octet), rest))

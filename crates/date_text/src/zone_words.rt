@@ -1,5 +1,6 @@
 //! Zones as they are written (RFC 5322, sections 3.3 and 4.3).
-ghost use Rattle.std.specs.Prelude.{◌≡◌, ◌≤◌, true, IfSome};
+ghost use Rattle.std.specs.Prelude.{◌≡◌, ◌≤◌, true, IfSome, position};
+ghost use Rattle.std.specs.List.{list_any};
 ghost use Rattle.std.specs.Option.{option_map};
 ghost use Rattle.date_text.specs.Zone.{is_same_name, zone_minutes, zone_named, zone_of_letters, zone_of_sign};
 ghost use Rattle.date_text.specs.Zone.{zone_of_two, zone_of_word, zone_of_words};
@@ -39,6 +40,20 @@ pub(crate) fn is_same_name(word: &[u8], name: &[u8]) -> bool
     ensures { result ≡ is_same_name word.now name.now }
 {
     name.eq_ignore_ascii_case(word)
+}
+
+/// Whether a word is one of these names, in any case of letters.
+pub(crate) fn is_one_of(word: &[u8], names: &[&[u8]]) -> bool
+    ensures { result ≡ list_any (λ name. is_same_name word.now name.now) names.now }
+{
+    names.iter().any(|name| is_same_name(word, name))
+}
+
+/// The place of the name that a word is, in any case of letters.
+pub(crate) fn place_of(word: &[u8], names: &[&[u8]]) -> Option<usize>
+    ensures { result ≡ position (λ name. is_same_name word.now name.now) names.now }
+{
+    names.iter().position(|name| is_same_name(word, name))
 }
 
 // The zone of letters.

@@ -1,8 +1,8 @@
 -- The program's spots and words.
-use Rattle.std.specs.Prelude.{ℕ, ◌+◌, Bool, true, false, not, ◌&&◌, ◌==◌, List, [], ◌∷◌, Option, option_map}
+use Rattle.std.specs.Prelude.{ℕ, ◌+◌, Bool, true, not, ◌&&◌, ◌==◌, List, [], ◌∷◌, option_map}
 use Rattle.sieve_base.specs.Octet.{is_white, octet_of}
 use Rattle.date_text.specs.Reading.{DateWords}
-use Rattle.date_text.specs.Words.{Word, is_closed, kept, words_of}
+use Rattle.date_text.specs.Words.{Word, is_closed, is_outside, kept, words_of}
 use Rattle.date_text.specs.declared.date_words.DateSlices as slices
 use Rattle.date_text.specs.declared.spot.Spot.{Spot}
 use Rattle.date_text.specs.declared.spot.Spot.TheVariants.{Escaped, Inside, Outside}
@@ -27,6 +27,10 @@ closes text = is_closed Outside text
 -- whether an octet outside comments is one of a word
 abbrev pub is_of_word : ℕ → Bool
 is_of_word c = not (is_white c) && not (c == octet_of "(")
+
+-- whether an octet that stands at such a spot is one of a word
+abbrev pub is_word_at : Spot → ℕ → Bool
+is_word_at spot c = is_outside spot && is_of_word c
 
 -- whether a text has no white space and no comment before its first word
 abbrev pub begins_word : List ℕ → Bool
