@@ -1,12 +1,13 @@
 -- The date of a day number, and the day number of a date.
-use Rattle.std.proofs.Common.{◌≡◌, ℕ, zero, suc, ◌+◌, ◌-◌, ◌<◌, ◌≤◌, inl, inr, Bool, true, false, cond, refl, sym, ap, ◌∙◌, arith, ℤ, pos, negsuc, ◌-ℤ◌, ◌<ℤ◌, ◌≤ℤ◌, unsigned_abs, rules}
-use Rattle.std.proofs.lemmas.Bool.{and_right, cases_order}
+use Rattle.std.proofs.Common.{◌≡◌, ℕ, zero, suc, ◌+◌, ◌-◌, ◌<◌, ◌≤◌, inl, inr, Bool, true, false, cond, nat_lt, refl, sym, subst, ap, ◌∙◌, arith, ℤ, pos, negsuc, ◌+ℤ◌, ◌-ℤ◌, ◌<ℤ◌, ◌≤ℤ◌, unsigned_abs, rules}
+use Rattle.std.proofs.lemmas.Bool.{and_parts, and_right, cases_order, ltb-false, ltb-true}
 use Rattle.std.proofs.lemmas.Int.{by_lt_z, ints}
-use Rattle.jiff_core.specs.Calendar.{days_from_civil, IsCivilDate, IsEpochDay}
+use Rattle.jiff_core.specs.Calendar.{days_from_civil, days_in_month, IsCivilDate, IsEpochDay, IsYear}
 use Rattle.jiff_core.proofs.SignedLemmas.{signed_arith}
 use Rattle.jiff_core.proofs.CalendarLemmas.{day_count-day, day_count-day_of_year, day_count-later_year, day_count-lt_month, day_count-lt_year, day_count_bounds, days_from_civil-day_count, days_in_month_bounds}
-use Rattle.jiff_core.proofs.DateLemmas.{days_from_civil-max}
-use Rattle.date_text.specs.Calendar.{CivilDate, IsInCalendar, count_to, date_at, day_at, day_number, has_come, is_in_years, month_at, year_at}
+use Rattle.jiff_core.proofs.DateLemmas.{days_from_civil-day, days_from_civil-max, days_from_civil-next_month, days_from_civil-next_year}
+use Rattle.date_text.specs.Calendar.{CivilDate, IsInCalendar, count_to, date_at, day_at, day_number, has_come, is_in_years, month_at, next_date, year_at}
+use borrow.Author.Differences.{up, down}
 
 -- how many numbers pass, where those up to one do
 pub count_is : (n x : ℕ) (passes : ℕ → Bool) → x ≤ n → ((k : ℕ) → 1 ≤ k → k ≤ x → passes k ≡ true) → ((k : ℕ) → x < k → k ≤ n → passes k ≡ false) → count_to n passes ≡ x
@@ -126,3 +127,84 @@ late_in_years (negsuc y) m d h late = absurd (omega (arith, signed_arith))
 pub late_date : (y : ℤ) (m d : ℕ) → IsCivilDate y m d → pos 0 ≤ℤ y → record { year = unsigned_abs y; month = m; day = d } ≡ date_at (days_from_civil y m d)
 late_date (pos y) m d h late = sym (date_at-day_number (record { year = y; month = m; day = d }) h)
 late_date (negsuc y) m d h late = absurd (omega (arith, signed_arith))
+
+-- THE NEXT DATE
+
+-- the day after a date, by whether it is of the same month and of the same year
+abbrev IsNext : CivilDate → CivilDate → Type 0
+IsNext date next = (day_number next ≡ day_number date +ℤ pos 1) × (day_number date <ℤ days_from_civil (pos 9999) 12 31 → IsInCalendar next)
+
+same_month : (y m d : ℕ) → IsCivilDate (pos y) m d → d < days_in_month (pos y) m → IsNext (record { year = y; month = m; day = d }) (record { year = y; month = m; day = d + 1 })
+same_month y m d h more = (
+  omega (arith, signed_arith, days_from_civil-day (pos y) m d (d + 1) h.2.0 (omega arith)),
+  λ _. (h.0, h.1, (omega arith, omega arith)),
+)
+
+next_month : (y m d : ℕ) → IsCivilDate (pos y) m d → d ≡ days_in_month (pos y) m → m < 12 → IsNext (record { year = y; month = m; day = d }) (record { year = y; month = m + 1; day = 1 })
+next_month y m d h last more =
+    let long = days_in_month_bounds (pos y) (m + 1) in (
+      days_from_civil-next_month (pos y) m d h.1.0 last,
+      λ _. (h.0, (omega arith, omega arith), (omega arith, omega arith)),
+    )
+
+december : (y d : ℕ) → d ≡ days_in_month (pos y) 12 → d ≡ 31
+december y d last = last
+
+year_left : (y m d : ℕ) → IsCivilDate (pos y) m d → days_from_civil (pos y) m d ≡ days_from_civil (pos y) 12 31 → days_from_civil (pos y) m d <ℤ days_from_civil (pos 9999) 12 31 → IsYear (pos (y + 1))
+year_left y m d h number before =
+    elim (cases_order y 9999) [
+      | inl same ↦ let last = number ∙ ap (λ year. days_from_civil (pos year) 12 31) same in absurd (omega (arith, signed_arith))
+      | inr (inl lt) ↦ (omega (arith, signed_arith), omega (arith, signed_arith))
+      | inr (inr gt) ↦ let high = h.0.1 in absurd (omega (arith, signed_arith))
+    ]
+
+next_year : (y m d : ℕ) → IsCivilDate (pos y) m d → d ≡ days_in_month (pos y) m → m ≡ 12 → IsNext (record { year = y; month = m; day = d }) (record { year = y + 1; month = 1; day = 1 })
+next_year y m d h last twelve =
+    let day : d ≡ 31 = december y d (last ∙ ap (days_in_month (pos y)) twelve) in
+    let number : days_from_civil (pos y) m d ≡ days_from_civil (pos y) 12 31 = ap (λ month. days_from_civil (pos y) month d) twelve ∙ ap (days_from_civil (pos y) 12) day in
+    let next : days_from_civil (pos (y + 1)) 1 1 ≡ days_from_civil (pos y) 12 31 +ℤ pos 1 = days_from_civil-next_year (pos y) (pos (y + 1)) (omega (arith, signed_arith)) refl in
+    let long = days_in_month_bounds (pos (y + 1)) 1 in (
+      next ∙ ap (λ z. z +ℤ pos 1) (sym number),
+      λ before. (year_left y m d h number before, (omega arith, omega arith), (omega arith, omega arith)),
+    )
+
+next_step : (y m d : ℕ) (within early : Bool) → nat_lt d (days_in_month (pos y) m) ≡ within → nat_lt m 12 ≡ early → IsCivilDate (pos y) m d → IsNext (record { year = y; month = m; day = d }) (cond within (record { year = y; month = m; day = d + 1 }) (cond early (record { year = y; month = m + 1; day = 1 }) (record { year = y + 1; month = 1; day = 1 })))
+next_step y m d true early is_within is_early h = same_month y m d h (ltb-true _ _ is_within)
+next_step y m d false true is_within is_early h =
+    let long = ltb-false d (days_in_month (pos y) m) is_within in
+    let high = h.2.1 in
+    next_month y m d h (omega arith) (ltb-true m 12 is_early)
+next_step y m d false false is_within is_early h =
+    let long = ltb-false d (days_in_month (pos y) m) is_within in
+    let high = h.2.1 in
+    let late = ltb-false m 12 is_early in
+    let last = h.1.1 in
+    next_year y m d h (omega arith) (omega arith)
+
+pub next_is : (date : CivilDate) → IsInCalendar date → IsNext date (next_date date)
+next_is date h = next_step date.year date.month date.day (nat_lt date.day (days_in_month (pos date.year) date.month)) (nat_lt date.month 12) refl refl h
+
+-- each day number from that of 0000-01-01 to that of 9999-12-31 is that of a date
+days_on : (n : ℕ) → (days_from_civil (pos 0) 1 1 +ℤ pos n) ≤ℤ days_from_civil (pos 9999) 12 31 → (date : CivilDate) × IsInCalendar date × (day_number date ≡ days_from_civil (pos 0) 1 1 +ℤ pos n)
+days_on zero h = (record { year = 0; month = 1; day = 1 }, first_is, omega (arith, signed_arith))
+days_on (suc n) h =
+    let before = days_on n (omega (arith, signed_arith)) in
+    let next = next_is before.0 before.1 in
+    let number = before.2 in
+    (next_date before.0, next.1 (omega (arith, signed_arith)), next.0 ∙ omega (arith, signed_arith))
+
+come_is : (a b : ℤ) → has_come a b ≡ true → a ≤ℤ b
+come_is a b h = grind (arith, ints)
+
+-- each day of the years has its date
+pub date_at_is : (day : ℤ) → is_in_years day ≡ true → IsInCalendar (date_at day) × (day_number (date_at day) ≡ day)
+date_at_is day h =
+    let ends = and_parts (has_come (days_from_civil (pos 0) 1 1) day) (has_come day (days_from_civil (pos 9999) 12 31)) h in
+    let low = come_is (days_from_civil (pos 0) 1 1) day ends.0 in
+    let high = come_is day (days_from_civil (pos 9999) 12 31) ends.1 in
+    let n = up day + down (days_from_civil (pos 0) 1 1) - (down day + up (days_from_civil (pos 0) 1 1)) in
+    let there : days_from_civil (pos 0) 1 1 +ℤ pos n ≡ day = omega (arith, signed_arith) in
+    let found = days_on n (omega (arith, signed_arith)) in
+    let number : day_number found.0 ≡ day = found.2 ∙ there in
+    let date : date_at day ≡ found.0 = ap date_at (sym number) ∙ date_at-day_number found.0 found.1 in
+    (subst IsInCalendar (sym date) found.1, ap day_number date ∙ number)

@@ -1,2 +1,3 @@
 pub mod DayLemmas
+pub mod MomentLemmas
 pub mod WordLemmas
