@@ -196,15 +196,20 @@ days_on (suc n) h =
 come_is : (a b : ℤ) → has_come a b ≡ true → a ≤ℤ b
 come_is a b h = grind (arith, ints)
 
+date_at_same : (day : ℤ) (date : CivilDate) → IsInCalendar date → day_number date ≡ day → IsInCalendar (date_at day) × (day_number (date_at day) ≡ day)
+date_at_same day date h number =
+    let is : date_at day ≡ date = sym (ap date_at number) ∙ date_at-day_number date h in
+    (subst IsInCalendar (sym is) h, ap day_number is ∙ number)
+
+days_since : (first last day : ℤ) → first ≤ℤ day → day ≤ℤ last → (n : ℕ) × (first +ℤ pos n ≡ day) × ((first +ℤ pos n) ≤ℤ last)
+days_since first last day low high = (up day + down first - (down day + up first), omega (arith, signed_arith), omega (arith, signed_arith))
+
 -- each day of the years has its date
 pub date_at_is : (day : ℤ) → is_in_years day ≡ true → IsInCalendar (date_at day) × (day_number (date_at day) ≡ day)
 date_at_is day h =
     let ends = and_parts (has_come (days_from_civil (pos 0) 1 1) day) (has_come day (days_from_civil (pos 9999) 12 31)) h in
     let low = come_is (days_from_civil (pos 0) 1 1) day ends.0 in
     let high = come_is day (days_from_civil (pos 9999) 12 31) ends.1 in
-    let n = up day + down (days_from_civil (pos 0) 1 1) - (down day + up (days_from_civil (pos 0) 1 1)) in
-    let there : days_from_civil (pos 0) 1 1 +ℤ pos n ≡ day = omega (arith, signed_arith) in
-    let found = days_on n (omega (arith, signed_arith)) in
-    let number : day_number found.0 ≡ day = found.2 ∙ there in
-    let date : date_at day ≡ found.0 = ap date_at (sym number) ∙ date_at-day_number found.0 found.1 in
-    (subst IsInCalendar (sym date) found.1, ap day_number date ∙ number)
+    let since = days_since (days_from_civil (pos 0) 1 1) (days_from_civil (pos 9999) 12 31) day low high in
+    let found = days_on since.0 since.2 in
+    date_at_same day found.0 found.1 (found.2 ∙ since.1)

@@ -1,3 +1,4 @@
 pub mod DayLemmas
 pub mod MomentLemmas
+pub mod ReadLemmas
 pub mod WordLemmas

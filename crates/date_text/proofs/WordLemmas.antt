@@ -14,17 +14,17 @@ use Rattle.date_text.specs.view.Words.{begins_word, closes, is_of_word, is_word_
 
 -- the words of a text by its first octet
 
-words_white : (x : ℕ) (rest : List ℕ) → is_white x ≡ true → words_of (x ∷ rest) ≡ words_of rest
+pub words_white : (x : ℕ) (rest : List ℕ) → is_white x ≡ true → words_of (x ∷ rest) ≡ words_of rest
 unfolding words_of
 words_white x rest white = ap (λ w. cond w (words_of rest) (cond (is_joined_to x rest) (onto_first x (words_of rest)) ((x ∷ []) ∷ words_of rest))) white
 
-words_alone : (x : ℕ) (rest : List ℕ) → is_white x ≡ false → is_joined_to x rest ≡ false → words_of (x ∷ rest) ≡ (x ∷ []) ∷ words_of rest
+pub words_alone : (x : ℕ) (rest : List ℕ) → is_white x ≡ false → is_joined_to x rest ≡ false → words_of (x ∷ rest) ≡ (x ∷ []) ∷ words_of rest
 unfolding words_of
 words_alone x rest white apart =
     ap (λ w. cond w (words_of rest) (cond (is_joined_to x rest) (onto_first x (words_of rest)) ((x ∷ []) ∷ words_of rest))) white
     ∙ ap (λ j. cond j (onto_first x (words_of rest)) ((x ∷ []) ∷ words_of rest)) apart
 
-words_joined : (x : ℕ) (rest : List ℕ) → is_white x ≡ false → is_joined_to x rest ≡ true → words_of (x ∷ rest) ≡ onto_first x (words_of rest)
+pub words_joined : (x : ℕ) (rest : List ℕ) → is_white x ≡ false → is_joined_to x rest ≡ true → words_of (x ∷ rest) ≡ onto_first x (words_of rest)
 unfolding words_of
 words_joined x rest white joined =
     ap (λ w. cond w (words_of rest) (cond (is_joined_to x rest) (onto_first x (words_of rest)) ((x ∷ []) ∷ words_of rest))) white
@@ -72,23 +72,23 @@ cons_first (c ∷ rest) some = simp unary_clauses (ap (λ behind. c ∷ behind) 
 
 -- WORDS
 
-no_white : (w p : Bool) → (not w && not p) ≡ true → (w ≡ false) × (p ≡ false)
+pub no_white : (w p : Bool) → (not w && not p) ≡ true → (w ≡ false) × (p ≡ false)
 no_white true p is = absurd cc
 no_white false true is = absurd cc
 no_white false false is = (refl, refl)
 
-kept_word : (c : ℕ) (rest : List ℕ) → (c == octet_of "(") ≡ false → kept Outside (c ∷ rest) ≡ c ∷ kept Outside rest
+pub kept_word : (c : ℕ) (rest : List ℕ) → (c == octet_of "(") ≡ false → kept Outside (c ∷ rest) ≡ c ∷ kept Outside rest
 unfolding kept
 kept_word c rest none = ap (λ p. cond p (octet_of " ") c ∷ kept (cond p (Inside 0) Outside) rest) none
 
-closed_word : (c : ℕ) (rest : List ℕ) → (c == octet_of "(") ≡ false → is_closed Outside (c ∷ rest) ≡ is_closed Outside rest
+pub closed_word : (c : ℕ) (rest : List ℕ) → (c == octet_of "(") ≡ false → is_closed Outside (c ∷ rest) ≡ is_closed Outside rest
 unfolding is_closed
 closed_word c rest none = ap (λ p. is_closed (cond p (Inside 0) Outside) rest) none
 
-not_both : (c : ℕ) → (is_letter c && is_digit c) ≡ false
+pub not_both : (c : ℕ) → (is_letter c && is_digit c) ≡ false
 not_both c = grind (arith, nat_tests)
 
-of_word : (c : ℕ) → (is_letter c || is_digit c) ≡ true → is_of_word c ≡ true
+pub of_word : (c : ℕ) → (is_letter c || is_digit c) ≡ true → is_of_word c ≡ true
 of_word c is = grind (arith, nat_tests)
 
 either : (lc dc ld dd : Bool) → ((lc && ld) || (dc && dd)) ≡ true → (ld || dd) ≡ true

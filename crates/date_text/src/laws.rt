@@ -1,8 +1,11 @@
 //! Laws over the definitions. Each of these functions does nothing: its contract is the law.
-ghost use Rattle.std.specs.Prelude.{◌≡◌, ℕ, ◌+◌, ◌%◌, ◌<◌, ℤ, pos, ◌+ℤ◌, ◌*ℤ◌, true};
+ghost use Rattle.std.specs.Prelude.{◌≡◌, ℕ, ◌+◌, ◌%◌, ◌<◌, ◌≤◌, ℤ, pos, ◌+ℤ◌, ◌*ℤ◌, true, List, Some};
 ghost use Rattle.date_text.specs.Calendar.{CivilDate, IsInCalendar, date_at, day_number, is_in_years, next_date, weekday_at};
 ghost use Rattle.date_text.specs.Moment.{Moment, day_in, minute_in, minutes_in, moment_at};
+ghost use Rattle.date_text.specs.Reading.{date_in};
+ghost use Rattle.date_text.specs.Shown.{shown};
 ghost use Rattle.date_text.specs.Zone.{Zone};
+ghost use Rattle.date_text.specs.declared.part.DatePart.TheVariants.{Std11};
 
 /// From 0000-01-01 to 9999-12-31 the dates and their day numbers are the same in two forms: each date has one, two dates of one
 /// day number are one, the next date has the next day number, and each day number among theirs is that of a date.
@@ -28,4 +31,10 @@ pub fn a_zone_and_back_changes_nothing()
     ensures shifted { (moment : Moment) (zone : Zone) → (day_in moment zone *ℤ pos 1440 +ℤ pos (minute_in moment zone) ≡ minutes_in moment zone) × (minute_in moment zone < 1440) }
     ensures back { (moment : Moment) (zone : Zone) → moment_at (day_in moment zone) (minute_in moment zone) moment.second zone ≡ record { minutes = moment.minutes; second = moment.second; zone = zone } }
     ensures forth { (day : ℤ) (minute second : ℕ) (zone : Zone) → minute < 1440 → (day_in (moment_at day minute second zone) zone ≡ day) × (minute_in (moment_at day minute second zone) zone ≡ minute) }
+{}
+
+/// What `std11` shows of a moment, in any zone in which its year is 1900 or later, is read as that moment, its second and that
+/// zone.
+pub fn what_is_shown_is_read()
+    ensures { (moment : Moment) (zone : Zone) (text : List ℕ) → moment.second ≤ 60 → zone.minutes ≤ 5999 → 1900 ≤ (date_at (day_in moment zone)).year → shown moment zone Std11 ≡ Some text → date_in text ≡ Some (record { minutes = moment.minutes; second = moment.second; zone = zone }) }
 {}
