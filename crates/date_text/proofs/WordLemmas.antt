@@ -68,7 +68,7 @@ outside_is (Escaped others) c is = absurd cc
 -- a text is its first octet and the rest
 pub cons_first : (text : List ℕ) → 0 < length text → text ≡ get_or text 0 0 ∷ take (length text - 1) (drop 1 text)
 cons_first [] some = absurd (omega arith)
-cons_first (c ∷ rest) some = simp unary_clauses (ap (λ behind. c ∷ behind) (sym (take-length rest)))
+cons_first (c ∷ rest) some = simp unary_clauses (ap (λ further. c ∷ further) (sym (take-length rest)))
 
 -- WORDS
 
