@@ -8,7 +8,7 @@ use Rattle.date_text.specs.Number.{digit, four_digits, two_digits}
 use Rattle.date_text.specs.Reading.{is_weekday, month_number}
 use Rattle.date_text.specs.Shown.{month_name, weekday_name}
 use Rattle.date_text.specs.Words.{Word, is_joined_to, is_letter, words_of}
-use Rattle.date_text.specs.Zone.{Zone, zone_of_sign, zone_sign, zone_text}
+use Rattle.date_text.specs.Zone.{Zone, zone_named, zone_of_sign, zone_sign, zone_text}
 use Rattle.date_text.proofs.WordLemmas.{words_alone, words_joined, words_white}
 use Rattle.date_text.proofs.PlainLemmas.{digit_apart, digit_is, digit_not_white, digit_plain, digits_joined, is_plain, letter_apart, letter_not_white, letter_plain, letters_joined, plain_append}
 use Rattle.date_text.proofs.NumberLemmas.{zone_minutes-digits}
@@ -112,6 +112,9 @@ zone_is_read false n h = (
   words_alone (octet_of "+") (two_digits (n / 60) ++ two_digits (n % 60)) refl refl ∙ ap (λ words. (octet_of "+" ∷ []) ∷ words) (last_words (n / 60) (n % 60) (omega arith) (omega arith)),
   ap (option_map (λ minutes. zone_of false minutes)) (zone_minutes-digits n h),
 )
+
+pub zone_is_named : (zone : Zone) → zone.minutes ≤ 5999 → zone_named (zone_text zone) ≡ Some zone
+zone_is_named zone h = (zone_is_read zone.west zone.minutes h).1
 
 -- THE WORDS OF A LINE
 

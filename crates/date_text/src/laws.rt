@@ -2,9 +2,11 @@
 ghost use Rattle.std.specs.Prelude.{◌≡◌, ℕ, ◌+◌, ◌%◌, ◌<◌, ◌≤◌, ℤ, pos, ◌+ℤ◌, ◌*ℤ◌, true, List, Some};
 ghost use Rattle.date_text.specs.Calendar.{CivilDate, IsInCalendar, date_at, day_number, is_in_years, next_date, weekday_at};
 ghost use Rattle.date_text.specs.Moment.{Moment, day_in, minute_in, minutes_in, moment_at};
+ghost use Rattle.date_text.specs.Part.{part_name, part_named};
 ghost use Rattle.date_text.specs.Reading.{date_in};
 ghost use Rattle.date_text.specs.Shown.{shown};
-ghost use Rattle.date_text.specs.Zone.{Zone};
+ghost use Rattle.date_text.specs.Zone.{Zone, zone_named, zone_text};
+ghost use Rattle.date_text.specs.declared.part.DatePart.{DatePart};
 ghost use Rattle.date_text.specs.declared.part.DatePart.TheVariants.{Std11};
 
 /// From 0000-01-01 to 9999-12-31 the dates and their day numbers are the same in two forms: each date has one, two dates of one
@@ -31,6 +33,18 @@ pub fn a_zone_and_back_changes_nothing()
     ensures shifted { (moment : Moment) (zone : Zone) → (day_in moment zone *ℤ pos 1440 +ℤ pos (minute_in moment zone) ≡ minutes_in moment zone) × (minute_in moment zone < 1440) }
     ensures back { (moment : Moment) (zone : Zone) → moment_at (day_in moment zone) (minute_in moment zone) moment.second zone ≡ record { minutes = moment.minutes; second = moment.second; zone = zone } }
     ensures forth { (day : ℤ) (minute second : ℕ) (zone : Zone) → minute < 1440 → (day_in (moment_at day minute second zone) zone ≡ day) × (minute_in (moment_at day minute second zone) zone ≡ minute) }
+{}
+
+/// Each zone is named by its text.
+#[tactic(auto, using(crate::proofs::LineLemmas::zone_is_named))]
+pub fn zones_are_named_by_their_texts()
+    ensures { (zone : Zone) → zone.minutes ≤ 5999 → zone_named (zone_text zone) ≡ Some zone }
+{}
+
+/// Each part is found by its name, so no two have one name.
+#[tactic(auto, using(crate::proofs::PartLemmas::part_found))]
+pub fn parts_are_found()
+    ensures { (part : DatePart) → part_named (part_name part) ≡ Some part }
 {}
 
 /// What `std11` shows of a moment, in any zone in which its year is 1900 or later, is read as that moment, its second and that
