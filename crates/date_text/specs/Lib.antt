@@ -1,0 +1,9 @@
+pub mod Calendar
+pub mod Moment
+pub mod Number
+pub mod Part
+pub mod Reading
+pub mod Shown
+pub mod Words
+pub mod Zone
+pub mod view

@@ -1,0 +1,125 @@
+-- Dates as they are written (RFC 5322, sections 3.3 and 4.3).
+use Rattle.std.specs.Prelude.{ℕ, ◌+◌, ◌*◌, Bool, false, ◌&&◌, ◌==◌, nat_le, nat_lt, List, [], ◌∷◌, Option, Some, None, codes, position, if◌then◌else◌}
+use Rattle.std.specs.List.{after_last, list_any}
+use Rattle.std.specs.Option.{option_and_then, option_map}
+use Rattle.sieve_base.specs.Octet.{octet_of}
+use Rattle.date_text.specs.Calendar.{CivilDate, date_of, day_number}
+use Rattle.date_text.specs.Moment.{Moment, moment_at}
+use Rattle.date_text.specs.Number.{digit_number, four_number, pair_number, up_to}
+use Rattle.date_text.specs.Words.{Word, without_comments, words_of}
+use Rattle.date_text.specs.Zone.{is_same_name, zone_of_words}
+
+-- NAMES
+
+abbrev pub weekday_names : List (List ℕ)
+weekday_names = codes "Mon" ∷ codes "Tue" ∷ codes "Wed" ∷ codes "Thu" ∷ codes "Fri" ∷ codes "Sat" ∷ codes "Sun" ∷ []
+
+abbrev pub month_names : List (List ℕ)
+month_names =
+    codes "Jan" ∷ codes "Feb" ∷ codes "Mar" ∷ codes "Apr" ∷ codes "May" ∷ codes "Jun"
+    ∷ codes "Jul" ∷ codes "Aug" ∷ codes "Sep" ∷ codes "Oct" ∷ codes "Nov" ∷ codes "Dec" ∷ []
+
+-- a word that is the name of a weekday, in any case of letters
+abbrev pub is_weekday : Word → Bool
+is_weekday word = list_any (is_same_name word) weekday_names
+
+-- the number of a month by its name, from 1
+abbrev pub month_number : Word → Option ℕ
+month_number word = option_map (λ place. place + 1) (position (is_same_name word) month_names)
+
+-- THE WORDS OF A DATE
+
+-- a word that is one such octet
+abbrev pub is_sign : ℕ → Word → Bool
+is_sign sign [] = false
+is_sign sign (c ∷ []) = c == sign
+is_sign sign (c ∷ d ∷ rest) = false
+
+-- what stands after a weekday and a comma, if they are there
+abbrev pub after_weekday : List Word → List Word
+after_weekday [] = []
+after_weekday (word ∷ []) = word ∷ []
+after_weekday (word ∷ comma ∷ words) = if is_weekday word && is_sign (octet_of ",") comma then words else word ∷ comma ∷ words
+
+-- the second with a `:` before it, if they are there
+abbrev pub second_word : List Word → Option Word
+second_word [] = None
+second_word (word ∷ []) = None
+second_word (colon ∷ second ∷ words) = if is_sign (octet_of ":") colon then Some second else None
+
+-- what stands after them
+abbrev pub after_second : List Word → List Word
+after_second [] = []
+after_second (word ∷ []) = word ∷ []
+after_second (colon ∷ second ∷ words) = if is_sign (octet_of ":") colon then words else colon ∷ second ∷ words
+
+-- the words of a date and a time, by what they stand for
+pub record DateWords : Type 0 where
+  pub day : Word
+  pub month : Word
+  pub year : Word
+  pub hour : Word
+  pub minute : Word
+  pub second : Option Word
+  pub zone : List Word
+
+-- day, month, year, hour, `:`, minute, maybe `:` and second, and the zone
+abbrev pub date_words : List Word → Option DateWords
+date_words (day ∷ month ∷ year ∷ hour ∷ colon ∷ minute ∷ words) =
+    if is_sign (octet_of ":") colon
+    then Some (record { day = day; month = month; year = year; hour = hour; minute = minute; second = second_word words; zone = after_second words })
+    else None
+date_words words = None
+
+-- WHAT THEY STAND FOR
+
+-- the number of a day: one digit or two
+abbrev pub day_of_word : Word → Option ℕ
+day_of_word (c ∷ []) = digit_number c
+day_of_word (c ∷ d ∷ []) = pair_number c d
+day_of_word word = None
+
+-- a year of two digits: those up to 49 are from 2000 on, the others from 1900 on
+abbrev pub year_of_pair : ℕ → ℕ
+year_of_pair n = if nat_lt n 50 then 2000 + n else 1900 + n
+
+-- a year of four digits, which is 1900 or later
+abbrev pub if_late : ℕ → Option ℕ
+if_late year = if nat_le 1900 year then Some year else None
+
+-- the year of four digits, of three, which are added to 1900, or of two
+abbrev pub year_of_word : Word → Option ℕ
+year_of_word (c ∷ d ∷ []) = option_map year_of_pair (pair_number c d)
+year_of_word (b ∷ c ∷ d ∷ []) = option_map (λ n. 1900 + n) (four_number (octet_of "0") b c d)
+year_of_word (a ∷ b ∷ c ∷ d ∷ []) = option_and_then if_late (four_number a b c d)
+year_of_word word = None
+
+-- the number of two digits up to a limit
+abbrev pub pair_of_word : (limit : ℕ) → Word → Option ℕ
+pair_of_word limit (c ∷ d ∷ []) = up_to limit (pair_number c d)
+pair_of_word limit word = None
+
+-- the date, if the month has that day in that year
+abbrev pub date_of_words : DateWords → Option CivilDate
+date_of_words w = option_and_then (λ year. option_and_then (λ month. option_and_then (date_of year month) (day_of_word w.day)) (month_number w.month)) (year_of_word w.year)
+
+-- the minute of the day
+abbrev pub minute_of_words : DateWords → Option ℕ
+minute_of_words w = option_and_then (λ hour. option_map (λ minute. 60 * hour + minute) (pair_of_word 59 w.minute)) (pair_of_word 23 w.hour)
+
+-- the second, which is 0 where none is written
+abbrev pub second_of_word : Option Word → Option ℕ
+second_of_word None = Some 0
+second_of_word (Some word) = pair_of_word 60 word
+
+-- the moment of a date, a time and a zone, if they are such
+abbrev pub moment_of_words : DateWords → Option Moment
+moment_of_words w = option_and_then (λ date. option_and_then (λ minute. option_and_then (λ second. option_map (moment_at (day_number date) minute second) (zone_of_words w.zone)) (second_of_word w.second)) (minute_of_words w)) (date_of_words w)
+
+-- the moment of a text without comments: its words are those of a date and a time, maybe after a weekday
+abbrev pub moment_read : List ℕ → Option Moment
+moment_read text = option_and_then moment_of_words (date_words (after_weekday (words_of text)))
+
+-- the moment of a field's value: of what stands after its last `;`, or of all of it (RFC 5322, section 3.6.7; RFC 5260, section 4)
+abbrev pub date_in : List ℕ → Option Moment
+date_in value = option_and_then moment_read (without_comments (after_last (λ c. c == octet_of ";") value))

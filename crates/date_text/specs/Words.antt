@@ -1,0 +1,73 @@
+-- The words of a field's value (RFC 5322, sections 3.2.2 and 4.3): between any two of them white space and comments may stand.
+use Rattle.std.specs.Prelude.{ℕ, ◌+◌, ◌-◌, Bool, true, false, ◌&&◌, ◌||◌, ◌==◌, List, [], ◌∷◌, ◌++◌, Option, Some, None, if◌then◌else◌}
+use Rattle.std.specs.List.{onto_first}
+use Rattle.sieve_base.specs.Octet.{is_between, is_digit, is_white, octet_of}
+use Rattle.date_text.specs.declared.spot.Spot.{Spot}
+use Rattle.date_text.specs.declared.spot.Spot.TheVariants.{Escaped, Inside, Outside}
+
+-- COMMENTS
+
+-- An octet stands outside comments, or in a comment with so many others round it, or after a `\` there. Where the next octet
+-- stands: comments nest, and a `\` in one protects the octet after it.
+abbrev pub after_octet : Spot → ℕ → Spot
+after_octet Outside c = if c == octet_of "(" then Inside 0 else Outside
+after_octet (Inside others) c =
+    if c == octet_of "(" then Inside (others + 1)
+    else if c == octet_of ")" then (if others == 0 then Outside else Inside (others - 1))
+    else if c == octet_of "\\" then Escaped others
+    else Inside others
+after_octet (Escaped others) c = Inside others
+
+-- what stays of an octet: outside comments itself, and of a comment a space
+abbrev pub kept_of : Spot → ℕ → List ℕ
+kept_of Outside c = (if c == octet_of "(" then octet_of " " else c) ∷ []
+kept_of (Inside others) c = []
+kept_of (Escaped others) c = []
+
+-- what stays of a text from such a spot on
+unfoldable pub kept : Spot → List ℕ → List ℕ
+kept spot [] = []
+kept spot (c ∷ rest) = kept_of spot c ++ kept (after_octet spot c) rest
+
+abbrev pub is_outside : Spot → Bool
+is_outside Outside = true
+is_outside (Inside others) = false
+is_outside (Escaped others) = false
+
+-- whether each comment of a text is closed
+unfoldable pub is_closed : Spot → List ℕ → Bool
+is_closed spot [] = is_outside spot
+is_closed spot (c ∷ rest) = is_closed (after_octet spot c) rest
+
+-- a text with a space for each comment, or nothing where one isn't closed
+abbrev pub without_comments : List ℕ → Option (List ℕ)
+without_comments text = if is_closed Outside text then Some (kept Outside text) else None
+
+-- WORDS
+
+abbrev pub Word : Type 0
+Word = List ℕ
+
+-- a letter: ALPHA (RFC 5234, appendix B.1)
+abbrev pub is_letter : ℕ → Bool
+is_letter c = is_between (octet_of "a") (octet_of "z") c || is_between (octet_of "A") (octet_of "Z") c
+
+-- whether two octets side by side are of one word: letters, or digits
+abbrev pub is_joined : ℕ → ℕ → Bool
+is_joined c d = (is_letter c && is_letter d) || (is_digit c && is_digit d)
+
+abbrev pub is_joined_to : ℕ → List ℕ → Bool
+is_joined_to c [] = false
+is_joined_to c (d ∷ rest) = is_joined c d
+
+-- an octet before the words of what stands after it
+abbrev pub word_before : ℕ → (joined : Bool) → List Word → List Word
+word_before c joined words =
+    if is_white c then words
+    else if joined then onto_first c words
+    else (c ∷ []) ∷ words
+
+-- words: runs of letters, runs of digits, and each other octet but white space
+unfoldable pub words_of : List ℕ → List Word
+words_of [] = []
+words_of (c ∷ rest) = word_before c (is_joined_to c rest) (words_of rest)

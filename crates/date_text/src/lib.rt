@@ -1,0 +1,25 @@
+//! Dates of messages (RFC 5322, sections 3.3 and 4.3): reads them, and shows parts of them (RFC 5260, section 4.2).
+#![tactic(auto)]
+
+mod calendar;
+mod date_words;
+pub mod laws;
+mod local_time;
+mod moment;
+mod number;
+mod part;
+mod part_text;
+mod reading;
+mod spot;
+#[cfg(test)]
+mod tests;
+mod words;
+mod zone;
+mod zone_words;
+
+pub use moment::Moment;
+pub use part::{DATE_PARTS, DatePart};
+pub use part_text::shown;
+pub use reading::date_in;
+pub use zone::Zone;
+pub use zone_words::zone_named;
