@@ -1,3 +1,4 @@
+pub mod ClockLemmas
 pub mod DayLemmas
 pub mod LineLemmas
 pub mod MomentLemmas

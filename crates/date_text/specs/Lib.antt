@@ -1,4 +1,5 @@
 pub mod Calendar
+pub mod Clock
 pub mod Moment
 pub mod Number
 pub mod Part

@@ -1,5 +1,5 @@
 -- Moments, and dates and times of day in a zone.
-use Rattle.std.specs.Prelude.{ℕ, ◌/◌, ◌%◌, ℤ, pos, ◌+ℤ◌, ◌-ℤ◌, ◌*ℤ◌, unsigned_abs}
+use Rattle.std.specs.Prelude.{ℕ, ℤ, pos, ◌+ℤ◌, ◌-ℤ◌, ◌*ℤ◌, unsigned_abs}
 use Rattle.std.specs.Int.{int_div_euclid, int_rem_euclid}
 use Rattle.date_text.specs.Zone.{Zone, shift_of}
 
@@ -25,7 +25,3 @@ day_in moment zone = int_div_euclid (minutes_in moment zone) (pos 1440)
 -- the minute of that day
 abbrev pub minute_in : Moment → Zone → ℕ
 minute_in moment zone = unsigned_abs (int_rem_euclid (minutes_in moment zone) (pos 1440))
-
--- the moment of a clock: seconds since 1970-01-01 00:00 UTC
-abbrev pub moment_of : (seconds : ℕ) → Zone → Moment
-moment_of seconds zone = record { minutes = pos (seconds / 60); second = seconds % 60; zone = zone }

@@ -2,6 +2,8 @@
 #![tactic(auto)]
 
 mod calendar;
+mod clock;
+mod clock_words;
 mod date_words;
 pub mod laws;
 mod local_time;
@@ -17,6 +19,8 @@ mod words;
 mod zone;
 mod zone_words;
 
+pub use clock::{Clock, LAST_SECOND};
+pub use clock_words::clock_named;
 pub use moment::Moment;
 pub use part::{DATE_PARTS, DatePart};
 pub use part_text::shown;

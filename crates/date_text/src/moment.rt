@@ -1,7 +1,7 @@
 //! Moments.
 ghost use Rattle.std.specs.Prelude.{◌≡◌, ◌≤◌, ◌<◌, pos, ◌+ℤ◌, ◌-ℤ◌, ◌*ℤ◌};
 ghost use Rattle.jiff_core.specs.Calendar.{IsEpochDay, IsWithin};
-ghost use Rattle.date_text.specs.Moment.{minutes_in, moment_at, moment_of};
+ghost use Rattle.date_text.specs.Moment.{minutes_in, moment_at};
 ghost use Rattle.date_text.specs.Zone.{shift_of};
 
 use crate::zone::Zone;
@@ -21,18 +21,6 @@ pub struct Moment {
 
 impl Moment {
     ghost use Rattle.date_text.specs.view.Moment.{moment_as, zone_as};
-
-    /// The moment of a clock: seconds since 1970-01-01 00:00 UTC, up to the end of the year 9999, and its zone.
-    pub fn of_clock(seconds: u64, zone: Zone) -> Moment
-        requires { seconds ≤ 253_402_300_799 }
-        ensures { moment_as result ≡ moment_of seconds (zone_as zone) }
-    {
-        Moment {
-            minutes: (seconds / 60) as i64,
-            second: (seconds % 60) as u8,
-            zone,
-        }
-    }
 
     // The minutes since 1970-01-01 00:00 UTC of a day and a minute of the day, as a zone has them.
     fn minutes_at(day: i32, minute: u16, zone: &Zone) -> i64

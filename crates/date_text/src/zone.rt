@@ -3,7 +3,7 @@ ghost use Rattle.std.specs.Prelude.{◌≡◌, ◌≤◌, ◌++◌, OnOk};
 ghost use Rattle.jiff_core.specs.Calendar.{IsWithin};
 ghost use Rattle.date_text.specs.Zone.{east, shift_of, west, zone_sign, zone_text, zone_text_with_colon};
 
-use crate::number::push_pair;
+use crate::number::{digit, push_pair};
 use std::alloc::AllocError;
 
 /// A zone: how many minutes its clocks go before those of UTC, or after them where it lies to the west. West with none is
@@ -62,13 +62,26 @@ impl Zone {
         if self.west { b'-' } else { b'+' }
     }
 
+    /// The zone as a sign and four digits.
+    pub fn text(&self) -> [u8; 5]
+        ensures { result ≡ zone_text (zone_as self.now) }
+    {
+        let hours = (self.minutes / 60) as u8;
+        let minutes = (self.minutes % 60) as u8;
+        [
+            self.sign(),
+            digit(hours / 10),
+            digit(hours % 10),
+            digit(minutes / 10),
+            digit(minutes % 10),
+        ]
+    }
+
     /// Adds the zone to a text as a sign and four digits.
     pub(crate) fn push_to(&self, text: &mut Vec<u8>) -> Result<(), AllocError>
         ensures { OnOk result (text.new.items ≡ text.old.items ++ zone_text (zone_as self.now)) }
     {
-        text.push(self.sign())?;
-        push_pair(text, (self.minutes / 60) as u8)?;
-        push_pair(text, (self.minutes % 60) as u8)?;
+        text.extend_from_slice(&self.text())?;
         Ok(())
     }
 

@@ -5,11 +5,12 @@ use lib.Pointwise.{pointwise}
 use Rattle.sieve_profile.specs.Every.{every}
 use Rattle.sieve_profile.specs.contracts.extension.Extension.{enum, the_type}
 use Rattle.sieve_profile.specs.declared.extension.Extension.{Extension}
-use Rattle.sieve_profile.specs.declared.extension.Extension.TheVariants.{AsciiNumeric, Charsets, Duplicate, EncodedCharacter, Envelopes, Ereject, Lines, Mailbox, Reject, Relational, SpecialUse, Subaddress, Unused, Vacation}
+use Rattle.sieve_profile.specs.declared.extension.Extension.TheVariants.{AsciiNumeric, Charsets, Date, Duplicate, EncodedCharacter, Envelopes, Ereject, Lines, Mailbox, Reject, Relational, SpecialUse, Subaddress, Unused, Vacation}
 
 abbrev pub extension_name : Extension → List ℕ
 extension_name Charsets = codes "charsets"
 extension_name AsciiNumeric = codes "comparator-i;ascii-numeric"
+extension_name Date = codes "date"
 extension_name Duplicate = codes "duplicate"
 extension_name EncodedCharacter = codes "encoded-character"
 extension_name Envelopes = codes "envelopes"

@@ -2,7 +2,7 @@
 use Rattle.std.specs.Prelude.{Bool, false, ◌||◌}
 use Rattle.sieve_profile.specs.Extension.{same_extension}
 use Rattle.sieve_profile.specs.declared.extension.Extension.{Extension}
-use Rattle.sieve_profile.specs.declared.extension.Extension.TheVariants.{AsciiNumeric, Charsets, Duplicate, EncodedCharacter, Envelopes, Ereject, Lines, Mailbox, Reject, Relational, SpecialUse, Subaddress, Unused, Vacation}
+use Rattle.sieve_profile.specs.declared.extension.Extension.TheVariants.{AsciiNumeric, Charsets, Date, Duplicate, EncodedCharacter, Envelopes, Ereject, Lines, Mailbox, Reject, Relational, SpecialUse, Subaddress, Unused, Vacation}
 use Rattle.sieve_profile.specs.declared.profile.Profile as profiles
 
 -- whether each extension is in it
@@ -12,6 +12,7 @@ Profile = profiles.Profile
 abbrev pub has : Profile → Extension → Bool
 has profile Charsets = profile.charsets
 has profile AsciiNumeric = profile.ascii_numeric
+has profile Date = profile.date
 has profile Duplicate = profile.duplicate
 has profile EncodedCharacter = profile.encoded_character
 has profile Envelopes = profile.envelopes
@@ -29,6 +30,7 @@ abbrev pub empty_profile : Profile
 empty_profile = record {
   charsets = false;
   ascii_numeric = false;
+  date = false;
   duplicate = false;
   encoded_character = false;
   envelopes = false;
@@ -47,6 +49,7 @@ abbrev pub with_extension : Profile → Extension → Profile
 with_extension profile extension = record {
   charsets = profile.charsets || same_extension extension Charsets;
   ascii_numeric = profile.ascii_numeric || same_extension extension AsciiNumeric;
+  date = profile.date || same_extension extension Date;
   duplicate = profile.duplicate || same_extension extension Duplicate;
   encoded_character = profile.encoded_character || same_extension extension EncodedCharacter;
   envelopes = profile.envelopes || same_extension extension Envelopes;

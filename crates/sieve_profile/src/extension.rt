@@ -9,6 +9,8 @@ pub enum Extension {
     Charsets,
     /// `comparator-i;ascii-numeric`: texts are compared as numbers (RFC 4790, section 9.1).
     AsciiNumeric,
+    /// `date`: the date of a field, and the current date (RFC 5260).
+    Date,
     /// `duplicate`: whether the message came before (RFC 7352).
     Duplicate,
     /// `encoded-character`: characters that strings write by their numbers (RFC 5228, section 2.4.2.4).
@@ -36,9 +38,10 @@ pub enum Extension {
 }
 
 /// All of them, in the order of their names.
-pub const EXTENSIONS: [Extension; 14] = [
+pub const EXTENSIONS: [Extension; 15] = [
     Extension::Charsets,
     Extension::AsciiNumeric,
+    Extension::Date,
     Extension::Duplicate,
     Extension::EncodedCharacter,
     Extension::Envelopes,
@@ -68,6 +71,7 @@ impl Extension {
         match self {
             Extension::Charsets => b"charsets",
             Extension::AsciiNumeric => b"comparator-i;ascii-numeric",
+            Extension::Date => b"date",
             Extension::Duplicate => b"duplicate",
             Extension::EncodedCharacter => b"encoded-character",
             Extension::Envelopes => b"envelopes",

@@ -10,6 +10,7 @@ use crate::extension::Extension;
 pub struct Profile {
     pub charsets: bool,
     pub ascii_numeric: bool,
+    pub date: bool,
     pub duplicate: bool,
     pub encoded_character: bool,
     pub envelopes: bool,
@@ -32,6 +33,7 @@ impl Profile {
         Profile {
             charsets: false,
             ascii_numeric: false,
+            date: false,
             duplicate: false,
             encoded_character: false,
             envelopes: false,
@@ -54,6 +56,7 @@ impl Profile {
         match extension {
             Extension::Charsets => self.charsets,
             Extension::AsciiNumeric => self.ascii_numeric,
+            Extension::Date => self.date,
             Extension::Duplicate => self.duplicate,
             Extension::EncodedCharacter => self.encoded_character,
             Extension::Envelopes => self.envelopes,
@@ -76,6 +79,7 @@ impl Profile {
         Profile {
             charsets: self.charsets | (extension == Extension::Charsets),
             ascii_numeric: self.ascii_numeric | (extension == Extension::AsciiNumeric),
+            date: self.date | (extension == Extension::Date),
             duplicate: self.duplicate | (extension == Extension::Duplicate),
             encoded_character: self.encoded_character | (extension == Extension::EncodedCharacter),
             envelopes: self.envelopes | (extension == Extension::Envelopes),

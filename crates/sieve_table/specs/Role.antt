@@ -45,4 +45,6 @@ is_expanded role.Subject = true
 is_expanded role.Sender = true
 is_expanded role.OwnAddresses = true
 is_expanded role.Handle = true
+is_expanded role.Zone = true
+is_expanded role.DatePart = true
 is_expanded role.Text = true

@@ -4,7 +4,7 @@ use denote.Enum.Declared.{tag_of}
 use Rattle.sieve_profile.specs.Every.{every}
 use Rattle.sieve_table.specs.contracts.rule.Rule.{enum, the_type}
 use Rattle.sieve_table.specs.declared.rule.Rule.{Rule}
-use Rattle.sieve_table.specs.declared.rule.Rule.TheVariants.{RequirePlace, UnknownCapability, UnknownCommand, NotRequired, ElsePlace, BadTag, BadArguments, UnknownComparator, BadVariableName, GlobalAfterSet, BadNamespace, MatchIndex, NumberTooLarge, BadEnvelopePart, NotAddressHeader, TooManyVariables, BadCharacter, BadRelation, UnfitComparator}
+use Rattle.sieve_table.specs.declared.rule.Rule.TheVariants.{RequirePlace, UnknownCapability, UnknownCommand, NotRequired, ElsePlace, BadTag, BadArguments, UnknownComparator, BadVariableName, GlobalAfterSet, BadNamespace, MatchIndex, NumberTooLarge, BadEnvelopePart, NotAddressHeader, TooManyVariables, BadCharacter, BadRelation, UnfitComparator, BadDatePart}
 
 abbrev pub rule_word : Rule → List ℕ
 rule_word RequirePlace = codes "require-place"
@@ -26,6 +26,7 @@ rule_word TooManyVariables = codes "too-many-variables"
 rule_word BadCharacter = codes "bad-character"
 rule_word BadRelation = codes "bad-relation"
 rule_word UnfitComparator = codes "unfit-comparator"
+rule_word BadDatePart = codes "bad-date-part"
 
 -- the rules in the order of their numbers
 abbrev pub all_rules : List Rule

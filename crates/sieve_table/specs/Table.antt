@@ -154,6 +154,9 @@ tag_row tag.From = response_tag (codes "from") kind.From form.One role.Sender
 tag_row tag.Addresses = response_tag (codes "addresses") kind.Addresses form.List role.OwnAddresses
 tag_row tag.Mime = needing_tag (codes "mime") kind.Mime capability.Vacation
 tag_row tag.ResponseHandle = response_tag (codes "handle") kind.Handle form.One role.Handle
+-- RFC 5260, section 4.1
+tag_row tag.Zone = taking_tag (codes "zone") kind.Zone (slot form.One role.Zone) capability.Date
+tag_row tag.OriginalZone = needing_tag (codes "originalzone") kind.Zone capability.Date
 -- RFC 6609, section 3.2
 tag_row tag.Personal = bare_tag (codes "personal") kind.Location
 tag_row tag.Global = bare_tag (codes "global") kind.Location
@@ -246,6 +249,9 @@ test_row test.HasFlag = record (bare (codes "hasflag")) { tags = comparing_tags;
 test_row test.MailboxExists = record (bare (codes "mailboxexists")) { slots = slot form.List role.Mailbox ∷ []; needs = capability.Mailbox ∷ [] }
 -- RFC 7352, section 3
 test_row test.Duplicate = record (bare (codes "duplicate")) { tags = tag.Handle ∷ tag.Header ∷ tag.UniqueId ∷ tag.Seconds ∷ tag.Last ∷ []; needs = capability.Duplicate ∷ [] }
+-- RFC 5260, sections 4 and 5
+test_row test.Date = record (bare (codes "date")) { tags = tag.Zone ∷ tag.OriginalZone ∷ comparing_tags; slots = slot form.One role.FieldNames ∷ slot form.One role.DatePart ∷ slot form.List role.Keys ∷ []; needs = capability.Date ∷ [] }
+test_row test.CurrentDate = record (bare (codes "currentdate")) { tags = tag.Zone ∷ comparing_tags; slots = slot form.One role.DatePart ∷ slot form.List role.Keys ∷ []; needs = capability.Date ∷ [] }
 
 -- THE LOOK-UP
 

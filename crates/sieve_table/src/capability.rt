@@ -35,6 +35,8 @@ pub enum Capability {
     Reject,
     /// Refusals with a reason, as early as can be (RFC 5429, section 2.1).
     Ereject,
+    /// Dates of fields, and the current one (RFC 5260).
+    Date,
     /// The comparator `i;octet` (RFC 5228, section 2.7.3).
     OctetComparator,
     /// The comparator `i;ascii-casemap` (RFC 5228, section 2.7.3).
@@ -44,7 +46,7 @@ pub enum Capability {
 }
 
 /// The capabilities that there are.
-pub(crate) const CAPABILITIES: [Capability; 18] = [
+pub(crate) const CAPABILITIES: [Capability; 19] = [
     Capability::Fileinto,
     Capability::Envelope,
     Capability::Variables,
@@ -60,6 +62,7 @@ pub(crate) const CAPABILITIES: [Capability; 18] = [
     Capability::Vacation,
     Capability::Reject,
     Capability::Ereject,
+    Capability::Date,
     Capability::OctetComparator,
     Capability::CasemapComparator,
     Capability::NumericComparator,
@@ -86,6 +89,7 @@ impl Capability {
             Capability::Vacation => b"vacation",
             Capability::Reject => b"reject",
             Capability::Ereject => b"ereject",
+            Capability::Date => b"date",
             Capability::OctetComparator => b"comparator-i;octet",
             Capability::CasemapComparator => b"comparator-i;ascii-casemap",
             Capability::NumericComparator => b"comparator-i;ascii-numeric",

@@ -25,6 +25,7 @@ fn extension_of(capability: Capability) -> Option<Extension>
         Capability::Vacation => Some(Extension::Vacation),
         Capability::Reject => Some(Extension::Reject),
         Capability::Ereject => Some(Extension::Ereject),
+        Capability::Date => Some(Extension::Date),
         Capability::NumericComparator => Some(Extension::AsciiNumeric),
         Capability::Fileinto
         | Capability::Envelope

@@ -16,7 +16,7 @@ ghost use Rattle.sieve_table.specs.declared.table.TestKind.{TestKind};
 /// The rules stand in the order of their numbers: the rule of number n is the n-th of them, and there is no other.
 pub fn rules_go_by_their_numbers()
     ensures order { (rule : Rule) → slice_get all_rules (rule_number rule - 1) ≡ Some rule }
-    ensures all { length all_rules ≡ 19 }
+    ensures all { length all_rules ≡ 20 }
 {}
 
 /// Behind a string of a `require`, what was required still is, and what the string names, and nothing else.

@@ -44,6 +44,8 @@ pub fn is_expanded(role: Role) -> bool
         | Role::Sender
         | Role::OwnAddresses
         | Role::Handle
+        | Role::Zone
+        | Role::DatePart
         | Role::Text => true,
         Role::Capabilities
         | Role::ComparatorName

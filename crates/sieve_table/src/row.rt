@@ -61,6 +61,10 @@ pub enum Role {
     OwnAddresses,
     /// What a server would know an answer by that it sent before (RFC 5230, section 4.2).
     Handle,
+    /// The zone in which a date is shown (RFC 5260, section 4.1).
+    Zone,
+    /// A part of a date (RFC 5260, section 4.2).
+    DatePart,
     /// Any other text.
     Text,
 }
@@ -125,6 +129,8 @@ pub enum TagKind {
     Addresses,
     /// `:mime` (RFC 5230, section 4.4).
     Mime,
+    /// `:zone` and `:originalzone` (RFC 5260, section 4.1).
+    Zone,
 }
 
 /// What is said of a tag.

@@ -44,10 +44,12 @@ pub enum Rule {
     BadRelation = 18,
     /// A comparator without substrings is to find them (RFC 4790, section 9.1).
     UnfitComparator = 19,
+    /// There is no such part of a date (RFC 5260, section 4.2).
+    BadDatePart = 20,
 }
 
 impl Rule {
-    /// The rule's number, from 1 to 19.
+    /// The rule's number, from 1 to 20.
     pub fn number(self) -> u8
         ensures { result ≡ rule_number self }
     {
@@ -78,6 +80,7 @@ impl Rule {
             Rule::BadCharacter => b"bad-character",
             Rule::BadRelation => b"bad-relation",
             Rule::UnfitComparator => b"unfit-comparator",
+            Rule::BadDatePart => b"bad-date-part",
         }
     }
 }

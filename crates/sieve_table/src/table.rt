@@ -81,6 +81,10 @@ pub enum TestKind {
     MailboxExists,
     /// `duplicate` (RFC 7352, section 3).
     Duplicate,
+    /// `date` (RFC 5260, section 4).
+    Date,
+    /// `currentdate` (RFC 5260, section 5).
+    CurrentDate,
 }
 
 /// A tag that there is.
@@ -162,6 +166,10 @@ pub enum Tag {
     Mime,
     /// `:handle` of `vacation`, which takes the string after it (RFC 5230, section 4.2).
     ResponseHandle,
+    /// `:zone`, which takes the string after it (RFC 5260, section 4.1).
+    Zone,
+    /// `:originalzone` (RFC 5260, section 4.1).
+    OriginalZone,
 }
 
 /// All commands.
@@ -188,7 +196,7 @@ const COMMANDS: [CommandKind; 19] = [
 ];
 
 /// All tests.
-const TESTS: [TestKind; 14] = [
+const TESTS: [TestKind; 16] = [
     TestKind::Header,
     TestKind::Address,
     TestKind::Envelope,
@@ -203,6 +211,8 @@ const TESTS: [TestKind; 14] = [
     TestKind::HasFlag,
     TestKind::MailboxExists,
     TestKind::Duplicate,
+    TestKind::Date,
+    TestKind::CurrentDate,
 ];
 
 /// An argument of this form and role, for which nothing need be required.
@@ -350,6 +360,13 @@ impl Tag {
                 Form::One,
                 Role::Handle,
             ),
+            Tag::Zone => taking_tag(
+                b"zone",
+                TagKind::Zone,
+                slot(Form::One, Role::Zone),
+                Capability::Date,
+            ),
+            Tag::OriginalZone => needing_tag(b"originalzone", TagKind::Zone, Capability::Date),
         }
     }
 }
@@ -403,6 +420,8 @@ impl TestKind {
             TestKind::HasFlag => test_rows::has_flag_row(),
             TestKind::MailboxExists => test_rows::mailbox_exists_row(),
             TestKind::Duplicate => test_rows::duplicate_row(),
+            TestKind::Date => test_rows::date_row(),
+            TestKind::CurrentDate => test_rows::current_date_row(),
         }
     }
 }

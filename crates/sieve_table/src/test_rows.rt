@@ -33,6 +33,29 @@ const ADDRESS_TAGS: [Tag; 11] = [
     Tag::Count,
 ];
 
+/// The tags that name a zone (RFC 5260, section 4.1), and those that say how values are compared.
+const DATE_TAGS: [Tag; 8] = [
+    Tag::Zone,
+    Tag::OriginalZone,
+    Tag::Comparator,
+    Tag::Is,
+    Tag::Contains,
+    Tag::Matches,
+    Tag::Value,
+    Tag::Count,
+];
+
+/// The same without that of a field's own zone, where no field is looked at.
+const CLOCK_TAGS: [Tag; 7] = [
+    Tag::Zone,
+    Tag::Comparator,
+    Tag::Is,
+    Tag::Contains,
+    Tag::Matches,
+    Tag::Value,
+    Tag::Count,
+];
+
 /// A list of the names of header fields.
 const FIELD_NAMES: Slot = Slot {
     form: Form::List,
@@ -247,6 +270,47 @@ pub(crate) fn duplicate_row() -> Row
             Tag::Last,
         ],
         needs: &[Capability::Duplicate],
+        ..BARE
+    }
+}
+
+/// A part of a date.
+const DATE_PART: Slot = Slot {
+    form: Form::One,
+    role: Role::DatePart,
+    needs: None,
+};
+
+/// `date` (RFC 5260, section 4).
+pub(crate) fn date_row() -> Row
+    ensures { row_as result ≡ test_row test.Date }
+{
+    Row {
+        name: b"date",
+        tags: &DATE_TAGS,
+        slots: &[
+            Slot {
+                form: Form::One,
+                role: Role::FieldNames,
+                needs: None,
+            },
+            DATE_PART,
+            KEYS,
+        ],
+        needs: &[Capability::Date],
+        ..BARE
+    }
+}
+
+/// `currentdate` (RFC 5260, section 5).
+pub(crate) fn current_date_row() -> Row
+    ensures { row_as result ≡ test_row test.CurrentDate }
+{
+    Row {
+        name: b"currentdate",
+        tags: &CLOCK_TAGS,
+        slots: &[DATE_PART, KEYS],
+        needs: &[Capability::Date],
         ..BARE
     }
 }

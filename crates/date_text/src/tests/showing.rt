@@ -1,6 +1,6 @@
 //! Parts of dates that are shown.
 use super::part_of;
-use crate::{DATE_PARTS, DatePart, Moment, Zone, date_in, zone_named};
+use crate::{Clock, DATE_PARTS, DatePart, Zone, date_in, zone_named};
 use std::alloc::AllocError;
 use std::process::Abort;
 
@@ -88,13 +88,13 @@ fn ends_of_years(rt: HostRuntime) -> Result<(), AllocError> {
         (253402300799, b"+0001", b""),
     ];
     for (seconds, zone, wanted) in &clocks {
-        match zone_named(*zone) {
-            None => assert!(&rt; false, "no zone in {}", zone.escape_ascii()),
-            Some(zone) => {
-                let moment = Moment::of_clock(*seconds, Zone::UTC);
+        match (zone_named(*zone), Clock::new(*seconds, Zone::UTC)) {
+            (Some(zone), Some(clock)) => {
+                let moment = clock.moment();
                 let text = part_of(&rt, &moment, zone, DatePart::Iso8601)?;
                 assert_eq!(&rt; text.as_slice(), *wanted);
             }
+            _ => assert!(&rt; false, "no clock of {} in {}", seconds, zone.escape_ascii()),
         }
     }
     Ok(())
