@@ -5,7 +5,7 @@ use Rattle.match_text.specs.Relation.{relation_named}
 use Rattle.sieve_check.specs.Asked.{AreAlike, asked_by_command, asked_by_test, changing_flags, comparing, gives_all}
 use Rattle.sieve_reading.specs.CommandReading as commands
 use Rattle.sieve_reading.specs.Given.{address_part_of, collation_or_casemap, given_text, given_texts, has_tag, in_role, match_type_of, relation_or_eq, tags_of}
-use Rattle.sieve_reading.specs.Reading.{ValueSource, address_values, compares, envelope_values, exists_ask, fileinto_leaf, flag_leaf, flag_values, header_values, include_leaf, keep_leaf, mailboxes_ask, reads_act, reads_ask, redirect_leaf, reject_leaf, set_leaf, string_values, vacation_leaf}
+use Rattle.sieve_reading.specs.Reading.{ValueSource, address_values, clock_values, compares, date_values, envelope_values, exists_ask, fileinto_leaf, flag_leaf, flag_values, header_values, include_leaf, keep_leaf, mailboxes_ask, reads_act, reads_ask, redirect_leaf, reject_leaf, set_leaf, string_values, vacation_leaf}
 use Rattle.sieve_reading.specs.TestReading as tests
 use Rattle.sieve_reading.specs.Tree.{Argument}
 use Rattle.sieve_reading.specs.declared.label.Label.{Label}
@@ -41,6 +41,9 @@ module _ (labels others : List Label) (args arguments : List Argument) (same_tag
       three (λ s c k. reads_ask (compares s c k)) same
       (three (λ t name relation. record { match_type = match_type_of t (relation_or_eq (relation_named relation)); collation = collation_or_casemap (collation_named name) }) same_tags alike.1.0 alike.1.1.0) alike.0
 
+  zone_alike : given_text (in_role role.Zone labels args) ≡ given_text (in_role role.Zone others arguments) → tests.date_zone labels args ≡ tests.date_zone others arguments
+  zone_alike named = two (λ zone t. tests.zone_of t zone) named same_tags
+
   pub tests_alike : (kind : TestKind) → AreAlike (asked_by_test kind) labels others args arguments → tests.test_reading_by kind labels args ≡ tests.test_reading_by kind others arguments
   tests_alike test.Header alike = compare_alike _ _ (ap header_values alike.0) alike.1
   tests_alike test.Address alike = compare_alike _ _ (two (λ t names. address_values (address_part_of t) names) same_tags alike.0) alike.1
@@ -56,6 +59,8 @@ module _ (labels others : List Label) (args arguments : List Argument) (same_tag
   tests_alike test.HasFlag alike = compare_alike _ _ (ap flag_values alike.0) alike.1
   tests_alike test.MailboxExists alike = ap (λ names. reads_ask (mailboxes_ask names)) alike.0
   tests_alike test.Duplicate alike = refl
+  tests_alike test.Date alike = compare_alike _ _ (three date_values (zone_alike alike.1.1.0) alike.0 alike.1.0) alike.1.1.1
+  tests_alike test.CurrentDate alike = compare_alike _ _ (two clock_values (zone_alike alike.1.0) alike.0) alike.1.1
 
   settings_alike : given_texts (in_role role.Flags labels args) ≡ given_texts (in_role role.Flags others arguments) → given_text (in_role role.Text labels args) ≡ given_text (in_role role.Text others arguments)
       → commands.settings_by labels args ≡ commands.settings_by others arguments

@@ -27,6 +27,7 @@ named_alike capability.EncodedCharacter name is = ap extension_name (one_of exte
 named_alike capability.Vacation name is = ap extension_name (one_of extension.Vacation name is)
 named_alike capability.Reject name is = ap extension_name (one_of extension.Reject name is)
 named_alike capability.Ereject name is = ap extension_name (one_of extension.Ereject name is)
+named_alike capability.Date name is = ap extension_name (one_of extension.Date name is)
 named_alike capability.OctetComparator name is = absurd cc
 named_alike capability.CasemapComparator name is = absurd cc
 named_alike capability.NumericComparator name is = ap extension_name (one_of extension.AsciiNumeric name is)

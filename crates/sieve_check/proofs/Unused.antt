@@ -29,7 +29,7 @@ use Rattle.sieve_table.specs.declared.capability.Capability.{Capability}
 use Rattle.sieve_table.specs.declared.row.Role.{Role}
 use Rattle.sieve_table.specs.declared.row.Role.TheVariants.{Capabilities, ComparatorName}
 use Rattle.sieve_table.specs.declared.rule.Rule.{Rule}
-use Rattle.sieve_table.specs.declared.rule.Rule.TheVariants.{RequirePlace, UnknownCapability, UnknownCommand, NotRequired, ElsePlace, BadTag, BadArguments, UnknownComparator, BadVariableName, GlobalAfterSet, BadNamespace, MatchIndex, NumberTooLarge, BadEnvelopePart, NotAddressHeader, TooManyVariables, BadCharacter, BadRelation, UnfitComparator}
+use Rattle.sieve_table.specs.declared.rule.Rule.TheVariants.{RequirePlace, UnknownCapability, UnknownCommand, NotRequired, ElsePlace, BadTag, BadArguments, UnknownComparator, BadVariableName, GlobalAfterSet, BadNamespace, MatchIndex, NumberTooLarge, BadEnvelopePart, NotAddressHeader, TooManyVariables, BadCharacter, BadRelation, UnfitComparator, BadDatePart}
 use Rattle.sieve_table.specs.declared.table.CommandKind.{CommandKind}
 use Rattle.sieve_table.specs.declared.table.TestKind.{TestKind}
 use Rattle.sieve_check.proofs.Reprofiled.{collation_again, command_again, elements_again, parted_again, reprofiled, shapes_again, test_again, under, use_lacks_again}
@@ -120,6 +120,7 @@ module _ (p : Profile) where
   text_passes c role octets fine BadCharacter = refl
   text_passes c role octets fine BadRelation = fine BadRelation
   text_passes c role octets fine UnfitComparator = ap (λ known. has_role ComparatorName role && (c.finds_parts && lacks_substrings known)) (collation_again lenient p (known_alike p) octets) ∙ fine UnfitComparator
+  text_passes c role octets fine BadDatePart = fine BadDatePart
 
   said_passes : (c : Context) (role : Option Role) (o : Option (List ℕ)) → ((rule : Rule) → said_breaks (under p c) role o rule ≡ false) → (rule : Rule) → said_breaks (under lenient c) role o rule ≡ false
   said_passes c role None fine rule = fine rule

@@ -11,6 +11,7 @@ use Rattle.sieve_table.specs.Known.{known_command, known_test, may_be_required}
 use Rattle.sieve_check.specs.Context.{Context, takes_references, is_require, continues_if}
 use Rattle.sieve_check.specs.Element.{Element, the_command, the_test, the_text, the_number, elements_of}
 use Rattle.match_text.specs.Relation.{relation_named}
+use Rattle.date_text.specs.Part.{part_named}
 use Rattle.sieve_check.specs.Collating.{arguments_lack, known_collation, lacks_substrings}
 use Rattle.sieve_check.specs.Said.{said}
 use Rattle.sieve_table.specs.Required.{Required, is_required}
@@ -24,9 +25,9 @@ use Rattle.sieve_table.specs.Table.{Row, command_row, test_row}
 use Rattle.sieve_check.specs.Use.{has_bad_tag, has_bad_arguments, has_block, lacks_required}
 use Rattle.sieve_table.specs.declared.capability.Capability.TheVariants.{Include}
 use Rattle.sieve_table.specs.declared.row.Role.{Role}
-use Rattle.sieve_table.specs.declared.row.Role.TheVariants.{Capabilities, ComparatorName, AddressFields, EnvelopeParts, NameToSet, NamesToDeclare, Relation}
+use Rattle.sieve_table.specs.declared.row.Role.TheVariants.{Capabilities, ComparatorName, AddressFields, EnvelopeParts, NameToSet, NamesToDeclare, Relation, DatePart}
 use Rattle.sieve_table.specs.declared.rule.Rule.{Rule}
-use Rattle.sieve_table.specs.declared.rule.Rule.TheVariants.{RequirePlace, UnknownCapability, UnknownCommand, NotRequired, ElsePlace, BadTag, BadArguments, UnknownComparator, BadVariableName, GlobalAfterSet, BadNamespace, MatchIndex, NumberTooLarge, BadEnvelopePart, NotAddressHeader, TooManyVariables, BadCharacter, BadRelation, UnfitComparator}
+use Rattle.sieve_table.specs.declared.rule.Rule.TheVariants.{RequirePlace, UnknownCapability, UnknownCommand, NotRequired, ElsePlace, BadTag, BadArguments, UnknownComparator, BadVariableName, GlobalAfterSet, BadNamespace, MatchIndex, NumberTooLarge, BadEnvelopePart, NotAddressHeader, TooManyVariables, BadCharacter, BadRelation, UnfitComparator, BadDatePart}
 use Rattle.sieve_table.specs.declared.table.CommandKind.{CommandKind}
 use Rattle.sieve_table.specs.declared.table.TestKind.{TestKind}
 
@@ -91,14 +92,18 @@ has_unknown_namespace required octets = if is_required required Include then has
 abbrev pub names_namespace : Required → Option Role → List ℕ → Bool
 names_namespace required role octets = (names_variable role && (is_global_name octets && not (is_required required Include))) || (takes_references required role && has_unknown_namespace required octets)
 
+-- a string that names no part of a date (RFC 5260, section 4.2), whatever the case of its letters, and is known before the script runs
+abbrev pub is_bad_date_part : Required → Option Role → List ℕ → Bool
+is_bad_date_part required role octets = has_role DatePart role && (is_none (part_named octets) && is_known required role octets)
+
 -- the name of one local variable too many (RFC 5229, section 6)
 abbrev pub is_past_locals : List ℕ → Scope → Bool
 is_past_locals octets scope = is_new_local octets scope && not (nat_lt (length scope.assigned) local_limit)
 
 -- a string: that of a leading `require` (RFC 5228, section 3.2), of a comparator (section 2.7.3), a part of an envelope (section
 -- 5.4), a field that holds addresses (section 5.1), the name of a variable (RFC 5229, section 4; RFC 5232, sections 3 and 4; RFC
--- 6609, section 3.4.1), one with references to variables (RFC 5229, sections 3 and 6), a relation (RFC 5231, section 4), or a comparator in a
--- test that finds parts of values (RFC 4790, section 9.1)
+-- 6609, section 3.4.1), one with references to variables (RFC 5229, sections 3 and 6), a relation (RFC 5231, section 4), a comparator in a
+-- test that finds parts of values (RFC 4790, section 9.1), or a part of a date (RFC 5260, section 4.2)
 abbrev pub text_breaks : Context → Option Role → List ℕ → Rule → Bool
 text_breaks context role octets UnknownCapability = has_role Capabilities role && (context.leads && not (may_be_required context.profile octets))
 text_breaks context role octets UnknownComparator = has_role ComparatorName role && is_none (known_collation context.profile octets)
@@ -111,6 +116,7 @@ text_breaks context role octets NotAddressHeader = has_role AddressFields role &
 text_breaks context role octets TooManyVariables = has_role NameToSet role && is_past_locals octets context.scope
 text_breaks context role octets BadRelation = has_role Relation role && is_none (relation_named octets)
 text_breaks context role octets UnfitComparator = has_role ComparatorName role && (context.finds_parts && lacks_substrings (known_collation context.profile octets))
+text_breaks context role octets BadDatePart = is_bad_date_part context.required role octets
 text_breaks context role octets rule = false
 
 -- a string with a sequence that stands for no character (RFC 5228, section 2.4.2.4)

@@ -2,7 +2,7 @@
 //! and numbers that are too large.
 ghost use Rattle.std.specs.Prelude.{◌≡◌, ◌&&◌, false, find, is_none, map, IfOk};
 ghost use Rattle.sieve_syntax.specs.view.Tree.{argument_of, tests_of, text_of};
-ghost use Rattle.sieve_check.specs.Breach.{breaches_at, has_unknown_namespace, is_bad_name, is_known, is_no_declaration, names_namespace, text_breaks, use_lacks};
+ghost use Rattle.sieve_check.specs.Breach.{breaches_at, has_unknown_namespace, is_bad_date_part, is_bad_name, is_known, is_no_declaration, names_namespace, text_breaks, use_lacks};
 ghost use Rattle.sieve_check.specs.Context.{takes_references};
 ghost use Rattle.sieve_check.specs.Element.{argument_elements, labelled_elements, text_elements, the_number, the_text};
 ghost use Rattle.sieve_table.specs.Role.{has_role, names_variable};
@@ -14,7 +14,7 @@ ghost use Rattle.sieve_table.specs.view.Row.{row_as};
 ghost use Rattle.sieve_check.specs.view.Use.{row_found};
 ghost use Rattle.match_text.specs.Relation.{relation_named};
 ghost use Rattle.sieve_table.specs.declared.row.Role.TheVariants.{NameToSet, NamesToDeclare, Relation};
-ghost use Rattle.sieve_table.specs.declared.rule.Rule.TheVariants.{UnfitComparator, UnknownComparator};
+ghost use Rattle.sieve_table.specs.declared.rule.Rule.TheVariants.{BadEnvelopePart, NotAddressHeader, UnfitComparator, UnknownComparator};
 ghost use Rattle.sieve_variables.specs.Name.{is_global_name, is_identifier};
 
 use crate::collating::{arguments_lack, known_collation, lacks_substrings};
@@ -23,6 +23,7 @@ use crate::role::{behind_first, first_role};
 use crate::said::said;
 use crate::usage::{has_bad_arguments, has_bad_tag, lacks_required};
 use crate::validator::CheckFault;
+use date_text::DatePart;
 use match_text::relation_named;
 use sieve_reading::{AsOctets, Label, RowLabels, known_labels};
 use sieve_syntax::{Argument, Tests, Text};
@@ -82,6 +83,32 @@ fn is_unknown(context: Context<'_>, role: Option<Role>, octets: &[u8]) -> bool
     has_role(Role::ComparatorName, role) && known_collation(context.spot.profile, octets).is_none()
 }
 
+/// Whether a string names no part of an envelope (RFC 5228, section 5.4), and is known before the script runs.
+fn is_bad_envelope_part(context: Context<'_>, role: Option<Role>, octets: &[u8]) -> bool
+    ensures { result ≡ text_breaks (context_as context.entry) role octets.now BadEnvelopePart }
+{
+    let required = context.spot.required;
+    has_role(Role::EnvelopeParts, role)
+        && (!is_envelope_part(octets) && is_known(required, role, octets))
+}
+
+/// Whether a string names a field that holds no addresses (RFC 5228, section 5.1), and is known before the script runs.
+fn is_no_address_field(context: Context<'_>, role: Option<Role>, octets: &[u8]) -> bool
+    ensures { result ≡ text_breaks (context_as context.entry) role octets.now NotAddressHeader }
+{
+    let required = context.spot.required;
+    has_role(Role::AddressFields, role)
+        && (!is_address_field(octets) && is_known(required, role, octets))
+}
+
+/// Whether a string names no part of a date (RFC 5260, section 4.2), and is known before the script runs.
+fn is_bad_date_part(required: Required, role: Option<Role>, octets: &[u8]) -> bool
+    ensures { result ≡ is_bad_date_part (required_as required) role octets.now }
+{
+    has_role(Role::DatePart, role)
+        && (DatePart::named(octets).is_none() && is_known(required, role, octets))
+}
+
 /// Whether a string names no relation (RFC 5231, section 4).
 fn is_bad_relation(role: Option<Role>, octets: &[u8]) -> bool
     ensures { result ≡ (has_role Relation role && is_none (relation_named octets.now)) }
@@ -123,19 +150,14 @@ fn text_breaks(
         }
         Rule::BadNamespace => names_namespace(required, role, octets),
         Rule::MatchIndex => takes_references(required, role) && references_in(octets).far,
-        Rule::BadEnvelopePart => {
-            has_role(Role::EnvelopeParts, role)
-                && (!is_envelope_part(octets) && is_known(required, role, octets))
-        }
-        Rule::NotAddressHeader => {
-            has_role(Role::AddressFields, role)
-                && (!is_address_field(octets) && is_known(required, role, octets))
-        }
+        Rule::BadEnvelopePart => is_bad_envelope_part(context, role, octets),
+        Rule::NotAddressHeader => is_no_address_field(context, role, octets),
         Rule::TooManyVariables => {
             has_role(Role::NameToSet, role) && context.scope.is_full_for(alloc, octets)?
         }
         Rule::BadRelation => is_bad_relation(role, octets),
         Rule::UnfitComparator => is_unfit(context, role, octets),
+        Rule::BadDatePart => is_bad_date_part(required, role, octets),
         Rule::RequirePlace
         | Rule::UnknownCommand
         | Rule::NotRequired
@@ -149,7 +171,7 @@ fn text_breaks(
 }
 
 /// The rules that a string can break, in the order of their numbers.
-const TEXT_RULES: [Rule; 11] = [
+const TEXT_RULES: [Rule; 12] = [
     Rule::UnknownCapability,
     Rule::UnknownComparator,
     Rule::BadVariableName,
@@ -161,6 +183,7 @@ const TEXT_RULES: [Rule; 11] = [
     Rule::TooManyVariables,
     Rule::BadRelation,
     Rule::UnfitComparator,
+    Rule::BadDatePart,
 ];
 
 /// The first of some rules that a string in its role breaks.

@@ -32,7 +32,7 @@ ghost use Rattle.sieve_table.specs.Table.{command_row, test_row};
 ghost use Rattle.sieve_table.specs.declared.row.Role.{Role};
 ghost use Rattle.sieve_table.specs.declared.row.TagKind.TheVariants.{Bound};
 ghost use Rattle.sieve_table.specs.declared.rule.Rule.{Rule};
-ghost use Rattle.sieve_table.specs.declared.rule.Rule.TheVariants.{RequirePlace, UnknownCapability, UnknownCommand, NotRequired, ElsePlace, BadTag, BadArguments, UnknownComparator, BadVariableName, GlobalAfterSet, BadNamespace, MatchIndex, NumberTooLarge, BadEnvelopePart, NotAddressHeader, TooManyVariables, BadCharacter, BadRelation, UnfitComparator};
+ghost use Rattle.sieve_table.specs.declared.rule.Rule.TheVariants.{RequirePlace, UnknownCapability, UnknownCommand, NotRequired, ElsePlace, BadTag, BadArguments, UnknownComparator, BadVariableName, GlobalAfterSet, BadNamespace, MatchIndex, NumberTooLarge, BadEnvelopePart, NotAddressHeader, TooManyVariables, BadCharacter, BadRelation, UnfitComparator, BadDatePart};
 ghost use Rattle.sieve_table.specs.declared.table.CommandKind.{CommandKind};
 ghost use Rattle.sieve_table.specs.declared.table.Tag.TheVariants.{Over, Under};
 ghost use Rattle.sieve_table.specs.declared.table.TestKind.{TestKind};
@@ -45,7 +45,7 @@ ghost use Rattle.sieve_variables.specs.Variable.{scoped, variable_named};
 /// each with the rules that it breaks in the order of their numbers, which is the one written here. So the first breach is the least.
 #[tactic(auto, using(crate::proofs::Least::least))]
 pub fn first_breach_is_least()
-    ensures rules { all_rules ≡ RequirePlace ∷ UnknownCapability ∷ UnknownCommand ∷ NotRequired ∷ ElsePlace ∷ BadTag ∷ BadArguments ∷ UnknownComparator ∷ BadVariableName ∷ GlobalAfterSet ∷ BadNamespace ∷ MatchIndex ∷ NumberTooLarge ∷ BadEnvelopePart ∷ NotAddressHeader ∷ TooManyVariables ∷ BadCharacter ∷ BadRelation ∷ UnfitComparator ∷ [] }
+    ensures rules { all_rules ≡ RequirePlace ∷ UnknownCapability ∷ UnknownCommand ∷ NotRequired ∷ ElsePlace ∷ BadTag ∷ BadArguments ∷ UnknownComparator ∷ BadVariableName ∷ GlobalAfterSet ∷ BadNamespace ∷ MatchIndex ∷ NumberTooLarge ∷ BadEnvelopePart ∷ NotAddressHeader ∷ TooManyVariables ∷ BadCharacter ∷ BadRelation ∷ UnfitComparator ∷ BadDatePart ∷ [] }
     ensures order { (profile : Profile) (tree : List Node) → breaches_of profile tree ≡ flat_map breaches_at (elements_of profile tree) }
     ensures least { (profile : Profile) (tree : List Node) (breach : Breach) → first_breach profile tree ≡ Some breach → IsLeastBreach profile tree breach }
 {}

@@ -9,7 +9,7 @@ use Rattle.sieve_base.specs.Writers.{quoted}
 use Rattle.sieve_base.specs.declared.place.Place.{Place}
 use Rattle.message_text.specs.declared.addressing.AddressPart.{AddressPart}
 use Rattle.message_text.specs.declared.addressing.AddressPart.TheVariants as address_part
-use Rattle.sieve_reading.specs.Reading.{header_values, address_values, envelope_values, string_values, flag_values, ValueSource, Ask, compares, exists_ask, over_ask, under_ask, mailboxes_ask, duplicate_ask, Settings, Vacation, Leaf, keep_leaf, fileinto_leaf, redirect_leaf, discard_leaf, set_leaf, flag_leaf, include_leaf, vacation_leaf, reject_leaf, rejection_word}
+use Rattle.sieve_reading.specs.Reading.{DateZone, local_zone, original_zone, named_zone, header_values, address_values, envelope_values, string_values, flag_values, date_values, clock_values, ValueSource, Ask, compares, exists_ask, over_ask, under_ask, mailboxes_ask, duplicate_ask, Settings, Vacation, Leaf, keep_leaf, fileinto_leaf, redirect_leaf, discard_leaf, set_leaf, flag_leaf, include_leaf, vacation_leaf, reject_leaf, rejection_word}
 use Rattle.sieve_reading.specs.declared.reading.Comparison.{Comparison}
 use Rattle.sieve_reading.specs.declared.reading.FlagChange.{FlagChange}
 use Rattle.sieve_reading.specs.declared.reading.FlagChange.TheVariants as change
@@ -88,6 +88,20 @@ unfoldable pub internal_list : Option (List (List Part)) → List ℕ
 internal_list None = codes " internal"
 internal_list (Some variables) = further_list variables
 
+-- the zone in which a date is shown
+unfoldable pub zone_words : DateZone → List ℕ
+zone_words local_zone = codes " local"
+zone_words original_zone = codes " original"
+zone_words (named_zone zone) = codes " zone " ++ string_text zone
+
+-- a string behind a space
+unfoldable pub further_string : List Part → List ℕ
+further_string string = codes " " ++ string_text string
+
+-- the words of a test that compares a part of a date, up to the zone
+unfoldable pub date_words : List ℕ → Comparison → DateZone → List ℕ
+date_words test comparison zone = comparing_words test comparison ++ zone_words zone
+
 -- how a test compares, and its values
 unfoldable pub source_text : ValueSource → Comparison → List ℕ
 source_text (header_values names) comparison = comparing_words (codes "header") comparison ++ further_list names
@@ -95,6 +109,8 @@ source_text (address_values part names) comparison = address_words (codes "addre
 source_text (envelope_values part names) comparison = address_words (codes "envelope") comparison part ++ further_list names
 source_text (string_values texts) comparison = comparing_words (codes "string") comparison ++ further_list texts
 source_text (flag_values variables) comparison = comparing_words (codes "hasflag") comparison ++ internal_list variables
+source_text (date_values zone field part) comparison = date_words (codes "date") comparison zone ++ (further_string field ++ further_string part)
+source_text (clock_values zone part) comparison = date_words (codes "currentdate") comparison zone ++ further_string part
 
 unfoldable pub ask_text : Ask → List ℕ
 ask_text (compares source comparison keys) = source_text source comparison ++ further_list keys

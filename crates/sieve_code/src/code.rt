@@ -3,20 +3,20 @@ ghost use Rattle.std.specs.Prelude.{◌≡◌, ◌<◌, [], length, Some, slice_
 ghost use Rattle.std.specs.Option.{option_copied};
 ghost use Rattle.sieve_base.specs.Writers.{Writes};
 ghost use Rattle.sieve_effects.specs.Joined.{list_in};
-ghost use Rattle.sieve_effects.specs.view.Ops.{settings_op_as, source_op_as, vacation_op_as};
+ghost use Rattle.sieve_effects.specs.view.Ops.{settings_op_as, source_op_as, vacation_op_as, zone_op_as};
 ghost use Rattle.sieve_code.specs.Choice.{AllGoForward};
 ghost use Rattle.sieve_code.specs.Compiles.{IsCode};
 ghost use Rattle.sieve_code.specs.Dump.{line_at};
 ghost use Rattle.sieve_code.specs.Pool.{given_list, given_string, given_variable, no_test, no_vacation, packed_in, plain_packed, settings_in, test_in, vacation_in, vacation_packed_in};
-ghost use Rattle.sieve_code.specs.view.Op.{ops_in, source_in};
+ghost use Rattle.sieve_code.specs.view.Op.{ops_in, source_in, zone_in};
 ghost use Rattle.sieve_code.specs.view.Pools.{pool_as};
 
 use crate::dump::write_line;
-use crate::op::{NOWHERE, Op, PackedSettings, PackedTest, PackedVacation, SourceKind};
+use crate::op::{NOWHERE, Op, PackedSettings, PackedTest, PackedVacation, PackedZone, SourceKind};
 use crate::pools::{Pools, Target};
 use match_text::Collation;
 use sieve_base::{Sink, WriteFault};
-use sieve_effects::{FieldNames, SettingsOp, SourceOp, Strings, VacationOp};
+use sieve_effects::{FieldNames, SettingsOp, SourceOp, Strings, VacationOp, ZoneOp};
 use sieve_reading::{Comparison, MatchType};
 use sieve_variables::{Part, Variable};
 
@@ -148,7 +148,18 @@ impl Code {
         }
     }
 
-    /// What a test takes values from, where its list lies at a place. Takes no memory.
+    /// The zone in which a date is shown. Takes no memory.
+    fn zone(&self, zone: PackedZone) -> ZoneOp<'_>
+        ensures { zone_op_as result ≡ zone_in (pool_of self.now) zone }
+    {
+        match zone {
+            PackedZone::Local => ZoneOp::Local,
+            PackedZone::Original => ZoneOp::Original,
+            PackedZone::Named(place) => ZoneOp::Named(self.string(place)),
+        }
+    }
+
+    /// What a test takes values from, where its list or its string lies at a place. Takes no memory.
     pub fn source(&self, kind: SourceKind, place: u32) -> SourceOp<'_>
         ensures { source_op_as result ≡ source_in (pool_of self.now) kind place }
     {
@@ -169,6 +180,15 @@ impl Code {
             },
             SourceKind::Flags => SourceOp::Flags {
                 variables: self.given(place),
+            },
+            SourceKind::Date { zone, field } => SourceOp::Date {
+                zone: self.zone(zone),
+                field: self.string(field),
+                part: self.string(place),
+            },
+            SourceKind::CurrentDate { zone } => SourceOp::CurrentDate {
+                zone: self.zone(zone),
+                part: self.string(place),
             },
         }
     }

@@ -2,15 +2,16 @@
 ghost use Rattle.std.specs.Prelude.{◌≡◌, ◌++◌, codes};
 ghost use Rattle.match_text.specs.Relation.{relation_word};
 ghost use Rattle.sieve_base.specs.Writers.{Writes};
-ghost use Rattle.sieve_code.specs.Dump.{address_part_word, address_words, collation_word, comparing_words, further_list, internal_list, match_word, source_text};
-ghost use Rattle.sieve_effects.specs.view.Ops.{source_op_as};
+ghost use Rattle.sieve_code.specs.Dump.{address_part_word, address_words, collation_word, comparing_words, date_words, further_list, further_string, internal_list, match_word, source_text, zone_words};
+ghost use Rattle.sieve_effects.specs.view.Ops.{source_op_as, zone_op_as};
 
-use crate::dump_strings::write_further_list;
+use crate::dump_strings::{write_further_list, write_string};
 use match_text::{Collation, Relation};
 use message_text::AddressPart;
 use sieve_base::{Piece, Sink, WriteFault, write_out, write_pieces};
-use sieve_effects::{SourceOp, Strings};
+use sieve_effects::{SourceOp, Strings, ZoneOp};
 use sieve_reading::{Comparison, MatchType};
+use sieve_variables::Part;
 
 /// The word of a match type that compares values, by its relation (RFC 5231, section 4.1).
 fn value_word(relation: Relation) -> &'static [u8]
@@ -171,6 +172,82 @@ fn write_hasflag<W: Sink>(
     write_internal_list(variables, writer)
 }
 
+/// Writes a string behind a space.
+#[tactic(auto, unfolding(crate::specs::Dump::further_string))]
+fn write_further_string<W: Sink>(string: &[Part], writer: &mut W) -> Result<(), WriteFault>
+    ensures { Writes W.contents W.fault_count result writer.old writer.new (further_string string.now) }
+{
+    write_string(b" ", string, writer)
+}
+
+/// Writes the zone in which a date is shown.
+#[tactic(auto, unfolding(crate::specs::Dump::zone_words))]
+fn write_zone<W: Sink>(zone: &ZoneOp<'_>, writer: &mut W) -> Result<(), WriteFault>
+    ensures { Writes W.contents W.fault_count result writer.old writer.new (zone_words (zone_op_as zone.now)) }
+{
+    match zone {
+        ZoneOp::Local => write_out(b" local", writer),
+        ZoneOp::Original => write_out(b" original", writer),
+        ZoneOp::Named(zone) => write_string(b" zone ", *zone, writer),
+    }
+}
+
+/// Writes the words of a test that compares a part of a date, up to the zone.
+#[tactic(auto, using(sieve_base::proofs::Writing::writing), unfolding(crate::specs::Dump::date_words))]
+fn write_date_words<W: Sink>(
+    test: &[u8],
+    comparison: Comparison,
+    zone: &ZoneOp<'_>,
+    writer: &mut W,
+) -> Result<(), WriteFault>
+    ensures { Writes W.contents W.fault_count result writer.old writer.new (date_words test.now comparison (zone_op_as zone.now)) }
+{
+    write_comparing(test, comparison, writer)?;
+    write_zone(zone, writer)
+}
+
+/// Writes the name of a field, and which part of its date.
+#[tactic(auto, using(sieve_base::proofs::Writing::writing))]
+fn write_field_part<W: Sink>(
+    field: &[Part],
+    part: &[Part],
+    writer: &mut W,
+) -> Result<(), WriteFault>
+    ensures { Writes W.contents W.fault_count result writer.old writer.new (further_string field.now ++ further_string part.now) }
+{
+    write_further_string(field, writer)?;
+    write_further_string(part, writer)
+}
+
+/// Writes a `date` with its field and its part.
+#[tactic(auto, using(sieve_base::proofs::Writing::writing))]
+fn write_date<W: Sink>(
+    comparison: Comparison,
+    zone: &ZoneOp<'_>,
+    field: &[Part],
+    part: &[Part],
+    writer: &mut W,
+) -> Result<(), WriteFault>
+    ensures { Writes W.contents W.fault_count result writer.old writer.new (date_words (codes "date") comparison (zone_op_as zone.now) ++ (further_string field.now ++ further_string part.now)) }
+{
+    write_date_words(b"date", comparison, zone, writer)?;
+    write_field_part(field, part, writer)
+}
+
+/// Writes a `currentdate` with its part.
+#[tactic(auto, using(sieve_base::proofs::Writing::writing))]
+fn write_current_date<W: Sink>(
+    comparison: Comparison,
+    zone: &ZoneOp<'_>,
+    part: &[Part],
+    writer: &mut W,
+) -> Result<(), WriteFault>
+    ensures { Writes W.contents W.fault_count result writer.old writer.new (date_words (codes "currentdate") comparison (zone_op_as zone.now) ++ further_string part.now) }
+{
+    write_date_words(b"currentdate", comparison, zone, writer)?;
+    write_further_string(part, writer)
+}
+
 /// Writes how a test compares, and its values.
 #[tactic(auto, unfolding(crate::specs::Dump::source_text))]
 fn write_source<W: Sink>(
@@ -192,6 +269,10 @@ fn write_source<W: Sink>(
         }
         SourceOp::String { texts } => { write_values(b"string", comparison, texts, writer) }
         SourceOp::Flags { variables } => write_hasflag(comparison, variables, writer),
+        SourceOp::Date { zone, field, part } => {
+            write_date(comparison, zone, *field, *part, writer)
+        }
+        SourceOp::CurrentDate { zone, part } => write_current_date(comparison, zone, *part, writer),
     }
 }
 

@@ -7,7 +7,18 @@ use std::mem::size_of;
 /// The place of what isn't given.
 pub(crate) const NOWHERE: u32 = u32::MAX;
 
-/// Where a test takes values from, whose list lies at a place.
+/// The zone in which a date is shown (RFC 5260, section 4.1).
+#[derive(Clone, Copy)]
+pub enum PackedZone {
+    /// The local one.
+    Local,
+    /// The one in which the date was written.
+    Original,
+    /// The one that the string at a place names.
+    Named(u32),
+}
+
+/// Where a test takes values from, whose list lies at a place, or of a test of dates the string that says which part.
 #[derive(Clone, Copy)]
 pub enum SourceKind {
     /// From the fields of some names (RFC 5228, section 5.7).
@@ -20,6 +31,18 @@ pub enum SourceKind {
     String,
     /// Flags that variables hold, or the internal ones where no list is given (RFC 5232, section 4).
     Flags,
+    /// From the date of a field (RFC 5260, section 4).
+    Date {
+        /// The zone in which it is shown.
+        zone: PackedZone,
+        /// The place of the field's name.
+        field: u32,
+    },
+    /// From the current date (RFC 5260, section 5).
+    CurrentDate {
+        /// The zone in which it is shown.
+        zone: PackedZone,
+    },
 }
 
 /// What a test that compares says beside its values and its keys.
@@ -94,7 +117,7 @@ pub enum Op {
     Compares {
         /// The place of what the test says beside.
         test: u32,
-        /// The place of the source's list.
+        /// The place of the source's list, or of the string that says which part of a date.
         values: u32,
         /// The place of the keys.
         keys: u32,

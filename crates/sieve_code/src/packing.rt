@@ -1,17 +1,17 @@
 //! The operations of tests that ask and of commands that act, with what they say in pools.
 ghost use Rattle.std.specs.Prelude.{◌≡◌, IfOk};
-ghost use Rattle.sieve_reading.specs.Reading.{compares, exists_ask, fileinto_leaf, flag_leaf, include_leaf, keep_leaf, mailboxes_ask, redirect_leaf, reject_leaf, set_leaf, vacation_leaf};
-ghost use Rattle.sieve_reading.specs.view.Reading.{ask_as, leaf_as, settings_as, source_as, texts_as, vacation_as};
+ghost use Rattle.sieve_reading.specs.Reading.{clock_values, compares, date_values, exists_ask, fileinto_leaf, flag_leaf, include_leaf, keep_leaf, mailboxes_ask, redirect_leaf, reject_leaf, set_leaf, vacation_leaf};
+ghost use Rattle.sieve_reading.specs.view.Reading.{ask_as, date_zone_as, leaf_as, settings_as, source_as, texts_as, vacation_as};
 ghost use Rattle.sieve_code.specs.Operation.{act_op, test_op};
 ghost use Rattle.sieve_code.specs.Pool.{Kept};
-ghost use Rattle.sieve_code.specs.view.Op.{op_in, source_in};
+ghost use Rattle.sieve_code.specs.view.Op.{op_in, source_in, zone_in};
 ghost use Rattle.sieve_code.specs.view.Pools.{pool_as};
 
-use crate::op::{Inclusion, Op, PackedTest, SourceKind};
+use crate::op::{Inclusion, Op, PackedTest, PackedZone, SourceKind};
 use crate::pools::{Pools, Target};
 use sieve_base::Place;
 use sieve_reading::{
-    Ask, Comparison, FlagChange, Leaf, Rejection, Settings, Text, Vacation, ValueSource,
+    Ask, Comparison, DateZone, FlagChange, Leaf, Rejection, Settings, Text, Vacation, ValueSource,
 };
 use sieve_variables::{Literal, Modifiers, Parts, Variable};
 use std::alloc::AllocError;
@@ -23,6 +23,48 @@ impl Pools {
     {
         let names = self.keep_names(names)?;
         Ok(Op::Exists { names })
+    }
+
+    /// Keeps the zone in which a date is shown.
+    fn keep_zone(&mut self, zone: DateZone) -> Result<PackedZone, AllocError>
+        ensures { IfOk result (λ kept. Kept (pool_as self.old) (pool_as self.new) (λ p. zone_in p kept) (date_zone_as zone)) }
+    {
+        match zone {
+            DateZone::Local => Ok(PackedZone::Local),
+            DateZone::Original => Ok(PackedZone::Original),
+            DateZone::Named(zone) => {
+                let place = self.keep_string(zone)?;
+                Ok(PackedZone::Named(place))
+            }
+        }
+    }
+
+    /// Keeps where a `date` test takes its value from. Answers its kind, and the place of the part's string.
+    fn keep_date(
+        &mut self,
+        zone: DateZone,
+        field: Parts,
+        part: Parts,
+    ) -> Result<(SourceKind, u32), AllocError>
+        ensures { IfOk result (λ kept. Kept (pool_as self.old) (pool_as self.new) (λ p. source_in p kept.0 kept.1) (date_values (date_zone_as zone) field part)) }
+    {
+        let zone = self.keep_zone(zone)?;
+        let field = self.keep_string(field)?;
+        let place = self.keep_string(part)?;
+        Ok((SourceKind::Date { zone, field }, place))
+    }
+
+    /// Keeps where a `currentdate` test takes its value from. Answers its kind, and the place of the part's string.
+    fn keep_current_date(
+        &mut self,
+        zone: DateZone,
+        part: Parts,
+    ) -> Result<(SourceKind, u32), AllocError>
+        ensures { IfOk result (λ kept. Kept (pool_as self.old) (pool_as self.new) (λ p. source_in p kept.0 kept.1) (clock_values (date_zone_as zone) part)) }
+    {
+        let zone = self.keep_zone(zone)?;
+        let place = self.keep_string(part)?;
+        Ok((SourceKind::CurrentDate { zone }, place))
     }
 
     /// Keeps where a test takes values from. Answers its kind, and the place of its list.
@@ -50,6 +92,8 @@ impl Pools {
                 let place = self.keep_given(variables)?;
                 Ok((SourceKind::Flags, place))
             }
+            ValueSource::Date { zone, field, part } => self.keep_date(zone, field, part),
+            ValueSource::CurrentDate { zone, part } => self.keep_current_date(zone, part),
         }
     }
 

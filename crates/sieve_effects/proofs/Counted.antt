@@ -73,6 +73,12 @@ module _ (fields : List Field) (name : List ℕ) (start : ℕ) where
       let place : i + 1 ≡ suc i = add-one i in
       ap (λ n. (count + 1) + length (values_named (drop n fields) name)) place ∙ omega arith)
 
+  -- the first value of a name is that of the next field
+  pub first_named : (i : ℕ) (value : List ℕ) → IsNextNamed fields name start i → slice_get (map (λ f. f.value) fields) i ≡ Some value → slice_get (values_named (drop start fields) name) 0 ≡ Some value
+  first_named i value next at = there fields i next.within (λ field is.
+      let same : Some field.value ≡ Some value = sym (get_map (λ f. f.value) fields i field is) ∙ at in
+      ap (λ values. slice_get values 0) (next_values i field next is) ∙ same)
+
   -- where no field of a name is left, none is counted
   pub none_named : ((k : ℕ) → start ≤ k → k < length fields → slice_get (map (is_field_named name) fields) k ≡ Some false) → values_named (drop start fields) name ≡ []
   none_named fail = ap (map (λ f. f.value)) (none_pass (is_field_named name) fields start fail)

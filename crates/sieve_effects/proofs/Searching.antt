@@ -10,7 +10,7 @@ use Rattle.sieve_profile.specs.Profile.{Profile}
 use Rattle.message_text.specs.Addresses.{AddrSpec, addresses_of, part_of_address, part_of_path}
 use Rattle.message_text.specs.Fields.{Field, IsNextNamed, fields_of, is_field_named}
 use Rattle.message_text.specs.declared.addressing.AddressPart.{AddressPart}
-use Rattle.sieve_reading.specs.Reading.{ValueSource, address_values, envelope_values, flag_values, header_values, string_values}
+use Rattle.sieve_reading.specs.Reading.{ValueSource, address_values, clock_values, date_values, envelope_values, flag_values, header_values, string_values}
 use Rattle.sieve_variables.specs.Part.{Part}
 use Rattle.sieve_variables.specs.Value.{text_value}
 use Rattle.sieve_reading.specs.declared.reading.Comparison.{Comparison}
@@ -214,13 +214,14 @@ module _ (find : List ℕ → Option (List (List ℕ))) where
       first_flat find (parts_named part (fields_of delivery.arrival.message)) (map (text_value state.values) names)
       ∙ first_same (λ name. first_some find (parts_named part (fields_of delivery.arrival.message) name)) (name_found find delivery.arrival.profile (Some part) (fields_of delivery.arrival.message)) (λ name. first_parts_named delivery.arrival.profile part (fields_of delivery.arrival.message) name) (map (text_value state.values) names)
 
+  -- what one value gives that may be there
+  pub first_of_one : (o : Option (List ℕ)) → first_some find (option_to_list o) ≡ option_and_then find o
+  first_of_one None = refl
+  first_of_one (Some x) = or_none (find x)
+
   first_of_path : (part : AddressPart) (path : Option (List ℕ)) → first_some find (parts_of_envelope part path) ≡ option_and_then (path_found find part) path
   first_of_path part None = refl
   first_of_path part (Some text) = first_of_one (part_of_path part text)
-    where
-      first_of_one : (o : Option (List ℕ)) → first_some find (option_to_list o) ≡ option_and_then find o
-      first_of_one None = refl
-      first_of_one (Some x) = or_none (find x)
 
   pub first_of_paths : (part : AddressPart) (delivery : Delivery) (state : RunState) (names : List (List Part)) → first_some find (values_of delivery state (envelope_values part names)) ≡ first_some (path_name_found find part (envelope_of delivery.arrival)) (map (text_value state.values) names)
   first_of_paths part delivery state names =
@@ -247,6 +248,8 @@ cut_keys (address_values part names) texts cut = absurd (not_both cut)
 cut_keys (envelope_values part names) texts cut = absurd (not_both cut)
 cut_keys (string_values strings) texts cut = absurd (not_both cut)
 cut_keys (flag_values variables) texts cut = refl
+cut_keys (date_values zone field part) texts cut = absurd (not_both cut)
+cut_keys (clock_values zone part) texts cut = absurd (not_both cut)
 
 pub whole_keys : (source : ValueSource) (texts : List (List ℕ)) → cuts_keys source ≡ false → texts ≡ keys_from source texts
 whole_keys (header_values names) texts whole = refl
@@ -254,3 +257,5 @@ whole_keys (address_values part names) texts whole = refl
 whole_keys (envelope_values part names) texts whole = refl
 whole_keys (string_values strings) texts whole = refl
 whole_keys (flag_values variables) texts whole = absurd (not_both (sym whole))
+whole_keys (date_values zone field part) texts whole = refl
+whole_keys (clock_values zone part) texts whole = refl

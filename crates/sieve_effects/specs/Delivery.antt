@@ -11,7 +11,8 @@ use Rattle.sieve_profile.specs.Profile.{Profile}
 pub record Arrival : Type 0 where
   -- the message's octets
   pub message : List ℕ
-  -- sender, recipient, the mailbox that `keep` stores into (RFC 5228, sections 5.4 and 4.3), and those that there are beside it
+  -- sender, recipient, the mailbox that `keep` stores into (RFC 5228, sections 5.4 and 4.3), those that there are beside it, and what
+  -- time it is
   pub envelope : Envelope
   -- the sender and the recipient of this message alone, where it has its own
   pub own : Option Addresses
@@ -38,7 +39,7 @@ recipient_of (Some own) envelope = own.to
 
 -- the envelope with these; all else of it stays
 abbrev pub addressed : Option Addresses → Envelope → Envelope
-addressed own envelope = record { from = sender_of own envelope; to = recipient_of own envelope; mailbox = envelope.mailbox; mailboxes = envelope.mailboxes }
+addressed own envelope = record { from = sender_of own envelope; to = recipient_of own envelope; mailbox = envelope.mailbox; mailboxes = envelope.mailboxes; clock = envelope.clock }
 
 -- the envelope by which a message is judged
 abbrev pub envelope_of : Arrival → Envelope

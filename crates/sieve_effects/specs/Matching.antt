@@ -1,10 +1,13 @@
 -- What tests find in a delivery: fields, addresses and parts of the envelope by name, and whether a value matches a key (RFC 5228,
 -- sections 2.7 and 5).
-use Rattle.std.specs.Prelude.{ℕ, Bool, false, ◌||◌, List, [], ◌∷◌, Option, None, Some, is_some, map, filter, length, nat_eq, nat_lt, if◌then◌else◌, codes, decimal, option_to_list}
+use Rattle.std.specs.Prelude.{ℕ, Bool, false, ◌||◌, List, [], ◌∷◌, Option, None, Some, is_some, map, filter, length, slice_get, nat_eq, nat_lt, if◌then◌else◌, codes, decimal, option_to_list}
 use Rattle.std.specs.List.{filter_map, flat_map, list_any, list_all}
-use Rattle.std.specs.Option.{option_or}
+use Rattle.std.specs.Option.{option_and_then, option_map, option_or}
 use Rattle.std.specs.Str.{str_eq_ignore_ascii_case}
 use lib.Pointwise.{pointwise}
+use Rattle.date_text.specs.Clock.{moment_of}
+use Rattle.date_text.specs.Moment.{Moment}
+use Rattle.date_text.specs.Reading.{date_in}
 use Rattle.encoded_words.specs.Scan.{decoded_of}
 use Rattle.sieve_profile.specs.Profile.{Profile}
 use Rattle.match_text.specs.Flags.{flag_keys_of_texts, flag_list}
@@ -16,11 +19,12 @@ use Rattle.message_text.specs.Fields.{Field, fields_of, is_field_named}
 use Rattle.message_text.specs.declared.addressing.AddressPart.{AddressPart}
 use Rattle.message_text.specs.declared.addressing.AddressPart.TheVariants.{All}
 use Rattle.sieve_base.specs.Octet.{is_filled}
-use Rattle.sieve_reading.specs.Reading.{ValueSource, header_values, address_values, envelope_values, string_values, flag_values, Ask, compares, exists_ask, over_ask, under_ask, mailboxes_ask, duplicate_ask}
+use Rattle.sieve_reading.specs.Reading.{ValueSource, header_values, address_values, envelope_values, string_values, flag_values, date_values, clock_values, Ask, compares, exists_ask, over_ask, under_ask, mailboxes_ask, duplicate_ask}
 use Rattle.sieve_reading.specs.declared.reading.Comparison.{Comparison}
 use Rattle.sieve_reading.specs.declared.reading.MatchType.{MatchType}
 use Rattle.sieve_reading.specs.declared.reading.MatchType.TheVariants.{Is, Contains, Matches, Value, Count}
 use Rattle.sieve_table.specs.Address.{is_address_field}
+use Rattle.sieve_effects.specs.Dates.{part_of_moment}
 use Rattle.sieve_effects.specs.Delivery.{Delivery, envelope_of, mailbox_names}
 use Rattle.sieve_effects.specs.State.{RunState}
 use Rattle.sieve_effects.specs.declared.envelope.Envelope.{Envelope}
@@ -55,6 +59,10 @@ values_named fields name = map (λ field. field.value) (filter (is_field_named n
 abbrev pub decoded_named : Profile → List Field → List ℕ → List (List ℕ)
 decoded_named profile fields name = map (decoded_of profile) (values_named fields name)
 
+-- the date of the first field of that name, where that one has a date (RFC 5260, section 4); encoded words stay as they are written
+abbrev pub date_named : List Field → List ℕ → Option Moment
+date_named fields name = option_and_then date_in (slice_get (values_named fields name) 0)
+
 -- a value with each key
 abbrev pub pairs_with : List (List ℕ) → List ℕ → List Pair
 pairs_with keys value = map (λ key. record { value = value; key = key }) keys
@@ -84,8 +92,8 @@ parts_of_envelope part (Some text) = option_to_list (part_of_path part text)
 abbrev pub envelope_named : AddressPart → Envelope → List ℕ → List (List ℕ)
 envelope_named part envelope name = parts_of_envelope part (envelope_text envelope name)
 
--- The values of a test, by names, then by fields, then by addresses; an absent field gives nothing. Strings stand for what they do when
--- the test begins.
+-- The values of a test, by names, then by fields, then by addresses; an absent field gives nothing. A test of dates has one value at
+-- most. Strings stand for what they do when the test begins.
 abbrev pub values_of : Delivery → RunState → ValueSource → List (List ℕ)
 values_of delivery state (header_values names) = flat_map (decoded_named delivery.arrival.profile (fields_of delivery.arrival.message)) (map (text_value state.values) names)
 values_of delivery state (address_values part names) = flat_map (parts_named part (fields_of delivery.arrival.message)) (map (text_value state.values) names)
@@ -93,16 +101,23 @@ values_of delivery state (envelope_values part names) = flat_map (envelope_named
 values_of delivery state (string_values texts) = map (text_value state.values) texts
 values_of delivery state (flag_values None) = state.flags
 values_of delivery state (flag_values (Some variables)) = flat_map flag_list (map (text_value state.values) variables)
+values_of delivery state (date_values zone field part) =
+    option_to_list (option_and_then (part_of_moment state.values delivery.arrival.envelope.clock zone part) (date_named (fields_of delivery.arrival.message) (text_value state.values field)))
+values_of delivery state (clock_values zone part) =
+    option_to_list (option_and_then (part_of_moment state.values delivery.arrival.envelope.clock zone part) (option_map moment_of delivery.arrival.envelope.clock))
 
 -- The values that `:count` counts (RFC 5231, section 4.2): each field of each name, each address, each address of the envelope that
 -- isn't empty, each string that isn't empty (RFC 5229, section 5), and each flag (RFC 5232, section 4). An address counts whatever part of
--- it the test names, and whether it has that part or not.
+-- it the test names, and whether it has that part or not. A test of dates counts
+-- its value, where it has one.
 abbrev pub counted_of : Delivery → RunState → ValueSource → List (List ℕ)
 counted_of delivery state (header_values names) = values_of delivery state (header_values names)
 counted_of delivery state (address_values part names) = values_of delivery state (address_values All names)
 counted_of delivery state (envelope_values part names) = filter is_filled (values_of delivery state (envelope_values All names))
 counted_of delivery state (string_values texts) = filter is_filled (values_of delivery state (string_values texts))
 counted_of delivery state (flag_values variables) = values_of delivery state (flag_values variables)
+counted_of delivery state (date_values zone field part) = values_of delivery state (date_values zone field part)
+counted_of delivery state (clock_values zone part) = values_of delivery state (clock_values zone part)
 
 -- what a test compares with its keys by its match type: under `:count` the number of the values alone, in decimal (RFC 5231, section 4.2)
 abbrev pub compared_of : MatchType → Delivery → RunState → ValueSource → List (List ℕ)
@@ -119,6 +134,8 @@ keys_from (address_values part names) texts = texts
 keys_from (envelope_values part names) texts = texts
 keys_from (string_values strings) texts = texts
 keys_from (flag_values variables) texts = flag_keys_of_texts texts
+keys_from (date_values zone field part) texts = texts
+keys_from (clock_values zone part) texts = texts
 
 abbrev pub keys_of : RunState → ValueSource → List (List Part) → List (List ℕ)
 keys_of state source keys = keys_from source (map (text_value state.values) keys)
@@ -152,8 +169,8 @@ first_match comparison pairs = first_some (λ pair. match_of comparison pair.val
 unfoldable pub match_found : Delivery → RunState → ValueSource → Comparison → List (List Part) → Option (List (List ℕ))
 match_found delivery state source comparison keys = first_match comparison (pairs_of (compared_of comparison.match_type delivery state source) (keys_of state source keys))
 
--- Whether what a test asks is so: header, address, envelope, string and hasflag, where some pair matches (RFC 5228, sections 5.7, 5.1
--- and 5.4; RFC 5229, section 5; RFC 5232, section 4), exists (RFC 5228, section 5.5), size (section 5.9), where a message of exactly
+-- Whether what a test asks is so: header, address, envelope, string, hasflag, date and currentdate, where some pair matches (RFC 5228,
+-- sections 5.7, 5.1 and 5.4; RFC 5229, section 5; RFC 5232, section 4; RFC 5260, sections 4 and 5), exists (RFC 5228, section 5.5), size (section 5.9), where a message of exactly
 -- the limit's octets is neither over nor under it, mailboxexists (RFC 5490, section 3.1), and duplicate (RFC 7352, section 3), which is false,
 -- since no message was seen before.
 unfoldable pub truth_of : Delivery → RunState → Ask → Bool

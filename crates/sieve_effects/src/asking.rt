@@ -9,6 +9,7 @@ ghost use Rattle.sieve_effects.specs.view.State.{state_of};
 ghost use Rattle.sieve_variables.specs.Value.{text_value};
 
 use crate::counting::count_in_source;
+use crate::date_values::{find_in_clock, find_in_date};
 use crate::delivery::Delivery;
 use crate::field_names::FieldNames;
 use crate::field_reads::FieldReads;
@@ -49,6 +50,12 @@ fn find_in_source(
         }
         SourceOp::String { texts } => { find_in_strings(delivery, state, texts, matcher) }
         SourceOp::Flags { variables } => find_in_held(delivery, state, variables, matcher),
+        SourceOp::Date { zone, field, part } => {
+            find_in_date(delivery, state, zone, *field, *part, matcher)
+        }
+        SourceOp::CurrentDate { zone, part } => {
+            find_in_clock(delivery, state, zone, *part, matcher)
+        }
     }
 }
 
@@ -101,7 +108,9 @@ fn cuts_keys(source: &SourceOp<'_>) -> bool
         SourceOp::Header { .. }
         | SourceOp::Address { .. }
         | SourceOp::Envelope { .. }
-        | SourceOp::String { .. } => false,
+        | SourceOp::String { .. }
+        | SourceOp::Date { .. }
+        | SourceOp::CurrentDate { .. } => false,
     }
 }
 
@@ -162,8 +171,8 @@ fn find_match(
     find_keyed(delivery, fields, state, source, comparison, keys)
 }
 
-/// Whether some value of a source matches some key (RFC 5228, sections 5.1, 5.4 and 5.7; RFC 5229, section 5; RFC 5232, section 4), or
-/// their number under `:count` (RFC 5231, section 4.2). Under `:matches` the first that does sets the match variables (RFC 5229, section 3.2). All strings stand for what they do when the test begins.
+/// Whether some value of a source matches some key (RFC 5228, sections 5.1, 5.4 and 5.7; RFC 5229, section 5; RFC 5232, section 4; RFC 5260, sections 4
+/// and 5), or their number under `:count` (RFC 5231, section 4.2). Under `:matches` the first that does sets the match variables (RFC 5229, section 3.2). All strings stand for what they do when the test begins.
 /// What is made of the message's fields is kept. Fails where memory is refused.
 #[tactic(auto, unfolding(crate::specs::Matching::truth_of, crate::specs::Matching::values_behind))]
 pub fn compare(

@@ -14,6 +14,7 @@ ghost use Rattle.sieve_effects.specs.view.Ops.{source_op_as};
 ghost use Rattle.sieve_effects.specs.view.State.{state_of};
 ghost use Rattle.sieve_variables.specs.Value.{text_value};
 
+use crate::date_values::{count_clock, count_date};
 use crate::delivery::{Arrival, Delivery};
 use crate::field_names::FieldNames;
 use crate::field_reads::FieldReads;
@@ -283,5 +284,7 @@ pub(crate) fn count_in_source(
         SourceOp::Envelope { names, .. } => count_paths(delivery, state, names),
         SourceOp::String { texts } => { filled_strings(delivery.alloc, &state.values, texts) }
         SourceOp::Flags { variables } => count_flags(delivery, state, variables),
+        SourceOp::Date { zone, field, part } => count_date(delivery, state, zone, *field, *part),
+        SourceOp::CurrentDate { zone, part } => count_clock(delivery, state, zone, *part),
     }
 }

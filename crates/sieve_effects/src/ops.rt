@@ -5,6 +5,17 @@ use crate::strings::Strings;
 use message_text::AddressPart;
 use sieve_variables::Part;
 
+/// The zone in which a date is shown (RFC 5260, section 4.1).
+#[derive(Clone, Copy)]
+pub enum ZoneOp<'a> {
+    /// The local one: that of the clock, or of UTC.
+    Local,
+    /// The one in which the date was written.
+    Original,
+    /// The one that a string names.
+    Named(&'a [Part]),
+}
+
 /// Where a test takes values from.
 #[derive(Drop)]
 pub enum SourceOp<'a> {
@@ -36,6 +47,22 @@ pub enum SourceOp<'a> {
     Flags {
         /// The variables that hold them, each by its name; the internal flags where none are named.
         variables: Option<Strings<'a>>,
+    },
+    /// From the date of the first field of a name (RFC 5260, section 4).
+    Date {
+        /// The zone in which it is shown.
+        zone: ZoneOp<'a>,
+        /// The name of the field.
+        field: &'a [Part],
+        /// Which part of the date.
+        part: &'a [Part],
+    },
+    /// From the current date (RFC 5260, section 5).
+    CurrentDate {
+        /// The zone in which it is shown.
+        zone: ZoneOp<'a>,
+        /// Which part of the date.
+        part: &'a [Part],
     },
 }
 

@@ -10,15 +10,24 @@ use Rattle.sieve_variables.specs.Part.{Part}
 use Rattle.sieve_variables.specs.Variable.{Variable}
 use Rattle.sieve_variables.specs.declared.modifier.Modifiers.{Modifiers}
 
+-- The zone in which a date is shown (RFC 5260, section 4.1): the local one, that in which the date was written, or one that is named.
+pub data DateZone : Type 0 where
+  local_zone : DateZone
+  original_zone : DateZone
+  named_zone : (zone : List Part) → DateZone
+
 -- Where a test takes values from: the fields of some names (RFC 5228, section 5.7), a part of the addresses in such fields
--- (section 5.1), a part of an envelope's addresses (section 5.4), strings themselves (RFC 5229, section 5), or flags: those that
--- some variables hold, or else the internal ones (RFC 5232, section 4). A string is its parts.
+-- (section 5.1), a part of an envelope's addresses (section 5.4), strings themselves (RFC 5229, section 5), flags: those that
+-- some variables hold, or else the internal ones (RFC 5232, section 4), a part of the date of a field (RFC 5260, section 4), or of
+-- the current date (section 5). A string is its parts.
 pub data ValueSource : Type 0 where
   header_values : (names : List (List Part)) → ValueSource
   address_values : (part : AddressPart) (names : List (List Part)) → ValueSource
   envelope_values : (part : AddressPart) (names : List (List Part)) → ValueSource
   string_values : (texts : List (List Part)) → ValueSource
   flag_values : (variables : Option (List (List Part))) → ValueSource
+  date_values : (zone : DateZone) (field part : List Part) → ValueSource
+  clock_values : (zone : DateZone) (part : List Part) → ValueSource
 
 -- A test without tests in it (RFC 5228, section 5): it compares values with keys (section 2.7), looks at the message, or asks what the
 -- server has: mailboxes (RFC 5490, section 3.1), or the message before (RFC 7352, section 3). By what it would know that one isn't read:

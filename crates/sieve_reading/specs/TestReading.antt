@@ -1,9 +1,10 @@
--- How a test is read (RFC 5228, section 5; RFC 5229, section 5; RFC 5232, section 4; RFC 5490, section 3.1; RFC 7352, section 3), by its arguments and their labels.
-use Rattle.std.specs.Prelude.{ℕ, List, Option, Some}
+-- How a test is read (RFC 5228, section 5; RFC 5229, section 5; RFC 5232, section 4; RFC 5490, section 3.1; RFC 7352, section 3; RFC 5260, sections 4 and 5), by its arguments and their labels.
+use Rattle.std.specs.Prelude.{ℕ, List, Option, None, Some}
 use Rattle.std.specs.Option.{option_map}
 use Rattle.sieve_table.specs.Table.{test_named, test_row}
 use Rattle.sieve_reading.specs.Tree.{Argument, Test, test}
 use Rattle.sieve_reading.specs.declared.label.Label.{Label}
+use Rattle.sieve_variables.specs.Part.{Part}
 use Rattle.sieve_reading.specs.declared.reading.Comparison.{Comparison}
 use Rattle.sieve_table.specs.declared.row.Role.TheVariants as role
 use Rattle.sieve_table.specs.declared.row.TagKind.TheVariants as kind
@@ -11,9 +12,9 @@ use Rattle.sieve_table.specs.declared.table.Tag.{Tag}
 use Rattle.sieve_table.specs.declared.table.Tag.TheVariants as tag
 use Rattle.sieve_table.specs.declared.table.TestKind.{TestKind}
 use Rattle.sieve_table.specs.declared.table.TestKind.TheVariants as test_kind
-use Rattle.sieve_reading.specs.Given.{Tags, tags_of, in_role, texts_in, given_texts, number_in, collation_by, relation_by, match_type_of, address_part_of}
+use Rattle.sieve_reading.specs.Given.{Tags, tags_of, in_role, texts_in, text_in, given_text, given_texts, number_in, collation_by, relation_by, match_type_of, address_part_of}
 use Rattle.sieve_reading.specs.Shape.{row_labels}
-use Rattle.sieve_reading.specs.Reading.{ValueSource, header_values, address_values, envelope_values, string_values, flag_values, Ask, compares, exists_ask, over_ask, under_ask, mailboxes_ask, duplicate_ask, TestReading, reads_always, reads_never, reads_ask, reads_all, reads_any, reads_not}
+use Rattle.sieve_reading.specs.Reading.{DateZone, local_zone, original_zone, named_zone, ValueSource, header_values, address_values, envelope_values, string_values, flag_values, date_values, clock_values, Ask, compares, exists_ask, over_ask, under_ask, mailboxes_ask, duplicate_ask, TestReading, reads_always, reads_never, reads_ask, reads_all, reads_any, reads_not}
 
 -- how a test compares (RFC 5228, section 2.7; RFC 5231, section 4)
 abbrev pub comparison_by : List Label → List Argument → Comparison
@@ -45,6 +46,28 @@ string_source labels args = string_values (texts_in (in_role role.Text labels ar
 -- a `hasflag` test (RFC 5232, section 4)
 abbrev pub flag_source : List Label → List Argument → ValueSource
 flag_source labels args = flag_values (given_texts (in_role role.NamesToRead labels args))
+
+-- the zone in which a date is shown: that of the date under `:originalzone`, else the one that `:zone` names, and else the local one
+-- (RFC 5260, section 4.1)
+abbrev pub zone_by : Option Tag → (named : Option (List Part)) → DateZone
+zone_by (Some tag.OriginalZone) named = original_zone
+zone_by other (Some zone) = named_zone zone
+zone_by other None = local_zone
+
+unfoldable pub zone_of : Tags → (named : Option (List Part)) → DateZone
+zone_of tags named = zone_by (tags kind.Zone) named
+
+-- the zone of a test of dates
+abbrev pub date_zone : List Label → List Argument → DateZone
+date_zone labels args = zone_of (tags_of labels) (given_text (in_role role.Zone labels args))
+
+-- a `date` test (RFC 5260, section 4)
+abbrev pub date_source : List Label → List Argument → ValueSource
+date_source labels args = date_values (date_zone labels args) (text_in (in_role role.FieldNames labels args)) (text_in (in_role role.DatePart labels args))
+
+-- a `currentdate` test (RFC 5260, section 5)
+abbrev pub clock_source : List Label → List Argument → ValueSource
+clock_source labels args = clock_values (date_zone labels args) (text_in (in_role role.DatePart labels args))
 
 -- what an `exists` test asks (RFC 5228, section 5.5)
 abbrev pub exists_by : List Label → List Argument → Ask
@@ -80,6 +103,8 @@ test_reading_by test_kind.String labels args = reads_ask (compares_by (string_so
 test_reading_by test_kind.HasFlag labels args = reads_ask (compares_by (flag_source labels args) labels args)
 test_reading_by test_kind.MailboxExists labels args = reads_ask (mailboxes_by labels args)
 test_reading_by test_kind.Duplicate labels args = reads_ask duplicate_ask
+test_reading_by test_kind.Date labels args = reads_ask (compares_by (date_source labels args) labels args)
+test_reading_by test_kind.CurrentDate labels args = reads_ask (compares_by (clock_source labels args) labels args)
 
 -- what a test of a kind is with these arguments
 abbrev pub test_kind_reading : TestKind → List Argument → TestReading

@@ -33,6 +33,17 @@ pub struct Comparison {
     pub collation: Collation,
 }
 
+/// The zone in which a date is shown (RFC 5260, section 4.1).
+#[derive(Drop)]
+pub enum DateZone {
+    /// The local one.
+    Local,
+    /// The one in which the date was written.
+    Original,
+    /// The one that a string names, as its parts.
+    Named(Parts),
+}
+
 /// Where a test takes values from.
 #[derive(Drop)]
 pub enum ValueSource {
@@ -64,6 +75,22 @@ pub enum ValueSource {
     Flags {
         /// The variables that hold them, each by its name; the internal flags where none are named.
         variables: Option<Vec<Text>>,
+    },
+    /// From the date of the first field of a name (RFC 5260, section 4).
+    Date {
+        /// The zone in which it is shown.
+        zone: DateZone,
+        /// The name of the field, as its parts.
+        field: Parts,
+        /// Which part of the date, as its parts.
+        part: Parts,
+    },
+    /// From the current date (RFC 5260, section 5).
+    CurrentDate {
+        /// The zone in which it is shown.
+        zone: DateZone,
+        /// Which part of the date, as its parts.
+        part: Parts,
     },
 }
 

@@ -1,5 +1,5 @@
 //! How a test is read (RFC 5228, section 5; RFC 5229, section 5; RFC 5232, section 4; RFC 5490, section 3.1; RFC 7352,
-//! section 3).
+//! section 3; RFC 5260, sections 4 and 5).
 ghost use Rattle.std.specs.Prelude.{◌≡◌, map};
 ghost use Rattle.sieve_reading.specs.Given.{tags_of};
 ghost use Rattle.sieve_reading.specs.TestReading as spec;
@@ -8,6 +8,7 @@ ghost use Rattle.sieve_reading.specs.view.Reading.{ask_as, source_as, test_readi
 ghost use Rattle.sieve_reading.specs.view.Tags.{tags_as};
 ghost use Rattle.sieve_reading.specs.view.Tree.{argument_of};
 
+use crate::dates::{current_date_ask, date_ask};
 use crate::given::{
     address_part_of, collation_by, given_texts, match_type_of, number_in, texts_in,
 };
@@ -19,7 +20,7 @@ use sieve_table::{Role, Row, Tag, TagKind, TestKind};
 use std::alloc::Global;
 
 /// How a test compares (RFC 5228, section 2.7; RFC 5231, section 4).
-fn comparison_of(tags: Tags, row: &Row, args: &[Argument]) -> Comparison
+pub(crate) fn comparison_of(tags: Tags, row: &Row, args: &[Argument]) -> Comparison
     requires { tags_as tags ≡ tags_of (labels_in row.now args.now) }
     ensures { result ≡ spec.comparison_by (labels_in row.now args.now) (map argument_of args.now) }
 {
@@ -169,6 +170,8 @@ fn reading_by(alloc: Global, kind: TestKind, row: &Row, args: Vec<Argument>) -> 
         TestKind::HasFlag => flag_ask(alloc, row, args),
         TestKind::MailboxExists => mailboxes_ask(alloc, row, args),
         TestKind::Duplicate => Ask::Duplicate,
+        TestKind::Date => date_ask(alloc, row, args),
+        TestKind::CurrentDate => current_date_ask(alloc, row, args),
     };
     TestReading::Asks(ask)
 }

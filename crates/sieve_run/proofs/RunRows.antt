@@ -33,7 +33,7 @@ abbrev script_b : ScriptName
 script_b = record { place = Personal; name = codes "b" }
 
 abbrev envelope : Envelope
-envelope = record { from = []; to = []; mailbox = codes "INBOX"; mailboxes = [] }
+envelope = record { from = []; to = []; mailbox = codes "INBOX"; mailboxes = []; clock = None }
 
 -- WATCHED RUNS
 

@@ -38,6 +38,7 @@ fn discards(alloc: Global, text: &[u8], from: &[u8], octets: Vec<u8>) -> Result<
         to: Octets::copied(alloc, b"ada@example.org")?,
         mailbox: Octets::copied(alloc, b"INBOX")?,
         mailboxes: Octets::from_vec(Vec::new(alloc)),
+        clock: None,
     };
     let mail = Message::new(alloc, octets)?;
     let verdict = verdict_of(

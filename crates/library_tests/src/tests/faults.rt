@@ -53,6 +53,7 @@ fn later_rules_have_their_numbers_and_words(rt: HostRuntime) {
             (Rule::BadCharacter, 17, b"bad-character"),
             (Rule::BadRelation, 18, b"bad-relation"),
             (Rule::UnfitComparator, 19, b"unfit-comparator"),
+            (Rule::BadDatePart, 20, b"bad-date-part"),
         ],
     );
 }

@@ -31,6 +31,7 @@ fn envelope_of(alloc: Global) -> Result<Envelope, AllocError> {
         to: Octets::from_vec(Vec::new(alloc)),
         mailbox,
         mailboxes: Octets::from_vec(Vec::new(alloc)),
+        clock: None,
     })
 }
 

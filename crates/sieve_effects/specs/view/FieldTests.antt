@@ -6,7 +6,7 @@ use Rattle.sieve_profile.specs.Profile.{Profile}
 use Rattle.message_text.specs.Addresses.{AddrSpec, addresses_of, part_of_address, part_of_path}
 use Rattle.message_text.specs.Fields.{Field, is_field_named}
 use Rattle.message_text.specs.declared.addressing.AddressPart.{AddressPart}
-use Rattle.sieve_reading.specs.Reading.{ValueSource, address_values, envelope_values, flag_values, header_values, string_values}
+use Rattle.sieve_reading.specs.Reading.{ValueSource, address_values, clock_values, date_values, envelope_values, flag_values, header_values, string_values}
 use Rattle.sieve_variables.specs.Part.{Part}
 use Rattle.sieve_variables.specs.Value.{text_value}
 use Rattle.sieve_base.specs.view.Texts.{octets_of_each}
@@ -38,6 +38,8 @@ cuts_keys (address_values part names) = false
 cuts_keys (envelope_values part names) = false
 cuts_keys (string_values texts) = false
 cuts_keys (flag_values variables) = true
+cuts_keys (date_values zone field part) = false
+cuts_keys (clock_values zone part) = false
 
 -- whether fields of that name are looked at
 abbrev pub is_looked_at : Option AddressPart → List ℕ → Bool

@@ -6,6 +6,13 @@ use Rattle.sieve_effects.specs.declared.ops.SettingsOp.{SettingsOp}
 use Rattle.sieve_effects.specs.declared.ops.SourceOp.{SourceOp}
 use Rattle.sieve_effects.specs.declared.ops.SourceOp.TheVariants as source
 use Rattle.sieve_effects.specs.declared.ops.VacationOp.{VacationOp}
+use Rattle.sieve_effects.specs.declared.ops.ZoneOp.{ZoneOp}
+use Rattle.sieve_effects.specs.declared.ops.ZoneOp.TheVariants as zone
+
+abbrev pub zone_op_as : ZoneOp → reading.DateZone
+zone_op_as zone.Local = reading.local_zone
+zone_op_as zone.Original = reading.original_zone
+zone_op_as (zone.Named named) = reading.named_zone named.now
 
 abbrev pub source_op_as : SourceOp → reading.ValueSource
 source_op_as (source.Header names) = reading.header_values names
@@ -13,6 +20,8 @@ source_op_as (source.Address part names) = reading.address_values part names
 source_op_as (source.Envelope part names) = reading.envelope_values part names
 source_op_as (source.String texts) = reading.string_values texts
 source_op_as (source.Flags variables) = reading.flag_values variables
+source_op_as (source.Date zone field part) = reading.date_values (zone_op_as zone) field.now part.now
+source_op_as (source.CurrentDate zone part) = reading.clock_values (zone_op_as zone) part.now
 
 abbrev pub settings_op_as : SettingsOp → Settings
 settings_op_as s = record { flags = s.flags; copy = s.copy; create = s.create; special_use = option_copied s.special_use }

@@ -6,6 +6,8 @@ use Rattle.sieve_reading.specs.view.Tree.{text_of}
 use Rattle.sieve_variables.specs.Part.{Part}
 use Rattle.sieve_reading.specs.declared.reading.Ask.{Ask}
 use Rattle.sieve_reading.specs.declared.reading.Ask.TheVariants.{Compares, Exists, Over, Under, MailboxExists, Duplicate}
+use Rattle.sieve_reading.specs.declared.reading.DateZone.{DateZone}
+use Rattle.sieve_reading.specs.declared.reading.DateZone.TheVariants as zone
 use Rattle.sieve_reading.specs.declared.reading.CommandReading.{CommandReading}
 use Rattle.sieve_reading.specs.declared.reading.CommandReading.TheVariants.{If, Elsif, Else, Stop, Return, Nothing, Act}
 use Rattle.sieve_reading.specs.declared.reading.Leaf.{Leaf}
@@ -22,12 +24,19 @@ use Rattle.sieve_syntax.specs.declared.tree.Text.{Text}
 abbrev pub texts_as : List Text → List (List Part)
 texts_as texts = map (λ t. t.string) (map text_of texts)
 
+abbrev pub date_zone_as : DateZone → reading.DateZone
+date_zone_as zone.Local = reading.local_zone
+date_zone_as zone.Original = reading.original_zone
+date_zone_as (zone.Named named) = reading.named_zone named
+
 abbrev pub source_as : ValueSource → reading.ValueSource
 source_as (source.Header names) = reading.header_values (texts_as names.items)
 source_as (source.Address part names) = reading.address_values part (texts_as names.items)
 source_as (source.Envelope part names) = reading.envelope_values part (texts_as names.items)
 source_as (source.String texts) = reading.string_values (texts_as texts.items)
 source_as (source.Flags variables) = reading.flag_values (option_map (λ texts. texts_as texts.items) variables)
+source_as (source.Date zone field part) = reading.date_values (date_zone_as zone) field part
+source_as (source.CurrentDate zone part) = reading.clock_values (date_zone_as zone) part
 
 abbrev pub ask_as : Ask → reading.Ask
 ask_as (Compares source comparison keys) = reading.compares (source_as source) comparison (texts_as keys.items)

@@ -1,0 +1,129 @@
+//! How tests of dates are read (RFC 5260, sections 4 and 5).
+ghost use Rattle.std.specs.Prelude.{◌≡◌, map};
+ghost use Rattle.std.specs.Option.{option_map};
+ghost use Rattle.sieve_reading.specs.Given.{in_role};
+ghost use Rattle.sieve_reading.specs.TestReading as spec;
+ghost use Rattle.sieve_reading.specs.view.Labels.{labels_in};
+ghost use Rattle.sieve_reading.specs.view.Reading.{ask_as, date_zone_as};
+ghost use Rattle.sieve_reading.specs.view.Tags.{tags_as};
+ghost use Rattle.sieve_reading.specs.view.Tree.{argument_of};
+ghost use Rattle.sieve_table.specs.declared.row.Role.TheVariants as role;
+
+use crate::given::{given_text, text_in, texts_in};
+use crate::labelled::first_or;
+use crate::reading::{Ask, DateZone, ValueSource};
+use crate::role::role_of;
+use crate::shape::{AsParts, row_expected, shape_of};
+use crate::tags::Tags;
+use crate::test_reading::comparison_of;
+use sieve_syntax::Argument;
+use sieve_table::{Role, Row, Tag, TagKind, has_role};
+use sieve_variables::Parts;
+use std::alloc::Global;
+
+/// The arguments of a test of dates that have strings, each the first in its role.
+#[derive(Drop)]
+struct Strings {
+    zone: Option<Argument>,
+    field: Option<Argument>,
+    part: Option<Argument>,
+    keys: Option<Argument>,
+}
+
+/// The arguments that have strings, to be kept.
+fn into_strings(row: &Row, args: Vec<Argument>) -> Strings
+    ensures zone { option_map argument_of result.zone ≡ in_role role.Zone (labels_in row.now args.items) (map argument_of args.items) }
+    ensures field { option_map argument_of result.field ≡ in_role role.FieldNames (labels_in row.now args.items) (map argument_of args.items) }
+    ensures part { option_map argument_of result.part ≡ in_role role.DatePart (labels_in row.now args.items) (map argument_of args.items) }
+    ensures keys { option_map argument_of result.keys ≡ in_role role.Keys (labels_in row.now args.items) (map argument_of args.items) }
+{
+    let mut expected = row_expected::<AsParts>(row, None, &args);
+    let mut zone = None;
+    let mut field = None;
+    let mut part = None;
+    let mut keys = None;
+    for argument in args {
+        let shape = shape_of::<AsParts>(None, row.tags, &argument);
+        let role = role_of(expected.label(shape));
+        expected = expected.behind(shape);
+        if has_role(Role::Zone, role) {
+            zone = first_or(zone, argument);
+        } else if has_role(Role::FieldNames, role) {
+            field = first_or(field, argument);
+        } else if has_role(Role::DatePart, role) {
+            part = first_or(part, argument);
+        } else if has_role(Role::Keys, role) {
+            keys = first_or(keys, argument);
+        }
+    }
+    Strings {
+        zone,
+        field,
+        part,
+        keys,
+    }
+}
+
+/// The zone in which a date is shown, by a tag and what `:zone` names.
+fn zone_by(tag: Option<Tag>, named: Option<Parts>) -> DateZone
+    ensures { date_zone_as result ≡ spec.zone_by tag named }
+{
+    match (tag, named) {
+        (Some(Tag::OriginalZone), _) => DateZone::Original,
+        (_, Some(zone)) => DateZone::Named(zone),
+        (_, None) => DateZone::Local,
+    }
+}
+
+/// The zone in which a date is shown.
+#[tactic(auto, unfolding(crate::specs::TestReading::zone_of))]
+fn zone_of(tags: Tags, named: Option<Parts>) -> DateZone
+    ensures { date_zone_as result ≡ spec.zone_of (tags_as tags) named }
+{
+    zone_by(tags.of(TagKind::Zone), named)
+}
+
+/// What a `date` test asks.
+pub(crate) fn date_ask(alloc: Global, row: &Row, args: Vec<Argument>) -> Ask
+    ensures { ask_as result ≡ (let labels = labels_in row.now args.items in spec.compares_by (spec.date_source labels (map argument_of args.items)) labels (map argument_of args.items)) }
+{
+    let tags = Tags::among(row, &args);
+    let comparison = comparison_of(tags, row, &args);
+    let Strings {
+        zone,
+        field,
+        part,
+        keys,
+    } = into_strings(row, args);
+    Ask::Compares {
+        source: ValueSource::Date {
+            zone: zone_of(tags, given_text(zone)),
+            field: text_in(field),
+            part: text_in(part),
+        },
+        comparison,
+        keys: texts_in(alloc, keys),
+    }
+}
+
+/// What a `currentdate` test asks.
+pub(crate) fn current_date_ask(alloc: Global, row: &Row, args: Vec<Argument>) -> Ask
+    ensures { ask_as result ≡ (let labels = labels_in row.now args.items in spec.compares_by (spec.clock_source labels (map argument_of args.items)) labels (map argument_of args.items)) }
+{
+    let tags = Tags::among(row, &args);
+    let comparison = comparison_of(tags, row, &args);
+    let Strings {
+        zone,
+        part,
+        keys,
+        ..
+    } = into_strings(row, args);
+    Ask::Compares {
+        source: ValueSource::CurrentDate {
+            zone: zone_of(tags, given_text(zone)),
+            part: text_in(part),
+        },
+        comparison,
+        keys: texts_in(alloc, keys),
+    }
+}
