@@ -2,10 +2,11 @@
 use Rattle.std.proofs.Common.{◌≡◌, [], ◌∷◌, None, Some, refl, codes}
 use Rattle.std.specs.List.{IsDistinct}
 use Rattle.std.specs.List.Sorted.{IsStrictlySortedBy}
+use Rattle.date_text.specs.Zone.{east}
 use Rattle.sieve_base.specs.declared.place.Place.TheVariants.{Personal, Global}
 use Rattle.sieve_base.specs.declared.name.ScriptName.{ScriptName}
 use Rattle.sieve_profile.specs.Profile.{Profile}
-use Rattle.bench.specs.Content.{Content, new_content, put_script, put_message, set_main, set_envelope, set_mailbox, set_expected, set_mailboxes, set_message_envelope}
+use Rattle.bench.specs.Content.{Content, new_content, put_script, put_message, set_main, set_envelope, set_mailbox, set_expected, set_mailboxes, set_message_envelope, set_clock}
 use Rattle.bench.specs.Edits.{AreDistinct, AreOrdered, rebuild}
 
 abbrev a : ScriptName
@@ -17,24 +18,25 @@ b = record { place = Personal; name = codes "b" }
 abbrev shared : ScriptName
 shared = record { place = Global; name = codes "a" }
 
--- two scripts, two messages, of one of which a text is expected, and of which each has addresses of its own or none, a sender, a list of mailboxes
--- and a main script
+-- two scripts, two messages, of one of which a text is expected, and of which each has addresses of its own or none, a sender, a list of mailboxes,
+-- a clock and a main script
 abbrev held : Profile → Content
 held profile = record {
   profile = profile;
   main = Some shared;
-  envelope = record { from = codes "x@y"; to = []; mailbox = codes "INBOX"; mailboxes = codes "Lists\n" };
+  envelope = record { from = codes "x@y"; to = []; mailbox = codes "INBOX"; mailboxes = codes "Lists\n"; clock = Some (record { seconds = 1783245600; zone = east 120 }) };
   scripts = (b, codes "keep;") ∷ (shared, codes "stop;") ∷ [];
   messages = (codes "2", record { octets = codes "two"; expected = Some (codes "discard\n"); addresses = Some (record { from = codes "a@b"; to = [] }) }) ∷ (codes "1", record { octets = codes "one"; expected = None; addresses = None }) ∷ [];
 }
 
 -- the edits that make the content above anew, in their order
 rebuild_row : (profile : Profile) → rebuild (held profile) ≡ put_script b (codes "keep;") ∷ put_script shared (codes "stop;") ∷ put_message (codes "2") (codes "two") ∷ set_expected (codes "2") (codes "discard\n")
-    ∷ set_message_envelope (codes "2") (codes "a@b") [] ∷ put_message (codes "1") (codes "one") ∷ set_envelope (codes "x@y") [] ∷ set_mailbox (codes "INBOX") ∷ set_mailboxes (codes "Lists\n") ∷ set_main shared ∷ []
+    ∷ set_message_envelope (codes "2") (codes "a@b") [] ∷ put_message (codes "1") (codes "one") ∷ set_envelope (codes "x@y") [] ∷ set_mailbox (codes "INBOX") ∷ set_mailboxes (codes "Lists\n")
+    ∷ set_clock (record { seconds = 1783245600; zone = east 120 }) ∷ set_main shared ∷ []
 unfolding rebuild
 rebuild_row profile = refl
 
--- no edit names a main script where there is none
+-- no edit names a main script where there is none, nor sets a clock
 no_main_row : (profile : Profile) → rebuild (new_content profile) ≡ set_envelope [] [] ∷ set_mailbox (codes "INBOX") ∷ set_mailboxes [] ∷ []
 unfolding rebuild
 no_main_row profile = refl

@@ -2,9 +2,11 @@
 use Rattle.sieve_base.specs.Octet.{is_among}
 use Rattle.std.proofs.Common.{◌≡◌, ℕ, ◌+◌, ◌<◌, Bool, true, false, ◌||◌, if◌then◌else◌, List, [], ◌∷◌, length, drop, get_or, map, fold, Option, None, Some, Result, Ok, Err, IfOk, OnOk, refl, sym, ap, ◌∙◌, subst}
 use Rattle.std.proofs.lemmas.List.{drop_more}
+use Rattle.date_text.specs.Clock.{Clock}
 use Rattle.sieve_base.specs.declared.name.ScriptName.{ScriptName}
 use Rattle.bench.specs.Bench.{BenchState}
 use Rattle.bench.specs.Content.{Content, Edit, Sample, after, put_message, set_main, set_envelope, set_mailbox, set_mailboxes, Refuses, unless, script_refusal, message_refusal, main_refusal, envelope_refusal, mailbox_refusal, mailboxes_refusal, with_message}
+use Rattle.bench.specs.Edits.{clock_edits}
 use Rattle.bench.specs.Stale.{ids_where, stale_after, touches}
 use Rattle.bench.specs.Test.{after_all, put_of, then_edit}
 use Rattle.bench.specs.declared.fault.EditFault.{EditFault}
@@ -97,6 +99,10 @@ none_all_put made (script ∷ scripts) none = none_all_put (then_edit made (put_
 
 pub settings_leave_none : (from to mailbox mailboxes : List ℕ) (old new : Content) → old.messages ≡ [] → after_all old (set_envelope from to ∷ set_mailbox mailbox ∷ set_mailboxes mailboxes ∷ []) ≡ Ok new → new.messages ≡ []
 settings_leave_none from to mailbox mailboxes old new none made = subst LeavesNone made (none_listed _ mailboxes (none_boxed _ mailbox (none_set (Ok old) from to none)))
+
+pub clock_leaves_none : (clock : Option Clock) (old new : Content) → old.messages ≡ [] → after_all old (clock_edits clock) ≡ Ok new → new.messages ≡ []
+clock_leaves_none None old new none made = subst LeavesNone made none
+clock_leaves_none (Some clock) old new none made = subst LeavesNone made none
 
 pub scripts_leave_none : (scripts : List TestScript) (old new : Content) → old.messages ≡ [] → after_all old (map put_of scripts) ≡ Ok new → new.messages ≡ []
 scripts_leave_none scripts old new none made = subst LeavesNone made (none_all_put (Ok old) scripts none)

@@ -15,7 +15,7 @@ use Rattle.sieve_base.specs.declared.place.Place.{Place}
 use Rattle.sieve_base.specs.declared.place.Place.TheVariants.{Personal, Global}
 use Rattle.sieve_base.specs.Name.{name_cmp, place_cmp}
 use Rattle.sieve_base.specs.declared.name.ScriptName.{ScriptName}
-use Rattle.bench.specs.Content.{Content, Edit, Sample, after, new_content, put_script, put_message, set_main, rename_script, remove_script, remove_message, clear_main, set_envelope, set_mailbox, set_expected, clear_expected, set_mailboxes, set_message_envelope, clear_message_envelope, unless, text_at, message_at, put_over, with_script, changed, with_renamed}
+use Rattle.bench.specs.Content.{Content, Edit, Sample, after, new_content, put_script, put_message, set_main, rename_script, remove_script, remove_message, clear_main, set_envelope, set_mailbox, set_expected, clear_expected, set_mailboxes, set_message_envelope, clear_message_envelope, set_clock, clear_clock, unless, text_at, message_at, put_over, with_script, changed, with_renamed}
 use Rattle.bench.specs.Edits.{IsInOrder, AreOrdered, AreDistinct, behind, content_after}
 use Rattle.sieve_profile.specs.Profile.{Profile}
 use Rattle.bench.specs.declared.fault.EditFault.{EditFault}
@@ -276,6 +276,10 @@ order_kept content (set_message_envelope id from to) new order made =
     (record { scripts = order.scripts; ids = distinct_changed id (λ (sample : Sample). record sample { addresses = Some (record { from = from; to = to }) }) content.messages order.ids })
 order_kept content (clear_message_envelope id) new order made =
     subst IsInOrder (accepted _ _ new made).1 (record { scripts = order.scripts; ids = distinct_changed id (λ (sample : Sample). record sample { addresses = None }) content.messages order.ids })
+order_kept content (set_clock clock) new order made =
+    subst IsInOrder (accepted None _ new made).1 (record { scripts = order.scripts; ids = order.ids })
+order_kept content clear_clock new order made =
+    subst IsInOrder (accepted None _ new made).1 (record { scripts = order.scripts; ids = order.ids })
 
 -- EDITS IN TURN
 
@@ -310,6 +314,8 @@ profile_kept content (clear_expected id) new made = sym (ap (λ (c : Content). c
 profile_kept content (set_mailboxes text) new made = sym (ap (λ (c : Content). c.profile) (accepted _ _ new made).1)
 profile_kept content (set_message_envelope id from to) new made = sym (ap (λ (c : Content). c.profile) (accepted _ _ new made).1)
 profile_kept content (clear_message_envelope id) new made = sym (ap (λ (c : Content). c.profile) (accepted _ _ new made).1)
+profile_kept content (set_clock clock) new made = sym (ap (λ (c : Content). c.profile) (accepted None _ new made).1)
+profile_kept content clear_clock new made = sym (ap (λ (c : Content). c.profile) (accepted None _ new made).1)
 
 profile_behind : (content : Content) (edit : Edit) → (behind content (after content edit)).profile ≡ content.profile
 profile_behind content edit = by (after content edit) refl

@@ -10,12 +10,13 @@ use Rattle.std.specs.Ordering.{match_ordering}
 use Rattle.std.specs.declared.cmp.Ordering.TheVariants.{Less, Greater}
 use lib.Pointwise.{pointwise}
 use Rattle.indexmap.specs.IndexMap as ordered
+use Rattle.date_text.specs.Clock.{Clock}
 use Rattle.sieve_base.specs.Limits.{address_limit, expected_limit, id_limit, mailbox_limit, mailboxes_limit, message_count_limit, message_limit, name_limit, script_count_limit, text_limit}
 use Rattle.sieve_base.specs.Name.{name_cmp}
 use Rattle.sieve_base.specs.declared.name.ScriptName.{ScriptName}
 use Rattle.sieve_effects.specs.declared.envelope.Addresses.{Addresses}
 use Rattle.bench.specs.Content.{Content, Edit, Sample, after, new_content, put_script, put_message, set_envelope, set_mailbox, set_mailboxes, unless, text_at, message_at, put_over, with_script, with_message, changed, with_expected, with_addresses, are_long, is_long, is_long_id, script_refusal, message_refusal}
-use Rattle.bench.specs.Edits.{IsInOrder, IsWithinLimits, AreAddressesWithin, AreOrdered, AreDistinct, addresses_edits, behind, content_after, expected_edits, main_edits, message_edits, rebuild}
+use Rattle.bench.specs.Edits.{IsInOrder, IsWithinLimits, AreAddressesWithin, AreOrdered, AreDistinct, addresses_edits, behind, clock_edits, content_after, expected_edits, main_edits, message_edits, rebuild}
 use Rattle.bench.specs.Test.{after_all, then_edit}
 use Rattle.sieve_profile.specs.Profile.{Profile}
 use Rattle.bench.specs.declared.fault.EditFault.{EditFault}
@@ -247,6 +248,12 @@ main_again : (content : Content) (main : Option ScriptName) → IfSome main (λ 
 main_again content None short = refl
 main_again content (Some name) short = ap (λ refusal. unless refusal (record content { main = Some name })) (size_passes (is_long name.name) (within_limit name_limit (length name.name) short))
 
+-- setting the clock of a content that has none, before other edits
+clock_again : (content : Content) (clock : Option Clock) (edits : List Edit)
+    → after_all (record content { envelope = record content.envelope { clock = None } }) (clock_edits clock ++ edits) ≡ after_all (record content { envelope = record content.envelope { clock = clock } }) edits
+clock_again content None edits = refl
+clock_again content (Some clock) edits = refl
+
 -- THE WHOLE CONTENT
 
 module _ (content : Content) (order : IsInOrder content) (limits : IsWithinLimits content) where
@@ -257,25 +264,29 @@ module _ (content : Content) (order : IsInOrder content) (limits : IsWithinLimit
   abbrev messages_there : Content
   messages_there = record scripts_there { messages = content.messages }
 
+  abbrev further : List Edit
+  further = clock_edits content.envelope.clock ++ main_edits content.main
+
   abbrev settings : List Edit
-  settings = set_envelope content.envelope.from content.envelope.to ∷ set_mailbox content.envelope.mailbox ∷ set_mailboxes content.envelope.mailboxes ∷ main_edits content.main
+  settings = set_envelope content.envelope.from content.envelope.to ∷ set_mailbox content.envelope.mailbox ∷ set_mailboxes content.envelope.mailboxes ∷ further
 
   set_again : after_all messages_there settings ≡ Ok content
   set_again =
-      ap (λ refusal. fold then_edit (then_edit (then_edit (unless refusal envelope_there) (set_mailbox content.envelope.mailbox)) (set_mailboxes content.envelope.mailboxes)) (main_edits content.main))
+      ap (λ refusal. fold then_edit (then_edit (then_edit (unless refusal envelope_there) (set_mailbox content.envelope.mailbox)) (set_mailboxes content.envelope.mailboxes)) further)
       (envelope_passes (nat_lt address_limit (length content.envelope.from)) (nat_lt address_limit (length content.envelope.to))
       (within_limit address_limit (length content.envelope.from) limits.envelope.from) (within_limit address_limit (length content.envelope.to) limits.envelope.to))
-      ∙ ap (λ refusal. fold then_edit (then_edit (unless refusal mailbox_there) (set_mailboxes content.envelope.mailboxes)) (main_edits content.main))
+      ∙ ap (λ refusal. fold then_edit (then_edit (unless refusal mailbox_there) (set_mailboxes content.envelope.mailboxes)) further)
       (size_passes (nat_lt mailbox_limit (length content.envelope.mailbox)) (within_limit mailbox_limit (length content.envelope.mailbox) limits.envelope.mailbox))
-      ∙ ap (λ refusal. fold then_edit (unless refusal (record content { main = None })) (main_edits content.main))
+      ∙ ap (λ refusal. fold then_edit (unless refusal (record content { main = None; envelope = record content.envelope { clock = None } })) further)
       (size_passes (nat_lt mailboxes_limit (length content.envelope.mailboxes)) (within_limit mailboxes_limit (length content.envelope.mailboxes) limits.envelope.mailboxes))
+      ∙ clock_again (record content { main = None }) content.envelope.clock (main_edits content.main)
       ∙ main_again content content.main limits.main
     where
       envelope_there : Content
       envelope_there = record messages_there { envelope = record messages_there.envelope { from = content.envelope.from; to = content.envelope.to } }
 
       mailbox_there : Content
-      mailbox_there = record messages_there { envelope = record content.envelope { mailboxes = [] } }
+      mailbox_there = record messages_there { envelope = record content.envelope { mailboxes = []; clock = None } }
 
   -- none of the edits that make the content anew is refused, and they make it
   pub made_again : after_all (new_content content.profile) (rebuild content) ≡ Ok content

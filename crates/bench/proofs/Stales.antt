@@ -1,5 +1,6 @@
 -- Worked rows of which messages are stale behind an edit, and behind a report that memory was refused to.
 use Rattle.std.proofs.Common.{◌≡◌, ℕ, ◌<◌, true, false, List, [], ◌∷◌, length, length-append, None, Some, Result, Ok, Err, nat_lt, refl, ap, codes, arith}
+use Rattle.date_text.specs.Zone.{west}
 use Rattle.sieve_base.specs.Limits.{text_limit}
 use Rattle.sieve_base.specs.declared.place.Place.TheVariants.{Personal, Global}
 use Rattle.sieve_check.specs.Judgement.{judgement_of, sound, faulty}
@@ -11,7 +12,7 @@ use Rattle.sieve_run.specs.Run.{outcome_of, exec}
 use Rattle.sieve_base.specs.declared.name.ScriptName.{ScriptName}
 use Rattle.sieve_profile.specs.Profile.{Profile}
 use Rattle.bench.specs.Bench.{RefusedAmong}
-use Rattle.bench.specs.Content.{Content, Edit, Sample, after, put_script, put_message, set_main, rename_script, remove_script, remove_message, clear_main, set_envelope, set_mailbox, set_expected, clear_expected, set_mailboxes, set_message_envelope, clear_message_envelope}
+use Rattle.bench.specs.Content.{Content, Edit, Sample, after, put_script, put_message, set_main, rename_script, remove_script, remove_message, clear_main, set_envelope, set_mailbox, set_expected, clear_expected, set_mailboxes, set_message_envelope, clear_message_envelope, set_clock, clear_clock}
 use Rattle.bench.specs.Stale.{ids_where, stale_after, verdict_on}
 use Rattle.bench.specs.declared.fault.EditFault.{EditFault}
 
@@ -38,7 +39,7 @@ module _ (profile : Profile) where
   bench scripts = record {
     profile = profile;
     main = Some main;
-    envelope = record { from = []; to = []; mailbox = codes "INBOX"; mailboxes = [] };
+    envelope = record { from = []; to = []; mailbox = codes "INBOX"; mailboxes = []; clock = None };
     scripts = scripts;
     messages = (codes "m1", record { octets = codes "Subject: one\n\n"; expected = None; addresses = None }) ∷ (codes "m2", record { octets = codes "Subject: two\n\n"; expected = Some (codes "keep\n"); addresses = None }) ∷ [];
   }
@@ -218,6 +219,15 @@ module _ (profile : Profile) where
     mailboxes_row : touched (present text) (set_mailboxes (codes "Lists\n")) ≡ both
     unfolding ids_where
     mailboxes_row = refl
+
+    -- an edit of the clock touches all messages, also where it leaves no clock to a bench that had none
+    clock_row : touched (present text) (set_clock (record { seconds = 0; zone = west 0 })) ≡ both
+    unfolding ids_where
+    clock_row = refl
+
+    no_clock_row : touched (present text) clear_clock ≡ both
+    unfolding ids_where
+    no_clock_row = refl
 
     -- an edit of a message's own addresses touches that message alone, also where it had none and has none then
     own_row : touched (present text) (set_message_envelope (codes "m2") (codes "a@b.example") []) ≡ codes "m2" ∷ []

@@ -11,7 +11,7 @@ use Rattle.sieve_base.specs.Limits.{address_limit, expected_limit, id_limit, mai
 use Rattle.sieve_base.specs.Name.{name_cmp, name_eq}
 use Rattle.sieve_base.specs.declared.name.ScriptName.{ScriptName}
 use Rattle.sieve_effects.specs.declared.envelope.Addresses.{Addresses}
-use Rattle.bench.specs.Content.{Content, Edit, Sample, after, new_content, put_script, put_message, set_main, rename_script, remove_script, remove_message, clear_main, set_envelope, set_mailbox, set_expected, clear_expected, set_mailboxes, set_message_envelope, clear_message_envelope, text_at, message_at, put_over, with_script, with_message, changed, with_expected, with_addresses, with_renamed, without_script, without_message, is_long, is_long_id, script_refusal, message_refusal, main_refusal, rename_refusal, remove_script_refusal, absent_refusal, expected_refusal, addresses_refusal, envelope_refusal, mailbox_refusal, mailboxes_refusal, are_long}
+use Rattle.bench.specs.Content.{Content, Edit, Sample, after, new_content, put_script, put_message, set_main, rename_script, remove_script, remove_message, clear_main, set_envelope, set_mailbox, set_expected, clear_expected, set_mailboxes, set_message_envelope, clear_message_envelope, set_clock, clear_clock, text_at, message_at, put_over, with_script, with_message, changed, with_expected, with_addresses, with_renamed, without_script, without_message, is_long, is_long_id, script_refusal, message_refusal, main_refusal, rename_refusal, remove_script_refusal, absent_refusal, expected_refusal, addresses_refusal, envelope_refusal, mailbox_refusal, mailboxes_refusal, are_long}
 use Rattle.bench.specs.Edits.{IsInOrder, IsWithinLimits, AreScriptsWithin, AreMessagesWithin, AreAddressesWithin, AreOrdered, behind, content_after}
 use Rattle.sieve_profile.specs.Profile.{Profile}
 use Rattle.bench.specs.declared.fault.EditFault.{EditFault}
@@ -267,6 +267,22 @@ limits_kept content (clear_message_envelope id) new order limits made =
       envelope = limits.envelope;
       scripts = limits.scripts;
       messages = messages_changed content.messages limits.messages id (λ sample. record sample { addresses = None }) (λ s h. h) (λ s h. h) (λ s h. tt);
+    })
+limits_kept content (set_clock clock) new order limits made =
+    let is = accepted None (record content { envelope = record content.envelope { clock = Some clock } }) new made in
+    subst IsWithinLimits is.1 (record {
+      main = limits.main;
+      envelope = record { from = limits.envelope.from; to = limits.envelope.to; mailbox = limits.envelope.mailbox; mailboxes = limits.envelope.mailboxes };
+      scripts = limits.scripts;
+      messages = limits.messages;
+    })
+limits_kept content clear_clock new order limits made =
+    let is = accepted None (record content { envelope = record content.envelope { clock = None } }) new made in
+    subst IsWithinLimits is.1 (record {
+      main = limits.main;
+      envelope = record { from = limits.envelope.from; to = limits.envelope.to; mailbox = limits.envelope.mailbox; mailboxes = limits.envelope.mailboxes };
+      scripts = limits.scripts;
+      messages = limits.messages;
     })
 
 -- EDITS IN TURN

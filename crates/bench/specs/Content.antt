@@ -4,6 +4,7 @@ use Rattle.std.specs.Map.{lookup, remove_entry}
 use Rattle.std.specs.BTreeMap as tree
 use Rattle.indexmap.specs.IndexMap as ordered
 use lib.Pointwise.{pointwise}
+use Rattle.date_text.specs.Clock.{Clock}
 use Rattle.sieve_base.specs.Limits.{address_limit, expected_limit, id_limit, mailbox_limit, mailboxes_limit, message_count_limit, message_limit, name_limit, script_count_limit, text_limit}
 use Rattle.sieve_base.specs.declared.name.ScriptName.{ScriptName}
 use Rattle.sieve_effects.specs.declared.envelope.Addresses.{Addresses}
@@ -29,9 +30,9 @@ pub record Content : Type 0 where
   pub scripts : List (ScriptName × List ℕ)
   pub messages : List (List ℕ × Sample)
 
--- what a new bench of a profile holds: mail is kept in the INBOX, and there are no other mailboxes
+-- what a new bench of a profile holds: mail is kept in the INBOX, there are no other mailboxes, and there is no clock
 abbrev pub new_content : Profile → Content
-new_content profile = record { profile = profile; main = None; envelope = record { from = []; to = []; mailbox = codes "INBOX"; mailboxes = [] }; scripts = []; messages = [] }
+new_content profile = record { profile = profile; main = None; envelope = record { from = []; to = []; mailbox = codes "INBOX"; mailboxes = []; clock = None }; scripts = []; messages = [] }
 
 pub data Edit : Type 0 where
   put_script : (name : ScriptName) (text : List ℕ) → Edit
@@ -48,6 +49,8 @@ pub data Edit : Type 0 where
   set_mailboxes : (text : List ℕ) → Edit
   set_message_envelope : (id from to : List ℕ) → Edit
   clear_message_envelope : (id : List ℕ) → Edit
+  set_clock : (clock : Clock) → Edit
+  clear_clock : Edit
 
 -- the text of the script of that name
 abbrev pub text_at : List (ScriptName × List ℕ) → ScriptName → Option (List ℕ)
@@ -193,6 +196,8 @@ after content (clear_expected id) = unless (absent_refusal content.messages id) 
 after content (set_mailboxes text) = unless (mailboxes_refusal text) (record content { envelope = record content.envelope { mailboxes = text } })
 after content (set_message_envelope id from to) = unless (addresses_refusal content.messages id from to) (record content { messages = with_addresses id (Some (record { from = from; to = to })) content.messages })
 after content (clear_message_envelope id) = unless (absent_refusal content.messages id) (record content { messages = with_addresses id None content.messages })
+after content (set_clock clock) = Ok (record content { envelope = record content.envelope { clock = Some clock } })
+after content clear_clock = Ok (record content { envelope = record content.envelope { clock = None } })
 
 -- an edit that takes no memory answers as it must
 abbrev pub Answers : Result Content EditFault → Result Unit EditFault → Type 0

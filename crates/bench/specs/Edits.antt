@@ -4,12 +4,13 @@ use Rattle.std.specs.List.{All, IsDistinct, flat_map}
 use Rattle.std.specs.List.Sorted.{IsStrictlySortedBy}
 use Rattle.std.specs.Map.{keys_of, values_of}
 use lib.Pointwise.{pointwise}
+use Rattle.date_text.specs.Clock.{Clock}
 use Rattle.sieve_base.specs.Limits.{address_limit, expected_limit, id_limit, mailbox_limit, mailboxes_limit, message_count_limit, message_limit, name_limit, script_count_limit, text_limit}
 use Rattle.sieve_base.specs.Name.{name_cmp}
 use Rattle.sieve_effects.specs.declared.envelope.Addresses.{Addresses}
 use Rattle.sieve_effects.specs.declared.envelope.Envelope.{Envelope}
 use Rattle.sieve_base.specs.declared.name.ScriptName.{ScriptName}
-use Rattle.bench.specs.Content.{Content, Edit, Sample, after, put_script, put_message, set_main, set_envelope, set_mailbox, set_expected, set_mailboxes, set_message_envelope}
+use Rattle.bench.specs.Content.{Content, Edit, Sample, after, put_script, put_message, set_main, set_envelope, set_mailbox, set_expected, set_mailboxes, set_message_envelope, set_clock}
 use Rattle.bench.specs.declared.fault.EditFault.{EditFault}
 
 -- EDITS IN TURN
@@ -80,6 +81,11 @@ abbrev pub main_edits : Option ScriptName → List Edit
 main_edits None = []
 main_edits (Some name) = set_main name ∷ []
 
+-- the edit that sets the clock, where there is one
+abbrev pub clock_edits : Option Clock → List Edit
+clock_edits None = []
+clock_edits (Some clock) = set_clock clock ∷ []
+
 -- the edit that says what is expected of a message, where anything is
 abbrev pub expected_edits : List ℕ → Option (List ℕ) → List Edit
 expected_edits id None = []
@@ -95,9 +101,9 @@ abbrev pub message_edits : List ℕ × Sample → List Edit
 message_edits message = put_message message.0 message.1.octets ∷ (expected_edits message.0 message.1.expected ++ addresses_edits message.0 message.1.addresses)
 
 -- all that a content has, as edits of a new bench: the scripts in their order, the messages in theirs, the envelope, the mailbox, the list of
--- mailboxes and the main script
+-- mailboxes, the clock and the main script
 unfoldable pub rebuild : Content → List Edit
 rebuild content =
     map (λ script. put_script script.0 script.1) content.scripts
     ++ (flat_map message_edits content.messages
-    ++ (set_envelope content.envelope.from content.envelope.to ∷ set_mailbox content.envelope.mailbox ∷ set_mailboxes content.envelope.mailboxes ∷ main_edits content.main))
+    ++ (set_envelope content.envelope.from content.envelope.to ∷ set_mailbox content.envelope.mailbox ∷ set_mailboxes content.envelope.mailboxes ∷ (clock_edits content.envelope.clock ++ main_edits content.main)))

@@ -1,6 +1,8 @@
 -- The text of a report.
 use Rattle.std.specs.Prelude.{ℕ, Bool, true, false, not, List, [], ◌∷◌, ◌++◌, length, map, filter, Option, None, Some, is_some, if◌then◌else◌, count_by, codes, decimal}
 use Rattle.std.specs.List.{flat_map, list_any, zip}
+use Rattle.date_text.specs.Clock.{Clock}
+use Rattle.date_text.specs.Zone.{zone_text}
 use Rattle.sieve_base.specs.Writers.{name_text, quoted}
 use Rattle.sieve_check.specs.Judgement.{Judgement, judgement_of, sound, faulty, fault_word}
 use Rattle.sieve_base.specs.declared.name.ScriptName.{ScriptName}
@@ -16,7 +18,7 @@ use Rattle.sieve_run.specs.Verdict.{Verdict}
 use Rattle.sieve_profile.specs.Extension.{extension_name, extensions}
 use Rattle.sieve_profile.specs.Profile.{Profile, has}
 use Rattle.sieve_profile.specs.declared.extension.Extension.{Extension}
-use Rattle.sieve_profile.specs.declared.extension.Extension.TheVariants.{Lines, Mailbox}
+use Rattle.sieve_profile.specs.declared.extension.Extension.TheVariants.{Date, Lines, Mailbox}
 use Rattle.bench.specs.Content.{Content, Sample, text_at}
 
 -- the first line: the main script
@@ -45,6 +47,15 @@ extensions_line (extension ∷ more) = codes "with" ++ flat_map extension_text (
 -- after the second line: the names of what a profile has, in their order
 abbrev pub profile_line : Profile → List ℕ
 profile_line profile = extensions_line (filter (has profile) extensions)
+
+-- the line of a clock: its seconds since 1970-01-01 00:00 UTC and its zone, or `none`
+unfoldable pub clock_text : Option Clock → List ℕ
+clock_text None = codes "clock none\n"
+clock_text (Some clock) = codes "clock " ++ decimal clock.seconds ++ codes " " ++ zone_text clock.zone ++ codes "\n"
+
+-- after that, with `date`: what time it is
+abbrev pub clock_line : Profile → Option Clock → List ℕ
+clock_line profile clock = if has profile Date then clock_text clock else []
 
 -- after that, with `mailbox`: how many names the list of mailboxes has
 abbrev pub mailboxes_line : Profile → List ℕ → List ℕ
@@ -151,12 +162,16 @@ unfoldable pub total_line : ℕ → ℕ → Option ℕ → List ℕ
 total_line messages errors None = codes "total " ++ decimal messages ++ codes " messages " ++ decimal errors ++ codes " errors\n"
 total_line messages errors (Some unexpected) = codes "total " ++ decimal messages ++ codes " messages " ++ decimal errors ++ codes " errors " ++ decimal unexpected ++ codes " unexpected\n"
 
+-- the lines that are there by what a profile has
+unfoldable pub profile_lines : Profile → Envelope → List ℕ
+profile_lines profile envelope = profile_line profile ++ (clock_line profile envelope.clock ++ mailboxes_line profile envelope.mailboxes)
+
 -- the lines in front of the messages
 unfoldable pub site_lines : Site → List ℕ
 site_lines site =
     main_line site.main
     ++ (envelope_line site.envelope
-    ++ (profile_line site.profile ++ (mailboxes_line site.profile site.envelope.mailboxes ++ flat_map (script_line site.profile) site.scripts)))
+    ++ (profile_lines site.profile site.envelope ++ flat_map (script_line site.profile) site.scripts))
 
 -- the report with these verdicts
 unfoldable pub report_with : Site → List Judged → List ℕ

@@ -6,7 +6,7 @@ use lib.Pointwise.{pointwise}
 use Rattle.sieve_base.specs.declared.name.ScriptName.{ScriptName}
 use Rattle.sieve_run.specs.Run.{is_read}
 use Rattle.sieve_run.specs.Verdict.{Verdict}
-use Rattle.bench.specs.Content.{Content, Edit, Sample, message_at, put_script, put_message, set_main, rename_script, remove_script, remove_message, clear_main, set_envelope, set_mailbox, set_expected, clear_expected, set_mailboxes, set_message_envelope, clear_message_envelope}
+use Rattle.bench.specs.Content.{Content, Edit, Sample, message_at, put_script, put_message, set_main, rename_script, remove_script, remove_message, clear_main, set_envelope, set_mailbox, set_expected, clear_expected, set_mailboxes, set_message_envelope, clear_message_envelope, set_clock, clear_clock}
 use Rattle.bench.specs.Report.{site_of, verdict_by}
 
 -- the verdict on a message of a content
@@ -37,6 +37,8 @@ touches content (clear_expected id) message = false
 touches content (set_mailboxes text) message = true
 touches content (set_message_envelope id from to) message = pointwise nat_eq id message.0
 touches content (clear_message_envelope id) message = pointwise nat_eq id message.0
+touches content (set_clock clock) message = true
+touches content clear_clock message = true
 
 -- the ids of the messages that pass a test, in their order
 unfoldable pub ids_where : (List ℕ × Sample → Bool) → List (List ℕ × Sample) → List (List ℕ)

@@ -4,6 +4,7 @@ use Rattle.std.specs.List.{list_all}
 use Rattle.sieve_check.specs.Judgement.{Judgement, judgement_of, sound, faulty}
 use Rattle.sieve_run.specs.Meter.{next_run}
 use Rattle.bench.specs.Content.{Content, Edit, after, new_content, put_script, put_message, set_main, set_envelope, set_mailbox, set_mailboxes}
+use Rattle.bench.specs.Edits.{clock_edits}
 use Rattle.bench.specs.Report.{Judged, Site, error_count, report_text, site_of, verdicts}
 use Rattle.bench.specs.declared.fault.EditFault.{EditFault}
 use Rattle.bench.specs.declared.fault.EditFault.TheVariants as edit
@@ -21,7 +22,7 @@ put_of script = put_script script.name script.text
 -- the edits of a job, in the order in which they are made
 abbrev pub edits_of : TestJob → List Edit
 edits_of job =
-    set_envelope job.from job.to ∷ set_mailbox job.mailbox ∷ set_mailboxes job.mailboxes ∷ (map put_of job.scripts.items ++ set_main job.main ∷ put_message job.id job.message ∷ [])
+    set_envelope job.from job.to ∷ set_mailbox job.mailbox ∷ set_mailboxes job.mailboxes ∷ (clock_edits job.clock ++ (map put_of job.scripts.items ++ set_main job.main ∷ put_message job.id job.message ∷ []))
 
 -- what comes of one edit more, unless one before it was refused
 abbrev pub then_edit : Result Content EditFault → Edit → Result Content EditFault

@@ -157,8 +157,8 @@ impl Bench {
         expect(&mut self.messages, SoughtId { octets: id }, Some(text));
     }
 
-    /// A bench of the empty profile with no scripts, no messages, no main script, an empty envelope, the mailbox `INBOX`, and no other
-    /// mailboxes.
+    /// A bench of the empty profile with no scripts, no messages, no main script, an empty envelope, the mailbox `INBOX`, no other
+    /// mailboxes, and no clock.
     pub fn new(alloc: Global) -> Result<Bench, AllocError>
         ensures content { IfOk result (λ bench. bench.content ≡ new_content empty_profile) }
         ensures stale { IfOk result (λ bench. bench.stale ≡ []) }
@@ -166,8 +166,8 @@ impl Bench {
         Bench::with_profile(alloc, Profile::new())
     }
 
-    /// A bench of a profile with no scripts, no messages, no main script, an empty envelope, the mailbox `INBOX`, and no
-    /// other mailboxes. It keeps its profile.
+    /// A bench of a profile with no scripts, no messages, no main script, an empty envelope, the mailbox `INBOX`, no other
+    /// mailboxes, and no clock. It keeps its profile.
     #[tactic(auto, unfolding(crate::specs::view::Entry::messages_of))]
     pub fn with_profile(alloc: Global, profile: Profile) -> Result<Bench, AllocError>
         ensures content { IfOk result (λ bench. bench.content ≡ new_content profile) }
@@ -178,6 +178,7 @@ impl Bench {
             to: Octets::from_vec(Vec::new(alloc)),
             mailbox: Octets::copied(alloc, b"INBOX")?,
             mailboxes: Octets::from_vec(Vec::new(alloc)),
+            clock: None,
         };
         Ok(Bench {
             alloc,

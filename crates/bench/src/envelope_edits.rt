@@ -1,4 +1,4 @@
-//! Edits of what messages are delivered with: addresses, and mailboxes.
+//! Edits of what messages are delivered with: addresses, mailboxes, and the clock.
 ghost use Rattle.std.specs.Prelude.{◌≡◌, OnOk, OnErr, None, Ok};
 ghost use Rattle.bench.specs.Content.{addresses_refusal, after, Answers, mailboxes_refusal, Refuses};
 ghost use Rattle.bench.specs.Content as edit;
@@ -12,6 +12,7 @@ use crate::refusal::{
     refuse_absent, refuse_addresses, refuse_envelope, refuse_mailbox, refuse_mailboxes,
 };
 use crate::sought::SoughtId;
+use date_text::Clock;
 use sieve_base::Octets;
 use sieve_run::Addresses;
 
@@ -87,6 +88,25 @@ impl Bench {
         ensures stale { self.new.stale ≡ stale_after self.old.content (edit.set_mailboxes text) self.old.stale self.new.content }
     {
         self.envelope.mailboxes = text;
+        forget_all(&mut self.messages);
+    }
+
+    /// Sets the clock: the time that `currentdate` asks for, and the zone in which dates are shown where a test names none (RFC 5260,
+    /// sections 4.1 and 5). Takes no memory.
+    pub fn set_clock(&mut self, clock: Clock)
+        ensures made { after self.old.content (edit.set_clock clock) ≡ Ok self.new.content }
+        ensures stale { self.new.stale ≡ stale_after self.old.content (edit.set_clock clock) self.old.stale self.new.content }
+    {
+        self.envelope.clock = Some(clock);
+        forget_all(&mut self.messages);
+    }
+
+    /// Leaves no clock, also where there was none: no `currentdate` finds a date then (RFC 5260, section 5). Takes no memory.
+    pub fn clear_clock(&mut self)
+        ensures made { after self.old.content edit.clear_clock ≡ Ok self.new.content }
+        ensures stale { self.new.stale ≡ stale_after self.old.content edit.clear_clock self.old.stale self.new.content }
+    {
+        self.envelope.clock = None;
         forget_all(&mut self.messages);
     }
 

@@ -3,6 +3,7 @@
 #![tactic(auto)]
 
 mod bench;
+mod clock_line;
 mod dump;
 mod entry;
 mod envelope_edits;

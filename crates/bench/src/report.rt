@@ -5,13 +5,14 @@ ghost use Rattle.indexmap.specs.IndexMap.{IsUnique};
 ghost use lib.Pointwise.{pointwise};
 ghost use Rattle.sieve_base.specs.Writers.{Writes};
 ghost use Rattle.bench.specs.Bench.{RefusedAmong};
-ghost use Rattle.bench.specs.Report.{script_line, verdict_by, message_lines, error_count, unexpected_count, site_lines, total_line, report_with};
+ghost use Rattle.bench.specs.Report.{script_line, verdict_by, message_lines, error_count, profile_lines, unexpected_count, site_lines, total_line, report_with};
 ghost use Rattle.bench.specs.view.Lines.{action_text, action_texts, read_text, traced_text, verdict_texts};
 ghost use Rattle.bench.specs.view.Site.{site_as};
 ghost use Rattle.sieve_run.specs.Meter.{runs_after};
 ghost use Rattle.bench.specs.Test.{is_clean_with};
 ghost use Rattle.bench.specs.view.Entry.{KeepsDue, disagrees, judged_of, messages_of, stale_of};
 
+use crate::clock_line::write_clock_line;
 use crate::entry::Entry;
 use crate::report_lines::{
     write_action_line, write_addresses, write_envelope, write_error_line, write_expectation,
@@ -22,6 +23,7 @@ use crate::scripts::Scripts;
 use crate::site::Site;
 use indexmap::IndexMap;
 use sieve_base::{Octets, Sink, WriteFault};
+use sieve_profile::Profile;
 use sieve_run::{Action, Envelope, Meter, Origin, Outcome};
 use std::alloc::{AllocError, Global};
 
@@ -221,18 +223,26 @@ pub(crate) fn is_clean(site: &Site<'_>, messages: &IndexMap<Octets, Entry>) -> b
     site.scripts.are_sound() && error_count(messages) == 0
 }
 
+/// Writes the lines that are there by what a profile has.
+fn write_profile_lines<W: Sink>(
+    profile: Profile,
+    envelope: &Envelope,
+    writer: &mut W,
+) -> Result<(), WriteFault>
+    ensures { Writes W.contents W.fault_count result writer.old writer.new (profile_lines profile envelope.now) }
+{
+    write_profile(profile, writer)?;
+    write_clock_line(profile, &envelope.clock, writer)?;
+    write_mailboxes(profile, envelope.mailboxes.as_slice(), writer)
+}
+
 /// Writes the lines in front of the messages.
 fn write_site<W: Sink>(site: &Site<'_>, writer: &mut W) -> Result<(), WriteFault>
     ensures { Writes W.contents W.fault_count result writer.old writer.new (site_lines (site_as site.now)) }
 {
     write_main(site.main, writer)?;
     write_envelope(site.envelope, writer)?;
-    write_profile(site.scripts.profile(), writer)?;
-    write_mailboxes(
-        site.scripts.profile(),
-        site.envelope.mailboxes.as_slice(),
-        writer,
-    )?;
+    write_profile_lines(site.scripts.profile(), site.envelope, writer)?;
     write_scripts(site.scripts, writer)
 }
 

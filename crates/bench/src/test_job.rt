@@ -1,4 +1,5 @@
 //! What the test of a message is given.
+use date_text::Clock;
 use sieve_base::{Octets, ScriptName};
 use sieve_profile::Profile;
 
@@ -24,6 +25,8 @@ pub struct TestJob {
     pub mailbox: Octets,
     /// The list of mailboxes that `mailboxexists` asks, a name a line, of at most 1,048,576 octets.
     pub mailboxes: Octets,
+    /// What time it is, where that is known.
+    pub clock: Option<Clock>,
     /// The scripts in the order in which they are put, 4,096 names at most. A later one takes the place of one of its name.
     pub scripts: Vec<TestScript>,
     /// The script that is run, which need not be among the others.

@@ -1,8 +1,9 @@
 //! Tests a message by a bench that is made for it.
-ghost use Rattle.std.specs.Prelude.{◌≡◌, [], ◌∷◌, IfErr, IfOk, Ok, OnOk, length, map};
+ghost use Rattle.std.specs.Prelude.{◌≡◌, [], ◌∷◌, ◌++◌, IfErr, IfOk, Ok, OnOk, length, map};
 ghost use Rattle.sieve_base.specs.Writers.{Wrote, WroteFront};
 ghost use Rattle.sieve_run.specs.Meter.{next_run};
 ghost use Rattle.bench.specs.Content.{put_message, set_envelope, set_mailbox, set_mailboxes, set_main};
+ghost use Rattle.bench.specs.Edits.{clock_edits};
 ghost use Rattle.bench.specs.Test.{TestEnds, TestRuns, after_all, edits_of, made_by, put_of};
 ghost use Rattle.bench.specs.view.Refused.{Refused};
 ghost use Rattle.bench.specs.view.Tested.{ReportEnds};
@@ -23,6 +24,15 @@ fn set_delivery(bench: &mut Bench, job: &TestJob) -> Result<(), EditFault>
     bench.set_envelope(job.from.as_slice(), job.to.as_slice())?;
     bench.set_mailbox(job.mailbox.as_slice())?;
     bench.set_mailboxes(job.mailboxes.as_slice())
+}
+
+/// Sets the clock of a job, where it has one.
+fn set_time(bench: &mut Bench, job: &TestJob)
+    ensures { after_all bench.old.content (clock_edits job.now.clock) ≡ Ok bench.new.content }
+{
+    if let Some(clock) = &job.clock {
+        bench.set_clock(clock.copied());
+    }
 }
 
 /// Puts the scripts of a job, in their order.
@@ -53,6 +63,7 @@ fn make_edits(bench: &mut Bench, job: &TestJob) -> Result<(), EditFault>
     ensures stale { bench.old.content.messages ≡ [] → OnOk result (bench.new.stale ≡ job.now.id ∷ []) }
 {
     set_delivery(bench, job)?;
+    set_time(bench, job);
     put_scripts(bench, &job.scripts)?;
     put_sample(bench, job)
 }
@@ -84,8 +95,8 @@ fn report_end<W: Sink>(bench: &mut Bench, meter: &mut Meter, writer: &mut W) -> 
     }
 }
 
-/// Makes the edits of a job on a new bench of its profile, in the order envelope, mailbox, list of mailboxes, scripts,
-/// main script, message, and writes the report of that bench.
+/// Makes the edits of a job on a new bench of its profile, in the order envelope, mailbox, list of mailboxes, clock,
+/// scripts, main script, message, and writes the report of that bench.
 ///
 /// `Clean` says that the report was written, that no script has a fault, and that the message has no error; `Faulty` that it was written and one of them has.
 /// `TooLarge` and `Full` are the refusal of the first edit that is refused; nothing was written. `Write`: the writer failed, and a front of the report was

@@ -3,6 +3,7 @@
 //! What octets alone tell, as sessions with their replies and scripts with their verdicts, stands in `examples/rows` and is made in
 //! `tools/checks`.
 
+mod clocks;
 mod devices;
 mod edits;
 mod failing_reads;

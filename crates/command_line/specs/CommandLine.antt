@@ -1,6 +1,5 @@
 -- What the words of a command line ask for.
-use Rattle.std.specs.Prelude.{◌≡◌, ◌≢◌, ℕ, Bool, true, false, List, [], ◌∷◌, Option, Some, None, Result, Ok, Err, codes, if◌then◌else◌, unwrap_or}
-use Rattle.std.specs.Option.{option_map}
+use Rattle.std.specs.Prelude.{◌≡◌, ◌≢◌, ℕ, Bool, true, false, not, ◌&&◌, ◌||◌, ◌==◌, List, [], ◌∷◌, Option, Some, None, is_some, Result, Ok, Err, codes, if◌then◌else◌, take, drop, position, unwrap_or}
 use Prim.Native.Char.{code}
 use Rattle.std.specs.Str.{bytes_eq}
 use Rattle.clap.specs.Words.{App, IsAmong, Kinds, Row, Shape, Text, app_of, fault_of, new_app, subcommand_of, with_rule, with_subcommand}
@@ -10,12 +9,13 @@ use Rattle.clap.specs.declared.error.kind.ErrorKind.{ErrorKind}
 use Rattle.clap.specs.declared.error.kind.ErrorKind.TheVariants.{DisplayHelp, DisplayVersion, OutOfMemory}
 use Rattle.clap.specs.declared.builder.command.Command.{Command}
 use Rattle.clap.specs.declared.builder.command.Command.TheViews.{out-Command}
+use Rattle.date_text.specs.Clock.{Clock, clock_named}
 use Rattle.command_line.specs.declared.words.CommandLine.{CommandLine}
 use Rattle.command_line.specs.declared.words.Job.{Job}
 use Rattle.command_line.specs.declared.words.Job.TheVariants as job
 use Rattle.command_line.specs.declared.words.TestWords.{TestWords}
 use Rattle.command_line.specs.declared.words.UsageFault.{UsageFault}
-use Rattle.command_line.specs.declared.words.UsageFault.TheVariants.{Usage, UnknownName, NeedsMailbox, NoMemory}
+use Rattle.command_line.specs.declared.words.UsageFault.TheVariants.{Usage, UnknownName, NeedsMailbox, NeedsDate, BadClock, NoMemory}
 use Rattle.clap.specs.declared.builder.action.ArgAction.TheVariants.{Append}
 use Rattle.sieve_profile.specs.Profile.{Profile, empty_profile, has}
 use Rattle.sieve_profile.specs.declared.extension.Extension.{Extension}
@@ -51,11 +51,11 @@ session_shape = record (new_shape (codes "session")) { rules = profile_rules }
 unfoldable pub dump_shape : Shape
 dump_shape = record (new_shape (codes "dump")) { rules = names_rule (codes "with") ∷ path_rule (codes "script") ∷ [] }
 
--- `test [-f ADDRESS] [--to ADDRESS] [-m BOX] [--mailboxes FILE] [--personal DIR] [--global DIR] [--with NAME].. SCRIPT MAIL`
+-- `test [-f ADDRESS] [--to ADDRESS] [-m BOX] [--mailboxes FILE] [--clock TIME] [--personal DIR] [--global DIR] [--with NAME].. SCRIPT MAIL`
 unfoldable pub test_shape : Shape
 test_shape = record (new_shape (codes "test")) {
   rules = letter_rule (codes "from") (code "f") ∷ name_rule (codes "to") ∷ letter_rule (codes "mailbox") (code "m")
-      ∷ name_rule (codes "mailboxes") ∷ name_rule (codes "personal") ∷ name_rule (codes "global") ∷ names_rule (codes "with")
+      ∷ name_rule (codes "mailboxes") ∷ name_rule (codes "clock") ∷ name_rule (codes "personal") ∷ name_rule (codes "global") ∷ names_rule (codes "with")
       ∷ path_rule (codes "script") ∷ path_rule (codes "mail") ∷ [];
 }
 
@@ -66,6 +66,10 @@ envelope_rules = letter_rule (codes "from") (code "f") ∷ name_rule (codes "to"
 -- the options of a test for the mailbox that mail is kept in and for the list of mailboxes
 abbrev pub mailbox_rules : List Rule
 mailbox_rules = letter_rule (codes "mailbox") (code "m") ∷ name_rule (codes "mailboxes") ∷ []
+
+-- the option of a test for the clock
+abbrev pub clock_rules : List Rule
+clock_rules = name_rule (codes "clock") ∷ []
 
 -- the options of a test for folders of scripts
 abbrev pub folder_rules : List Rule
@@ -103,6 +107,7 @@ test_words rows = record {
   to = first_of (codes "to") rows;
   mailbox = first_of (codes "mailbox") rows;
   mailboxes = first_of (codes "mailboxes") rows;
+  clock = first_of (codes "clock") rows;
   personal = first_of (codes "personal") rows;
   global = first_of (codes "global") rows;
   script = value_in rows (codes "script");
@@ -139,21 +144,64 @@ profile_met (Some (name, rows)) = profile_in rows
 unfoldable pub said_profile : List Text → Result Profile Text
 said_profile words = profile_met (subcommand_of the_app words)
 
--- the name that a job needs: a test with a list of mailboxes needs `mailbox`
-abbrev pub name_needed : Job → Option Extension
-name_needed job.Session = None
-name_needed (job.Dump script) = None
-name_needed (job.Test words) = option_map (λ file. extension.Mailbox) words.mailboxes
+-- whether a job needs a name: a test with a list of mailboxes needs `mailbox`, and one with a clock `date`
+abbrev pub name_needed : Job → Extension → Bool
+name_needed job.Session name = false
+name_needed (job.Dump script) name = false
+name_needed (job.Test words) extension.Mailbox = is_some words.mailboxes
+name_needed (job.Test words) extension.Date = is_some words.clock
+name_needed (job.Test words) name = false
 
--- whether a profile has the name that a job needs
+-- whether a profile lacks a name that a job needs
+abbrev pub is_lacking : Profile → Job → Extension → Bool
+is_lacking profile asked name = name_needed asked name && not (has profile name)
+
+-- whether a profile has each name that a job needs
 abbrev pub allows : Profile → Job → Bool
-allows profile asked = unwrap_or (option_map (has profile) (name_needed asked)) true
+allows profile asked = not (is_lacking profile asked extension.Mailbox) && not (is_lacking profile asked extension.Date)
 
--- the profile that is said lacks the name that the job needs
-abbrev pub Lacks : Result Profile Text → Option Job → Type 0
-Lacks (Ok profile) (Some asked) = allows profile asked ≡ false
-Lacks (Ok profile) None = ⊥
-Lacks (Err name) asked = ⊥
+-- the profile that is said lacks a name that the job needs
+abbrev pub Lacks : Extension → Result Profile Text → Option Job → Type 0
+Lacks name (Ok profile) (Some asked) = is_lacking profile asked name ≡ true
+Lacks name (Ok profile) None = ⊥
+Lacks name (Err unknown) asked = ⊥
+
+-- THE CLOCK
+
+-- whether an octet begins a zone
+abbrev pub is_sign : ℕ → Bool
+is_sign c = c == code "+" || c == code "-"
+
+-- the clock of a word whose zone begins at a place, or is that of UTC
+abbrev pub clock_cut : Text → Option ℕ → Option Clock
+clock_cut word None = clock_named word (codes "+0000")
+clock_cut word (Some place) = clock_named (take place word) (drop place word)
+
+-- the clock of a word: digits, and maybe a zone
+abbrev pub clock_of : Text → Option Clock
+clock_of word = clock_cut word (position is_sign word)
+
+-- a clock, or the word that tells none
+abbrev pub clock_or : Text → Option Clock → Result (Option Clock) Text
+clock_or word None = Err word
+clock_or word (Some clock) = Ok (Some clock)
+
+-- the clock of an option's word, where it is given
+abbrev pub clock_in : Option Text → Result (Option Clock) Text
+clock_in None = Ok None
+clock_in (Some word) = clock_or word (clock_of word)
+
+-- the clock that a job's words say, or the word that tells none
+abbrev pub clock_said : Job → Result (Option Clock) Text
+clock_said job.Session = Ok None
+clock_said (job.Dump script) = Ok None
+clock_said (job.Test words) = clock_in words.clock
+
+-- the profile that is said has each name that the job needs, and this word of the job tells no clock
+abbrev pub HasBadClock : Result Profile Text → Option Job → Text → Type 0
+HasBadClock (Ok profile) (Some asked) word = (allows profile asked ≡ true) × (clock_said asked ≡ Err word)
+HasBadClock (Ok profile) None word = ⊥
+HasBadClock (Err unknown) asked word = ⊥
 
 -- whether an answer of this kind is what was asked for, and no mistake
 abbrev pub is_help : ErrorKind → Bool
@@ -166,14 +214,18 @@ abbrev pub IsFaultFor : ErrorKind → UsageFault → Type 0
 IsFaultFor kind NoMemory = Unit {0}
 IsFaultFor kind (UnknownName name) = ⊥
 IsFaultFor kind NeedsMailbox = ⊥
+IsFaultFor kind NeedsDate = ⊥
+IsFaultFor kind (BadClock word) = ⊥
 IsFaultFor kind (Usage help text) = (kind ≢ OutOfMemory) × (help ≡ is_help kind)
 
 -- The refusal is for one of these mistakes, or is the help that was asked for. Where there is none, it is for the name that is said in place of a
--- profile; and where one is said, because it lacks the name that the job needs.
+-- profile; and where one is said, because it lacks a name that the job needs, or for the word that tells no clock.
 abbrev pub IsRefusalFor : Kinds → Result Profile Text → Option Job → UsageFault → Type 0
 IsRefusalFor kinds said asked NoMemory = Unit {0}
 IsRefusalFor kinds said asked (UnknownName name) = (kinds ≡ []) × (said ≡ Err name)
-IsRefusalFor kinds said asked NeedsMailbox = (kinds ≡ []) × Lacks said asked
+IsRefusalFor kinds said asked NeedsMailbox = (kinds ≡ []) × Lacks extension.Mailbox said asked
+IsRefusalFor kinds said asked NeedsDate = (kinds ≡ []) × Lacks extension.Date said asked
+IsRefusalFor kinds said asked (BadClock word) = (kinds ≡ []) × HasBadClock said asked word
 IsRefusalFor kinds said asked (Usage help text) = (kind : ErrorKind) × IsAmong kind kinds × (help ≡ is_help kind)
 
 -- the fault for a name by which nothing is known
@@ -181,13 +233,36 @@ abbrev pub IsUnknown : Text → UsageFault → Type 0
 IsUnknown unknown NoMemory = Unit {0}
 IsUnknown unknown (UnknownName name) = name ≡ unknown
 IsUnknown unknown NeedsMailbox = ⊥
+IsUnknown unknown NeedsDate = ⊥
+IsUnknown unknown (BadClock word) = ⊥
 IsUnknown unknown (Usage help text) = ⊥
 
--- the answer has the profile that is said, which has the name that the job needs; or is for the name that is said in place of one, or for the one
--- that it lacks
+-- the fault for a word that tells no clock
+abbrev pub IsBadClock : Text → UsageFault → Type 0
+IsBadClock bad NoMemory = Unit {0}
+IsBadClock bad (UnknownName name) = ⊥
+IsBadClock bad NeedsMailbox = ⊥
+IsBadClock bad NeedsDate = ⊥
+IsBadClock bad (BadClock word) = word ≡ bad
+IsBadClock bad (Usage help text) = ⊥
+
+-- the answer is that clock, or is for the word that tells none
+abbrev pub SaysClock : Result (Option Clock) Text → Result (Option Clock) UsageFault → Type 0
+SaysClock said (Ok clock) = said ≡ Ok clock
+SaysClock said (Err NoMemory) = Unit {0}
+SaysClock said (Err (UnknownName name)) = ⊥
+SaysClock said (Err NeedsMailbox) = ⊥
+SaysClock said (Err NeedsDate) = ⊥
+SaysClock said (Err (BadClock word)) = said ≡ Err word
+SaysClock said (Err (Usage help text)) = ⊥
+
+-- the answer has the profile that is said, which has each name that the job needs, and the clock that the job says; or is for the name that is said
+-- in place of a profile, for one that it lacks, or for the word that tells no clock
 abbrev pub SaysOf : Result Profile Text → Job → Result CommandLine UsageFault → Type 0
-SaysOf said asked (Ok line) = (said ≡ Ok (profile_as line.profile)) × (allows (profile_as line.profile) asked ≡ true)
+SaysOf said asked (Ok line) = (said ≡ Ok (profile_as line.profile)) × (allows (profile_as line.profile) asked ≡ true) × (clock_said asked ≡ Ok line.clock)
 SaysOf said asked (Err NoMemory) = Unit {0}
 SaysOf said asked (Err (UnknownName name)) = said ≡ Err name
-SaysOf said asked (Err NeedsMailbox) = Lacks said (Some asked)
+SaysOf said asked (Err NeedsMailbox) = Lacks extension.Mailbox said (Some asked)
+SaysOf said asked (Err NeedsDate) = Lacks extension.Date said (Some asked)
+SaysOf said asked (Err (BadClock word)) = HasBadClock said (Some asked) word
 SaysOf said asked (Err (Usage help text)) = ⊥

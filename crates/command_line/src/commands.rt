@@ -144,6 +144,15 @@ fn with_mailbox<'a>(alloc: Global, command: Command<'a>) -> Result<Command<'a>, 
         .arg(name_option(alloc, "mailboxes", "FILE", mailboxes))
 }
 
+// The command with the option for the clock.
+fn with_clock<'a>(alloc: Global, command: Command<'a>) -> Result<Command<'a>, AllocError>
+    ensures { IfOk result (spec.HasMore command.entry spec.clock_rules) }
+{
+    let clock =
+        "The current time: seconds since 1970 and a zone, as 1783245600+0200; needs --with date";
+    command.arg(name_option(alloc, "clock", "TIME", clock))
+}
+
 // The command with the options for folders of scripts.
 fn with_folders<'a>(alloc: Global, command: Command<'a>) -> Result<Command<'a>, AllocError>
     ensures { IfOk result (spec.HasMore command.entry spec.folder_rules) }
@@ -173,6 +182,7 @@ fn test_command<'a>(alloc: Global, names: &'a str) -> Result<Command<'a>, AllocE
 {
     let command = with_envelope(alloc, bare_test_command(alloc))?;
     let command = with_mailbox(alloc, command)?;
+    let command = with_clock(alloc, command)?;
     let command = with_folders(alloc, command)?;
     let command = with_profile(alloc, command, names)?;
     with_files(alloc, command)

@@ -45,8 +45,9 @@ A line of the input is a command; each is answered by a reply:
   no-expect ID                    expect nothing of it
   envelope FROM TO                set the addresses of the sender and of the recipient
   mailbox BOX                     set the mailbox that mail is kept in
-  mailboxes N                     with mailbox: the N octets after the line's end are the mailboxes
-                                  that there are, a name a line
+  mailboxes N                     with mailbox: the N octets after the line's end list the mailboxes
+  clock SECONDS ZONE              with date: set the time, seconds since 1970 and a zone as +0200
+  no-clock                        with date: leave no clock
   message-envelope ID FROM TO     with envelopes: give a message addresses of its own, which a line
                                   \"  envelope FROM TO\" of the report shows after its line message
   no-message-envelope ID          with envelopes: take its own addresses from it
@@ -103,6 +104,7 @@ Standard output is the report:
   main personal \"NAME\"
   envelope \"FROM\" \"TO\" mailbox \"BOX\"
   with NAME..                            where --with gives names: these, in their order
+  clock SECONDS ZONE                     with date: what time it is, or clock none
   mailboxes N                            with mailbox: how many names the list of mailboxes has
   script PLACE \"NAME\" ok                 for each script, PLACE being personal or global
   script PLACE \"NAME\" line N KIND        or its first fault: syntax, or the broken rule's word

@@ -2,6 +2,7 @@
 #![tactic(auto)]
 
 mod argument;
+mod clock;
 mod commands;
 mod help;
 mod profile;

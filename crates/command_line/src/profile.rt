@@ -35,6 +35,7 @@ fn brings(extension: Extension) -> &'static str {
     match extension {
         Extension::Charsets => "encoded words of further charsets are decoded",
         Extension::AsciiNumeric => "the comparator i;ascii-numeric (RFC 4790)",
+        Extension::Date => "dates of fields, and the current date (RFC 5260)",
         Extension::Duplicate => "the test duplicate, which is false (RFC 7352)",
         Extension::EncodedCharacter => "${hex:..} and ${unicode:..} in strings (RFC 5228)",
         Extension::Envelopes => "a message may have an envelope of its own",

@@ -1,17 +1,20 @@
 //! What the words of a command line ask for.
-ghost use Rattle.std.specs.Prelude.{◌≡◌, ◌↔◌, IfOk, IfErr, IsOk, Ok, Some, false, true, map, IsSome, IsOkUnless};
+ghost use Rattle.std.specs.Prelude.{◌≡◌, ◌↔◌, IfOk, IfErr, IsOk, Ok, Option, Some, false, true, map, IsSome, IsOkUnless};
 ghost use Rattle.clap.specs.Words.{fault_of, first_of, kind_of, rows_of, subcommand_rows_of};
 ghost use Rattle.clap.specs.Matches.{found_of};
-ghost use Rattle.command_line.specs.CommandLine.{allows, the_app, job_named, job_of, name_needed, named_job, profile_met, said_profile, test_words, value_in, IsFaultFor, IsRefusalFor, IsUnknown, SaysOf};
+ghost use Rattle.command_line.specs.CommandLine.{allows, clock_said, the_app, is_lacking, job_named, job_of, name_needed, named_job, profile_met, said_profile, test_words, value_in, IsFaultFor, IsRefusalFor, IsUnknown, SaysOf};
+ghost use Rattle.date_text.specs.Clock as clocks;
 ghost use Rattle.command_line.specs.Profiles.{Says};
 ghost use Rattle.sieve_profile.specs.Profile.{Profile};
 ghost use Rattle.sieve_profile.specs.view.Profile.{profile_as};
 
 use crate::argument::Argument;
+use crate::clock::clock_said;
 use crate::commands::program;
 use crate::profile::{Names, names_help, profile_in};
 use clap::error::ErrorKind;
 use clap::{ArgMatches, Error};
+use date_text::Clock;
 use sieve_profile::{Extension, Profile};
 use std::alloc::{AllocError, Global};
 use std::convert::AsStr;
@@ -21,6 +24,8 @@ use std::convert::AsStr;
 pub struct CommandLine {
     /// What is known beyond what always is.
     pub profile: Profile,
+    /// What time it is, where a test's words say so (RFC 5260).
+    pub clock: Option<Clock>,
     /// What the program is to do.
     pub job: Job,
 }
@@ -50,6 +55,8 @@ pub struct TestWords {
     pub mailbox: Option<Argument>,
     /// The path of the list of mailboxes, a name a line (RFC 5490). Needs `mailbox`.
     pub mailboxes: Option<Argument>,
+    /// What time it is: the seconds since 1970-01-01 00:00 UTC in digits, and maybe a zone as `+0200` (RFC 5260). Needs `date`.
+    pub clock: Option<Argument>,
     /// The path of a folder of personal scripts (RFC 6609, 3.2).
     pub personal: Option<Argument>,
     /// The path of a folder of global scripts.
@@ -76,6 +83,12 @@ pub enum UsageFault {
     /// A list of mailboxes is given, and `mailbox` isn't among the names of `--with`.
     #[error("error: '--mailboxes <FILE>' needs '--with mailbox'\n\nFor more information, try '--help'.\n")]
     NeedsMailbox,
+    /// A clock is given, and `date` isn't among the names of `--with`.
+    #[error("error: '--clock <TIME>' needs '--with date'\n\nFor more information, try '--help'.\n")]
+    NeedsDate,
+    /// The word of `--clock` isn't digits up to 253402300799 and a zone, or none.
+    #[error("error: invalid value '{word}' for '--clock <TIME>'\n\nFor more information, try '--help'.\n")]
+    BadClock { word: Argument },
 }
 
 impl From<AllocError> for UsageFault {
@@ -135,6 +148,7 @@ fn test_words(alloc: Global, matches: &ArgMatches<'_>) -> Result<TestWords, Allo
         to: option_in(alloc, matches, "to")?,
         mailbox: option_in(alloc, matches, "mailbox")?,
         mailboxes: option_in(alloc, matches, "mailboxes")?,
+        clock: option_in(alloc, matches, "clock")?,
         personal: option_in(alloc, matches, "personal")?,
         global: option_in(alloc, matches, "global")?,
         script: required_in(alloc, matches, "script")?,
@@ -166,40 +180,54 @@ fn job_in(alloc: Global, matches: &ArgMatches<'_>) -> Result<Option<Job>, AllocE
     }
 }
 
-// The name that a job needs.
-fn name_needed(job: &Job) -> Option<Extension>
-    ensures { result ≡ name_needed job.now }
+// Whether a job needs a name.
+fn name_needed(job: &Job, name: Extension) -> bool
+    ensures { result ≡ name_needed job.now name }
 {
     match job {
-        Job::Test(
-            TestWords {
-                mailboxes: Some(_),
-                ..
-            },
-        ) => Some(Extension::Mailbox),
-        Job::Test(_) | Job::Session | Job::Dump { .. } => None,
+        Job::Test(words) => match name {
+            Extension::Mailbox => words.mailboxes.is_some(),
+            Extension::Date => words.clock.is_some(),
+            _ => false,
+        },
+        Job::Session | Job::Dump { .. } => false,
     }
 }
 
-// Whether a profile has the name that a job needs.
-fn allows(profile: Profile, job: &Job) -> bool
-    ensures { result ≡ allows (profile_as profile) job.now }
+// Whether a profile lacks a name that a job needs.
+fn is_lacking(profile: Profile, job: &Job, name: Extension) -> bool
+    ensures { result ≡ is_lacking (profile_as profile) job.now name }
 {
-    match name_needed(job) {
-        Some(name) => profile.has(name),
-        None => true,
-    }
+    name_needed(job, name) && !profile.has(name)
 }
 
-// What is asked for by a job and a profile, which must have the name that the job needs.
-fn where_allowed(profile: Profile, job: Job) -> Result<CommandLine, UsageFault>
+// What is asked for by a job and a profile which has each name that the job needs.
+fn with_clock(alloc: Global, profile: Profile, job: Job) -> Result<CommandLine, UsageFault>
+    requires { allows (profile_as profile) job ≡ true }
     ensures job { IfOk result (λ line. line.job ≡ job) }
     ensures profile { SaysOf (Ok (profile_as profile)) job result }
 {
-    if allows(profile, &job) {
-        Ok(CommandLine { profile, job })
-    } else {
+    match clock_said(alloc, &job) {
+        Ok(clock) => Ok(CommandLine {
+            profile,
+            clock,
+            job,
+        }),
+        Err(fault) => Err(fault),
+    }
+}
+
+// What is asked for by a job and a profile, which must have each name that the job needs.
+fn where_allowed(alloc: Global, profile: Profile, job: Job) -> Result<CommandLine, UsageFault>
+    ensures job { IfOk result (λ line. line.job ≡ job) }
+    ensures profile { SaysOf (Ok (profile_as profile)) job result }
+{
+    if is_lacking(profile, &job, Extension::Mailbox) {
         Err(UsageFault::NeedsMailbox)
+    } else if is_lacking(profile, &job, Extension::Date) {
+        Err(UsageFault::NeedsDate)
+    } else {
+        with_clock(alloc, profile, job)
     }
 }
 
@@ -213,7 +241,7 @@ fn with_profile(
     ensures profile { SaysOf (profile_met (subcommand_rows_of matches.now)) job result }
 {
     match profile_met(matches) {
-        Ok(profile) => where_allowed(profile, job),
+        Ok(profile) => where_allowed(alloc, profile, job),
         Err(name) => Err(unknown_name(alloc, name)),
     }
 }
@@ -240,19 +268,23 @@ fn profile_met<'a>(matches: &'a ArgMatches<'_>) -> Result<Profile, &'a str>
 
 /// What the words ask for. The first word is the program's name, as in `std::env::args`.
 /// `Usage` is for a mistake in the words, or for the help that they ask for; `UnknownName` is for the first name of a `--with` by which nothing
-/// is known, where there is no other mistake; `NeedsMailbox` is for a list of mailboxes without the name `mailbox`, where there is no mistake else;
-/// `NoMemory` is for want of memory.
+/// is known, where there is no other mistake; where there is none else, `NeedsMailbox` is for a list of mailboxes without the name `mailbox`, then
+/// `NeedsDate` for a clock without the name `date`, and then `BadClock` for the word of a clock that isn't one; `NoMemory` is for want of memory.
 pub fn command_of<'a, S: AsStr>(alloc: Global, words: &'a [S]) -> Result<CommandLine, UsageFault>
     // The job is the one that the words name.
     ensures ok { IfOk result (λ line. named_job (map S.text words.entry.now) ≡ Some line.job) }
     // The profile is the one that they say.
     ensures profile { IfOk result (λ line. said_profile (map S.text words.entry.now) ≡ Ok (profile_as line.profile)) }
-    // It has the name that the job needs.
+    // It has each name that the job needs.
     ensures allowed { IfOk result (λ line. allows (profile_as line.profile) line.job ≡ true) }
-    // Words that name a job and say a profile which has the name that the job needs are refused only for want of memory.
-    ensures named { (asked : Job) (profile : Profile) → named_job (map S.text words.entry.now) ≡ Some asked → said_profile (map S.text words.entry.now) ≡ Ok profile
-        → allows profile asked ≡ true → IsOkUnless result UsageFault.NoMemory }
-    // Any other refusal is for a mistake in the words, for a name by which nothing is known, or for one that is lacking, or it is the help that they ask for.
+    // The clock is the one that the job says.
+    ensures clock { IfOk result (λ line. clock_said line.job ≡ Ok line.clock) }
+    // Words that name a job which says no bad clock, and say a profile which has each name that the job needs, are refused only for want of memory.
+    ensures named { (asked : Job) (profile : Profile) (clock : Option clocks.Clock) → named_job (map S.text words.entry.now) ≡ Some asked
+        → said_profile (map S.text words.entry.now) ≡ Ok profile → allows profile asked ≡ true → clock_said asked ≡ Ok clock
+        → IsOkUnless result UsageFault.NoMemory }
+    // Any other refusal is for a mistake in the words, for a name by which nothing is known, for one that is lacking, or for the word of a clock that
+    // isn't one, or it is the help that they ask for.
     ensures refused { IfErr result (IsRefusalFor (fault_of the_app (map S.text words.entry.now)) (said_profile (map S.text words.entry.now)) (named_job (map S.text words.entry.now))) }
 {
     let names = names_help(alloc)?;

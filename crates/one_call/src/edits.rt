@@ -4,6 +4,7 @@ ghost use Rattle.std.specs.Prelude.{◌≤◌, length};
 use crate::benches::{ID, bench_of, make_verdicts, tell_report};
 use crate::telling::{Host, mark, personal, tell_refused};
 use bench::{Bench, EditFault};
+use date_text::clock_named;
 use sieve_base::Octets;
 use sieve_run::Meter;
 use std::io;
@@ -67,6 +68,8 @@ fn edit(rt: &impl Host, word: &str, bench: &mut Bench) -> Edited {
         "clear_main" => clear_main(rt, bench),
         "clear_expected" => clear_expected(rt, bench),
         "clear_message_envelope" => clear_message_envelope(rt, bench),
+        "set_clock" => set_clock(rt, bench),
+        "clear_clock" => clear_clock(rt, bench),
         _ => Err(io::Error::from(ErrorKind::InvalidInput)),
     }
 }
@@ -209,4 +212,21 @@ fn clear_message_envelope(rt: &impl Host, bench: &mut Bench) -> Edited {
     let answer = bench.clear_message_envelope(ID);
     mark(rt);
     Ok(answer)
+}
+
+fn set_clock(rt: &impl Host, bench: &mut Bench) -> Edited {
+    let Some(clock) = clock_named(b"1783245600", b"+0200") else {
+        return Err(io::Error::from(ErrorKind::InvalidInput));
+    };
+    mark(rt);
+    bench.set_clock(clock);
+    mark(rt);
+    Ok(Ok(()))
+}
+
+fn clear_clock(rt: &impl Host, bench: &mut Bench) -> Edited {
+    mark(rt);
+    bench.clear_clock();
+    mark(rt);
+    Ok(Ok(()))
 }

@@ -1,10 +1,12 @@
 //! Makes one call of the libraries, on an input that is fixed, and tells what it answered and what it left.
 //!
 //! The first word names the call: a function or a method, with what it is made on behind a `/` where several words name it, or a type, for
-//! what is asked of it without taking memory. Without a word all of them are told. `tools/check` refuses each request for memory in turn.
+//! what is asked of it without taking memory. Without a word all of them are told. `tools/check` refuses each request for memory in turn. After
+//! `date` a field's value, a zone and a part may stand, and after `clock` its seconds, its zone and a part, in place of the fixed input.
 #![tactic(auto)]
 
 mod benches;
+mod dates;
 mod edits;
 mod flags;
 mod mails;
@@ -39,8 +41,13 @@ fn run(rt: &(impl Env + Host)) -> io::Result<()> {
 
 /// Makes the call that the first word names.
 fn call_named(rt: &(impl Env + Host)) -> io::Result<()> {
-    match env::args(rt)?.nth(1) {
-        Some(word) => words::call(rt, word.as_str()),
-        None => words::tell(rt),
+    let given: Vec<String> = env::args(rt)?.collect(rt.alloc())?;
+    match given.as_slice() {
+        [_, word, first, second, third] => {
+            let given = [first.as_bytes(), second.as_bytes(), third.as_bytes()];
+            dates::call(rt, word.as_str(), given)
+        }
+        [_, word] => words::call(rt, word.as_str()),
+        _ => words::tell(rt),
     }
 }

@@ -112,6 +112,7 @@ fn job_of(rt: &impl Host) -> Result<TestJob, AllocError> {
         to: Octets::from_vec(Vec::new(rt.alloc())),
         mailbox: Octets::copied(rt.alloc(), b"Box")?,
         mailboxes: Octets::from_vec(Vec::new(rt.alloc())),
+        clock: None,
         scripts,
         main: personal(rt, b"main")?,
         id: Octets::copied(rt.alloc(), ID)?,
@@ -148,6 +149,8 @@ pub(crate) fn read_words(rt: &impl Host, words: &[&str]) -> io::Result<()> {
         Err(UsageFault::Usage { text, .. }) => rt.print(text.as_str()),
         Err(UsageFault::UnknownName { name }) => println!(rt; "unknown {}", name.as_str()),
         Err(UsageFault::NeedsMailbox) => println!(rt; "needs mailbox"),
+        Err(UsageFault::NeedsDate) => println!(rt; "needs date"),
+        Err(UsageFault::BadClock { word }) => println!(rt; "no clock {}", word.as_str()),
         Err(UsageFault::NoMemory) => tell_refused(rt),
     }
 }

@@ -90,6 +90,7 @@ fn envelope_of(rt: &impl Host) -> Result<Envelope, AllocError> {
         to: Octets::from_vec(Vec::new(rt.alloc())),
         mailbox: Octets::from_vec(Vec::new(rt.alloc())),
         mailboxes: Octets::from_vec(Vec::new(rt.alloc())),
+        clock: None,
     })
 }
 

@@ -1,7 +1,7 @@
 //! The words, each with its call.
 
 use crate::telling::Host;
-use crate::{edits, flags, mails, reports, runs, scripts, texts, values};
+use crate::{dates, edits, flags, mails, reports, runs, scripts, texts, values};
 use std::io;
 
 const WORDS: &str =
@@ -9,13 +9,13 @@ const WORDS: &str =
     flags_of union without FlagList::add FlagList::add/held \
     FlagList::add_text FlagList::add_text/held FlagList \
     Message::new Message::new/bare Message::value Message::decoded decoded_value decoded_value/unknown addresses \
-    Message Message::value/unfolded Message::decoded/plain Address \
+    Message Message::value/unfolded Message::decoded/plain Address date clock \
     tokens parse parse/faulty check judge judge/faulty compile dump_text Checked Code write_quoted \
     parts_of_text Values::set Values::expanded_string Values \
     Shelf::add run/tests run/variables run/flags run/includes run/error Shelf Outcome \
     put_script put_script/new keep_script put_message put_message/new keep_message rename_script \
     set_main set_envelope set_mailbox set_mailboxes keep_mailboxes set_message_envelope set_expected \
-    keep_expected remove_script remove_message clear_main clear_expected clear_message_envelope \
+    keep_expected remove_script remove_message clear_main clear_expected clear_message_envelope set_clock clear_clock \
     Bench::new report test_bench session command_of command_of/mistake \
     report/kept verdict code status_of";
 
@@ -66,6 +66,8 @@ fn call_texts(rt: &impl Host, word: &str) -> Option<io::Result<()>> {
         "Message::value/unfolded" => mails::ask_value(rt, mails::PLAIN),
         "Message::decoded/plain" => mails::ask_decoded(rt, mails::PLAIN),
         "Address" => mails::ask_address(rt),
+        "date" => dates::show_date(rt, dates::DATE),
+        "clock" => dates::show_clock(rt, dates::CLOCK),
         _ => return None,
     })
 }

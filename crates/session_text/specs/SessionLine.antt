@@ -3,6 +3,7 @@ use Rattle.std.specs.Prelude.{ℕ, suc, ◌+◌, ◌-◌, ◌*◌, Bool, true, f
 use Rattle.std.specs.List.{list_all}
 use Rattle.std.specs.Option.{option_map, option_and_then}
 use lib.Pointwise.{pointwise}
+use Rattle.date_text.specs.Clock.{Clock, clock_named}
 use Rattle.sieve_profile.specs.Profile.{Profile, has}
 use Rattle.sieve_profile.specs.declared.extension.Extension.{Extension}
 use Rattle.sieve_profile.specs.declared.extension.Extension.TheVariants as extension
@@ -139,6 +140,8 @@ pub data SessionCommand : Type 0 where
   mailboxes : (count : ℕ) → SessionCommand
   message_envelope : (id from to : List ℕ) → SessionCommand
   no_message_envelope : (id : List ℕ) → SessionCommand
+  clock : (time : Clock) → SessionCommand
+  no_clock : SessionCommand
 
 -- whether a word is this text
 unfoldable pub is_text : List ℕ → List ℕ → Bool
@@ -216,13 +219,31 @@ message_envelope_command (id ∷ []) = None
 message_envelope_command (id ∷ from ∷ words) =
     option_and_then (λ i. option_and_then (λ f. option_map (λ t. message_envelope i f t) (last_value words)) (word_value from)) (word_value id)
 
+abbrev pub alone : SessionCommand → List (List ℕ) → Option SessionCommand
+alone command [] = Some command
+alone command (more ∷ rest) = None
+
+-- a clock that is the last two words, both bare: its seconds in digits, and its zone
+abbrev pub last_clock : List (List ℕ) → Option Clock
+last_clock [] = None
+last_clock (seconds ∷ []) = None
+last_clock (seconds ∷ zone ∷ []) = clock_named seconds zone
+last_clock (seconds ∷ zone ∷ more ∷ rest) = None
+
+-- a command of the clock
+abbrev pub clock_command : List ℕ → List (List ℕ) → Option SessionCommand
+clock_command word words =
+    if is_text (codes "clock") word then option_map (λ time. clock time) (last_clock words)
+    else if is_text (codes "no-clock") word then alone no_clock words
+    else None
+
 -- a command that needs a name of the profile
 abbrev pub extension_command : List ℕ → List (List ℕ) → Option SessionCommand
 extension_command word words =
     if is_text (codes "mailboxes") word then option_map (λ count. mailboxes count) (last_count words)
     else if is_text (codes "message-envelope") word then message_envelope_command words
     else if is_text (codes "no-message-envelope") word then option_map (λ id. no_message_envelope id) (last_value words)
-    else None
+    else clock_command word words
 
 -- a command that says what is expected of a message, or one of those
 abbrev pub expecting_command : List ℕ → List (List ℕ) → Option SessionCommand
@@ -248,10 +269,6 @@ value_command word words =
     if is_text (codes "drop-message") word then option_map (λ id. drop_message id) (last_value words)
     else if is_text (codes "mailbox") word then option_map (λ box. mailbox box) (last_value words)
     else name_command word words
-
-abbrev pub alone : SessionCommand → List (List ℕ) → Option SessionCommand
-alone command [] = Some command
-alone command (more ∷ rest) = None
 
 -- a command of no words, or one of those
 abbrev pub lone_command : List ℕ → List (List ℕ) → Option SessionCommand
@@ -285,6 +302,8 @@ abbrev pub extension_of : SessionCommand → Option Extension
 extension_of (mailboxes count) = Some extension.Mailbox
 extension_of (message_envelope id from to) = Some extension.Envelopes
 extension_of (no_message_envelope id) = Some extension.Envelopes
+extension_of (clock time) = Some extension.Date
+extension_of no_clock = Some extension.Date
 extension_of _ = None
 
 abbrev pub is_there : Profile → SessionCommand → Bool

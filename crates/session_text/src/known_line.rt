@@ -17,6 +17,7 @@ fn extension_of(command: &SessionCommand<'_>) -> Option<Extension>
         SessionCommand::MessageEnvelope { .. } | SessionCommand::NoMessageEnvelope { .. } => Some(
             Extension::Envelopes,
         ),
+        SessionCommand::Clock { .. } | SessionCommand::NoClock => Some(Extension::Date),
         _ => None,
     }
 }
@@ -33,8 +34,8 @@ fn is_there(profile: Profile, command: &SessionCommand<'_>) -> bool
 
 /// What a line, without its LF and the CR before it, asks for. `None` where it is none of the lines that there are under the
 /// profile: for an octet that is neither a visible one of ASCII nor a space, a first word that is unknown or needs a name that
-/// the profile lacks, a word that is ill quoted, too few words or too many, or a count that isn't one to nine digits. Takes no
-/// memory.
+/// the profile lacks, a word that is ill quoted, too few words or too many, a count that isn't one to nine digits, or
+/// a clock that isn't bare digits up to 253402300799 and a bare zone. Takes no memory.
 #[tactic(auto, unfolding(crate::specs::SessionLine::command_of_line))]
 pub fn command_of_line(profile: Profile, line: &[u8]) -> Option<SessionCommand<'_>>
     ensures { option_map command_as result ≡ spec.command_of_line (profile_as profile) line.now }

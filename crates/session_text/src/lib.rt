@@ -3,6 +3,7 @@
 #![tactic(auto)]
 
 mod cutting;
+mod extension_lines;
 mod input;
 mod known_line;
 pub mod laws;

@@ -7,7 +7,9 @@ ghost use Rattle.session_text.specs.SessionLine as spec;
 ghost use Rattle.session_text.specs.view.Command.{command_as};
 
 use crate::cutting::next_word;
+use crate::extension_lines::extension_command;
 use crate::word::Word;
+use date_text::Clock;
 use sieve_base::Place;
 use sieve_base::octet::{is_digit, is_printable};
 
@@ -89,11 +91,17 @@ pub enum SessionCommand<'a> {
     NoMessageEnvelope {
         id: Word<'a>,
     },
+    /// To set the clock (RFC 5260). Needs `date`.
+    Clock {
+        clock: Clock,
+    },
+    /// To leave no clock. Needs `date`.
+    NoClock,
 }
 
 /// Whether a word is this text.
 #[tactic(auto, unfolding(crate::specs::SessionLine::is_text))]
-fn is_text(word: &[u8], text: &[u8]) -> bool
+pub(crate) fn is_text(word: &[u8], text: &[u8]) -> bool
     ensures { result ≡ spec.is_text text.now word.now }
 {
     word == text
@@ -130,14 +138,14 @@ fn count_of(word: &[u8]) -> Option<u64>
 }
 
 /// Whether nothing but spaces is left.
-fn is_over(line: &[u8]) -> bool
+pub(crate) fn is_over(line: &[u8]) -> bool
     ensures { IsTrue result ↔ (spec.line_words line.now ≡ []) }
 {
     next_word(line).is_none()
 }
 
 /// The value of a count that is the last word.
-fn last_count(line: &[u8]) -> Option<u64>
+pub(crate) fn last_count(line: &[u8]) -> Option<u64>
     ensures { result ≡ spec.last_count (spec.line_words line.now) }
 {
     let (count, line) = next_word(line)?;
@@ -167,7 +175,7 @@ fn last_name(line: &[u8]) -> Option<(Place, Word<'_>)>
 }
 
 /// What the last word stands for.
-fn last_value(line: &[u8]) -> Option<Word<'_>>
+pub(crate) fn last_value(line: &[u8]) -> Option<Word<'_>>
     ensures { result ≡ spec.last_value (spec.line_words line.now) }
 {
     let (word, line) = next_word(line)?;
@@ -253,35 +261,6 @@ fn dump_command(line: &[u8]) -> Option<SessionCommand<'_>>
 {
     let (place, name) = last_name(line)?;
     Some(SessionCommand::Dump { place, name })
-}
-
-/// What `message-envelope ID FROM TO` asks for, behind its first word.
-fn message_envelope_command(line: &[u8]) -> Option<SessionCommand<'_>>
-    ensures { option_map command_as result ≡ spec.message_envelope_command (spec.line_words line.now) }
-{
-    let (id, line) = next_word(line)?;
-    let (from, line) = next_word(line)?;
-    let id = Word::new(id)?;
-    let from = Word::new(from)?;
-    let to = last_value(line)?;
-    Some(SessionCommand::MessageEnvelope { id, from, to })
-}
-
-/// What a line that needs a name of the profile asks for.
-fn extension_command<'a>(word: &[u8], line: &'a [u8]) -> Option<SessionCommand<'a>>
-    ensures { option_map command_as result ≡ spec.extension_command word.now (spec.line_words line.now) }
-{
-    if is_text(word, b"mailboxes") {
-        let count = last_count(line)?;
-        Some(SessionCommand::Mailboxes { count })
-    } else if is_text(word, b"message-envelope") {
-        message_envelope_command(line)
-    } else if is_text(word, b"no-message-envelope") {
-        let id = last_value(line)?;
-        Some(SessionCommand::NoMessageEnvelope { id })
-    } else {
-        None
-    }
 }
 
 /// What a line that says what is expected of a message asks for.

@@ -7,12 +7,12 @@ use Rattle.sieve_profile.specs.Profile.{Profile}
 use Rattle.sieve_run.specs.Library.{Lookup, missing, invalid, present, found_at, library_of}
 use Rattle.sieve_run.specs.Meter.{runs_after}
 use Rattle.bench.specs.Bench.{BenchState, RefusedAmong}
-use Rattle.bench.specs.Content.{Content, Edit, put_script, put_message, set_main, rename_script, remove_script, remove_message, clear_main, set_envelope, set_mailbox, set_expected, clear_expected, set_mailboxes, set_message_envelope, clear_message_envelope, after, text_at}
+use Rattle.bench.specs.Content.{Content, Edit, put_script, put_message, set_main, rename_script, remove_script, remove_message, clear_main, set_envelope, set_mailbox, set_expected, clear_expected, set_mailboxes, set_message_envelope, clear_message_envelope, set_clock, clear_clock, after, text_at}
 use Rattle.bench.specs.Dump.{script_code}
 use Rattle.bench.specs.Report.{report_text}
 use Rattle.bench.specs.Stale.{stale_after}
 use Rattle.sieve_base.specs.declared.name.ScriptName.{ScriptName}
-use Rattle.session_text.specs.SessionLine.{SessionCommand, nothing, script, message, main, no_main, rename, drop_script, drop_message, envelope, mailbox, report, dump, expect, no_expect, mailboxes, message_envelope, no_message_envelope, first_line, command_of_line, is_long_so_far, line_so_far}
+use Rattle.session_text.specs.SessionLine.{SessionCommand, nothing, script, message, main, no_main, rename, drop_script, drop_message, envelope, mailbox, report, dump, expect, no_expect, mailboxes, message_envelope, no_message_envelope, clock, no_clock, first_line, command_of_line, is_long_so_far, line_so_far}
 use Rattle.bench.specs.declared.fault.EditFault.{EditFault}
 use Rattle.bench.specs.declared.fault.EditFault.TheVariants.{NoSuchScript, NameTaken, NoSuchMessage, Full, TooLarge, NoMemory}
 use Rattle.sievebench.specs.declared.status.SessionEnd.{SessionEnd}
@@ -59,6 +59,8 @@ demand_of (no_expect id) = asks_edit (clear_expected id)
 demand_of (mailboxes count) = asks_put count (λ octets. set_mailboxes octets)
 demand_of (message_envelope id from to) = asks_edit (set_message_envelope id from to)
 demand_of (no_message_envelope id) = asks_edit (clear_message_envelope id)
+demand_of (clock time) = asks_edit (set_clock time)
+demand_of no_clock = asks_edit clear_clock
 
 -- what a line asks for with the octets behind it; a line of no command says nothing that there is
 abbrev pub request_by : Option Demand → List ℕ → Request
@@ -123,7 +125,7 @@ abbrev pub question_takes_memory : Question → Bool
 question_takes_memory Nothing = false
 question_takes_memory (Code name) = true
 
--- whether memory may be refused to an edit of a session; four take none
+-- whether memory may be refused to an edit of a session; six take none
 abbrev pub takes_memory : Edit → Bool
 takes_memory (put_script name text) = true
 takes_memory (put_message id bytes) = true
@@ -139,6 +141,8 @@ takes_memory (clear_expected id) = false
 takes_memory (set_mailboxes text) = true
 takes_memory (set_message_envelope id from to) = true
 takes_memory (clear_message_envelope id) = false
+takes_memory (set_clock time) = false
+takes_memory clear_clock = false
 
 -- a bench, and how many runs were made so far
 pub record Served : Type 0 where

@@ -11,6 +11,7 @@ pub use bench::{
     Bench, EditFault, ReportFault, TestEnd, TestJob, TestScript, dump_text, test_bench,
 };
 pub use command_line::{Argument, CommandLine, Job, TestWords, UsageFault, command_of};
+pub use date_text::{Clock, Zone, zone_named};
 pub use server::session;
 pub use sieve_base::{Counted, Faults, Octets, Place, ScriptName, Sink, Source};
 pub use sieve_profile::{EXTENSIONS, Extension, Profile};

@@ -6,6 +6,7 @@ ghost use Rattle.sievebench.specs.Session.{demand_at, demand_of};
 ghost use Rattle.sievebench.specs.view.Task.{IsTried, Tasks, limit_of};
 
 use bench::{Bench, EditFault};
+use date_text::Clock;
 use session_text::{SessionCommand, Word, command_of_line};
 use sieve_base::limits::{MAX_EXPECTED, MAX_ID, MAX_MAILBOXES, MAX_MESSAGE, MAX_TEXT};
 use sieve_base::{Octets, Place, ScriptName};
@@ -216,6 +217,24 @@ fn clear_message_envelope(bench: &mut Bench, id: &Word<'_>) -> Result<(), EditFa
     }
 }
 
+/// Sets the clock.
+#[tactic(auto, using(crate::proofs::Tried::trying))]
+fn set_clock(bench: &mut Bench, clock: Clock) -> Result<(), EditFault>
+    ensures { IsTried (Some (demand_of (line.clock clock))) result bench.old bench.new }
+{
+    bench.set_clock(clock);
+    Ok(())
+}
+
+/// Leaves no clock.
+#[tactic(auto, using(crate::proofs::Tried::trying))]
+fn clear_clock(bench: &mut Bench) -> Result<(), EditFault>
+    ensures { IsTried (Some (demand_of line.no_clock)) result bench.old bench.new }
+{
+    bench.clear_clock();
+    Ok(())
+}
+
 /// What to do for a line. An edit that no octets follow is made at once.
 #[tactic(auto, using(crate::proofs::Tried::trying))]
 pub(crate) fn task_of(bench: &mut Bench, line: &[u8]) -> Task
@@ -257,6 +276,8 @@ pub(crate) fn task_of(bench: &mut Bench, line: &[u8]) -> Task
             set_message_envelope(bench, &id, &from, &to)
         }
         SessionCommand::NoMessageEnvelope { id } => clear_message_envelope(bench, &id),
+        SessionCommand::Clock { clock } => set_clock(bench, clock),
+        SessionCommand::NoClock => clear_clock(bench),
     };
     Task::Made { outcome }
 }

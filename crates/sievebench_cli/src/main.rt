@@ -39,33 +39,30 @@ fn main(rt: HostRuntime) -> ExitCode {
     ExitCode::from(run(&rt))
 }
 
+// Serves a session. Answers the status of the process.
+fn serve(rt: &(impl AllocGlobal + Input + Print + Eprint), profile: Profile) -> u8 {
+    let end = run_session(rt, profile);
+    if let Some(complaint) = complaint_of(end) {
+        complain(rt, complaint);
+    }
+    status_of(End::Session(end))
+}
+
 // Does what the command line asks for, and answers the status of the process.
 fn run(rt: &(impl Env + AllocGlobal + Input + Print + Eprint + Files)) -> u8 {
     match asked(rt) {
-        Ok(
-            CommandLine {
+        Ok(line) => {
+            let CommandLine {
                 profile,
-                job: Job::Session,
-            },
-        ) => {
-            let end = run_session(rt, profile);
-            if let Some(complaint) = complaint_of(end) {
-                complain(rt, complaint);
+                clock,
+                job,
+            } = line;
+            match job {
+                Job::Session => serve(rt, profile),
+                Job::Dump { script } => run_dump(rt, profile, script.as_str()),
+                Job::Test(words) => run_test(rt, profile, clock, &words),
             }
-            status_of(End::Session(end))
         }
-        Ok(
-            CommandLine {
-                profile,
-                job: Job::Dump { script },
-            },
-        ) => run_dump(rt, profile, script.as_str()),
-        Ok(
-            CommandLine {
-                profile,
-                job: Job::Test(words),
-            },
-        ) => run_test(rt, profile, &words),
         Err(fault) => answer_usage(rt, fault),
     }
 }
@@ -105,7 +102,10 @@ fn answer_usage(rt: &(impl Print + Eprint), fault: UsageFault) -> u8 {
             let _ = rt.eprint(text.as_str());
             USAGE_STATUS
         }
-        UsageFault::UnknownName { .. } | UsageFault::NeedsMailbox => {
+        UsageFault::UnknownName { .. }
+        | UsageFault::NeedsMailbox
+        | UsageFault::NeedsDate
+        | UsageFault::BadClock { .. } => {
             let _ = rt.eprint(fault);
             USAGE_STATUS
         }

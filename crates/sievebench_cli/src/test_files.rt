@@ -5,7 +5,9 @@ use crate::folder::read_folder;
 use sieve_base::limits::{
     MAX_ADDRESS, MAX_MAILBOX, MAX_MAILBOXES, MAX_MESSAGE, MAX_NAME, MAX_TEXT,
 };
-use sievebench::{Argument, Octets, Place, Profile, ScriptName, TestJob, TestScript, TestWords};
+use sievebench::{
+    Argument, Clock, Octets, Place, Profile, ScriptName, TestJob, TestScript, TestWords,
+};
 use std::alloc::{AllocError, Global};
 use std::rt::Files;
 
@@ -27,9 +29,10 @@ pub(crate) struct TestInput {
 pub(crate) fn read_test<R: Files + AllocGlobal>(
     rt: &R,
     profile: Profile,
+    clock: Option<Clock>,
     words: &TestWords,
 ) -> Result<TestInput, ReadFault> {
-    let mut input = TestInput::new(rt.alloc(), profile);
+    let mut input = TestInput::new(rt.alloc(), profile, clock);
     read_files(rt, words, &mut input)?;
     Ok(input)
 }
@@ -112,14 +115,15 @@ fn empty(alloc: Global) -> Octets {
 }
 
 impl TestInput {
-    /// A test of nothing, under a profile.
-    fn new(alloc: Global, profile: Profile) -> TestInput {
+    /// A test of nothing, under a profile and with a clock.
+    fn new(alloc: Global, profile: Profile, clock: Option<Clock>) -> TestInput {
         let job = TestJob {
             profile,
             from: empty(alloc),
             to: empty(alloc),
             mailbox: empty(alloc),
             mailboxes: empty(alloc),
+            clock,
             scripts: Vec::new(alloc),
             main: ScriptName::new(Place::Personal, Vec::new(alloc)),
             id: empty(alloc),

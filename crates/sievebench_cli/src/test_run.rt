@@ -6,20 +6,21 @@ use crate::streams::Output;
 use crate::test_files::{TestInput, read_test};
 use sieve_base::Counted;
 use sievebench::{
-    End, Meter, Profile, SessionEnd, TestEnd, TestJob, TestWords, status_of, test_bench,
+    Clock, End, Meter, Profile, SessionEnd, TestEnd, TestJob, TestWords, status_of, test_bench,
 };
 use std::alloc::Global;
 use std::io;
 use std::io::Write;
 use std::rt::Files;
 
-/// Reads all that the words name, and then prints the report of a bench of that profile and message. Answers the status of the process.
+/// Reads all that the words name, and then prints the report of a bench of that profile, clock and message. Answers the status of the process.
 pub(crate) fn run_test(
     rt: &(impl AllocGlobal + Files + Print + Eprint),
     profile: Profile,
+    clock: Option<Clock>,
     words: &TestWords,
 ) -> u8 {
-    match read_test(rt, profile, words) {
+    match read_test(rt, profile, clock, words) {
         Ok(input) => report_test(rt, &input),
         Err(fault) => answer_fault(rt, &fault),
     }

@@ -3,7 +3,7 @@
 //! No contract can say that memory is there: these calls have it, and must not say otherwise.
 
 use super::{REPORT, check_report, personal};
-use sievebench::{Bench, Octets, ScriptName};
+use sievebench::{Bench, Clock, Octets, ScriptName, Zone};
 use std::process::Abort;
 use std::test::Fail;
 
@@ -60,12 +60,16 @@ fn edit_settings(
     bench.set_main(main)?;
     bench.set_envelope(b"a@b.example", b"c d")?;
     bench.set_mailbox(b"Lists")?;
+    if let Some(clock) = Clock::new(0, Zone::UTC) {
+        bench.set_clock(clock);
+    }
     check_report(
         rt,
         bench,
         b"main personal \"main\"\nenvelope \"a@b.example\" \"c d\" mailbox \"Lists\"\ntotal 0 messages 0 errors\n",
     )?;
     bench.clear_main();
+    bench.clear_clock();
     check_report(
         rt,
         bench,

@@ -2,8 +2,8 @@
 
 use super::{holds, many, personal, same};
 use sievebench::{
-    Counted, Extension, Faults, Meter, Octets, Place, Profile, ScriptName, TestEnd, TestJob,
-    TestScript, test_bench,
+    Clock, Counted, Extension, Faults, Meter, Octets, Place, Profile, ScriptName, TestEnd, TestJob,
+    TestScript, Zone, test_bench,
 };
 use std::alloc::{AllocError, Global};
 use std::process::Abort;
@@ -27,6 +27,7 @@ fn bare(alloc: Global, main: ScriptName) -> TestJob {
         to: Octets::from_vec(Vec::new(alloc)),
         mailbox: Octets::from_vec(Vec::new(alloc)),
         mailboxes: Octets::from_vec(Vec::new(alloc)),
+        clock: None,
         scripts: Vec::new(alloc),
         main,
         id: Octets::from_vec(Vec::new(alloc)),
@@ -164,6 +165,22 @@ fn a_test_knows_its_mailboxes(rt: HostRuntime) -> Result<(), AllocError> {
         TestEnd::Clean,
         1,
         b"main personal \"main\"\nenvelope \"a@b.example\" \"\" mailbox \"INBOX\"\nwith mailbox\nmailboxes 2\nscript personal \"main\" ok\nmessage \"mail.txt\"\n  discard\n  read personal \"main\"\ntotal 1 messages 0 errors\n",
+    );
+    Ok(())
+}
+
+/// What time it is is told by the job.
+#[test]
+fn a_test_knows_its_clock(rt: HostRuntime) -> Result<(), AllocError> {
+    let mut job = job_of(rt.alloc(), &[(b"main", b"discard;")])?;
+    job.profile = Profile::new().with(Extension::Date);
+    job.clock = Clock::new(1_783_245_600, Zone::UTC);
+    check_job(
+        &rt,
+        &job,
+        TestEnd::Clean,
+        1,
+        b"main personal \"main\"\nenvelope \"a@b.example\" \"\" mailbox \"INBOX\"\nwith date\nclock 1783245600 +0000\nscript personal \"main\" ok\nmessage \"mail.txt\"\n  discard\n  read personal \"main\"\ntotal 1 messages 0 errors\n",
     );
     Ok(())
 }

@@ -1,7 +1,7 @@
 -- What the program's commands stand for.
 use Rattle.session_text.specs.SessionLine as line
 use Rattle.session_text.specs.declared.session_line.SessionCommand.{SessionCommand}
-use Rattle.session_text.specs.declared.session_line.SessionCommand.TheVariants.{Nothing, Script, Message, Main, NoMain, Rename, DropScript, DropMessage, Envelope, Mailbox, Report, Dump, Expect, NoExpect, Mailboxes, MessageEnvelope, NoMessageEnvelope}
+use Rattle.session_text.specs.declared.session_line.SessionCommand.TheVariants.{Nothing, Script, Message, Main, NoMain, Rename, DropScript, DropMessage, Envelope, Mailbox, Report, Dump, Expect, NoExpect, Mailboxes, MessageEnvelope, NoMessageEnvelope, Clock, NoClock}
 use Rattle.session_text.specs.declared.cutting.Quoting.{Quoting}
 use Rattle.session_text.specs.declared.cutting.Quoting.TheVariants as spots
 
@@ -23,6 +23,8 @@ command_as (NoExpect id) = line.no_expect id
 command_as (Mailboxes count) = line.mailboxes count
 command_as (MessageEnvelope id from to) = line.message_envelope id from to
 command_as (NoMessageEnvelope id) = line.no_message_envelope id
+command_as (Clock clock) = line.clock clock
+command_as NoClock = line.no_clock
 
 abbrev pub quoting_as : Quoting → line.Quoting
 quoting_as spots.Outside = line.outside

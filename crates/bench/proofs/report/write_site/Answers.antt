@@ -13,22 +13,13 @@ unfolding site_lines
 returns-in_err-write_envelope g c =
     stops _ _ _ c.from_residual-in_err-write_envelope.ensures.0 _ _ _ _ _ _ _ (goes_on _ _ _ _ _ _ _ _ (begins _ _ _ _) c.in_ok-write_main.ensures) refl c.in_err-write_envelope.ensures
 
-pub returns-in_err-write_profile : goal.returns-in_err-write_profile
+pub returns-in_err-write_profile_lines : goal.returns-in_err-write_profile_lines
 unfolding site_lines
-returns-in_err-write_profile g c =
-    stops _ _ _ c.from_residual-in_err-write_profile.ensures.0 _ _ _ _ _ _ _ (goes_on _ _ _ _ _ _ _ _ (goes_on _ _ _ _ _ _ _ _ (begins _ _ _ _) c.in_ok-write_main.ensures) c.in_ok-write_envelope.ensures) refl (rw c.profile.ensures at c.in_err-write_profile.ensures)
-
-pub returns-in_err-write_mailboxes : goal.returns-in_err-write_mailboxes
-unfolding site_lines
-returns-in_err-write_mailboxes g c =
-    stops _ _ _ c.from_residual-in_err-write_mailboxes.ensures.0 _ _ _ _ _ _ _
-    (goes_on _ _ _ _ _ _ _ _ (goes_on _ _ _ _ _ _ _ _ (goes_on _ _ _ _ _ _ _ _ (begins _ _ _ _) c.in_ok-write_main.ensures) c.in_ok-write_envelope.ensures) (rw c.profile.ensures at c.in_ok-write_profile.ensures)) refl
-    (rw (c.profile-2.ensures, c.as_slice.ensures) at c.in_err-write_mailboxes.ensures)
+returns-in_err-write_profile_lines g c =
+    stops _ _ _ c.from_residual-in_err-write_profile_lines.ensures.0 _ _ _ _ _ _ _ (goes_on _ _ _ _ _ _ _ _ (goes_on _ _ _ _ _ _ _ _ (begins _ _ _ _) c.in_ok-write_main.ensures) c.in_ok-write_envelope.ensures) refl (rw c.profile.ensures at c.in_err-write_profile_lines.ensures)
 
 pub returns : goal.returns
 unfolding site_lines
 returns g c =
     ends_last _ _ _ _ _ _ _ _
-    (goes_on _ _ _ _ _ _ _ _
-    (goes_on _ _ _ _ _ _ _ _ (goes_on _ _ _ _ _ _ _ _ (goes_on _ _ _ _ _ _ _ _ (begins _ _ _ _) c.in_ok-write_main.ensures) c.in_ok-write_envelope.ensures) (rw c.profile.ensures at c.in_ok-write_profile.ensures))
-    (rw (c.profile-2.ensures, c.as_slice.ensures) at c.in_ok-write_mailboxes.ensures)) c.write_scripts.ensures
+    (goes_on _ _ _ _ _ _ _ _ (goes_on _ _ _ _ _ _ _ _ (goes_on _ _ _ _ _ _ _ _ (begins _ _ _ _) c.in_ok-write_main.ensures) c.in_ok-write_envelope.ensures) (rw c.profile.ensures at c.in_ok-write_profile_lines.ensures)) c.write_scripts.ensures

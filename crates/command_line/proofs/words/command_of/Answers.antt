@@ -1,16 +1,19 @@
 -- What `clap` answers to the words of a command line, for the program `the_app`: the job that the words name, or why they are refused.
-use Rattle.std.proofs.Common.{◌≡◌, ◌∙◌, true, List, [], ◌∷◌, map, Option, Some, None, Ok, Err, IfOk, IfErr, IsOkUnless, is_some, refl, sym, ap, subst, inl, inr}
+use Rattle.std.proofs.Common.{◌≡◌, ◌∙◌, Bool, true, false, not, ◌&&◌, List, [], ◌∷◌, map, Option, Some, None, Ok, Err, IfOk, IfErr, IsOkUnless, is_some, refl, sym, ap, subst, inl, inr}
 use Rattle.clap.specs.Words.{App, HasKind, HasMatchesOf, Row, Kinds, Text, fault_of, is_simple, is_simple_and_free, kind_of, subcommand_of, subcommand_rows_of}
 use Rattle.clap.specs.declared.error.Error.{Error}
 use Rattle.clap.specs.declared.parser.matches.ArgMatches.{ArgMatches}
 use Rattle.clap.specs.declared.error.kind.ErrorKind.TheVariants.{OutOfMemory}
 use Rattle.clap.proofs.OnLiterals.{clap_on_literals}
-use Rattle.command_line.specs.CommandLine.{IsFaultFor, IsRefusalFor, Lacks, SaysOf, allows, dump_shape, profile_met, job_of, letter_rule, name_rule, named_job, names_rule, path_rule, said_profile, session_shape, test_shape, the_app, top_app, where_taken}
+use Rattle.command_line.specs.CommandLine.{HasBadClock, IsFaultFor, IsRefusalFor, Lacks, SaysOf, allows, clock_said, dump_shape, is_lacking, profile_met, job_of, letter_rule, name_rule, named_job, names_rule, path_rule, said_profile, session_shape, test_shape, the_app, top_app, where_taken}
 use Rattle.command_line.specs.declared.words.Job.{Job}
 use Rattle.command_line.specs.declared.words.UsageFault.{UsageFault}
-use Rattle.command_line.specs.declared.words.UsageFault.TheVariants.{Usage, UnknownName, NeedsMailbox, NoMemory}
+use Rattle.command_line.specs.declared.words.UsageFault.TheVariants.{Usage, UnknownName, NeedsMailbox, NeedsDate, BadClock, NoMemory}
 use Rattle.std.specs.declared.result.Result.{Result}
+use Rattle.date_text.specs.Clock.{Clock}
 use Rattle.sieve_profile.specs.Profile.{Profile}
+use Rattle.sieve_profile.specs.declared.extension.Extension.{Extension}
+use Rattle.sieve_profile.specs.declared.extension.Extension.TheVariants.{Date, Mailbox}
 use Rattle.std.proofs.lemmas.Bool.{false≢true}
 use Rattle.std.proofs.lemmas.Result.{IfOk-weaker}
 use Rattle.sieve_profile.specs.view.Profile.{profile_as}
@@ -42,6 +45,8 @@ refusal : (kinds : Kinds) (said : Result Profile Text) (asked : Option Job) (e :
 refusal kinds said asked e NoMemory has answers = tt
 refusal kinds said asked e (UnknownName name) has answers = absurd answers
 refusal kinds said asked e NeedsMailbox has answers = absurd answers
+refusal kinds said asked e NeedsDate has answers = absurd answers
+refusal kinds said asked e (BadClock word) has answers = absurd answers
 refusal kinds said asked e (Usage help text) (inl memory) answers = absurd (answers.0 memory)
 refusal kinds said asked e (Usage help text) (inr among) answers = (kind_of e, among, answers.1)
 
@@ -79,7 +84,7 @@ met_at a words m is_program has =
     (has (ap is_simple is_program ∙ simple)).1 ∙ ap (λ (b : App). subcommand_of b words) is_program
 
 pub returns-in-Err-clause-named : goal.returns-in-Err-clause-named
-returns-in-Err-clause-named g c = λ asked profile named said allowed. c.usage_fault.ensures.memory
+returns-in-Err-clause-named g c = λ asked profile clock named said allowed told. c.usage_fault.ensures.memory
     (only_memory _ c.in-Err.error (named_none _ asked named) (kind_at _ _ c.in-Err.error c.in_ok-program.ensures c.in-Err.ensures.kinds))
 
 pub returns-in-Err-clause-refused : goal.returns-in-Err-clause-refused
@@ -107,30 +112,56 @@ has_needed : (said : Result Profile Text) (asked : Job) (answer : Result Command
 has_needed said asked (Ok line) says is = ap (allows (profile_as line.profile)) is ∙ says.1
 has_needed said asked (Err fault) says is = tt
 
+has_clock : (said : Result Profile Text) (asked : Job) (answer : Result CommandLine UsageFault) → SaysOf said asked answer
+    → IfOk answer (λ line. line.job ≡ asked) → IfOk answer (λ line. clock_said line.job ≡ Ok line.clock)
+has_clock said asked (Ok line) says is = ap clock_said is ∙ says.2
+has_clock said asked (Err fault) says is = tt
+
 never_named : (said : Result Profile Text) (profile : Profile) (name : Text) → said ≡ Ok profile → said ≡ Err name → ⊥
 never_named (Ok other) profile name ok is = absurd (cc)
 never_named (Err other) profile name ok is = absurd (cc)
 
-never_lacking : (said : Result Profile Text) (profile : Profile) (asked : Job) → said ≡ Ok profile → allows profile asked ≡ true
-    → Lacks said (Some asked) → ⊥
-never_lacking (Ok other) profile asked ok allowed lacks =
-    let same : other ≡ profile = cc in false≢true (sym lacks ∙ ap (λ (p : Profile). allows p asked) same ∙ allowed)
-never_lacking (Err name) profile asked ok allowed lacks = lacks
+neither : (first second : Bool) → (not first && not second) ≡ true → (first ≡ true → ⊥) × (second ≡ true → ⊥)
+neither true second none = absurd (cc)
+neither false true none = absurd (cc)
+neither false false none = (λ is. false≢true is, λ is. false≢true is)
 
-memory_alone : (said : Result Profile Text) (profile : Profile) (asked : Job) (answer : Result CommandLine UsageFault) → SaysOf said asked answer
-    → said ≡ Ok profile → allows profile asked ≡ true → IsOkUnless answer NoMemory
-memory_alone said profile asked (Ok line) says ok allowed = tt
-memory_alone said profile asked (Err NoMemory) says ok allowed = refl
-memory_alone said profile asked (Err (UnknownName name)) says ok allowed = absurd (never_named said profile name ok says)
-memory_alone said profile asked (Err NeedsMailbox) says ok allowed = absurd (never_lacking said profile asked ok allowed says)
-memory_alone said profile asked (Err (Usage help text)) says ok allowed = absurd says
+never_lacking : (name : Extension) (said : Result Profile Text) (profile : Profile) (asked : Job) → said ≡ Ok profile
+    → (is_lacking profile asked name ≡ true → ⊥) → Lacks name said (Some asked) → ⊥
+never_lacking name (Ok other) profile asked ok never lacks =
+    let same : profile ≡ other = cc in never (ap (λ (p : Profile). is_lacking p asked name) same ∙ lacks)
+never_lacking name (Err unknown) profile asked ok never lacks = lacks
+
+never_bad : (said : Result (Option Clock) Text) (clock : Option Clock) (word : Text) → said ≡ Ok clock → said ≡ Err word → ⊥
+never_bad (Ok other) clock word ok is = absurd (cc)
+never_bad (Err other) clock word ok is = absurd (cc)
+
+bad_clock : (said : Result Profile Text) (asked : Job) (word : Text) → HasBadClock said (Some asked) word → clock_said asked ≡ Err word
+bad_clock (Ok profile) asked word bad = bad.1
+bad_clock (Err unknown) asked word bad = absurd bad
+
+memory_alone : (said : Result Profile Text) (profile : Profile) (clock : Option Clock) (asked : Job) (answer : Result CommandLine UsageFault)
+    → SaysOf said asked answer → said ≡ Ok profile → allows profile asked ≡ true → clock_said asked ≡ Ok clock → IsOkUnless answer NoMemory
+memory_alone said profile clock asked (Ok line) says ok allowed told = tt
+memory_alone said profile clock asked (Err NoMemory) says ok allowed told = refl
+memory_alone said profile clock asked (Err (UnknownName name)) says ok allowed told = absurd (never_named said profile name ok says)
+memory_alone said profile clock asked (Err NeedsMailbox) says ok allowed told =
+    absurd (never_lacking Mailbox said profile asked ok (neither (is_lacking profile asked Mailbox) (is_lacking profile asked Date) allowed).0 says)
+memory_alone said profile clock asked (Err NeedsDate) says ok allowed told =
+    absurd (never_lacking Date said profile asked ok (neither (is_lacking profile asked Mailbox) (is_lacking profile asked Date) allowed).1 says)
+memory_alone said profile clock asked (Err (BadClock word)) says ok allowed told = absurd (never_bad (clock_said asked) clock word told (bad_clock said asked word says))
+memory_alone said profile clock asked (Err (Usage help text)) says ok allowed told = absurd says
 
 name_refused : (kinds : Kinds) (said : Result Profile Text) (named : Option Job) (asked : Job) (answer : Result CommandLine UsageFault) → kinds ≡ []
     → named ≡ Some asked → SaysOf said asked answer → IfErr answer (IsRefusalFor kinds said named)
 name_refused kinds said named asked (Ok line) none is says = tt
 name_refused kinds said named asked (Err NoMemory) none is says = tt
 name_refused kinds said named asked (Err (UnknownName name)) none is says = (none, says)
-name_refused kinds said named asked (Err NeedsMailbox) none is says = (none, subst (Lacks said) (sym is) says)
+name_refused kinds said named asked (Err NeedsMailbox) none is says = (none, subst (Lacks Mailbox said) (sym is) says)
+name_refused kinds said named asked (Err NeedsDate) none is says = (none, subst (Lacks Date said) (sym is) says)
+name_refused kinds said named asked (Err (BadClock word)) none is says =
+    let P : Option Job → Type 0 = λ job. HasBadClock said job word in
+    (none, subst P (sym is) says)
 name_refused kinds said named asked (Err (Usage help text)) none is says = absurd says
 
 only_job : (one other : Job) → Some one ≡ Some other → one ≡ other
@@ -161,17 +192,20 @@ returns-clause-profile g c =
 pub returns-clause-allowed : goal.returns-clause-allowed
 returns-clause-allowed g c = has_needed _ c.in-Some.job c.with_profile.result c.with_profile.ensures.profile c.with_profile.ensures.job
 
+pub returns-clause-clock : goal.returns-clause-clock
+returns-clause-clock g c = has_clock _ c.in-Some.job c.with_profile.result c.with_profile.ensures.profile c.with_profile.ensures.job
+
 pub returns-clause-named : goal.returns-clause-named
-returns-clause-named g c = λ asked profile named said allowed.
+returns-clause-named g c = λ asked profile clock named said allowed told.
     let words = map g.S.AsStr.text c.args.words.now in
     let is_program = c.in_ok-program.ensures in
     let is_met = met_at _ words _ is_program c.in-Ok.ensures.matches in
     let is_named = named_from words (subcommand_rows_of c.in-Ok.matches) c.in_ok-job.field-0 c.in-Some.job (none_at _ words is_program c.in-Ok.ensures.kinds)
     is_met c.in_ok-job.ensures c.in-Some.is in
     let same : asked ≡ c.in-Some.job = only_job asked c.in-Some.job (sym named ∙ is_named) in
-    memory_alone (said_profile words) profile c.in-Some.job c.with_profile.result
+    memory_alone (said_profile words) profile clock c.in-Some.job c.with_profile.result
     (says_at words _ c.in-Some.job c.with_profile.result is_met c.with_profile.ensures.profile) said
-    (ap (allows profile) (sym same) ∙ allowed)
+    (ap (allows profile) (sym same) ∙ allowed) (ap clock_said (sym same) ∙ told)
 
 pub returns-clause-refused : goal.returns-clause-refused
 returns-clause-refused g c =

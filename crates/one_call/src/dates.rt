@@ -1,0 +1,57 @@
+//! Dates and clocks: what a part of one shows in a zone.
+
+use crate::telling::{Host, mark, tell, tell_refused};
+use date_text::{DatePart, Moment, clock_named, date_in, shown, zone_named};
+use sieve_base::Piece;
+use std::io;
+use std::io::ErrorKind;
+
+/// A field's value, a zone, and a part.
+pub(crate) const DATE: [&[u8]; 3] = [
+    b"by mx.example; 5 Jul 26 (about noon) 10:00 GMT",
+    b"+0200",
+    b"std11",
+];
+
+/// The seconds of a clock, its zone, and a part.
+pub(crate) const CLOCK: [&[u8]; 3] = [b"1783245600", b"+0200", b"iso8601"];
+
+/// Makes the call that a word names, on three further words.
+pub(crate) fn call(rt: &impl Host, word: &str, given: [&[u8]; 3]) -> io::Result<()> {
+    match word {
+        "date" => show_date(rt, given),
+        "clock" => show_clock(rt, given),
+        _ => Err(io::Error::from(ErrorKind::InvalidInput)),
+    }
+}
+
+/// Tells a part of the date of a field's value, as a zone shows it, or `none`.
+pub(crate) fn show_date(rt: &impl Host, [value, zone, part]: [&[u8]; 3]) -> io::Result<()> {
+    match date_in(value) {
+        Some(moment) => show(rt, &moment, zone, part),
+        None => println!(rt; "none"),
+    }
+}
+
+/// Tells a part of what a clock shows in its zone, or `none`.
+pub(crate) fn show_clock(rt: &impl Host, [digits, zone, part]: [&[u8]; 3]) -> io::Result<()> {
+    match clock_named(digits, zone) {
+        Some(clock) => show(rt, &clock.moment(), zone, part),
+        None => println!(rt; "none"),
+    }
+}
+
+/// Tells a part of a moment, where the words name a zone and a part.
+fn show(rt: &impl Host, moment: &Moment, zone: &[u8], part: &[u8]) -> io::Result<()> {
+    let (Some(zone), Some(part)) = (zone_named(zone), DatePart::named(part)) else {
+        return println!(rt; "none");
+    };
+    mark(rt);
+    let text = shown(rt.alloc(), moment, zone, part);
+    mark(rt);
+    match text {
+        Ok(Some(text)) => tell(rt, &[Piece::Raw(text.as_slice())]),
+        Ok(None) => println!(rt; "none"),
+        Err(_) => tell_refused(rt),
+    }
+}
