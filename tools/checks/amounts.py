@@ -4,6 +4,7 @@ from .runs import lines, put, reported, session
 
 TEXT_LIMIT, MESSAGE_LIMIT, EXPECTED_LIMIT, NAME_LIMIT, MAILBOX_LIMIT, SCRIPT_LIMIT, MAIL_LIMIT, LINE_LIMIT = 1_048_576, 16_777_216, 65_536, 1_024, 255, 4_096, 65_536, 16_384
 MAILBOXES_LIMIT = 1_048_576
+LAST_SECOND = 253_402_300_799
 KEPT = ['implicit "INBOX"']
 SESSION = b"script personal main 9\ndiscard;\nmessage m1 0\nmain personal main\nreport\n"
 REPORT = lines('main personal "main"', runs.SETTINGS, 'script personal "main" ok', 'message "m1"', "  discard", '  read personal "main"', "total 1 messages 0 errors")
@@ -110,6 +111,23 @@ def of_counts(room):
     octets = put(b"mailboxes", b"x\n" * (MAILBOXES_LIMIT // 2)) + put(b"mailboxes", b"y" * (MAILBOXES_LIMIT + 1)) + b"report\n"
     told = ["ok", "no too-large", "main none", runs.SETTINGS, "with mailbox", f"mailboxes {MAILBOXES_LIMIT // 2}", "total 0 messages 0 errors"]
     yield session(room, "a list of mailboxes at its limit, and past it", octets, lines(*told), names="mailbox")
+    yield from of_clocks(room)
+
+
+def of_clocks(room):
+    """Clocks at their limits, and past them."""
+    for title, digits, zone, is_one in [
+        ("the last second", b"%d" % LAST_SECOND, b"+9959", True),
+        ("a second past it", b"%d" % (LAST_SECOND + 1), b"+0000", False),
+        ("zeros to the end of the longest line", b"0" * (LINE_LIMIT - 12), b"-0000", True),
+        ("many zeros before the last second", b"0" * 16_000 + b"%d" % LAST_SECOND, b"+0000", True),
+        ("many zeros before a second past it", b"0" * 16_000 + b"%d" % (LAST_SECOND + 1), b"+0000", False),
+        ("many nines", b"9" * (LINE_LIMIT - 12), b"+0000", False),
+        ("what is nought in 64 bits", b"%d" % 2**64, b"+0000", False),
+        ("a minute past the last of an hour", b"0", b"+0060", False),
+    ]:
+        told = [b"ok\n", 0] if is_one else [b"no syntax\n", 2]
+        yield session(room, f"a clock: {title}", b"clock %s %s\n" % (digits, zone), *told, names="date")
 
 
 def of_mails(room):

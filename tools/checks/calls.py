@@ -168,6 +168,8 @@ CALLS = {
     "Message::decoded": Told(each("café é late".encode())),
     "decoded_value": Told(each(b"a b c")),
     "addresses": Told(each(b"a b@b.example", b"c@d.example", b"e@f.example")),
+    "date": Told(lines("Sun, 05 Jul 2026 12:00:00 +0200")),
+    "clock": Told(lines("2026-07-05T12:00:00+02:00")),
     # Scripts, variables and runs.
     "tokens": Told(TOKENS),
     "parse": Told(COMMANDS),
@@ -239,6 +241,8 @@ UNREFUSED = {
     "clear_expected": edited(reported([("m", DISCARDED)]), stale=False),
     "keep_mailboxes": edited(BEFORE),
     "clear_message_envelope": edited(BEFORE),
+    "set_clock": edited(BEFORE),
+    "clear_clock": edited(BEFORE),
     "report/kept": Told(BEFORE + runs(1)),
     "verdict": Told(lines(*DISCARDED)),
     "code": Told(lines("1 operations")),

@@ -8,12 +8,13 @@ import subprocess
 from .runs import SECONDS, put
 
 WALKS, STEPS = 12, 250
-PROFILE = "envelopes,lines,mailbox"
+PROFILE = "date,envelopes,lines,mailbox"
 NAMES = [b"main", b"a", b"b", b"c", b'd "e"']
 IDS = [b"m1", b"m2", b"m3", b"m 4"]
 SUBJECTS = [b"one", b"two", b"one two", b""]
 ADDRESSES = [(b"", b""), (b"a@b.example", b""), (b"a@b.example", b"c d"), (b"x", b"c@d.example")]
 LISTS = [b"", b"Lists\n", b"one\r\n\nLists", b"lists\nLists\nLists\n"]
+CLOCKS = [b"0 +0000", b"1783245600 +0200", b"1783245600 -0700", b"253402300799 -0000"]
 TEXTS = [b"", b"discard\n", b'implicit "INBOX"\n', b'implicit "Lists"\r\n', b'store "two"', b'implicit "INBOX"\nerror personal "main" line 0 missing-script\n']
 
 
@@ -24,7 +25,7 @@ def quoted(octets):
 
 def text_of(dice, has_names):
     """A script: it may include others that are there or not, by what a message or the envelope is like, and it may have a fault."""
-    lines = [b'require ["include", "fileinto", "envelope", "variables"%s];' % (b', "mailbox"' if has_names else b"")]
+    lines = [b'require ["include", "fileinto", "envelope", "variables"%s];' % (b', "mailbox", "date"' if has_names else b"")]
     for _ in range(dice.randrange(4)):
         name, subject = dice.choice(NAMES), dice.choice(SUBJECTS)
         place = dice.choice([b"", b":global "])
@@ -41,6 +42,7 @@ def text_of(dice, has_names):
                     b"keep;",
                     b"kep;",
                     *([b'if mailboxexists ["INBOX", "Lists"] { fileinto :create "Lists"; }'] * 3 if has_names else []),
+                    *([b'if currentdate "iso8601" "2026-07-05T12:00:00+02:00" { fileinto "then"; }'] * 2 if has_names else []),
                 ]
             )
         )
@@ -52,12 +54,12 @@ class Bench:
 
     def __init__(self, has_names):
         self.has_names, self.scripts, self.messages = has_names, {}, {}
-        self.main, self.envelope, self.mailbox, self.mailboxes = None, (b"", b""), b"INBOX", b""
+        self.main, self.envelope, self.mailbox, self.mailboxes, self.clock = None, (b"", b""), b"INBOX", b"", None
 
     def edit(self, dice):
         """Makes an edit, and gives its octets and the reply that is due."""
         kinds = ["script"] * 6 + ["rename"] * 3 + ["message"] * 3 + ["drop-script", "drop-script", "drop-message", "main", "main", "no-main", "envelope", "mailbox", "expect", "expect", "no-expect"]
-        kind = dice.choice(kinds + (["mailboxes", "message-envelope", "message-envelope", "no-message-envelope"] if self.has_names else []))
+        kind = dice.choice(kinds + (["mailboxes", "message-envelope", "message-envelope", "no-message-envelope", "clock", "no-clock"] if self.has_names else []))
         place, name = dice.choice([b"personal", b"personal", b"global"]), dice.choice(NAMES)
         words = place + b" " + quoted(name)
         key, at = (place != b"personal", name), dice.choice(IDS)
@@ -76,6 +78,9 @@ class Bench:
         if kind == "envelope":
             self.envelope = dice.choice([b"", b"a@b.example"]), dice.choice([b"", b"c@d.example"])
             return b"envelope %s %s\n" % tuple(quoted(it) for it in self.envelope), b"ok"
+        if kind in ("clock", "no-clock"):
+            self.clock = dice.choice(CLOCKS) if kind == "clock" else None
+            return b"no-clock\n" if self.clock is None else b"clock %s\n" % self.clock, b"ok"
         if kind == "mailboxes":
             self.mailboxes = dice.choice(LISTS)
             return put(b"mailboxes", self.mailboxes), b"ok"
@@ -131,6 +136,7 @@ class Bench:
         settings = [b"envelope %s %s\n" % tuple(quoted(it) for it in self.envelope), b"mailbox " + self.mailbox + b"\n"]
         scripts = [put(b"script %s %s" % (b"global" if shared else b"personal", quoted(name)), text) for (shared, name), text in self.scripts.items()]
         settings += [put(b"mailboxes", self.mailboxes)] if self.has_names else []
+        settings += [] if self.clock is None else [b"clock %s\n" % self.clock]
         messages = [put(b"message " + quoted(at), octets) for at, (octets, _, _) in self.messages.items()]
         messages += [put(b"expect " + quoted(at), text) for at, (_, text, _) in self.messages.items() if text is not None]
         messages += [addressed(at, own) for at, (_, _, own) in self.messages.items() if own is not None]

@@ -10,8 +10,9 @@ NAME = rf"(?:personal|global) +{WORD}"
 PLAIN = rf"main +{NAME}|no-main|rename +{NAME} +{NAME}|drop-script +{NAME}|drop-message +{WORD}|no-expect +{WORD}|envelope +{WORD} +{WORD}|mailbox +{WORD}|report|dump +{NAME}"
 COUNTED = rf"script +{NAME}|message +{WORD}|expect +{WORD}"
 LINE = re.compile(rf" *(?:(?:{PLAIN})|(?:{COUNTED}) +([0-9]{{1,9}}))? *")
-# The lines that there are with two names more.
-NAMES, ASKED = "envelopes mailbox", rf"{PLAIN}|message-envelope +{WORD} +{WORD} +{WORD}|no-message-envelope +{WORD}"
+# The lines that there are with three names more; of these clocks none is past the year 5000.
+CLOCK = r"clock +0*[0-9]{1,11} +[+-][0-9]{2}[0-5][0-9]|no-clock"
+NAMES, ASKED = "date envelopes mailbox", rf"{PLAIN}|{CLOCK}|message-envelope +{WORD} +{WORD} +{WORD}|no-message-envelope +{WORD}"
 ASKED_LINE = re.compile(rf" *(?:(?:{ASKED})|(?:{COUNTED}|mailboxes) +([0-9]{{1,9}}))? *")
 
 
@@ -36,13 +37,15 @@ STEPS = [
     (b"report \n", b"", report('"" "ada@x.example" mailbox "In\\"box\\\\"')),
 ]
 # The same of lines that need a name.
-TOLD = ['envelope "" "" mailbox "INBOX"', f"with {NAMES}", "mailboxes 1", 'message "m"', '  envelope "a@b.example" "c d"', '  implicit "INBOX"', "total 1 messages 0 errors"]
+TOLD = ['envelope "" "" mailbox "INBOX"', f"with {NAMES}", "clock 1783245600 +0259", "mailboxes 1", 'message "m"', '  envelope "a@b.example" "c d"', '  implicit "INBOX"', "total 1 messages 0 errors"]
 ASKED_STEPS = [
     (b"message m 0\n", b"", b"ok\n"),
     (b'message-envelope  "m" a@b.example "c d"\n', b"", b"ok\n"),
     (b"mailboxes 5 \n", b"Work\n", b"ok\n"),
+    (b"clock  01783245600 +0259\r\n", b"", b"ok\n"),
     (b"report\n", b"", lines("main none", *TOLD)),
     (b'no-message-envelope "\\x6d"\r\n', b"", b"ok\n"),
+    (b"no-clock \n", b"", b"ok\n"),
 ]
 EMPTY, TRUNCATED, SYNTAX = (b"", 0), (b"no truncated\n", 2), (b"no syntax\n", 2)
 

@@ -57,8 +57,10 @@ def put(words, octets):
 
 
 def profile_lines(names):
-    """The lines of a report that say the profile, where it isn't empty, and how many mailboxes are listed, where it asks for them: none."""
+    """The lines of a report that say the profile, where it isn't empty, and what time it is and how many mailboxes are listed, where it asks for
+    these: none."""
     told = [f"with {names}"] if names else []
+    told += ["clock none"] if "date" in names.split() else []
     return told + (["mailboxes 0"] if "mailbox" in names.split() else [])
 
 

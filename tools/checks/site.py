@@ -112,6 +112,62 @@ def of_names(room):
     yield run("a name that there isn't", room, "check misnamed", b"", [b"of the site's file with", b"sub address,envelopes", b"subaddress"], 2)
 
 
+def of_clocks(room):
+    """The time at which a site's mails are judged, in its file `clock` or by an option."""
+    script = b'require ["date", "relational", "fileinto"];\n'
+    script += b'# currentdate\nif allof (currentdate :value "ge" "date" "2026-07-01",\n'
+    script += b'  not currentdate :value "gt" "date" "2026-07-21") { fileinto "away"; }\n'
+    mails = {"1.eml": b"Subject: currentdate\n\n", "1.eml.expect": b'[main]\nstore "away"\n'}
+    files = {**site(mails, main=script), "with": b"date\nrelational\n", "clock": b"1784671199 +0200\n"}
+    write(room / "timed", files)
+    agree, differ = (1, 1, 1, 1, 0, 0, 0, 0), (1, 1, 1, 0, 1, 0, 0, 0)
+    away = ["timed/mails/1.eml under main", '  - store "away"', '  + implicit "INBOX"', counted(*differ)]
+    yield run("a clock", room, "check --strict timed", lines(counted(*agree)))
+    yield run("a clock of an option", room, "check --clock 1784671200+0200 timed", lines(*away), status=1)
+    yield run("a clock of an option without a zone", room, "check --clock=1784671200 timed", lines(counted(*agree)))
+    written = lines("timed/mails/1.eml.expect: changed", "1 mails, 1 written, 0 left")
+    yield run("verdicts of a clock", room, "record --clock 0-0130 timed", written)
+    yield run("a script that asks for a clock that there is", room, "lint timed")
+    untimed = {name: octets for name, octets in files.items() if name != "clock"}
+    write(room / "untimed", untimed)
+    note = "no-clock: It asks for the current date, and the site has no clock."
+    wanted = [f"untimed/personal/main.sieve:{line}: {note}" for line in (3, 4)]
+    yield run("a script that asks for a clock that there isn't", room, "lint untimed", lines(*wanted))
+    yield run("a clock of an option where there is no file", room, "lint --clock 1784671199+0200 untimed")
+    yield run("the same", room, "check --clock 1784671199+0200 untimed", lines(counted(*agree)))
+    many = b'require "date"; if header "subject" text: # currentdate\ncurrentdate\n.\n{}\n'
+    many += b'/* currentdate\n*/ if CURRENTDATE "year" "\\"currentdate" {} elsif not currentdate :is "month" "1" {}\n'
+    write(room / "worded", {**site({}, main=many, other=b"# currentdate\n"), "with": b"date\n"})
+    yield run("lines that ask, and words that don't", room, "lint worded", lines(f"worded/personal/main.sieve:6: {note}"))
+    for number, (octets, sentence) in enumerate(
+        [
+            (b"", "isn't one line SECONDS ZONE, as 1783245600 +0200"),
+            (b"1783245600\n", "isn't one line SECONDS ZONE, as 1783245600 +0200"),
+            (b"1783245600+0200\n", "isn't one line SECONDS ZONE, as 1783245600 +0200"),
+            (b"-1 +0200\n", "isn't one line SECONDS ZONE, as 1783245600 +0200"),
+            (b"1 +0200\n2 +0200\n", "isn't one line SECONDS ZONE, as 1783245600 +0200"),
+            (b"1783245600 CEST\n", "isn't one line SECONDS ZONE, as 1783245600 +0200"),
+            (b"253402300800 +0000\n", "is past 253402300799, the last second of the year 9999"),
+            (b"9" * 5_000 + b" +0000\n", "is past 253402300799, the last second of the year 9999"),
+            (b"1783245600 +0160\n", "has a zone with minutes past 59"),
+        ]
+    ):
+        write(room / f"clock{number}", {**files, "clock": octets})
+        for command in ("check", "lint"):
+            wrong = told(f'"clock{number}/clock" {sentence}')
+            yield run(f"no clock: {octets!r:.40}, {command}", room, f"{command} clock{number}", b"", wrong, 2)
+    ends = {"mails/1.eml.expect": b'[main]\nimplicit "INBOX"\n'}
+    write(room / "last", {**files, **ends, "clock": b"\r\n  000253402300799  -9959 \r\n"})
+    yield run("the last second, with zeros and blanks and an empty line in front", room, "check last", lines(counted(*agree)))
+    for value in ("x", "1783245600 +0200", "1783245600CEST", ""):
+        wrong = told(f'--clock "{value}" isn\'t SECONDS[ZONE], as 1783245600+0200')
+        yield run(f"no clock of an option: {value}", room, f"check --clock '{value}' timed", b"", wrong, 2)
+    write(room / "dateless", {**site({"1.eml": b"", "1.eml.expect": b"[main]\ndiscard\n"}, main=b"discard;"), "clock": b"x"})
+    yield run("a clock that isn't asked for", room, "check dateless", lines(counted(*agree)))
+    wrong = told('--clock wants date in "dateless/with"')
+    yield run("a clock of an option that isn't asked for", room, "check --clock 1 dateless", b"", wrong, 2)
+
+
 def of_refusals(room):
     """Misuse."""
     write(room / "broken", site({"1.eml": b"", "1.eml.expect": b"discard\n"}, main=b""))
@@ -135,7 +191,7 @@ def of_refusals(room):
         yield run(f"a link to nothing, {end}", room, f"check {end}", b"", told(f'cannot read "{end}/mails/1.eml.{end}": No such file or directory'), 2)
     yield run("an unknown option", room, "check --no unnamed", b"", told('"--no" is no option here, or wants a value: --help tells the options'), 2)
     yield run("a value of an option that takes none", room, "check --strict=no good", b"", told('"--strict" takes no value: --help tells the options'), 2)
-    yield run("the help of a command", room, "lint --help", [b"sievebench-site lint [--main NAME].. [--sievec] SITE\n", b"--program P "])
+    yield run("the help of a command", room, "lint --help", [b"sievebench-site lint [--main NAME].. [--clock TIME] [--sievec] SITE\n", b"--program P "])
     yield run("an option without its value", room, "check good --main", b"", told('"--main" is no option here, or wants a value: --help tells the options'), 2)
     yield run("no command", room, "", b"", told("one of check, record and lint is wanted: --help tells more"), 2)
     yield run("an unknown command", room, "chek good", b"", told('"chek" is none of check, record and lint: --help tells more'), 2)
@@ -318,5 +374,5 @@ def of_sites(room):
     room = room / "sites"
     room.mkdir()
     yield Run("sievebench-site: it compiles", room, f"python3 -c 'import ast, sys; ast.parse(open(sys.argv[1]).read())' {shlex.quote(str(TOOL))}")
-    for part in (of_checks, of_spellings, of_names, of_refusals, of_programs, of_broken_files, of_results, of_records, of_lints, of_sievec, of_many):
+    for part in (of_checks, of_spellings, of_names, of_clocks, of_refusals, of_programs, of_broken_files, of_results, of_records, of_lints, of_sievec, of_many):
         yield from part(room)
