@@ -8,11 +8,12 @@ use Rattle.std.proofs.lemmas.List.{append-nil, append_assoc, drop-map}
 use Rattle.sieve_effects.specs.Joined.{Lists, list_in, lists_plus, lists_with, no_lists}
 use Rattle.sieve_reading.specs.Reading.{Vacation}
 use Rattle.sieve_variables.specs.Part.{Part}
+use Rattle.sieve_code.specs.declared.op.PackedDate.{PackedDate}
 use Rattle.sieve_code.specs.declared.op.PackedSettings.{PackedSettings}
 use Rattle.sieve_code.specs.declared.op.PackedTest.{PackedTest}
 use Rattle.sieve_code.specs.declared.op.PackedVacation.{PackedVacation}
 use Rattle.sieve_code.specs.declared.pools.Target.{Target}
-use Rattle.sieve_code.specs.Pool.{Grows, Keeps, Kept, Pool, given_list, given_string, given_variable, no_pool, no_test, no_vacation, nowhere, packed_in, plain_packed, plus, test_in, vacation_packed_in, vacation_unpacked}
+use Rattle.sieve_code.specs.Pool.{Grows, Keeps, Kept, Pool, date_packed_in, given_list, given_string, given_variable, no_date, no_pool, no_test, no_vacation, nowhere, packed_in, plain_packed, plus, test_in, vacation_packed_in, vacation_unpacked}
 use Rattle.sieve_code.specs.Operation.{Operation}
 use Rattle.sieve_code.specs.view.Op.{is_plain, op_in, plain_as}
 use Rattle.sieve_code.specs.declared.op.Op.{Op}
@@ -30,10 +31,11 @@ plus_none p =
     ∙ ap (λ (l : Lists). record (plus p no_pool) { strings = p.strings; lists = l }) (lists_none p.lists)
     ∙ ap (λ (n : Lists). record (plus p no_pool) { strings = p.strings; lists = p.lists; names = n }) (lists_none p.names)
     ∙ ap (λ (t : List Target). record (plus p no_pool) { strings = p.strings; lists = p.lists; names = p.names; targets = t }) (append-nil p.targets)
-    ∙ ap (λ (s : List (List ℕ)). record p { scripts = s; tests = p.tests ++ []; settings = p.settings ++ []; vacations = p.vacations ++ [] }) (append-nil p.scripts)
-    ∙ ap (λ (t : List PackedTest). record p { tests = t; settings = p.settings ++ []; vacations = p.vacations ++ [] }) (append-nil p.tests)
-    ∙ ap (λ (s : List PackedSettings). record p { settings = s; vacations = p.vacations ++ [] }) (append-nil p.settings)
-    ∙ ap (λ (v : List PackedVacation). record p { vacations = v }) (append-nil p.vacations)
+    ∙ ap (λ (s : List (List ℕ)). record p { scripts = s; tests = p.tests ++ []; settings = p.settings ++ []; vacations = p.vacations ++ []; dates = p.dates ++ [] }) (append-nil p.scripts)
+    ∙ ap (λ (t : List PackedTest). record p { tests = t; settings = p.settings ++ []; vacations = p.vacations ++ []; dates = p.dates ++ [] }) (append-nil p.tests)
+    ∙ ap (λ (s : List PackedSettings). record p { settings = s; vacations = p.vacations ++ []; dates = p.dates ++ [] }) (append-nil p.settings)
+    ∙ ap (λ (v : List PackedVacation). record p { vacations = v; dates = p.dates ++ [] }) (append-nil p.vacations)
+    ∙ ap (λ (d : List PackedDate). record p { dates = d }) (append-nil p.dates)
 
 pub grows_self : (p : Pool) → Grows p p
 grows_self p = λ more. (more, refl)
@@ -120,6 +122,12 @@ module _ (p q : Pool) (place : ℕ) where
   vacation_kept vacation at is = subst (λ (q : Pool). Kept p q (λ r. vacation_packed_in r place) vacation) (sym is) (record {
     grows = λ more. (record more { vacations = vacation ∷ more.vacations }, ap (λ (v : List PackedVacation). record (plus p more) { vacations = v }) (append_assoc p.vacations (vacation ∷ []) more.vacations));
     keeps = λ more. ap (λ (l : List PackedVacation). get_or l place no_vacation) (append_assoc p.vacations (vacation ∷ []) more.vacations) ∙ ap (λ n. get_or (p.vacations ++ vacation ∷ more.vacations) n no_vacation) at ∙ get_or-append_seam p.vacations vacation more.vacations no_vacation;
+  })
+
+  pub date_kept : (date : PackedDate) → place ≡ length p.dates → q ≡ record p { dates = p.dates ++ date ∷ [] } → Kept p q (λ r. date_packed_in r place) date
+  date_kept date at is = subst (λ (q : Pool). Kept p q (λ r. date_packed_in r place) date) (sym is) (record {
+    grows = λ more. (record more { dates = date ∷ more.dates }, ap (λ (d : List PackedDate). record (plus p more) { dates = d }) (append_assoc p.dates (date ∷ []) more.dates));
+    keeps = λ more. ap (λ (l : List PackedDate). get_or l place no_date) (append_assoc p.dates (date ∷ []) more.dates) ∙ ap (λ n. get_or (p.dates ++ date ∷ more.dates) n no_date) at ∙ get_or-append_seam p.dates date more.dates no_date;
   })
 
 lists_more : (lists more : Lists) (texts : List (List Part)) → lists_plus (lists_with lists texts) more ≡ lists_plus lists (record { strings = texts ++ more.strings; ends = length (lists.strings ++ texts) ∷ more.ends })

@@ -8,14 +8,16 @@ use Rattle.sieve_reading.specs.declared.reading.MatchType.TheVariants.{Is}
 use Rattle.sieve_effects.specs.Joined.{Lists, list_in, lists_plus, no_lists}
 use Rattle.sieve_variables.specs.Part.{Part}
 use Rattle.sieve_variables.specs.Variable.{Variable}
+use Rattle.sieve_code.specs.declared.op.PackedDate.{PackedDate}
 use Rattle.sieve_code.specs.declared.op.PackedSettings.{PackedSettings}
 use Rattle.sieve_code.specs.declared.op.PackedTest.{PackedTest}
 use Rattle.sieve_code.specs.declared.op.PackedVacation.{PackedVacation}
+use Rattle.sieve_code.specs.declared.op.PackedZone.TheVariants as zone
 use Rattle.sieve_code.specs.declared.op.SourceKind.TheVariants as source
 use Rattle.sieve_code.specs.declared.pools.Target.{Target}
 
 -- strings, each by its parts; lists of strings; lists of names of fields; what commands change; names of scripts; and what tests that
--- compare, commands that store or redirect, and those that answer the sender say beside their strings
+-- compare, commands that store or redirect, those that answer the sender, and tests of dates say beside their strings
 pub record Pool : Type 0 where
   pub strings : List (List Part)
   pub lists : Lists
@@ -25,9 +27,10 @@ pub record Pool : Type 0 where
   pub tests : List PackedTest
   pub settings : List PackedSettings
   pub vacations : List PackedVacation
+  pub dates : List PackedDate
 
 abbrev pub no_pool : Pool
-no_pool = record { strings = []; lists = no_lists; names = no_lists; targets = []; scripts = []; tests = []; settings = []; vacations = [] }
+no_pool = record { strings = []; lists = no_lists; names = no_lists; targets = []; scripts = []; tests = []; settings = []; vacations = []; dates = [] }
 
 -- with more behind each
 abbrev pub plus : Pool → Pool → Pool
@@ -40,6 +43,7 @@ plus pool more = record {
   tests = pool.tests ++ more.tests;
   settings = pool.settings ++ more.settings;
   vacations = pool.vacations ++ more.vacations;
+  dates = pool.dates ++ more.dates;
 }
 
 -- the place of what isn't given
@@ -96,6 +100,13 @@ vacation_unpacked pool packed = record {
 
 abbrev pub vacation_in : Pool → ℕ → Vacation
 vacation_in pool place = vacation_unpacked pool (vacation_packed_in pool place)
+
+-- what a test of dates says, as it is kept; past the end, nothing
+abbrev pub no_date : PackedDate
+no_date = record { zone = zone.Local; field = nowhere; part = nowhere }
+
+abbrev pub date_packed_in : Pool → ℕ → PackedDate
+date_packed_in pool place = slice_index_or pool.dates place no_date
 
 -- A pool with more behind it, whatever stands behind that.
 abbrev pub Grows : Pool → Pool → Type 0

@@ -7,12 +7,14 @@ ghost use Rattle.sieve_effects.specs.view.Ops.{settings_op_as, source_op_as, vac
 ghost use Rattle.sieve_code.specs.Choice.{AllGoForward};
 ghost use Rattle.sieve_code.specs.Compiles.{IsCode};
 ghost use Rattle.sieve_code.specs.Dump.{line_at};
-ghost use Rattle.sieve_code.specs.Pool.{given_list, given_string, given_variable, no_test, no_vacation, packed_in, plain_packed, settings_in, test_in, vacation_in, vacation_packed_in};
-ghost use Rattle.sieve_code.specs.view.Op.{ops_in, source_in, zone_in};
+ghost use Rattle.sieve_code.specs.Pool.{date_packed_in, given_list, given_string, given_variable, no_date, no_test, no_vacation, packed_in, plain_packed, settings_in, test_in, vacation_in, vacation_packed_in};
+ghost use Rattle.sieve_code.specs.view.Op.{clock_in, date_in, ops_in, source_in, zone_in};
 ghost use Rattle.sieve_code.specs.view.Pools.{pool_as};
 
 use crate::dump::write_line;
-use crate::op::{NOWHERE, Op, PackedSettings, PackedTest, PackedVacation, PackedZone, SourceKind};
+use crate::op::{
+    NOWHERE, Op, PackedDate, PackedSettings, PackedTest, PackedVacation, PackedZone, SourceKind,
+};
 use crate::pools::{Pools, Target};
 use match_text::Collation;
 use sieve_base::{Sink, WriteFault};
@@ -67,6 +69,17 @@ fn no_vacation() -> PackedVacation
         addresses: NOWHERE,
         mime: false,
         handle: NOWHERE,
+    }
+}
+
+/// What a place past the end says: a test of dates of which nothing is given.
+fn no_date() -> PackedDate
+    ensures { result ≡ no_date }
+{
+    PackedDate {
+        zone: PackedZone::Local,
+        field: NOWHERE,
+        part: NOWHERE,
     }
 }
 
@@ -159,7 +172,40 @@ impl Code {
         }
     }
 
-    /// What a test takes values from, where its list or its string lies at a place. Takes no memory.
+    /// What a test of dates says, by its place, as it is kept.
+    fn packed_date(&self, place: u32) -> PackedDate
+        ensures { result ≡ date_packed_in (pool_of self.now) place }
+    {
+        match self.pools.dates.get(place as usize) {
+            Some(date) => *date,
+            None => no_date(),
+        }
+    }
+
+    /// What a `date` test takes its value from, by its place.
+    fn date(&self, place: u32) -> SourceOp<'_>
+        ensures { source_op_as result ≡ date_in (pool_of self.now) (date_packed_in (pool_of self.now) place) }
+    {
+        let packed = self.packed_date(place);
+        SourceOp::Date {
+            zone: self.zone(packed.zone),
+            field: self.string(packed.field),
+            part: self.string(packed.part),
+        }
+    }
+
+    /// What a `currentdate` test takes its value from, by its place.
+    fn current_date(&self, place: u32) -> SourceOp<'_>
+        ensures { source_op_as result ≡ clock_in (pool_of self.now) (date_packed_in (pool_of self.now) place) }
+    {
+        let packed = self.packed_date(place);
+        SourceOp::CurrentDate {
+            zone: self.zone(packed.zone),
+            part: self.string(packed.part),
+        }
+    }
+
+    /// What a test takes values from, where its list or what a test of dates says lies at a place. Takes no memory.
     pub fn source(&self, kind: SourceKind, place: u32) -> SourceOp<'_>
         ensures { source_op_as result ≡ source_in (pool_of self.now) kind place }
     {
@@ -181,15 +227,8 @@ impl Code {
             SourceKind::Flags => SourceOp::Flags {
                 variables: self.given(place),
             },
-            SourceKind::Date { zone, field } => SourceOp::Date {
-                zone: self.zone(zone),
-                field: self.string(field),
-                part: self.string(place),
-            },
-            SourceKind::CurrentDate { zone } => SourceOp::CurrentDate {
-                zone: self.zone(zone),
-                part: self.string(place),
-            },
+            SourceKind::Date => self.date(place),
+            SourceKind::CurrentDate => self.current_date(place),
         }
     }
 

@@ -19,6 +19,6 @@ mod test_code;
 
 pub use code::Code;
 pub use compiler::compile;
-pub use op::{Inclusion, Op, PackedTest, PackedZone, SourceKind};
+pub use op::{Inclusion, Op, PackedTest, SourceKind};
 pub use pools::Target;
 pub use sieve_base::{Counted, Faults, Place, Sink, Source, WriteFault, write_out, write_quoted};

@@ -9,7 +9,7 @@ pub(crate) const NOWHERE: u32 = u32::MAX;
 
 /// The zone in which a date is shown (RFC 5260, section 4.1).
 #[derive(Clone, Copy)]
-pub enum PackedZone {
+pub(crate) enum PackedZone {
     /// The local one.
     Local,
     /// The one in which the date was written.
@@ -18,7 +18,7 @@ pub enum PackedZone {
     Named(u32),
 }
 
-/// Where a test takes values from, whose list lies at a place, or of a test of dates the string that says which part.
+/// Where a test takes values from: a list that lies at a place, or what a test of dates says, which lies at a place too.
 #[derive(Clone, Copy)]
 pub enum SourceKind {
     /// From the fields of some names (RFC 5228, section 5.7).
@@ -32,17 +32,20 @@ pub enum SourceKind {
     /// Flags that variables hold, or the internal ones where no list is given (RFC 5232, section 4).
     Flags,
     /// From the date of a field (RFC 5260, section 4).
-    Date {
-        /// The zone in which it is shown.
-        zone: PackedZone,
-        /// The place of the field's name.
-        field: u32,
-    },
+    Date,
     /// From the current date (RFC 5260, section 5).
-    CurrentDate {
-        /// The zone in which it is shown.
-        zone: PackedZone,
-    },
+    CurrentDate,
+}
+
+/// What a test of dates says beside its keys (RFC 5260, sections 4 and 5), whose strings lie at places.
+#[derive(Clone, Copy)]
+pub(crate) struct PackedDate {
+    /// The zone in which the date is shown.
+    pub(crate) zone: PackedZone,
+    /// The place of the field's name, if the date is a field's.
+    pub(crate) field: u32,
+    /// The place of the string that says which part.
+    pub(crate) part: u32,
 }
 
 /// What a test that compares says beside its values and its keys.
@@ -103,8 +106,8 @@ pub struct Inclusion {
 
 /// An operation. Code has one truth register, which tests set. Where an operation has strings, a variable or the name of a script, it says
 /// their places, and the [`Code`](crate::Code) that it is one of has what lies there; it also knows the place of what isn't given, and to
-/// which place a jump goes. What a test that compares, a store, a redirect or a `vacation` says beside its strings lies at a place too, so that
-/// it may grow.
+/// which place a jump goes. What a test that compares, a test of dates, a store, a redirect or a `vacation` says beside its strings lies at a
+/// place too, so that it may grow.
 #[derive(Clone, Copy)]
 pub enum Op {
     /// Sets the register to true.
@@ -117,7 +120,7 @@ pub enum Op {
     Compares {
         /// The place of what the test says beside.
         test: u32,
-        /// The place of the source's list, or of the string that says which part of a date.
+        /// The place of the source's list, or of what a test of dates says.
         values: u32,
         /// The place of the keys.
         keys: u32,

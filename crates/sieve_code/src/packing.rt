@@ -3,11 +3,11 @@ ghost use Rattle.std.specs.Prelude.{◌≡◌, IfOk};
 ghost use Rattle.sieve_reading.specs.Reading.{clock_values, compares, date_values, exists_ask, fileinto_leaf, flag_leaf, include_leaf, keep_leaf, mailboxes_ask, redirect_leaf, reject_leaf, set_leaf, vacation_leaf};
 ghost use Rattle.sieve_reading.specs.view.Reading.{ask_as, date_zone_as, leaf_as, settings_as, source_as, texts_as, vacation_as};
 ghost use Rattle.sieve_code.specs.Operation.{act_op, test_op};
-ghost use Rattle.sieve_code.specs.Pool.{Kept};
-ghost use Rattle.sieve_code.specs.view.Op.{op_in, source_in, zone_in};
+ghost use Rattle.sieve_code.specs.Pool.{Kept, date_packed_in};
+ghost use Rattle.sieve_code.specs.view.Op.{clock_in, date_in, op_in, source_in, zone_in};
 ghost use Rattle.sieve_code.specs.view.Pools.{pool_as};
 
-use crate::op::{Inclusion, Op, PackedTest, PackedZone, SourceKind};
+use crate::op::{Inclusion, NOWHERE, Op, PackedDate, PackedTest, PackedZone, SourceKind};
 use crate::pools::{Pools, Target};
 use sieve_base::Place;
 use sieve_reading::{
@@ -39,35 +39,30 @@ impl Pools {
         }
     }
 
-    /// Keeps where a `date` test takes its value from. Answers its kind, and the place of the part's string.
-    fn keep_date(
-        &mut self,
-        zone: DateZone,
-        field: Parts,
-        part: Parts,
-    ) -> Result<(SourceKind, u32), AllocError>
-        ensures { IfOk result (λ kept. Kept (pool_as self.old) (pool_as self.new) (λ p. source_in p kept.0 kept.1) (date_values (date_zone_as zone) field part)) }
+    /// Keeps where a `date` test takes its value from. Answers its place.
+    fn keep_date(&mut self, zone: DateZone, field: Parts, part: Parts) -> Result<u32, AllocError>
+        ensures { IfOk result (λ place. Kept (pool_as self.old) (pool_as self.new) (λ p. date_in p (date_packed_in p place)) (date_values (date_zone_as zone) field part)) }
     {
         let zone = self.keep_zone(zone)?;
         let field = self.keep_string(field)?;
-        let place = self.keep_string(part)?;
-        Ok((SourceKind::Date { zone, field }, place))
+        let part = self.keep_string(part)?;
+        self.put_date(PackedDate { zone, field, part })
     }
 
-    /// Keeps where a `currentdate` test takes its value from. Answers its kind, and the place of the part's string.
-    fn keep_current_date(
-        &mut self,
-        zone: DateZone,
-        part: Parts,
-    ) -> Result<(SourceKind, u32), AllocError>
-        ensures { IfOk result (λ kept. Kept (pool_as self.old) (pool_as self.new) (λ p. source_in p kept.0 kept.1) (clock_values (date_zone_as zone) part)) }
+    /// Keeps where a `currentdate` test takes its value from. Answers its place.
+    fn keep_current_date(&mut self, zone: DateZone, part: Parts) -> Result<u32, AllocError>
+        ensures { IfOk result (λ place. Kept (pool_as self.old) (pool_as self.new) (λ p. clock_in p (date_packed_in p place)) (clock_values (date_zone_as zone) part)) }
     {
         let zone = self.keep_zone(zone)?;
-        let place = self.keep_string(part)?;
-        Ok((SourceKind::CurrentDate { zone }, place))
+        let part = self.keep_string(part)?;
+        self.put_date(PackedDate {
+            zone,
+            field: NOWHERE,
+            part,
+        })
     }
 
-    /// Keeps where a test takes values from. Answers its kind, and the place of its list.
+    /// Keeps where a test takes values from. Answers its kind, and the place of its list or of what a test of dates says.
     fn keep_source(&mut self, source: ValueSource) -> Result<(SourceKind, u32), AllocError>
         ensures { IfOk result (λ kept. Kept (pool_as self.old) (pool_as self.new) (λ p. source_in p kept.0 kept.1) (source_as source)) }
     {
@@ -92,8 +87,14 @@ impl Pools {
                 let place = self.keep_given(variables)?;
                 Ok((SourceKind::Flags, place))
             }
-            ValueSource::Date { zone, field, part } => self.keep_date(zone, field, part),
-            ValueSource::CurrentDate { zone, part } => self.keep_current_date(zone, part),
+            ValueSource::Date { zone, field, part } => {
+                let place = self.keep_date(zone, field, part)?;
+                Ok((SourceKind::Date, place))
+            }
+            ValueSource::CurrentDate { zone, part } => {
+                let place = self.keep_current_date(zone, part)?;
+                Ok((SourceKind::CurrentDate, place))
+            }
         }
     }
 

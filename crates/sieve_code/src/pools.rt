@@ -5,10 +5,10 @@ ghost use Rattle.std.specs.Option.{option_map};
 ghost use Rattle.sieve_reading.specs.Reading.{plain_settings};
 ghost use Rattle.sieve_reading.specs.view.Reading.{settings_as, texts_as, vacation_as};
 ghost use Rattle.sieve_effects.specs.Joined.{list_in};
-ghost use Rattle.sieve_code.specs.Pool.{Kept, given_list, given_string, given_variable, no_pool, packed_in, settings_in, test_in, vacation_in, vacation_packed_in};
+ghost use Rattle.sieve_code.specs.Pool.{Kept, date_packed_in, given_list, given_string, given_variable, no_pool, packed_in, settings_in, test_in, vacation_in, vacation_packed_in};
 ghost use Rattle.sieve_code.specs.view.Pools.{pool_as};
 
-use crate::op::{NOWHERE, PackedSettings, PackedTest, PackedVacation};
+use crate::op::{NOWHERE, PackedDate, PackedSettings, PackedTest, PackedVacation};
 use sieve_effects::{JoinedStrings, NameLists, StringLists};
 use sieve_reading::{Settings, Text, Vacation};
 use sieve_variables::{Literal, Modifiers, Parts, Variable};
@@ -34,6 +34,7 @@ pub(crate) struct Pools {
     pub(crate) tests: Vec<PackedTest>,
     pub(crate) settings: Vec<PackedSettings>,
     pub(crate) vacations: Vec<PackedVacation>,
+    pub(crate) dates: Vec<PackedDate>,
 }
 
 /// The number of items as the place of the next. 4,294,967,295 and more are answered as want of memory.
@@ -81,6 +82,7 @@ impl Pools {
             tests: Vec::new(alloc),
             settings: Vec::new(alloc),
             vacations: Vec::new(alloc),
+            dates: Vec::new(alloc),
         }
     }
 
@@ -96,6 +98,7 @@ impl Pools {
         self.tests.shrink_to_fit();
         self.settings.shrink_to_fit();
         self.vacations.shrink_to_fit();
+        self.dates.shrink_to_fit();
     }
 
     /// Keeps a string. Answers its place.
@@ -255,5 +258,14 @@ impl Pools {
             mime,
             handle,
         })
+    }
+
+    /// Keeps what a test of dates says, whose strings lie at their places. Answers its place.
+    pub(crate) fn put_date(&mut self, date: PackedDate) -> Result<u32, AllocError>
+        ensures { IfOk result (λ place. Kept (pool_as self.old) (pool_as self.new) (λ p. date_packed_in p place) date) }
+    {
+        let place = place_of(self.dates.len())?;
+        self.dates.push(date)?;
+        Ok(place)
     }
 }

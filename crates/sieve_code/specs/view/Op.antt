@@ -5,8 +5,9 @@ use Rattle.std.specs.List.{slice_get}
 use Rattle.sieve_effects.specs.Joined.{list_in}
 use Rattle.sieve_reading.specs.Reading.{DateZone, local_zone, original_zone, named_zone, date_values, clock_values, ValueSource, Ask, compares, exists_ask, over_ask, under_ask, mailboxes_ask, duplicate_ask, header_values, address_values, envelope_values, string_values, flag_values, keep_leaf, fileinto_leaf, redirect_leaf, discard_leaf, set_leaf, flag_leaf, include_leaf, vacation_leaf, reject_leaf}
 use Rattle.sieve_code.specs.Operation.{Operation, set_op, invert_op, test_op, jump_op, jump_if_op, act_op, stop_op, return_op, targeting}
-use Rattle.sieve_code.specs.Pool.{Pool, no_pool, given_list, given_variable, settings_in, test_in, vacation_in}
+use Rattle.sieve_code.specs.Pool.{Pool, no_pool, date_packed_in, given_list, given_variable, settings_in, test_in, vacation_in}
 use Rattle.sieve_code.specs.declared.pools.Target.{Target}
+use Rattle.sieve_code.specs.declared.op.PackedDate.{PackedDate}
 use Rattle.sieve_code.specs.declared.op.PackedTest.{PackedTest}
 use Rattle.sieve_code.specs.declared.op.PackedZone.{PackedZone}
 use Rattle.sieve_code.specs.declared.op.PackedZone.TheVariants as zone
@@ -21,6 +22,13 @@ zone_in pool zone.Local = local_zone
 zone_in pool zone.Original = original_zone
 zone_in pool (zone.Named place) = named_zone (slice_index_or pool.strings place [])
 
+-- where a test of dates takes its value from: the date of a field, or the current one
+abbrev pub date_in : Pool → PackedDate → ValueSource
+date_in pool date = date_values (zone_in pool date.zone) (slice_index_or pool.strings date.field []) (slice_index_or pool.strings date.part [])
+
+abbrev pub clock_in : Pool → PackedDate → ValueSource
+clock_in pool date = clock_values (zone_in pool date.zone) (slice_index_or pool.strings date.part [])
+
 -- where a test takes values from
 abbrev pub source_in : Pool → SourceKind → ℕ → ValueSource
 source_in pool source.Header place = header_values (list_in pool.names place)
@@ -28,8 +36,8 @@ source_in pool (source.Address part) place = address_values part (list_in pool.n
 source_in pool (source.Envelope part) place = envelope_values part (list_in pool.lists place)
 source_in pool source.String place = string_values (list_in pool.lists place)
 source_in pool source.Flags place = flag_values (given_list pool place)
-source_in pool (source.Date zone field) place = date_values (zone_in pool zone) (slice_index_or pool.strings field []) (slice_index_or pool.strings place [])
-source_in pool (source.CurrentDate zone) place = clock_values (zone_in pool zone) (slice_index_or pool.strings place [])
+source_in pool source.Date place = date_in pool (date_packed_in pool place)
+source_in pool source.CurrentDate place = clock_in pool (date_packed_in pool place)
 
 -- what a test asks that compares
 abbrev pub compares_in : Pool → PackedTest → (values keys : ℕ) → Ask
