@@ -7,6 +7,7 @@ mod comparators;
 mod decoded_values;
 mod flags;
 mod limits;
+mod mails;
 mod messages;
 mod orders;
 mod print;

@@ -1,0 +1,10 @@
+pub mod Sequences
+pub mod Cutting
+pub mod Nesting
+pub mod Headers
+pub mod Stretches
+pub mod Parameters
+pub mod Digits
+pub mod EndedLines
+pub mod Marked
+pub mod Quoting

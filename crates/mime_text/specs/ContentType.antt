@@ -1,0 +1,171 @@
+-- The type of a content and its parameters (RFC 2045, section 5.1).
+use Rattle.std.specs.Prelude.{ℕ, ◌-◌, ◌==◌, Bool, true, false, not, ◌&&◌, List, [], ◌∷◌, length, take, drop, slice_index_or, map, Option, Some, None, codes, if◌then◌else◌}
+use Rattle.std.specs.List.{after_first, before_first, list_all, list_any, prefix_len, slice_split, suffix_len}
+use Rattle.std.specs.Option.{option_and_then, option_map}
+use Rattle.std.specs.Str.{str_eq_ignore_ascii_case}
+use Rattle.sieve_base.specs.Octet.{is_visible, is_white, octet_of}
+use Rattle.mime_text.specs.Marks.{marks_of}
+use Rattle.mime_text.specs.declared.marks.Mark.{Mark}
+use Rattle.mime_text.specs.declared.marks.Mark.TheVariants.{Plain, Quote, Quoted}
+
+-- TOKENS
+
+-- an octet that has a meaning of its own
+abbrev pub is_special : ℕ → Bool
+is_special octet = list_any (λ special. octet == special) (codes "()<>@,;:\\\"/[]?=")
+
+-- an octet of a token: a visible one of ASCII that has none
+abbrev pub is_token_octet : ℕ → Bool
+is_token_octet octet = is_visible octet && not (is_special octet)
+
+-- one that stands outside of quoted strings
+abbrev pub is_token_mark : Mark → Bool
+is_token_mark (Plain octet) = is_token_octet octet
+is_token_mark Quote = false
+is_token_mark (Quoted octet) = false
+
+-- whether a mark is this octet, outside of quoted strings
+abbrev pub is_sign : ℕ → Mark → Bool
+is_sign sign (Plain octet) = octet == sign
+is_sign sign Quote = false
+is_sign sign (Quoted octet) = false
+
+abbrev pub is_gap : Mark → Bool
+is_gap (Plain octet) = is_white octet
+is_gap Quote = false
+is_gap (Quoted octet) = false
+
+-- the octet of a mark, which a quote stands for too
+abbrev pub octet_at : Mark → ℕ
+octet_at (Plain octet) = octet
+octet_at Quote = octet_of "\""
+octet_at (Quoted octet) = octet
+
+-- marks without outer white space
+abbrev pub trim_front : List Mark → List Mark
+trim_front marks = drop (prefix_len is_gap marks) marks
+
+abbrev pub trim_back : List Mark → List Mark
+trim_back marks = take (length marks - suffix_len is_gap marks) marks
+
+abbrev pub trimmed : List Mark → List Mark
+trimmed marks = trim_back (trim_front marks)
+
+-- a token: one or more such octets
+abbrev pub is_token : List Mark → Bool
+is_token marks = if length marks == 0 then false else list_all is_token_mark marks
+
+abbrev pub token_of : List Mark → Option (List ℕ)
+token_of marks = if is_token marks then Some (map octet_at marks) else None
+
+-- a token with white space and comments round it
+abbrev pub token_in : List Mark → Option (List ℕ)
+token_in marks = token_of (trimmed marks)
+
+-- VALUES
+
+abbrev pub is_quote : Mark → Bool
+is_quote (Plain octet) = false
+is_quote Quote = true
+is_quote (Quoted octet) = false
+
+abbrev pub is_quoted : Mark → Bool
+is_quoted (Plain octet) = false
+is_quoted Quote = false
+is_quoted (Quoted octet) = true
+
+-- the octets before the quote that ends a quoted string, where it stands at the end alone
+abbrev pub before_quote : List Mark → Option (List ℕ)
+before_quote marks =
+    if is_quote (slice_index_or marks (length marks - 1) (Plain 0)) && list_all is_quoted (take (length marks - 1) marks)
+    then Some (map octet_at (take (length marks - 1) marks))
+    else None
+
+-- the value of a parameter: a token, or what stands in a quoted string
+abbrev pub value_of : List Mark → Option (List ℕ)
+value_of [] = None
+value_of (Quote ∷ ms) = before_quote ms
+value_of (Plain octet ∷ ms) = token_of (Plain octet ∷ ms)
+value_of (Quoted octet ∷ ms) = None
+
+-- TYPES
+
+-- both, if they are there
+abbrev pub both : (first second : Option (List ℕ)) → Option (List ℕ × List ℕ)
+both first second = option_and_then (λ x. option_map (λ y. (x, y)) second) first
+
+-- a type and a subtype, with a `/` between them
+abbrev pub type_in : List Mark → Option (List ℕ × List ℕ)
+type_in piece =
+    if list_any (is_sign (octet_of "/")) piece
+    then both (token_in (before_first (is_sign (octet_of "/")) piece)) (token_in (after_first (is_sign (octet_of "/")) piece))
+    else None
+
+-- the name of a parameter and its value, with a `=` between them
+abbrev pub parameter_in : List Mark → Option (List ℕ × List ℕ)
+parameter_in piece =
+    if list_any (is_sign (octet_of "=")) piece
+    then both (token_in (before_first (is_sign (octet_of "=")) piece)) (value_of (trimmed (after_first (is_sign (octet_of "=")) piece)))
+    else None
+
+abbrev pub Parameters : Type 0
+Parameters = List (List ℕ × List ℕ)
+
+abbrev pub with_parameter : Option (List ℕ × List ℕ) → Option Parameters → Option Parameters
+with_parameter first more = option_and_then (λ p. option_map (λ ps. p ∷ ps) more) first
+
+unfoldable pub parameters_of : List (List Mark) → Option Parameters
+parameters_of [] = Some []
+parameters_of (piece ∷ more) = with_parameter (parameter_in piece) (parameters_of more)
+
+-- pieces without a last one that is white space alone
+abbrev pub without_blank_end : List (List Mark) → List (List Mark)
+without_blank_end pieces = if list_all is_gap (slice_index_or pieces (length pieces - 1) []) then take (length pieces - 1) pieces else pieces
+
+-- the parameters of pieces, if they are such
+abbrev pub parameters_in : List (List Mark) → Option Parameters
+parameters_in pieces = parameters_of (without_blank_end pieces)
+
+-- the value of the first parameter of a name, in any case of letters
+unfoldable pub parameter_named : (name : List ℕ) → Parameters → Option (List ℕ)
+parameter_named name [] = None
+parameter_named name (p ∷ more) = if str_eq_ignore_ascii_case name p.0 then Some p.1 else parameter_named name more
+
+-- a type, a subtype, and the parameters that are looked at
+pub record ContentType : Type 0 where
+  pub main : List ℕ
+  pub sub : List ℕ
+  pub boundary : Option (List ℕ)
+  pub charset : Option (List ℕ)
+
+-- those of its parameters that are looked at
+pub record Named : Type 0 where
+  pub boundary : Option (List ℕ)
+  pub charset : Option (List ℕ)
+
+abbrev pub named_of : Parameters → Named
+named_of parameters = record { boundary = parameter_named (codes "boundary") parameters; charset = parameter_named (codes "charset") parameters }
+
+abbrev pub named_in : List (List Mark) → Option Named
+named_in pieces = option_map named_of (parameters_in pieces)
+
+abbrev pub type_with : List ℕ × List ℕ → Named → ContentType
+type_with names named = record { main = names.0; sub = names.1; boundary = named.boundary; charset = named.charset }
+
+abbrev pub with_type : Option (List ℕ × List ℕ) → Option Named → Option ContentType
+with_type type named = option_and_then (λ names. option_map (type_with names) named) type
+
+abbrev pub content_type_of : List (List Mark) → Option ContentType
+content_type_of [] = None
+content_type_of (piece ∷ more) = with_type (type_in piece) (named_in more)
+
+-- the type that a value says, or nothing where it doesn't say one; a `;` stands before each parameter
+abbrev pub content_type_in : List ℕ → Option ContentType
+content_type_in value = option_and_then (λ marks. content_type_of (slice_split (is_sign (octet_of ";")) marks)) (marks_of value)
+
+-- whether it is this type, or a type with this main one, in any case of letters
+abbrev pub is_main : (name : List ℕ) → ContentType → Bool
+is_main name type = str_eq_ignore_ascii_case name type.main
+
+abbrev pub is_type : (main sub : List ℕ) → ContentType → Bool
+is_type main sub type = is_main main type && str_eq_ignore_ascii_case sub type.sub

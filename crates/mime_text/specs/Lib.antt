@@ -1,0 +1,10 @@
+pub mod Base64
+pub mod ContentType
+pub mod Entities
+pub mod Lines
+pub mod Marks
+pub mod Multipart
+pub mod QuotedPrintable
+pub mod TransferEncoding
+pub mod Wanted
+pub mod view

@@ -1,0 +1,89 @@
+-- What quoted-printable stands for (RFC 2045, section 6.7). The blanks at the ends of lines go first, and what is left is cut into escapes,
+-- soft line ends and octets.
+use Rattle.std.specs.Prelude.{◌≡◌, ℕ, nat_lt, ◌==◌, Bool, true, ◌&&◌, ◌||◌, List, [], ◌∷◌, ◌++◌, length, take, drop, Option, None, Some, is_some, if◌then◌else◌, option_to_list}
+use Rattle.std.specs.List.{prefix_len}
+use Rattle.sieve_base.specs.Hex.{hex_octet}
+use Rattle.sieve_base.specs.Octet.{is_blank, octet_of}
+use Rattle.text_cut.specs.Cut as cut
+use Rattle.text_cut.specs.Cut.{Piece, octet, sequence}
+use Rattle.text_cut.specs.Scan as scan
+use Rattle.mime_text.specs.Lines.{end_len, is_line_end}
+
+-- BLANKS AT THE ENDS OF LINES
+
+-- whether the end of a line or of the text stands in front
+abbrev pub is_at_end : List ℕ → Bool
+is_at_end text = length text == 0 || nat_lt 0 (end_len text)
+
+-- whether a text begins with blanks, if any, and then has such an end
+abbrev pub leads_to_end : List ℕ → Bool
+leads_to_end text = is_at_end (drop (prefix_len is_blank text) text)
+
+-- a text without the blanks at the ends of its lines, of which the last may end with the text
+unfoldable pub without_padding : List ℕ → List ℕ
+without_padding [] = []
+without_padding (c ∷ rest) = if is_blank c && leads_to_end rest then without_padding rest else c ∷ without_padding rest
+
+-- SEQUENCES
+
+-- an escape by its two digits, or a soft line end by the end that stands there
+pub data Sequence : Type 0 where
+  escape : (high low : ℕ) → Sequence
+  soft_end : (end : List ℕ) → Sequence
+
+-- a sequence as it is written
+abbrev pub written : Sequence → List ℕ
+written (escape high low) = octet_of "=" ∷ high ∷ low ∷ []
+written (soft_end end) = octet_of "=" ∷ end
+
+-- which sequences there are: two hexadecimal digits, in either case, or the end of a line
+abbrev pub is_legal : Sequence → Bool
+is_legal (escape high low) = is_some (hex_octet high low)
+is_legal (soft_end end) = is_line_end end
+
+abbrev pub IsLegal : Sequence → Type 0
+IsLegal s = is_legal s ≡ true
+
+-- a text is cut from the left into sequences and single octets, and no sequence begins where an octet stands alone
+abbrev pub Cuts : List (Piece Sequence) → List ℕ → Type 0
+Cuts pieces text = cut.Cuts written IsLegal pieces text
+
+-- what a piece stands for: an octet for itself, and a soft line end for nothing
+abbrev pub octets_of_piece : Piece Sequence → List ℕ
+octets_of_piece (octet c) = c ∷ []
+octets_of_piece (sequence (escape high low)) = option_to_list (hex_octet high low)
+octets_of_piece (sequence (soft_end end)) = []
+
+unfoldable pub octets_of_pieces : List (Piece Sequence) → List ℕ
+octets_of_pieces [] = []
+octets_of_pieces (piece ∷ more) = octets_of_piece piece ++ octets_of_pieces more
+
+-- THE SAME, COMPUTED
+
+-- the escape of an `=` that this text follows
+abbrev pub escape_at : List ℕ → Option Sequence
+escape_at [] = None
+escape_at (c ∷ []) = None
+escape_at (c ∷ d ∷ rest) = if is_some (hex_octet c d) then Some (escape c d) else None
+
+-- the sequence of an `=` that this text follows
+abbrev pub after_sign : List ℕ → Option Sequence
+after_sign rest = if nat_lt 0 (end_len rest) then Some (soft_end (take (end_len rest) rest)) else escape_at rest
+
+-- the sequence with which a text begins
+unfoldable pub sequence_at : List ℕ → Option Sequence
+sequence_at [] = None
+sequence_at (c ∷ rest) = if c == octet_of "=" then after_sign rest else None
+
+-- how many octets of a sequence stand after its first
+abbrev pub further : Sequence → ℕ
+further (escape high low) = 2
+further (soft_end end) = length end
+
+-- the pieces of a text
+abbrev pub pieces_of : List ℕ → List (Piece Sequence)
+pieces_of text = scan.pieces_of sequence_at further text
+
+-- the octets of a content in quoted-printable
+abbrev pub quoted_octets : List ℕ → List ℕ
+quoted_octets text = octets_of_pieces (pieces_of (without_padding text))

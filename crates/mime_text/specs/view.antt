@@ -1,0 +1,7 @@
+-- What the program's types stand for in contracts. The other files of specs/ restate the subject.
+pub mod ContentTypes
+pub mod Cuts
+pub mod Entities
+pub mod Marks
+pub mod Spots
+pub mod Wanted

@@ -1,0 +1,364 @@
+//! Types of contents and their parameters (RFC 2045, section 5.1).
+ghost use Rattle.std.specs.Prelude.{◌≡◌, true, false, [], ◌∷◌, IfNone, IfOk, IfSome, Some, map};
+ghost use Rattle.std.specs.Option.{option_map};
+ghost use Rattle.std.specs.List.{after_first, before_first, list_all, list_any};
+ghost use Rattle.mime_text.specs.ContentType as spec;
+ghost use Rattle.mime_text.specs.view.ContentTypes.{both_as, named_as, or_else, over, type_as};
+ghost use Rattle.mime_text.specs.view.Marks.{octets_as};
+
+use crate::marks::{Mark, marks_of};
+use sieve_base::octet::{is_visible, is_white};
+use std::alloc::{AllocError, Global};
+
+/// The type of a content, and the parameters that are looked at.
+#[derive(Drop)]
+pub struct ContentType {
+    pub(crate) main: Vec<u8>,
+    pub(crate) sub: Vec<u8>,
+    pub(crate) boundary: Option<Vec<u8>>,
+    pub(crate) charset: Option<Vec<u8>>,
+}
+
+// An octet of a token.
+fn is_token_octet(octet: u8) -> bool
+    ensures { result ≡ spec.is_token_octet octet }
+{
+    is_visible(octet) && !is_special(octet)
+}
+
+// One of the special ones.
+fn is_special(octet: u8) -> bool
+    ensures { result ≡ spec.is_special octet }
+{
+    b"()<>@,;:\\\"/[]?=".contains(&octet)
+}
+
+// An octet of a token, outside of quoted strings.
+fn is_token_mark(mark: Mark) -> bool
+    ensures { result ≡ spec.is_token_mark mark }
+{
+    match mark {
+        Mark::Plain(octet) => is_token_octet(octet),
+        Mark::Quote | Mark::Quoted(_) => false,
+    }
+}
+
+// Whether a mark is this octet, outside of quoted strings.
+fn is_sign(sign: u8, mark: Mark) -> bool
+    ensures { result ≡ spec.is_sign sign mark }
+{
+    match mark {
+        Mark::Plain(octet) => octet == sign,
+        Mark::Quote | Mark::Quoted(_) => false,
+    }
+}
+
+// White space outside of quoted strings.
+fn is_gap(mark: Mark) -> bool
+    ensures { result ≡ spec.is_gap mark }
+{
+    match mark {
+        Mark::Plain(octet) => is_white(octet),
+        Mark::Quote | Mark::Quoted(_) => false,
+    }
+}
+
+// The octet of a mark.
+fn octet_at(mark: Mark) -> u8
+    ensures { result ≡ spec.octet_at mark }
+{
+    match mark {
+        Mark::Plain(octet) | Mark::Quoted(octet) => octet,
+        Mark::Quote => b'"',
+    }
+}
+
+// The marks without white space in front.
+fn trim_front(marks: &[Mark]) -> &[Mark]
+    ensures { result.now ≡ spec.trim_front marks.now }
+{
+    let mut start = 0;
+    while start < marks.len() && is_gap(marks[start]) {
+        start += 1;
+    }
+    &marks[start..]
+}
+
+// The marks without white space at their end.
+fn trim_back(marks: &[Mark]) -> &[Mark]
+    ensures { result.now ≡ spec.trim_back marks.now }
+{
+    let mut end = marks.len();
+    while end > 0 && is_gap(marks[end - 1]) {
+        end -= 1;
+    }
+    &marks[..end]
+}
+
+// The marks without outer white space.
+fn trimmed(marks: &[Mark]) -> &[Mark]
+    ensures { result.now ≡ spec.trimmed marks.now }
+{
+    trim_back(trim_front(marks))
+}
+
+// The octets of marks.
+fn octets_of(alloc: Global, marks: &[Mark]) -> Result<Vec<u8>, AllocError>
+    ensures { IfOk result (λ octets. octets.items ≡ map spec.octet_at marks.now) }
+{
+    marks.iter().map(|mark| octet_at(*mark)).collect(alloc)
+}
+
+// Whether all are of a token.
+fn are_token_marks(marks: &[Mark]) -> bool
+    ensures { result ≡ list_all spec.is_token_mark marks.now }
+{
+    marks.iter().all(|mark| is_token_mark(*mark))
+}
+
+// Whether they are a token.
+fn is_token(marks: &[Mark]) -> bool
+    ensures { result ≡ spec.is_token marks.now }
+{
+    if marks.is_empty() {
+        false
+    } else {
+        are_token_marks(marks)
+    }
+}
+
+// A token, if they are one.
+fn token_of(alloc: Global, marks: &[Mark]) -> Result<Option<Vec<u8>>, AllocError>
+    ensures { IfOk result (λ token. octets_as token ≡ spec.token_of marks.now) }
+{
+    if !is_token(marks) {
+        return Ok(None);
+    }
+    let token = octets_of(alloc, marks)?;
+    Ok(Some(token))
+}
+
+/// A token with white space and comments round it, if they are one.
+pub(crate) fn token_in(alloc: Global, marks: &[Mark]) -> Result<Option<Vec<u8>>, AllocError>
+    ensures { IfOk result (λ token. octets_as token ≡ spec.token_in marks.now) }
+{
+    token_of(alloc, trimmed(marks))
+}
+
+// A quote.
+fn is_quote(mark: Mark) -> bool
+    ensures { result ≡ spec.is_quote mark }
+{
+    matches!(mark, Mark::Quote)
+}
+
+// An octet of a quoted string.
+fn is_quoted(mark: Mark) -> bool
+    ensures { result ≡ spec.is_quoted mark }
+{
+    matches!(mark, Mark::Quoted(_))
+}
+
+// Whether all stand in a quoted string.
+fn are_quoted(marks: &[Mark]) -> bool
+    ensures { result ≡ list_all spec.is_quoted marks.now }
+{
+    marks.iter().all(|mark| is_quoted(*mark))
+}
+
+// The octets before the quote that ends a quoted string, where it stands at the end alone.
+fn before_quote(alloc: Global, marks: &[Mark]) -> Result<Option<Vec<u8>>, AllocError>
+    ensures { IfOk result (λ octets. octets_as octets ≡ spec.before_quote marks.now) }
+{
+    let [inside @ .., last] = marks else {
+        return Ok(None);
+    };
+    if !is_quote(*last) || !are_quoted(inside) {
+        return Ok(None);
+    }
+    let octets = octets_of(alloc, inside)?;
+    Ok(Some(octets))
+}
+
+// The value of a parameter, if they are one.
+fn value_of(alloc: Global, marks: &[Mark]) -> Result<Option<Vec<u8>>, AllocError>
+    ensures { IfOk result (λ value. octets_as value ≡ spec.value_of marks.now) }
+{
+    match marks {
+        [Mark::Quote, rest @ ..] => before_quote(alloc, rest),
+        _ => token_of(alloc, marks),
+    }
+}
+
+// What stands before the first such sign, and after it, where there is one.
+fn parted(sign: u8, marks: &[Mark]) -> Option<(&[Mark], &[Mark])>
+    ensures none { IfNone result (list_any (spec.is_sign sign) marks.now ≡ false) }
+    ensures some { IfSome result (λ _. list_any (spec.is_sign sign) marks.now ≡ true) }
+    ensures front { IfSome result (λ two. two.0.now ≡ before_first (spec.is_sign sign) marks.now) }
+    ensures back { IfSome result (λ two. two.1.now ≡ after_first (spec.is_sign sign) marks.now) }
+{
+    match marks.iter().position(|mark| is_sign(sign, *mark)) {
+        Some(place) => Some((&marks[..place], &marks[place + 1..])),
+        None => None,
+    }
+}
+
+// Two things, if both are there.
+fn both(first: Option<Vec<u8>>, second: Option<Vec<u8>>) -> Option<(Vec<u8>, Vec<u8>)>
+    ensures { both_as result ≡ spec.both (octets_as first) (octets_as second) }
+{
+    match (first, second) {
+        (Some(first), Some(second)) => Some((first, second)),
+        (_, _) => None,
+    }
+}
+
+// A type and a subtype, if they are such.
+fn type_in(alloc: Global, piece: &[Mark]) -> Result<Option<(Vec<u8>, Vec<u8>)>, AllocError>
+    ensures { IfOk result (λ names. both_as names ≡ spec.type_in piece.now) }
+{
+    let Some((main, sub)) = parted(b'/', piece) else {
+        return Ok(None);
+    };
+    let main = token_in(alloc, main)?;
+    let sub = token_in(alloc, sub)?;
+    Ok(both(main, sub))
+}
+
+// The name of a parameter and its value, if they are such.
+fn parameter_in(alloc: Global, piece: &[Mark]) -> Result<Option<(Vec<u8>, Vec<u8>)>, AllocError>
+    ensures { IfOk result (λ parameter. both_as parameter ≡ spec.parameter_in piece.now) }
+{
+    let Some((name, value)) = parted(b'=', piece) else {
+        return Ok(None);
+    };
+    let name = token_in(alloc, name)?;
+    let value = value_of(alloc, trimmed(value))?;
+    Ok(both(name, value))
+}
+
+/// The parameters that are looked at.
+#[derive(Drop)]
+pub(crate) struct NamedParameters {
+    boundary: Option<Vec<u8>>,
+    charset: Option<Vec<u8>>,
+}
+
+// A value, where none was found before.
+fn or_else(found: Option<Vec<u8>>, value: Vec<u8>) -> Option<Vec<u8>>
+    ensures { octets_as result ≡ or_else (octets_as found) (Some value.items) }
+{
+    match found {
+        Some(first) => Some(first),
+        None => Some(value),
+    }
+}
+
+impl NamedParameters {
+    // With a further parameter, which counts where none of its name was there.
+    #[tactic(auto, unfolding(crate::specs::ContentType::parameter_named))]
+    fn with(self, name: &[u8], value: Vec<u8>) -> NamedParameters
+        ensures { named_as result ≡ over (named_as self) (spec.named_of ((name.now, value.items) ∷ [])) }
+    {
+        let NamedParameters { boundary, charset } = self;
+        if b"boundary".eq_ignore_ascii_case(name) {
+            NamedParameters {
+                boundary: or_else(boundary, value),
+                charset,
+            }
+        } else if b"charset".eq_ignore_ascii_case(name) {
+            NamedParameters {
+                boundary,
+                charset: or_else(charset, value),
+            }
+        } else {
+            NamedParameters { boundary, charset }
+        }
+    }
+}
+
+// Whether a piece is white space alone.
+fn is_blank(piece: &[Mark]) -> bool
+    ensures { result ≡ list_all spec.is_gap piece.now }
+{
+    piece.iter().all(|mark| is_gap(*mark))
+}
+
+// Pieces without a last one that is white space alone.
+fn without_blank_end<'p, 'm>(pieces: &'p [&'m [Mark]]) -> &'p [&'m [Mark]]
+    ensures { map (λ piece. piece.now) result.now ≡ spec.without_blank_end (map (λ piece. piece.now) pieces.now) }
+{
+    match pieces {
+        [front @ .., last] => { if is_blank(last) { front } else { pieces } }
+        [] => pieces,
+    }
+}
+
+// The parameters of pieces, if each is one.
+fn named_of(alloc: Global, pieces: &[&[Mark]]) -> Result<Option<NamedParameters>, AllocError>
+    ensures { IfOk result (λ named. option_map named_as named ≡ option_map spec.named_of (spec.parameters_of (map (λ piece. piece.now) pieces.now))) }
+{
+    let mut named = NamedParameters {
+        boundary: None,
+        charset: None,
+    };
+    let mut left = pieces;
+    while let [piece, rest @ ..] = left {
+        let Some((name, value)) = parameter_in(alloc, piece)? else {
+            return Ok(None);
+        };
+        named = named.with(&name, value);
+        left = rest;
+    }
+    Ok(Some(named))
+}
+
+// The parameters of pieces, of which the last may be white space alone, if they are parameters.
+fn named_in(alloc: Global, pieces: &[&[Mark]]) -> Result<Option<NamedParameters>, AllocError>
+    ensures { IfOk result (λ named. option_map named_as named ≡ spec.named_in (map (λ piece. piece.now) pieces.now)) }
+{
+    named_of(alloc, without_blank_end(pieces))
+}
+
+// A type with parameters, if both are there.
+fn with_type(
+    names: Option<(Vec<u8>, Vec<u8>)>,
+    named: Option<NamedParameters>,
+) -> Option<ContentType>
+    ensures { type_as result ≡ spec.with_type (both_as names) (option_map named_as named) }
+{
+    let (main, sub) = names?;
+    let NamedParameters { boundary, charset } = named?;
+    Some(ContentType {
+        main,
+        sub,
+        boundary,
+        charset,
+    })
+}
+
+// The type of pieces, if they are a type and parameters.
+fn content_type_of(alloc: Global, pieces: &[&[Mark]]) -> Result<Option<ContentType>, AllocError>
+    ensures { IfOk result (λ type. type_as type ≡ spec.content_type_of (map (λ piece. piece.now) pieces.now)) }
+{
+    let [first, rest @ ..] = pieces else {
+        return Ok(None);
+    };
+    let names = type_in(alloc, first)?;
+    let named = named_in(alloc, rest)?;
+    Ok(with_type(names, named))
+}
+
+/// The type that a value of Content-Type says, if it says one. Comments are dropped.
+pub(crate) fn content_type_in(
+    alloc: Global,
+    value: &[u8],
+) -> Result<Option<ContentType>, AllocError>
+    ensures { IfOk result (λ type. type_as type ≡ spec.content_type_in value.now) }
+{
+    let Some(marks) = marks_of(alloc, value)? else {
+        return Ok(None);
+    };
+    let pieces: Vec<&[Mark]> = marks.split(|mark| is_sign(b';', *mark)).collect(alloc)?;
+    content_type_of(alloc, &pieces)
+}

@@ -1,0 +1,18 @@
+//! What a message is made of (RFC 2045, RFC 2046): its entities, their types, and the octets that a content stands for.
+#![tactic(auto)]
+
+mod base64;
+mod content_type;
+mod encoding;
+mod entities;
+pub mod laws;
+mod lines;
+mod marks;
+mod multipart;
+mod quoted;
+mod wanted;
+
+pub use content_type::ContentType;
+pub use encoding::TransferEncoding;
+pub use entities::{Entity, Given, entities_of};
+pub use wanted::WantedType;

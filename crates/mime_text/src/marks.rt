@@ -1,0 +1,170 @@
+//! Structured values with their comments and quoted strings told apart (RFC 2045, section 5.1; RFC 5322, sections 3.2.1 to 3.2.4).
+ghost use Rattle.std.specs.Prelude.{◌≡◌, ◌+◌, ◌<◌, ◌≤◌, ◌^◌, ◌++◌, ◌∷◌, [], IfOk, OnOk, Some, length, option_to_list};
+ghost use Rattle.sieve_base.specs.Octet.{octet_of};
+ghost use Rattle.mime_text.specs.Marks.{after_octet, is_outside, marks_at, marks_of};
+ghost use Rattle.mime_text.specs.declared.marks.Spot.TheVariants.{InComment, InString, Outside};
+ghost use Rattle.mime_text.specs.view.Marks.{marks_as};
+ghost use Rattle.mime_text.specs.view.Spots.{depth_of};
+
+use std::alloc::{AllocError, Global};
+
+/// What stays of an octet of a value.
+#[derive(Clone, Copy)]
+pub(crate) enum Mark {
+    /// One outside of quoted strings; a comment is a space.
+    Plain(u8),
+    /// A quote at an end of a quoted string.
+    Quote,
+    /// One that stands in a quoted string.
+    Quoted(u8),
+}
+
+/// Where an octet stands.
+#[derive(Clone, Copy)]
+pub(crate) enum Spot {
+    /// Outside of quoted strings and comments.
+    Outside,
+    /// In a quoted string.
+    InString,
+    /// After a `\` there.
+    EscapedInString,
+    /// In a comment with so many others round it.
+    InComment(usize),
+    /// After a `\` there.
+    EscapedInComment(usize),
+}
+
+// Where what stands after a comment stands.
+fn after_comment(others: usize) -> Spot
+    ensures is { result ≡ after_octet (InComment others) (octet_of ")") }
+    ensures depth { depth_of result ≤ others }
+{
+    if others == 0 {
+        Spot::Outside
+    } else {
+        Spot::InComment(others - 1)
+    }
+}
+
+// Where what stands after an octet of a comment stands.
+fn after_inner(others: usize, octet: u8) -> Spot
+    requires { others + 1 < 2 ^ 63 }
+    ensures is { result ≡ after_octet (InComment others) octet }
+    ensures depth { depth_of result ≤ others + 2 }
+{
+    match octet {
+        b'(' => Spot::InComment(others + 1),
+        b')' => after_comment(others),
+        b'\\' => Spot::EscapedInComment(others),
+        _ => Spot::InComment(others),
+    }
+}
+
+// Where what stands after an octet of a quoted string stands.
+fn after_quoted(octet: u8) -> Spot
+    ensures is { result ≡ after_octet InString octet }
+    ensures depth { depth_of result ≡ 0 }
+{
+    match octet {
+        b'"' => Spot::Outside,
+        b'\\' => Spot::EscapedInString,
+        _ => Spot::InString,
+    }
+}
+
+// Where what stands after an octet outside stands.
+fn after_outer(octet: u8) -> Spot
+    ensures is { result ≡ after_octet Outside octet }
+    ensures depth { depth_of result ≤ 1 }
+{
+    match octet {
+        b'"' => Spot::InString,
+        b'(' => Spot::InComment(0),
+        _ => Spot::Outside,
+    }
+}
+
+impl Spot {
+    /// Where the next octet stands.
+    fn after(self, octet: u8) -> Spot
+        requires { depth_of self < 2 ^ 63 }
+        ensures is { result ≡ after_octet self octet }
+        ensures depth { depth_of result ≤ depth_of self + 1 }
+    {
+        match self {
+            Spot::Outside => after_outer(octet),
+            Spot::InString => after_quoted(octet),
+            Spot::EscapedInString => Spot::InString,
+            Spot::InComment(others) => after_inner(others, octet),
+            Spot::EscapedInComment(others) => Spot::InComment(others),
+        }
+    }
+
+    /// Whether it is outside of quoted strings and comments.
+    fn is_outside(self) -> bool
+        ensures { result ≡ is_outside self }
+    {
+        matches!(self, Spot::Outside)
+    }
+}
+
+// The mark of an octet outside.
+fn outer_mark(octet: u8) -> Mark
+    ensures { marks_at Outside octet ≡ result ∷ [] }
+{
+    match octet {
+        b'"' => Mark::Quote,
+        b'(' => Mark::Plain(b' '),
+        _ => Mark::Plain(octet),
+    }
+}
+
+// The mark of an octet of a quoted string, if one stays.
+fn quoted_mark(octet: u8) -> Option<Mark>
+    ensures { option_to_list result ≡ marks_at InString octet }
+{
+    match octet {
+        b'"' => Some(Mark::Quote),
+        b'\\' => None,
+        _ => Some(Mark::Quoted(octet)),
+    }
+}
+
+// The mark of an octet, if one stays.
+fn mark_at(spot: Spot, octet: u8) -> Option<Mark>
+    ensures { option_to_list result ≡ marks_at spot octet }
+{
+    match spot {
+        Spot::Outside => Some(outer_mark(octet)),
+        Spot::InString => quoted_mark(octet),
+        Spot::EscapedInString => Some(Mark::Quoted(octet)),
+        Spot::InComment(_) | Spot::EscapedInComment(_) => None,
+    }
+}
+
+// Adds the mark of an octet, if one stays.
+fn push_mark(marks: &mut Vec<Mark>, spot: Spot, octet: u8) -> Result<(), AllocError>
+    ensures { OnOk result (marks.new.items ≡ marks.old.items ++ marks_at spot octet) }
+{
+    match mark_at(spot, octet) {
+        Some(mark) => Ok(marks.push(mark)?),
+        None => Ok(()),
+    }
+}
+
+/// The marks of a value, or nothing where a comment or a quoted string isn't closed.
+pub(crate) fn marks_of(alloc: Global, text: &[u8]) -> Result<Option<Vec<Mark>>, AllocError>
+    ensures { IfOk result (λ marks. marks_as marks ≡ marks_of text.now) }
+{
+    let mut marks = Vec::new(alloc);
+    let mut spot = Spot::Outside;
+    for octet in text {
+        push_mark(&mut marks, spot, *octet)?;
+        spot = spot.after(*octet);
+    }
+    if spot.is_outside() {
+        Ok(Some(marks))
+    } else {
+        Ok(None)
+    }
+}
