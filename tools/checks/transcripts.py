@@ -11,17 +11,17 @@ from .runs import Run
 
 def of_folders(here):
     """The runs of all transcripts."""
-    for transcript in sorted(here.glob("*/transcript")):
-        yield from runs_of(transcript)
+    for transcript in sorted(here.rglob("transcript")):
+        yield from runs_of(transcript, transcript.parent.relative_to(here))
 
 
-def runs_of(transcript):
+def runs_of(transcript, title):
     """The runs that a transcript holds."""
     runs = []
     for number, line in enumerate(transcript.read_bytes().splitlines(keepends=True), 1):
         if line.startswith(b"$ "):
             command = os.fsdecode(line[2:].rstrip(b"\n"))
-            runs.append(Run(f"{transcript.parent.name}, line {number}", transcript.parent, command))
+            runs.append(Run(f"{title}, line {number}", transcript.parent, command))
         elif line.startswith(b"2> "):
             runs[-1].error += line[3:]
         elif line.startswith(b"= "):
