@@ -98,6 +98,10 @@ def of_times(room):
     mail = [b"To: " + b"a@b.example," * 100_000 + b"\n\n"]
     counts = [require + anyof(b'address :count "lt" :comparator "i;ascii-numeric" "to" "%d"', count) for count in (3, 300)]
     yield Linear(room, "the addresses of a field for each count", [judged(script, mail) for script in counts], names=names)
+    dated = b'require ["date", "relational"]; if date :value "ge" "date" "year" "2026" { discard; }'
+    for title, front, end in ("open comments", b"(", b")"), ("signs before the date", b";", b""), ("words", b"a 1 ", b""), ("digits", b"0", b""):
+        fields = [b"Date: " + front * size + end * size + b"03 Aug 2026 09:12 +0100\n\n" for size in (3_000, 900_000)]
+        yield Linear(room, f"{title} for each octet of a date", [judged(dated, [field]) for field in fields], names="date,relational")
     sizes = [(b"a" * size, b"a" * 10 * size) for size in (1_000, 20_000)]
     for title, search in ("a long key", b':contains "subject" "%sb"'), ("a long part of a pattern", b':matches "subject" "*%sb*"'):
         searches = [judged(b"if header " + search % key + b" { discard; }", [b"Subject: %s\n\n" % value]) for key, value in sizes]
