@@ -12,7 +12,7 @@ use std::alloc::{AllocError, Global};
 
 /// The type of a content, and the parameters that are looked at.
 #[derive(Drop)]
-pub struct ContentType {
+pub(crate) struct ContentType {
     pub(crate) main: Vec<u8>,
     pub(crate) sub: Vec<u8>,
     pub(crate) boundary: Option<Vec<u8>>,

@@ -12,7 +12,6 @@ mod multipart;
 mod quoted;
 mod wanted;
 
-pub use content_type::ContentType;
 pub use encoding::TransferEncoding;
 pub use entities::{Entity, Given, entities_of};
 pub use wanted::WantedType;
