@@ -32,6 +32,17 @@ front_is front rest text is =
     ∙ ap (λ n. take n (front ++ rest)) (let e : length (front ++ rest) - length rest ≡ length front = omega (arith, length-append front rest) in e)
     ∙ take-append_seam front rest
 
+-- a line of the rest goes to the front
+module _ (text rest line after : List ℕ) (split : take (length text - length rest) text ++ rest ≡ text) (joined : rest ≡ line ++ after) where
+  parted : (take (length text - length rest) text ++ line) ++ after ≡ text
+  parted = append_assoc (take (length text - length rest) text) line after ∙ ap (λ (l : List ℕ). take (length text - length rest) text ++ l) (sym joined) ∙ split
+
+  pub front_more : take (length text - length after) text ≡ take (length text - length rest) text ++ line
+  front_more = front_is (take (length text - length rest) text ++ line) after text parted
+
+  pub split_more : take (length text - length after) text ++ after ≡ text
+  split_more = ap (λ (l : List ℕ). l ++ after) front_more ∙ parted
+
 -- KINDS OF LINES
 
 delimits : (x y : Bool) → cond x kind.Delimiter (cond y kind.Closing kind.Inner) ≡ kind.Delimiter → x ≡ true

@@ -1,8 +1,8 @@
-use Rattle.std.proofs.Common.{◌≡◌, ◌-◌, ◌++◌, List, ℕ, length, take, sym, ap, ◌∙◌, append_assoc, length-append, arith}
+use Rattle.std.proofs.Common.{◌-◌, ◌++◌, List, ℕ, length, take, sym, ap, ◌∙◌, append_assoc, length-append, arith}
 use Rattle.std.proofs.lemmas.List.{append-nil, take_all}
 use Rattle.mime_text.specs.Entities.{body_of, header_of}
 use Rattle.mime_text.proofs.Headers.{body_begins, body_goes_on, body_of_nothing, header_ends, header_goes_on, header_of_nothing}
-use Rattle.mime_text.proofs.Stretches.{front_is}
+use Rattle.mime_text.proofs.Stretches.{front_more, split_more}
 use Rattle.mime_text.proofs.entities.divided.Goals as goal
 
 pub loop-line-preserved : goal.loop-line-preserved
@@ -13,11 +13,10 @@ loop-line-preserved c =
     let after : List ℕ = c.in-Some.after.now in
     let front : List ℕ = take (length text - length rest) text in
     let inner = sym c.is_line_end.ensures ∙ c.if-is_line_end.false in
-    let split : (front ++ line) ++ after ≡ text = append_assoc front line after ∙ ap (λ (l : List ℕ). front ++ l) (sym c.in-Some.ensures.joined) ∙ c.loop-line.invariant.split in
-    let is : take (length text - length after) text ≡ front ++ line = front_is (front ++ line) after text split in
+    let is = front_more text rest line after c.loop-line.invariant.split c.in-Some.ensures.joined in
     record {
       within = omega (arith, ap length c.in-Some.ensures.joined, length-append line after, c.loop-line.invariant.within);
-      split = ap (λ (l : List ℕ). l ++ after) is ∙ split;
+      split = split_more text rest line after c.loop-line.invariant.split c.in-Some.ensures.joined;
       header = c.loop-line.invariant.header ∙ ap (λ (l : List ℕ). front ++ l) (header_goes_on line after rest c.in-Some.ensures.lines inner) ∙ sym (append_assoc front line (header_of after)) ∙ ap (λ (l : List ℕ). l ++ header_of after) (sym is);
       body = c.loop-line.invariant.body ∙ body_goes_on line after rest c.in-Some.ensures.lines inner;
     }

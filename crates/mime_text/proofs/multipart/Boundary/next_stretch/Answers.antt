@@ -1,7 +1,7 @@
-use Rattle.std.proofs.Common.{◌≡◌, ◌-◌, ◌++◌, List, [], ℕ, length, take, sym, ap, subst, ◌∙◌, append_assoc, length-append, arith}
+use Rattle.std.proofs.Common.{◌≡◌, ◌-◌, List, [], ℕ, length, take, sym, ap, subst, ◌∙◌, length-append, arith}
 use Rattle.std.proofs.lemmas.List.{take_all}
 use Rattle.mime_text.specs.view.Cuts.{Follows}
-use Rattle.mime_text.proofs.Stretches.{front_is, one_more, stops_at_closing, stops_at_delimiter, stops_at_end, stretch_before_closing, stretch_before_delimiter, stretch_to_end}
+use Rattle.mime_text.proofs.Stretches.{front_more, split_more, one_more, stops_at_closing, stops_at_delimiter, stops_at_end, stretch_before_closing, stretch_before_delimiter, stretch_to_end}
 use Rattle.mime_text.proofs.multipart.Boundary.next_stretch.Goals as goal
 
 pub returns-in-Delimiter-clause-text : goal.returns-in-Delimiter-clause-text
@@ -29,11 +29,10 @@ loop-line-preserved c =
     let line : List ℕ = c.in-Some.line.now in
     let after : List ℕ = c.in-Some.after.now in
     let front : List ℕ = take (length text - length rest) text in
-    let split : (front ++ line) ++ after ≡ text = append_assoc front line after ∙ ap (λ (l : List ℕ). front ++ l) (sym c.in-Some.ensures.joined) ∙ c.loop-line.invariant.split in
-    let is : take (length text - length after) text ≡ front ++ line = front_is (front ++ line) after text split in
+    let is = front_more text rest line after c.loop-line.invariant.split c.in-Some.ensures.joined in
     record {
       within = omega (arith, ap length c.in-Some.ensures.joined, length-append line after, c.loop-line.invariant.within);
-      split = ap (λ (l : List ℕ). l ++ after) is ∙ split;
+      split = split_more text rest line after c.loop-line.invariant.split c.in-Some.ensures.joined;
       follows = λ boundary made. subst (λ (l : List ℕ). Follows boundary l text after) (sym is)
           (one_more boundary _ _ made line after rest c.in-Some.ensures.lines front text (c.loop-line.invariant.follows boundary made) (sym c.kind_of.ensures ∙ c.in-Inner.is));
     }
