@@ -1,4 +1,4 @@
--- What an encoded word stands for, in UTF-8.
+-- What an encoded word stands for, and the octets of a text in a charset, in UTF-8.
 use Rattle.std.specs.Prelude.{ℕ, Bool, ◌==◌, ◌-◌, nat_lt, List, get_or, Option, None, Some, is_some, codes, encode_utf8_all, if◌then◌else◌}
 use Rattle.std.specs.List.{filter_map, list_all}
 use Rattle.std.specs.Option.{option_and_then, option_map}
@@ -79,3 +79,12 @@ octets_in word = if is_b word.letter then b_octets word.text else q_octets word.
 -- what a word stands for, if it can be decoded
 unfoldable pub meaning : Profile → EncodedWord → Option (List ℕ)
 meaning profile word = option_and_then (λ charset. option_and_then (in_utf8 charset) (octets_in word)) (charset_named profile word.charset)
+
+-- a text, or octets where there is none
+abbrev pub or_same : (octets : List ℕ) → (text : Option (List ℕ)) → List ℕ
+or_same octets None = octets
+or_same octets (Some text) = text
+
+-- octets in UTF-8 where all of them are right in a charset of that name, and that one is known; and else as they are
+unfoldable pub text_in : Profile → (charset : List ℕ) → List ℕ → List ℕ
+text_in profile charset octets = or_same octets (option_and_then (λ found. in_utf8 found octets) (charset_named profile charset))

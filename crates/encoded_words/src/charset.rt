@@ -1,8 +1,9 @@
 //! Charsets, and what words stand for in UTF-8.
 ghost use Rattle.std.specs.Prelude.{◌≡◌, IfOk, IsOk, None, encode_utf8_all};
+ghost use Rattle.std.specs.Cow.{cow_slice_items};
 ghost use Rattle.std.specs.List.{list_all};
 ghost use Rattle.std.specs.Str.{is_utf8, str_eq_ignore_ascii_case};
-ghost use Rattle.encoded_words.specs.Charset.{character_at, charset_named, codepage_named, in_utf8, is_ascii, meaning, octets_in, table_of, tabled};
+ghost use Rattle.encoded_words.specs.Charset.{character_at, charset_named, codepage_named, in_utf8, is_ascii, meaning, octets_in, or_same, table_of, tabled, text_in};
 ghost use Rattle.encoded_words.specs.view.Word.{octets_of, word_of};
 ghost use Rattle.sieve_profile.specs.view.Profile.{profile_as};
 
@@ -11,6 +12,7 @@ use crate::tables::{ISO_8859_2, ISO_8859_15, KOI8_R, WINDOWS_1250, WINDOWS_1251,
 use crate::word::{EncodedWord, is_b};
 use sieve_profile::{Extension, Profile};
 use std::alloc::{AllocError, Global};
+use std::borrow::CowSlice;
 
 /// A charset of which each octet is a character, or stands for nothing.
 #[derive(Clone, Copy)]
@@ -202,5 +204,36 @@ pub(crate) fn meaning(
     match octets_in(alloc, word)? {
         None => Ok(None),
         Some(octets) => in_utf8(alloc, charset, octets),
+    }
+}
+
+// A text, or octets where there is none.
+fn or_same<'o>(octets: CowSlice<'o, u8>, text: Option<Vec<u8>>) -> CowSlice<'o, u8>
+    ensures { cow_slice_items result ≡ or_same (cow_slice_items octets.entry) (octets_of text) }
+{
+    match text {
+        Some(text) => CowSlice::Owned(text),
+        None => octets,
+    }
+}
+
+/// Octets in UTF-8, where all of them are right in a charset of that name that the profile knows (RFC 2047, section 2), and else as they
+/// are. Takes memory only where the charset is another than UTF-8 and ASCII.
+#[tactic(auto, unfolding(crate::specs::Charset::text_in, crate::specs::Charset::in_utf8))]
+pub fn text_in<'o>(
+    alloc: Global,
+    profile: Profile,
+    charset: &[u8],
+    octets: CowSlice<'o, u8>,
+) -> Result<CowSlice<'o, u8>, AllocError>
+    ensures { IfOk result (λ text. cow_slice_items text ≡ text_in (profile_as profile) charset.now (cow_slice_items octets.entry)) }
+{
+    match charset_named(profile, charset) {
+        Some(Charset::Latin1) => Ok(CowSlice::Owned(latin(alloc, octets.as_slice())?)),
+        Some(Charset::Tabled(codepage)) => {
+            let text = tabled(alloc, table_of(codepage), octets.as_slice())?;
+            Ok(or_same(octets, text))
+        }
+        Some(Charset::Utf8 | Charset::Ascii) | None => Ok(octets),
     }
 }

@@ -82,6 +82,13 @@ impl Message {
         self.octets.len()
     }
 
+    /// All of its octets.
+    pub fn octets(&self) -> &[u8]
+        ensures { result.now ≡ self.now }
+    {
+        &self.octets
+    }
+
     /// The number of header fields.
     pub fn fields(&self) -> usize
         ensures { result ≡ length (spec.fields_of self.now) }

@@ -6,5 +6,6 @@ pub mod Marks
 pub mod Multipart
 pub mod QuotedPrintable
 pub mod TransferEncoding
+pub mod Values
 pub mod Wanted
 pub mod view

@@ -96,6 +96,14 @@ fn divided(text: &[u8]) -> (&[u8], Option<&[u8]>)
     (text, None)
 }
 
+/// What follows the first empty line of a message, if there is one. Takes no memory.
+pub fn body_of(message: &[u8]) -> Option<&[u8]>
+    ensures { option_map (λ body. body.now) result ≡ spec.body_of message.now }
+{
+    let (_, body) = divided(message);
+    body
+}
+
 // The value of the first field of that name.
 fn value_named<'m>(
     alloc: Global,

@@ -10,8 +10,9 @@ mod lines;
 mod marks;
 mod multipart;
 mod quoted;
+mod texts;
 mod wanted;
 
 pub use encoding::TransferEncoding;
-pub use entities::{Entity, Given, entities_of};
+pub use entities::{Entity, Given, body_of, entities_of};
 pub use wanted::WantedType;

@@ -5,9 +5,10 @@ use lib.Pointwise.{pointwise}
 use Rattle.sieve_profile.specs.Every.{every}
 use Rattle.sieve_profile.specs.contracts.extension.Extension.{enum, the_type}
 use Rattle.sieve_profile.specs.declared.extension.Extension.{Extension}
-use Rattle.sieve_profile.specs.declared.extension.Extension.TheVariants.{AsciiNumeric, Charsets, Date, Duplicate, EncodedCharacter, Envelopes, Ereject, Lines, Mailbox, Reject, Relational, SpecialUse, Subaddress, Unused, Vacation}
+use Rattle.sieve_profile.specs.declared.extension.Extension.TheVariants.{AsciiNumeric, Body, Charsets, Date, Duplicate, EncodedCharacter, Envelopes, Ereject, Lines, Mailbox, Reject, Relational, SpecialUse, Subaddress, Unused, Vacation}
 
 abbrev pub extension_name : Extension → List ℕ
+extension_name Body = codes "body"
 extension_name Charsets = codes "charsets"
 extension_name AsciiNumeric = codes "comparator-i;ascii-numeric"
 extension_name Date = codes "date"

@@ -2,7 +2,7 @@
 use Rattle.std.specs.Prelude.{Bool, false, ◌||◌}
 use Rattle.sieve_profile.specs.Extension.{same_extension}
 use Rattle.sieve_profile.specs.declared.extension.Extension.{Extension}
-use Rattle.sieve_profile.specs.declared.extension.Extension.TheVariants.{AsciiNumeric, Charsets, Date, Duplicate, EncodedCharacter, Envelopes, Ereject, Lines, Mailbox, Reject, Relational, SpecialUse, Subaddress, Unused, Vacation}
+use Rattle.sieve_profile.specs.declared.extension.Extension.TheVariants.{AsciiNumeric, Body, Charsets, Date, Duplicate, EncodedCharacter, Envelopes, Ereject, Lines, Mailbox, Reject, Relational, SpecialUse, Subaddress, Unused, Vacation}
 use Rattle.sieve_profile.specs.declared.profile.Profile as profiles
 
 -- whether each extension is in it
@@ -10,6 +10,7 @@ abbrev pub Profile : Type 0
 Profile = profiles.Profile
 
 abbrev pub has : Profile → Extension → Bool
+has profile Body = profile.body
 has profile Charsets = profile.charsets
 has profile AsciiNumeric = profile.ascii_numeric
 has profile Date = profile.date
@@ -28,6 +29,7 @@ has profile Vacation = profile.vacation
 
 abbrev pub empty_profile : Profile
 empty_profile = record {
+  body = false;
   charsets = false;
   ascii_numeric = false;
   date = false;
@@ -47,6 +49,7 @@ empty_profile = record {
 
 abbrev pub with_extension : Profile → Extension → Profile
 with_extension profile extension = record {
+  body = profile.body || same_extension extension Body;
   charsets = profile.charsets || same_extension extension Charsets;
   ascii_numeric = profile.ascii_numeric || same_extension extension AsciiNumeric;
   date = profile.date || same_extension extension Date;

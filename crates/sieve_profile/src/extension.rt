@@ -5,6 +5,8 @@ ghost use Rattle.sieve_profile.specs.Extension.{extension_name, extension_named,
 /// What a bench knows where it is asked for by its name.
 #[derive(Clone, Copy, Debug, PartialEq, Eq)]
 pub enum Extension {
+    /// `body`: what stands in the body of a message (RFC 5173).
+    Body,
     /// `charsets`: encoded words of further charsets are decoded.
     Charsets,
     /// `comparator-i;ascii-numeric`: texts are compared as numbers (RFC 4790, section 9.1).
@@ -38,7 +40,8 @@ pub enum Extension {
 }
 
 /// All of them, in the order of their names.
-pub const EXTENSIONS: [Extension; 15] = [
+pub const EXTENSIONS: [Extension; 16] = [
+    Extension::Body,
     Extension::Charsets,
     Extension::AsciiNumeric,
     Extension::Date,
@@ -69,6 +72,7 @@ impl Extension {
         ensures { result.now ≡ extension_name self }
     {
         match self {
+            Extension::Body => b"body",
             Extension::Charsets => b"charsets",
             Extension::AsciiNumeric => b"comparator-i;ascii-numeric",
             Extension::Date => b"date",

@@ -8,6 +8,7 @@ use crate::extension::Extension;
 /// What a bench knows beyond what it always does: whether it was asked for each extension. It is copied, and takes no memory.
 #[derive(Clone, Copy)]
 pub struct Profile {
+    pub body: bool,
     pub charsets: bool,
     pub ascii_numeric: bool,
     pub date: bool,
@@ -31,6 +32,7 @@ impl Profile {
         ensures { profile_as result ≡ empty_profile }
     {
         Profile {
+            body: false,
             charsets: false,
             ascii_numeric: false,
             date: false,
@@ -54,6 +56,7 @@ impl Profile {
         ensures { result ≡ has (profile_as self) extension }
     {
         match extension {
+            Extension::Body => self.body,
             Extension::Charsets => self.charsets,
             Extension::AsciiNumeric => self.ascii_numeric,
             Extension::Date => self.date,
@@ -77,6 +80,7 @@ impl Profile {
         ensures { profile_as result ≡ with_extension (profile_as self) extension }
     {
         Profile {
+            body: self.body | (extension == Extension::Body),
             charsets: self.charsets | (extension == Extension::Charsets),
             ascii_numeric: self.ascii_numeric | (extension == Extension::AsciiNumeric),
             date: self.date | (extension == Extension::Date),

@@ -16,10 +16,16 @@ pub data DateZone : Type 0 where
   original_zone : DateZone
   named_zone : (zone : List Part) → DateZone
 
+-- What is taken of a body (RFC 5173, section 5): all of it as it stands, the contents of the types that some entries name, or its texts.
+pub data BodyTransform : Type 0 where
+  raw_transform : BodyTransform
+  content_transform : (entries : List (List Part)) → BodyTransform
+  text_transform : BodyTransform
+
 -- Where a test takes values from: the fields of some names (RFC 5228, section 5.7), a part of the addresses in such fields
 -- (section 5.1), a part of an envelope's addresses (section 5.4), strings themselves (RFC 5229, section 5), flags: those that
 -- some variables hold, or else the internal ones (RFC 5232, section 4), a part of the date of a field (RFC 5260, section 4), or of
--- the current date (section 5). A string is its parts.
+-- the current date (section 5), or the body of the message (RFC 5173, section 4). A string is its parts.
 pub data ValueSource : Type 0 where
   header_values : (names : List (List Part)) → ValueSource
   address_values : (part : AddressPart) (names : List (List Part)) → ValueSource
@@ -28,6 +34,7 @@ pub data ValueSource : Type 0 where
   flag_values : (variables : Option (List (List Part))) → ValueSource
   date_values : (zone : DateZone) (field part : List Part) → ValueSource
   clock_values : (zone : DateZone) (part : List Part) → ValueSource
+  body_values : (transform : BodyTransform) → ValueSource
 
 -- A test without tests in it (RFC 5228, section 5): it compares values with keys (section 2.7), looks at the message, or asks what the
 -- server has: mailboxes (RFC 5490, section 3.1), or the message before (RFC 7352, section 3). By what it would know that one isn't read:

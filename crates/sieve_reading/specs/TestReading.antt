@@ -1,4 +1,4 @@
--- How a test is read (RFC 5228, section 5; RFC 5229, section 5; RFC 5232, section 4; RFC 5490, section 3.1; RFC 7352, section 3; RFC 5260, sections 4 and 5), by its arguments and their labels.
+-- How a test is read (RFC 5228, section 5; RFC 5229, section 5; RFC 5232, section 4; RFC 5490, section 3.1; RFC 7352, section 3; RFC 5260, sections 4 and 5; RFC 5173, section 4), by its arguments and their labels.
 use Rattle.std.specs.Prelude.{ℕ, List, Option, None, Some}
 use Rattle.std.specs.Option.{option_map}
 use Rattle.sieve_table.specs.Table.{test_named, test_row}
@@ -14,7 +14,7 @@ use Rattle.sieve_table.specs.declared.table.TestKind.{TestKind}
 use Rattle.sieve_table.specs.declared.table.TestKind.TheVariants as test_kind
 use Rattle.sieve_reading.specs.Given.{Tags, tags_of, in_role, texts_in, text_in, given_text, given_texts, number_in, collation_by, relation_by, match_type_of, address_part_of}
 use Rattle.sieve_reading.specs.Shape.{row_labels}
-use Rattle.sieve_reading.specs.Reading.{DateZone, local_zone, original_zone, named_zone, ValueSource, header_values, address_values, envelope_values, string_values, flag_values, date_values, clock_values, Ask, compares, exists_ask, over_ask, under_ask, mailboxes_ask, duplicate_ask, TestReading, reads_always, reads_never, reads_ask, reads_all, reads_any, reads_not}
+use Rattle.sieve_reading.specs.Reading.{BodyTransform, raw_transform, content_transform, text_transform, DateZone, local_zone, original_zone, named_zone, ValueSource, header_values, address_values, envelope_values, string_values, flag_values, date_values, clock_values, body_values, Ask, compares, exists_ask, over_ask, under_ask, mailboxes_ask, duplicate_ask, TestReading, reads_always, reads_never, reads_ask, reads_all, reads_any, reads_not}
 
 -- how a test compares (RFC 5228, section 2.7; RFC 5231, section 4)
 abbrev pub comparison_by : List Label → List Argument → Comparison
@@ -69,6 +69,20 @@ date_source labels args = date_values (date_zone labels args) (text_in (in_role 
 abbrev pub clock_source : List Label → List Argument → ValueSource
 clock_source labels args = clock_values (date_zone labels args) (text_in (in_role role.DatePart labels args))
 
+-- what is taken of a body: all of it under `:raw`, else what `:content` names, and else the texts (RFC 5173, sections 4 and 5); a script without
+-- a breach has entries under `:content`, and nowhere else
+abbrev pub transform_by : Option Tag → (named : Option (List (List Part))) → BodyTransform
+transform_by (Some tag.Raw) named = raw_transform
+transform_by other (Some entries) = content_transform entries
+transform_by other None = text_transform
+
+unfoldable pub transform_of : Tags → (named : Option (List (List Part))) → BodyTransform
+transform_of tags named = transform_by (tags kind.BodyTransform) named
+
+-- a `body` test (RFC 5173, section 4)
+abbrev pub body_source : List Label → List Argument → ValueSource
+body_source labels args = body_values (transform_of (tags_of labels) (given_texts (in_role role.ContentTypes labels args)))
+
 -- what an `exists` test asks (RFC 5228, section 5.5)
 abbrev pub exists_by : List Label → List Argument → Ask
 exists_by labels args = exists_ask (texts_in (in_role role.FieldNames labels args))
@@ -105,6 +119,7 @@ test_reading_by test_kind.MailboxExists labels args = reads_ask (mailboxes_by la
 test_reading_by test_kind.Duplicate labels args = reads_ask duplicate_ask
 test_reading_by test_kind.Date labels args = reads_ask (compares_by (date_source labels args) labels args)
 test_reading_by test_kind.CurrentDate labels args = reads_ask (compares_by (clock_source labels args) labels args)
+test_reading_by test_kind.Body labels args = reads_ask (compares_by (body_source labels args) labels args)
 
 -- what a test of a kind is with these arguments
 abbrev pub test_kind_reading : TestKind → List Argument → TestReading

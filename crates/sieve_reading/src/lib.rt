@@ -19,8 +19,8 @@ pub use command_reading::read_command;
 pub use given::literal_in_parts;
 pub use label::Label;
 pub use reading::{
-    Ask, CommandReading, Comparison, DateZone, FlagChange, Leaf, MatchType, Rejection, Settings,
-    TestReading, Vacation, ValueSource,
+    Ask, BodyTransform, CommandReading, Comparison, DateZone, FlagChange, Leaf, MatchType,
+    Rejection, Settings, TestReading, Vacation, ValueSource,
 };
 pub use role::role_of;
 pub use shape::{AsOctets, AsParts, RowLabels, StringView, known_labels};

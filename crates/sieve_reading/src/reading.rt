@@ -44,6 +44,20 @@ pub enum DateZone {
     Named(Parts),
 }
 
+/// What is taken of a body (RFC 5173, section 5).
+#[derive(Drop)]
+pub enum BodyTransform {
+    /// All of it as it stands.
+    Raw,
+    /// The contents of some types.
+    Content {
+        /// The entries that name them.
+        entries: Vec<Text>,
+    },
+    /// Its texts.
+    Text,
+}
+
 /// Where a test takes values from.
 #[derive(Drop)]
 pub enum ValueSource {
@@ -91,6 +105,11 @@ pub enum ValueSource {
         zone: DateZone,
         /// Which part of the date, as its parts.
         part: Parts,
+    },
+    /// From the body of the message (RFC 5173, section 4).
+    Body {
+        /// What is taken of it.
+        transform: BodyTransform,
     },
 }
 

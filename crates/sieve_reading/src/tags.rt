@@ -10,7 +10,7 @@ use sieve_syntax::Argument;
 use sieve_table::{Row, Tag, TagKind, tag_named};
 
 /// How many kinds of tags there are.
-const KINDS: usize = 25;
+const KINDS: usize = 26;
 
 /// The tags among arguments: of each kind the first, if there is one.
 #[derive(Clone, Copy)]

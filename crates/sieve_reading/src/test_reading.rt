@@ -1,10 +1,11 @@
 //! How a test is read (RFC 5228, section 5; RFC 5229, section 5; RFC 5232, section 4; RFC 5490, section 3.1; RFC 7352,
-//! section 3; RFC 5260, sections 4 and 5).
+//! section 3; RFC 5260, sections 4 and 5; RFC 5173, section 4).
 ghost use Rattle.std.specs.Prelude.{◌≡◌, map};
+ghost use Rattle.std.specs.Option.{option_map};
 ghost use Rattle.sieve_reading.specs.Given.{tags_of};
 ghost use Rattle.sieve_reading.specs.TestReading as spec;
 ghost use Rattle.sieve_reading.specs.view.Labels.{labels_in};
-ghost use Rattle.sieve_reading.specs.view.Reading.{ask_as, source_as, test_reading_as};
+ghost use Rattle.sieve_reading.specs.view.Reading.{ask_as, source_as, test_reading_as, texts_as, transform_as};
 ghost use Rattle.sieve_reading.specs.view.Tags.{tags_as};
 ghost use Rattle.sieve_reading.specs.view.Tree.{argument_of};
 
@@ -13,9 +14,9 @@ use crate::given::{
     address_part_of, collation_by, given_texts, match_type_of, number_in, texts_in,
 };
 use crate::labelled::{argument_in, into_argument, into_arguments};
-use crate::reading::{Ask, Comparison, TestReading, ValueSource};
+use crate::reading::{Ask, BodyTransform, Comparison, TestReading, ValueSource};
 use crate::tags::Tags;
-use sieve_syntax::Argument;
+use sieve_syntax::{Argument, Text};
 use sieve_table::{Role, Row, Tag, TagKind, TestKind};
 use std::alloc::Global;
 
@@ -109,6 +110,41 @@ fn flag_ask(alloc: Global, row: &Row, args: Vec<Argument>) -> Ask
     }
 }
 
+/// What is taken of a body, by a tag and the entries that `:content` takes.
+fn transform_by(tag: Option<Tag>, named: Option<Vec<Text>>) -> BodyTransform
+    ensures { transform_as result ≡ spec.transform_by tag (option_map (λ texts. texts_as texts.items) named) }
+{
+    match (tag, named) {
+        (Some(Tag::Raw), _) => BodyTransform::Raw,
+        (_, Some(entries)) => BodyTransform::Content { entries },
+        (_, None) => BodyTransform::Text,
+    }
+}
+
+/// What is taken of a body.
+#[tactic(auto, unfolding(crate::specs::TestReading::transform_of))]
+fn transform_of(tags: Tags, named: Option<Vec<Text>>) -> BodyTransform
+    ensures { transform_as result ≡ spec.transform_of (tags_as tags) (option_map (λ texts. texts_as texts.items) named) }
+{
+    transform_by(tags.of(TagKind::BodyTransform), named)
+}
+
+/// What a `body` test asks.
+fn body_ask(alloc: Global, row: &Row, args: Vec<Argument>) -> Ask
+    ensures { ask_as result ≡ (let labels = labels_in row.now args.items in spec.compares_by (spec.body_source labels (map argument_of args.items)) labels (map argument_of args.items)) }
+{
+    let tags = Tags::among(row, &args);
+    let comparison = comparison_of(tags, row, &args);
+    let (entries, keys) = into_arguments(row, Role::ContentTypes, Role::Keys, args);
+    Ask::Compares {
+        source: ValueSource::Body {
+            transform: transform_of(tags, given_texts(alloc, entries)),
+        },
+        comparison,
+        keys: texts_in(alloc, keys),
+    }
+}
+
 /// What an `exists` test asks.
 fn exists_ask(alloc: Global, row: &Row, args: Vec<Argument>) -> Ask
     ensures { ask_as result ≡ spec.exists_by (labels_in row.now args.items) (map argument_of args.items) }
@@ -172,6 +208,7 @@ fn reading_by(alloc: Global, kind: TestKind, row: &Row, args: Vec<Argument>) -> 
         TestKind::Duplicate => Ask::Duplicate,
         TestKind::Date => date_ask(alloc, row, args),
         TestKind::CurrentDate => current_date_ask(alloc, row, args),
+        TestKind::Body => body_ask(alloc, row, args),
     };
     TestReading::Asks(ask)
 }

@@ -6,11 +6,11 @@ use denote.Enum.Bare.{sameb}
 use Rattle.sieve_profile.specs.Every.{every}
 use Rattle.sieve_table.specs.contracts.capability.Capability.{enum, the_type}
 use Rattle.sieve_table.specs.declared.capability.Capability.{Capability}
-use Rattle.sieve_table.specs.declared.capability.Capability.TheVariants.{Fileinto, Envelope, Variables, Imap4flags, Include, Copy, Subaddress, Mailbox, SpecialUse, Duplicate, Relational, EncodedCharacter, Vacation, Reject, Ereject, Date, OctetComparator, CasemapComparator, NumericComparator}
+use Rattle.sieve_table.specs.declared.capability.Capability.TheVariants.{Fileinto, Envelope, Variables, Imap4flags, Include, Copy, Subaddress, Mailbox, SpecialUse, Duplicate, Relational, EncodedCharacter, Vacation, Reject, Ereject, Date, Body, OctetComparator, CasemapComparator, NumericComparator}
 
 -- the string that names one in a `require` (RFC 5228, sections 4.1 and 5.4; RFC 5229, section 2; RFC 5232, section 1; RFC
 -- 6609, section 3.1; RFC 3894, section 2; RFC 5233, section 3; RFC 5490, section 3; RFC 8579, section 5; RFC 7352, section 4; RFC
--- 5231, section 2; RFC 5228, section 2.4.2.4; RFC 5230, section 3; RFC 5429, sections 2.1 and 2.2; RFC 5260, section 3; comparators: RFC 5228, section 2.7.3,
+-- 5231, section 2; RFC 5228, section 2.4.2.4; RFC 5230, section 3; RFC 5429, sections 2.1 and 2.2; RFC 5260, section 3; RFC 5173, section 3; comparators: RFC 5228, section 2.7.3,
 -- and RFC 4790, section 9.1)
 abbrev pub capability_name : Capability → List ℕ
 capability_name Fileinto = codes "fileinto"
@@ -29,6 +29,7 @@ capability_name Vacation = codes "vacation"
 capability_name Reject = codes "reject"
 capability_name Ereject = codes "ereject"
 capability_name Date = codes "date"
+capability_name Body = codes "body"
 capability_name OctetComparator = codes "comparator-i;octet"
 capability_name CasemapComparator = codes "comparator-i;ascii-casemap"
 capability_name NumericComparator = codes "comparator-i;ascii-numeric"

@@ -31,6 +31,7 @@ extension_of capability.Vacation = Some extension.Vacation
 extension_of capability.Reject = Some extension.Reject
 extension_of capability.Ereject = Some extension.Ereject
 extension_of capability.Date = Some extension.Date
+extension_of capability.Body = Some extension.Body
 extension_of capability.OctetComparator = None
 extension_of capability.CasemapComparator = None
 extension_of capability.NumericComparator = Some extension.AsciiNumeric

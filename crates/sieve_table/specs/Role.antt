@@ -47,4 +47,5 @@ is_expanded role.OwnAddresses = true
 is_expanded role.Handle = true
 is_expanded role.Zone = true
 is_expanded role.DatePart = true
+is_expanded role.ContentTypes = true
 is_expanded role.Text = true

@@ -157,6 +157,10 @@ tag_row tag.ResponseHandle = response_tag (codes "handle") kind.Handle form.One 
 -- RFC 5260, section 4.1
 tag_row tag.Zone = taking_tag (codes "zone") kind.Zone (slot form.One role.Zone) capability.Date
 tag_row tag.OriginalZone = needing_tag (codes "originalzone") kind.Zone capability.Date
+-- RFC 5173, section 5
+tag_row tag.Raw = needing_tag (codes "raw") kind.BodyTransform capability.Body
+tag_row tag.Content = taking_tag (codes "content") kind.BodyTransform (slot form.List role.ContentTypes) capability.Body
+tag_row tag.Text = needing_tag (codes "text") kind.BodyTransform capability.Body
 -- RFC 6609, section 3.2
 tag_row tag.Personal = bare_tag (codes "personal") kind.Location
 tag_row tag.Global = bare_tag (codes "global") kind.Location
@@ -252,6 +256,8 @@ test_row test.Duplicate = record (bare (codes "duplicate")) { tags = tag.Handle 
 -- RFC 5260, sections 4 and 5
 test_row test.Date = record (bare (codes "date")) { tags = tag.Zone ∷ tag.OriginalZone ∷ comparing_tags; slots = slot form.One role.FieldNames ∷ slot form.One role.DatePart ∷ slot form.List role.Keys ∷ []; needs = capability.Date ∷ [] }
 test_row test.CurrentDate = record (bare (codes "currentdate")) { tags = tag.Zone ∷ comparing_tags; slots = slot form.One role.DatePart ∷ slot form.List role.Keys ∷ []; needs = capability.Date ∷ [] }
+-- RFC 5173, section 4
+test_row test.Body = record (bare (codes "body")) { tags = tag.Raw ∷ tag.Content ∷ tag.Text ∷ comparing_tags; slots = slot form.List role.Keys ∷ []; needs = capability.Body ∷ [] }
 
 -- THE LOOK-UP
 

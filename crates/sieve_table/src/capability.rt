@@ -37,6 +37,8 @@ pub enum Capability {
     Ereject,
     /// Dates of fields, and the current one (RFC 5260).
     Date,
+    /// What stands in the body of a message (RFC 5173).
+    Body,
     /// The comparator `i;octet` (RFC 5228, section 2.7.3).
     OctetComparator,
     /// The comparator `i;ascii-casemap` (RFC 5228, section 2.7.3).
@@ -46,7 +48,7 @@ pub enum Capability {
 }
 
 /// The capabilities that there are.
-pub(crate) const CAPABILITIES: [Capability; 19] = [
+pub(crate) const CAPABILITIES: [Capability; 20] = [
     Capability::Fileinto,
     Capability::Envelope,
     Capability::Variables,
@@ -63,6 +65,7 @@ pub(crate) const CAPABILITIES: [Capability; 19] = [
     Capability::Reject,
     Capability::Ereject,
     Capability::Date,
+    Capability::Body,
     Capability::OctetComparator,
     Capability::CasemapComparator,
     Capability::NumericComparator,
@@ -90,6 +93,7 @@ impl Capability {
             Capability::Reject => b"reject",
             Capability::Ereject => b"ereject",
             Capability::Date => b"date",
+            Capability::Body => b"body",
             Capability::OctetComparator => b"comparator-i;octet",
             Capability::CasemapComparator => b"comparator-i;ascii-casemap",
             Capability::NumericComparator => b"comparator-i;ascii-numeric",

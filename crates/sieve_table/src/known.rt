@@ -26,6 +26,7 @@ fn extension_of(capability: Capability) -> Option<Extension>
         Capability::Reject => Some(Extension::Reject),
         Capability::Ereject => Some(Extension::Ereject),
         Capability::Date => Some(Extension::Date),
+        Capability::Body => Some(Extension::Body),
         Capability::NumericComparator => Some(Extension::AsciiNumeric),
         Capability::Fileinto
         | Capability::Envelope

@@ -46,6 +46,7 @@ pub fn is_expanded(role: Role) -> bool
         | Role::Handle
         | Role::Zone
         | Role::DatePart
+        | Role::ContentTypes
         | Role::Text => true,
         Role::Capabilities
         | Role::ComparatorName

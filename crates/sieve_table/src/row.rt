@@ -65,6 +65,8 @@ pub enum Role {
     Zone,
     /// A part of a date (RFC 5260, section 4.2).
     DatePart,
+    /// Types of contents (RFC 5173, section 5.2).
+    ContentTypes,
     /// Any other text.
     Text,
 }
@@ -131,6 +133,8 @@ pub enum TagKind {
     Mime,
     /// `:zone` and `:originalzone` (RFC 5260, section 4.1).
     Zone,
+    /// `:raw`, `:content` and `:text` (RFC 5173, section 5).
+    BodyTransform,
 }
 
 /// What is said of a tag.

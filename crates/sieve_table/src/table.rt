@@ -85,6 +85,8 @@ pub enum TestKind {
     Date,
     /// `currentdate` (RFC 5260, section 5).
     CurrentDate,
+    /// `body` (RFC 5173, section 4).
+    Body,
 }
 
 /// A tag that there is.
@@ -170,6 +172,12 @@ pub enum Tag {
     Zone,
     /// `:originalzone` (RFC 5260, section 4.1).
     OriginalZone,
+    /// `:raw` (RFC 5173, section 5.1).
+    Raw,
+    /// `:content`, which takes the list after it (RFC 5173, section 5.2).
+    Content,
+    /// `:text` (RFC 5173, section 5.3).
+    Text,
 }
 
 /// All commands.
@@ -196,7 +204,7 @@ const COMMANDS: [CommandKind; 19] = [
 ];
 
 /// All tests.
-const TESTS: [TestKind; 16] = [
+const TESTS: [TestKind; 17] = [
     TestKind::Header,
     TestKind::Address,
     TestKind::Envelope,
@@ -213,6 +221,7 @@ const TESTS: [TestKind; 16] = [
     TestKind::Duplicate,
     TestKind::Date,
     TestKind::CurrentDate,
+    TestKind::Body,
 ];
 
 /// An argument of this form and role, for which nothing need be required.
@@ -367,6 +376,14 @@ impl Tag {
                 Capability::Date,
             ),
             Tag::OriginalZone => needing_tag(b"originalzone", TagKind::Zone, Capability::Date),
+            Tag::Raw => needing_tag(b"raw", TagKind::BodyTransform, Capability::Body),
+            Tag::Content => taking_tag(
+                b"content",
+                TagKind::BodyTransform,
+                slot(Form::List, Role::ContentTypes),
+                Capability::Body,
+            ),
+            Tag::Text => needing_tag(b"text", TagKind::BodyTransform, Capability::Body),
         }
     }
 }
@@ -422,6 +439,7 @@ impl TestKind {
             TestKind::Duplicate => test_rows::duplicate_row(),
             TestKind::Date => test_rows::date_row(),
             TestKind::CurrentDate => test_rows::current_date_row(),
+            TestKind::Body => test_rows::body_row(),
         }
     }
 }

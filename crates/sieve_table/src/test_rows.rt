@@ -56,6 +56,19 @@ const CLOCK_TAGS: [Tag; 7] = [
     Tag::Count,
 ];
 
+/// The tags that say what is taken of a body (RFC 5173, section 5), and those that say how values are compared.
+const BODY_TAGS: [Tag; 9] = [
+    Tag::Raw,
+    Tag::Content,
+    Tag::Text,
+    Tag::Comparator,
+    Tag::Is,
+    Tag::Contains,
+    Tag::Matches,
+    Tag::Value,
+    Tag::Count,
+];
+
 /// A list of the names of header fields.
 const FIELD_NAMES: Slot = Slot {
     form: Form::List,
@@ -311,6 +324,19 @@ pub(crate) fn current_date_row() -> Row
         tags: &CLOCK_TAGS,
         slots: &[DATE_PART, KEYS],
         needs: &[Capability::Date],
+        ..BARE
+    }
+}
+
+/// `body` (RFC 5173, section 4).
+pub(crate) fn body_row() -> Row
+    ensures { row_as result ≡ test_row test.Body }
+{
+    Row {
+        name: b"body",
+        tags: &BODY_TAGS,
+        slots: &[KEYS],
+        needs: &[Capability::Body],
         ..BARE
     }
 }

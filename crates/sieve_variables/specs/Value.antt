@@ -14,7 +14,7 @@ pub record Values : Type 0 where
   pub locals : List (List ℕ × List ℕ)
   -- the variables that scripts share, and that the run has set (RFC 6609, section 3.4)
   pub globals : List (List ℕ × List ℕ)
-  -- what the last successful `:matches` of the script gave: the whole value, and what each wildcard took (RFC 5229, section 3.2)
+  -- what the last successful `:matches` of the script gave that sets match variables: the whole value, and what each wildcard took (RFC 5229, section 3.2)
   pub matched : List (List ℕ)
 
 -- the values at the start of a run

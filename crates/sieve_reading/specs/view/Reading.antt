@@ -6,6 +6,8 @@ use Rattle.sieve_reading.specs.view.Tree.{text_of}
 use Rattle.sieve_variables.specs.Part.{Part}
 use Rattle.sieve_reading.specs.declared.reading.Ask.{Ask}
 use Rattle.sieve_reading.specs.declared.reading.Ask.TheVariants.{Compares, Exists, Over, Under, MailboxExists, Duplicate}
+use Rattle.sieve_reading.specs.declared.reading.BodyTransform.{BodyTransform}
+use Rattle.sieve_reading.specs.declared.reading.BodyTransform.TheVariants as transform
 use Rattle.sieve_reading.specs.declared.reading.DateZone.{DateZone}
 use Rattle.sieve_reading.specs.declared.reading.DateZone.TheVariants as zone
 use Rattle.sieve_reading.specs.declared.reading.CommandReading.{CommandReading}
@@ -29,6 +31,11 @@ date_zone_as zone.Local = reading.local_zone
 date_zone_as zone.Original = reading.original_zone
 date_zone_as (zone.Named named) = reading.named_zone named
 
+abbrev pub transform_as : BodyTransform → reading.BodyTransform
+transform_as transform.Raw = reading.raw_transform
+transform_as (transform.Content entries) = reading.content_transform (texts_as entries.items)
+transform_as transform.Text = reading.text_transform
+
 abbrev pub source_as : ValueSource → reading.ValueSource
 source_as (source.Header names) = reading.header_values (texts_as names.items)
 source_as (source.Address part names) = reading.address_values part (texts_as names.items)
@@ -37,6 +44,7 @@ source_as (source.String texts) = reading.string_values (texts_as texts.items)
 source_as (source.Flags variables) = reading.flag_values (option_map (λ texts. texts_as texts.items) variables)
 source_as (source.Date zone field part) = reading.date_values (date_zone_as zone) field part
 source_as (source.CurrentDate zone part) = reading.clock_values (date_zone_as zone) part
+source_as (source.Body transform) = reading.body_values (transform_as transform)
 
 abbrev pub ask_as : Ask → reading.Ask
 ask_as (Compares source comparison keys) = reading.compares (source_as source) comparison (texts_as keys.items)

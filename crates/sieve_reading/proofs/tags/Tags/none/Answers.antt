@@ -7,4 +7,4 @@ use Rattle.sieve_reading.proofs.tags.Tags.none.Goals as goal
 
 pub returns : goal.returns
 unfolding tags_as
-returns c = λ i kind. none_at (None ∷ None ∷ None ∷ None ∷ None ∷ None ∷ None ∷ None ∷ None ∷ None ∷ None ∷ None ∷ None ∷ None ∷ None ∷ None ∷ None ∷ None ∷ None ∷ None ∷ None ∷ None ∷ None ∷ None ∷ None ∷ []) (tag_of the_type kind) refl i
+returns c = λ i kind. none_at (None ∷ None ∷ None ∷ None ∷ None ∷ None ∷ None ∷ None ∷ None ∷ None ∷ None ∷ None ∷ None ∷ None ∷ None ∷ None ∷ None ∷ None ∷ None ∷ None ∷ None ∷ None ∷ None ∷ None ∷ None ∷ None ∷ []) (tag_of the_type kind) refl i

@@ -7,4 +7,4 @@ use Rattle.sieve_table.proofs.required.Required.nothing.Goals as goal
 
 pub returns : goal.returns
 unfolding required_as
-returns c = λ i capability. none_at (false ∷ false ∷ false ∷ false ∷ false ∷ false ∷ false ∷ false ∷ false ∷ false ∷ false ∷ false ∷ false ∷ false ∷ false ∷ false ∷ false ∷ false ∷ false ∷ []) (tag_of the_type capability) refl i
+returns c = λ i capability. none_at (false ∷ false ∷ false ∷ false ∷ false ∷ false ∷ false ∷ false ∷ false ∷ false ∷ false ∷ false ∷ false ∷ false ∷ false ∷ false ∷ false ∷ false ∷ false ∷ false ∷ []) (tag_of the_type capability) refl i
