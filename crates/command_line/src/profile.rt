@@ -33,6 +33,7 @@ fn name_text(extension: Extension) -> &'static str {
 // What an extension brings, in a few words for help.
 fn brings(extension: Extension) -> &'static str {
     match extension {
+        Extension::Body => "the test body, of what a message is made of (RFC 5173)",
         Extension::Charsets => "encoded words of further charsets are decoded",
         Extension::AsciiNumeric => "the comparator i;ascii-numeric (RFC 4790)",
         Extension::Date => "dates of fields, and the current date (RFC 5260)",

@@ -8,6 +8,7 @@
 mod benches;
 mod dates;
 mod edits;
+mod entities;
 mod flags;
 mod mails;
 mod reports;

@@ -1,7 +1,8 @@
 //! Runs of scripts on a mail, without a bench.
 
+use crate::entities;
 use crate::telling::{Host, mark, personal, prepared, tell_done, tell_outcome, tell_refused};
-use sieve_profile::Profile;
+use sieve_profile::{Extension, Profile};
 use sieve_run::{
     Envelope, Found, Library, Message, Meter, Octets, Outcome, ScriptName, Shelf, run,
 };
@@ -37,6 +38,10 @@ pub(crate) const LIB: &[u8] = b"require [\"include\", \"variables\"];
 set \"global.box\" \"${global.box}Lists\"; set \"own\" \"lost\"; return; stop;
 ";
 
+const BODY: &[u8] = b"require [\"body\", \"fileinto\"];
+if allof (body :contains \"held\", body :content [\"multipart\", \"message\"] :contains \"before\", body :raw :contains \"rfc822\") { fileinto \"Box\"; }
+";
+
 pub(crate) const FAILS: &[u8] = b"require \"include\"; discard; include \"lib\";";
 
 pub(crate) const BAD: &[u8] = b"keep;\nredirect \"nobody\";";
@@ -66,7 +71,14 @@ pub(crate) fn tell_found(rt: &impl Print, found: &Found<'_>) -> io::Result<()> {
 pub(crate) fn run_texts(rt: &impl Host, text: &[u8], lib: &[u8]) -> io::Result<()> {
     let mut shelf = Shelf::new(rt.alloc(), Profile::new());
     fill(rt, &mut shelf, text, lib)?;
-    run_shelf(rt, &shelf)
+    run_shelf(rt, &shelf, MAIL)
+}
+
+/// Runs a script that looks into a mail.
+pub(crate) fn run_body(rt: &impl Host) -> io::Result<()> {
+    let mut shelf = Shelf::new(rt.alloc(), Profile::new().with(Extension::Body));
+    fill(rt, &mut shelf, BODY, LIB)?;
+    run_shelf(rt, &shelf, entities::MAIL)
 }
 
 fn fill(rt: &impl Host, shelf: &mut Shelf, text: &[u8], lib: &[u8]) -> Result<(), AllocError> {
@@ -76,10 +88,10 @@ fn fill(rt: &impl Host, shelf: &mut Shelf, text: &[u8], lib: &[u8]) -> Result<()
     shelf.add(&other, lib)
 }
 
-fn run_shelf(rt: &impl Host, shelf: &Shelf) -> io::Result<()> {
+fn run_shelf(rt: &impl Host, shelf: &Shelf, octets: &[u8]) -> io::Result<()> {
     let main = personal(rt, b"main")?;
     let envelope = envelope_of(rt)?;
-    let octets = Vec::from_slice(rt.alloc(), MAIL)?;
+    let octets = Vec::from_slice(rt.alloc(), octets)?;
     let mail = prepared(Message::new(rt.alloc(), octets))?;
     tell_run(rt, shelf, &main, (&envelope, &mail))
 }

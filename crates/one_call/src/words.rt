@@ -1,7 +1,7 @@
 //! The words, each with its call.
 
 use crate::telling::Host;
-use crate::{dates, edits, flags, mails, reports, runs, scripts, texts, values};
+use crate::{dates, edits, entities, flags, mails, reports, runs, scripts, texts, values};
 use std::io;
 
 const WORDS: &str =
@@ -9,10 +9,11 @@ const WORDS: &str =
     flags_of union without FlagList::add FlagList::add/held \
     FlagList::add_text FlagList::add_text/held FlagList \
     Message::new Message::new/bare Message::value Message::decoded decoded_value decoded_value/unknown addresses \
+    entities_of TransferEncoding::octets_of Entity::text Entity \
     Message Message::value/unfolded Message::decoded/plain Address date clock \
     tokens parse parse/faulty check judge judge/faulty compile dump_text Checked Code write_quoted \
     parts_of_text Values::set Values::expanded_string Values \
-    Shelf::add run/tests run/variables run/flags run/includes run/error Shelf Outcome \
+    Shelf::add run/tests run/body run/variables run/flags run/includes run/error Shelf Outcome \
     put_script put_script/new keep_script put_message put_message/new keep_message rename_script \
     set_main set_envelope set_mailbox set_mailboxes keep_mailboxes set_message_envelope set_expected \
     keep_expected remove_script remove_message clear_main clear_expected clear_message_envelope set_clock clear_clock \
@@ -66,6 +67,10 @@ fn call_texts(rt: &impl Host, word: &str) -> Option<io::Result<()>> {
         "Message::value/unfolded" => mails::ask_value(rt, mails::PLAIN),
         "Message::decoded/plain" => mails::ask_decoded(rt, mails::PLAIN),
         "Address" => mails::ask_address(rt),
+        "entities_of" => entities::read(rt),
+        "TransferEncoding::octets_of" => entities::undo(rt),
+        "Entity::text" => entities::read_text(rt),
+        "Entity" => entities::ask(rt),
         "date" => dates::show_date(rt, dates::DATE),
         "clock" => dates::show_clock(rt, dates::CLOCK),
         _ => return None,
@@ -92,6 +97,7 @@ fn call_scripts(rt: &impl Host, word: &str) -> Option<io::Result<()>> {
         "Values" => values::ask(rt),
         "Shelf::add" => runs::add(rt),
         "run/tests" => runs::run_texts(rt, runs::TESTS, runs::LIB),
+        "run/body" => runs::run_body(rt),
         "run/variables" => runs::run_texts(rt, runs::VARIABLES, runs::LIB),
         "run/flags" => runs::run_texts(rt, runs::FLAGS, runs::LIB),
         "run/includes" => runs::run_texts(rt, runs::INCLUDES, runs::LIB),

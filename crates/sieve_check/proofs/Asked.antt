@@ -5,7 +5,7 @@ use Rattle.match_text.specs.Relation.{relation_named}
 use Rattle.sieve_check.specs.Asked.{AreAlike, asked_by_command, asked_by_test, changing_flags, comparing, gives_all}
 use Rattle.sieve_reading.specs.CommandReading as commands
 use Rattle.sieve_reading.specs.Given.{address_part_of, collation_or_casemap, given_text, given_texts, has_tag, in_role, match_type_of, relation_or_eq, tags_of}
-use Rattle.sieve_reading.specs.Reading.{ValueSource, address_values, clock_values, compares, date_values, envelope_values, exists_ask, fileinto_leaf, flag_leaf, flag_values, header_values, include_leaf, keep_leaf, mailboxes_ask, reads_act, reads_ask, redirect_leaf, reject_leaf, set_leaf, string_values, vacation_leaf}
+use Rattle.sieve_reading.specs.Reading.{ValueSource, address_values, body_values, clock_values, compares, date_values, envelope_values, exists_ask, fileinto_leaf, flag_leaf, flag_values, header_values, include_leaf, keep_leaf, mailboxes_ask, reads_act, reads_ask, redirect_leaf, reject_leaf, set_leaf, string_values, vacation_leaf}
 use Rattle.sieve_reading.specs.TestReading as tests
 use Rattle.sieve_reading.specs.Tree.{Argument}
 use Rattle.sieve_reading.specs.declared.label.Label.{Label}
@@ -61,6 +61,7 @@ module _ (labels others : List Label) (args arguments : List Argument) (same_tag
   tests_alike test.Duplicate alike = refl
   tests_alike test.Date alike = compare_alike _ _ (three date_values (zone_alike alike.1.1.0) alike.0 alike.1.0) alike.1.1.1
   tests_alike test.CurrentDate alike = compare_alike _ _ (two clock_values (zone_alike alike.1.0) alike.0) alike.1.1
+  tests_alike test.Body alike = compare_alike _ _ (two (λ t named. body_values (tests.transform_of t named)) same_tags alike.0) alike.1
 
   settings_alike : given_texts (in_role role.Flags labels args) ≡ given_texts (in_role role.Flags others arguments) → given_text (in_role role.Text labels args) ≡ given_text (in_role role.Text others arguments)
       → commands.settings_by labels args ≡ commands.settings_by others arguments

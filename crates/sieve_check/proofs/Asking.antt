@@ -28,6 +28,7 @@ named_alike capability.Vacation name is = ap extension_name (one_of extension.Va
 named_alike capability.Reject name is = ap extension_name (one_of extension.Reject name is)
 named_alike capability.Ereject name is = ap extension_name (one_of extension.Ereject name is)
 named_alike capability.Date name is = ap extension_name (one_of extension.Date name is)
+named_alike capability.Body name is = ap extension_name (one_of extension.Body name is)
 named_alike capability.OctetComparator name is = absurd cc
 named_alike capability.CasemapComparator name is = absurd cc
 named_alike capability.NumericComparator name is = ap extension_name (one_of extension.AsciiNumeric name is)

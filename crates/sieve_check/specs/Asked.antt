@@ -1,6 +1,6 @@
 -- Which arguments the reading of a command or a test asks for (RFC 5228, sections 4 and 5; RFC 5229, sections 4 and 5; RFC 5232, sections 3 to
 -- 5; RFC 6609, section 3; RFC 5490, section 3; RFC 8579, section 4; RFC 5230, section 4; RFC 5429, section 2; RFC 5260, sections
--- 4 and 5).
+-- 4 and 5; RFC 5173, section 4).
 use Rattle.std.specs.Prelude.{◌≡◌, Bool, true, false, not, ◌&&◌, List, [], ◌∷◌, ◌++◌, Option, Some, None}
 use Rattle.std.specs.List.{filter, flat_map, list_all, list_any}
 use denote.Enum.Bare.{sameb}
@@ -72,6 +72,7 @@ asked_by_test test.MailboxExists = must texts role.Mailbox ∷ []
 asked_by_test test.Duplicate = []
 asked_by_test test.Date = must one_text role.FieldNames ∷ must one_text role.DatePart ∷ may one_text role.Zone ∷ comparing
 asked_by_test test.CurrentDate = must one_text role.DatePart ∷ may one_text role.Zone ∷ comparing
+asked_by_test test.Body = may texts role.ContentTypes ∷ comparing
 
 -- a command that changes flags
 abbrev pub changing_flags : List Asked

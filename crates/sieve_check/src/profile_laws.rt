@@ -26,11 +26,11 @@ pub fn the_empty_profile_knows_what_each_bench_does()
         ≡ tag.Comparator ∷ tag.Is ∷ tag.Contains ∷ tag.Matches ∷ tag.All ∷ tag.LocalPart ∷ tag.Domain ∷ tag.Over ∷ tag.Under ∷ tag.Lower ∷ tag.Upper ∷ tag.LowerFirst ∷ tag.UpperFirst ∷ tag.QuoteWildcard ∷ tag.Length ∷ tag.Flags ∷ tag.Personal ∷ tag.Global ∷ tag.Once ∷ tag.Optional ∷ tag.Copy ∷ [] }
 {}
 
-/// The names of a profile stand in this order, that of their letters. A capability that needs one has its name; these eleven do, and the other names are of no
+/// The names of a profile stand in this order, that of their letters. A capability that needs one has its name; these twelve do, and the other names are of no
 /// capability.
 #[tactic(auto, using(crate::proofs::Asking::named_alike))]
 pub fn capabilities_are_asked_for_by_their_names()
-    ensures order { extensions ≡ extension.Charsets ∷ extension.AsciiNumeric ∷ extension.Date ∷ extension.Duplicate ∷ extension.EncodedCharacter ∷ extension.Envelopes ∷ extension.Ereject ∷ extension.Lines ∷ extension.Mailbox ∷ extension.Reject ∷ extension.Relational ∷ extension.SpecialUse ∷ extension.Subaddress ∷ extension.Unused ∷ extension.Vacation ∷ [] }
+    ensures order { extensions ≡ extension.Body ∷ extension.Charsets ∷ extension.AsciiNumeric ∷ extension.Date ∷ extension.Duplicate ∷ extension.EncodedCharacter ∷ extension.Envelopes ∷ extension.Ereject ∷ extension.Lines ∷ extension.Mailbox ∷ extension.Reject ∷ extension.Relational ∷ extension.SpecialUse ∷ extension.Subaddress ∷ extension.Unused ∷ extension.Vacation ∷ [] }
     ensures alike { (capability : Capability) (name : Extension) → extension_of capability ≡ Some name → capability_name capability ≡ extension_name name }
-    ensures names { filter_map extension_of capabilities ≡ extension.Subaddress ∷ extension.Mailbox ∷ extension.SpecialUse ∷ extension.Duplicate ∷ extension.Relational ∷ extension.EncodedCharacter ∷ extension.Vacation ∷ extension.Reject ∷ extension.Ereject ∷ extension.Date ∷ extension.AsciiNumeric ∷ [] }
+    ensures names { filter_map extension_of capabilities ≡ extension.Subaddress ∷ extension.Mailbox ∷ extension.SpecialUse ∷ extension.Duplicate ∷ extension.Relational ∷ extension.EncodedCharacter ∷ extension.Vacation ∷ extension.Reject ∷ extension.Ereject ∷ extension.Date ∷ extension.Body ∷ extension.AsciiNumeric ∷ [] }
 {}

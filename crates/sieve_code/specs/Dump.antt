@@ -9,7 +9,7 @@ use Rattle.sieve_base.specs.Writers.{quoted}
 use Rattle.sieve_base.specs.declared.place.Place.{Place}
 use Rattle.message_text.specs.declared.addressing.AddressPart.{AddressPart}
 use Rattle.message_text.specs.declared.addressing.AddressPart.TheVariants as address_part
-use Rattle.sieve_reading.specs.Reading.{DateZone, local_zone, original_zone, named_zone, header_values, address_values, envelope_values, string_values, flag_values, date_values, clock_values, ValueSource, Ask, compares, exists_ask, over_ask, under_ask, mailboxes_ask, duplicate_ask, Settings, Vacation, Leaf, keep_leaf, fileinto_leaf, redirect_leaf, discard_leaf, set_leaf, flag_leaf, include_leaf, vacation_leaf, reject_leaf, rejection_word}
+use Rattle.sieve_reading.specs.Reading.{BodyTransform, raw_transform, content_transform, text_transform, DateZone, local_zone, original_zone, named_zone, header_values, address_values, envelope_values, string_values, flag_values, date_values, clock_values, body_values, ValueSource, Ask, compares, exists_ask, over_ask, under_ask, mailboxes_ask, duplicate_ask, Settings, Vacation, Leaf, keep_leaf, fileinto_leaf, redirect_leaf, discard_leaf, set_leaf, flag_leaf, include_leaf, vacation_leaf, reject_leaf, rejection_word}
 use Rattle.sieve_reading.specs.declared.reading.Comparison.{Comparison}
 use Rattle.sieve_reading.specs.declared.reading.FlagChange.{FlagChange}
 use Rattle.sieve_reading.specs.declared.reading.FlagChange.TheVariants as change
@@ -102,6 +102,12 @@ further_string string = codes " " ++ string_text string
 unfoldable pub date_words : List ℕ → Comparison → DateZone → List ℕ
 date_words test comparison zone = comparing_words test comparison ++ zone_words zone
 
+-- what is taken of a body
+unfoldable pub transform_words : BodyTransform → List ℕ
+transform_words raw_transform = codes " raw"
+transform_words (content_transform entries) = codes " content" ++ further_list entries
+transform_words text_transform = codes " text"
+
 -- how a test compares, and its values
 unfoldable pub source_text : ValueSource → Comparison → List ℕ
 source_text (header_values names) comparison = comparing_words (codes "header") comparison ++ further_list names
@@ -111,6 +117,7 @@ source_text (string_values texts) comparison = comparing_words (codes "string") 
 source_text (flag_values variables) comparison = comparing_words (codes "hasflag") comparison ++ internal_list variables
 source_text (date_values zone field part) comparison = date_words (codes "date") comparison zone ++ (further_string field ++ further_string part)
 source_text (clock_values zone part) comparison = date_words (codes "currentdate") comparison zone ++ further_string part
+source_text (body_values transform) comparison = comparing_words (codes "body") comparison ++ transform_words transform
 
 unfoldable pub ask_text : Ask → List ℕ
 ask_text (compares source comparison keys) = source_text source comparison ++ further_list keys

@@ -18,7 +18,7 @@ use crate::op::{
 use crate::pools::{Pools, Target};
 use match_text::Collation;
 use sieve_base::{Sink, WriteFault};
-use sieve_effects::{FieldNames, SettingsOp, SourceOp, Strings, VacationOp, ZoneOp};
+use sieve_effects::{BodyOp, FieldNames, SettingsOp, SourceOp, Strings, VacationOp, ZoneOp};
 use sieve_reading::{Comparison, MatchType};
 use sieve_variables::{Part, Variable};
 
@@ -229,6 +229,17 @@ impl Code {
             },
             SourceKind::Date => self.date(place),
             SourceKind::CurrentDate => self.current_date(place),
+            SourceKind::RawBody => SourceOp::Body {
+                transform: BodyOp::Raw,
+            },
+            SourceKind::BodyContent => SourceOp::Body {
+                transform: BodyOp::Content {
+                    entries: self.list(place),
+                },
+            },
+            SourceKind::BodyText => SourceOp::Body {
+                transform: BodyOp::Text,
+            },
         }
     }
 

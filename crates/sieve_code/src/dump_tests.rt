@@ -2,14 +2,14 @@
 ghost use Rattle.std.specs.Prelude.{◌≡◌, ◌++◌, codes};
 ghost use Rattle.match_text.specs.Relation.{relation_word};
 ghost use Rattle.sieve_base.specs.Writers.{Writes};
-ghost use Rattle.sieve_code.specs.Dump.{address_part_word, address_words, collation_word, comparing_words, date_words, further_list, further_string, internal_list, match_word, source_text, zone_words};
-ghost use Rattle.sieve_effects.specs.view.Ops.{source_op_as, zone_op_as};
+ghost use Rattle.sieve_code.specs.Dump.{address_part_word, address_words, collation_word, comparing_words, date_words, further_list, further_string, internal_list, match_word, source_text, transform_words, zone_words};
+ghost use Rattle.sieve_effects.specs.view.Ops.{body_op_as, source_op_as, zone_op_as};
 
 use crate::dump_strings::{write_further_list, write_string};
 use match_text::{Collation, Relation};
 use message_text::AddressPart;
 use sieve_base::{Piece, Sink, WriteFault, write_out, write_pieces};
-use sieve_effects::{SourceOp, Strings, ZoneOp};
+use sieve_effects::{BodyOp, SourceOp, Strings, ZoneOp};
 use sieve_reading::{Comparison, MatchType};
 use sieve_variables::Part;
 
@@ -248,6 +248,40 @@ fn write_current_date<W: Sink>(
     write_further_string(part, writer)
 }
 
+/// Writes that contents of some types are taken.
+#[tactic(auto, using(sieve_base::proofs::Writing::writing))]
+fn write_content<W: Sink>(entries: &Strings<'_>, writer: &mut W) -> Result<(), WriteFault>
+    ensures { Writes W.contents W.fault_count result writer.old writer.new (codes " content" ++ further_list entries.now) }
+{
+    write_out(b" content", writer)?;
+    write_further_list(entries, writer)
+}
+
+/// Writes what is taken of a body.
+#[tactic(auto, unfolding(crate::specs::Dump::transform_words))]
+fn write_transform<W: Sink>(transform: &BodyOp<'_>, writer: &mut W) -> Result<(), WriteFault>
+    ensures { Writes W.contents W.fault_count result writer.old writer.new (transform_words (body_op_as transform.now)) }
+{
+    match transform {
+        BodyOp::Raw => write_out(b" raw", writer),
+        BodyOp::Content { entries } => write_content(entries, writer),
+        BodyOp::Text => write_out(b" text", writer),
+    }
+}
+
+/// Writes a `body` with what is taken of the body.
+#[tactic(auto, using(sieve_base::proofs::Writing::writing))]
+fn write_body<W: Sink>(
+    comparison: Comparison,
+    transform: &BodyOp<'_>,
+    writer: &mut W,
+) -> Result<(), WriteFault>
+    ensures { Writes W.contents W.fault_count result writer.old writer.new (comparing_words (codes "body") comparison ++ transform_words (body_op_as transform.now)) }
+{
+    write_comparing(b"body", comparison, writer)?;
+    write_transform(transform, writer)
+}
+
 /// Writes how a test compares, and its values.
 #[tactic(auto, unfolding(crate::specs::Dump::source_text))]
 fn write_source<W: Sink>(
@@ -273,6 +307,7 @@ fn write_source<W: Sink>(
             write_date(comparison, zone, *field, *part, writer)
         }
         SourceOp::CurrentDate { zone, part } => write_current_date(comparison, zone, *part, writer),
+        SourceOp::Body { transform } => write_body(comparison, transform, writer),
     }
 }
 

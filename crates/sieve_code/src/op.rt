@@ -35,6 +35,12 @@ pub enum SourceKind {
     Date,
     /// From the current date (RFC 5260, section 5).
     CurrentDate,
+    /// From all of the body as it stands, without a list (RFC 5173, section 5.1).
+    RawBody,
+    /// From the contents of some types (RFC 5173, section 5.2).
+    BodyContent,
+    /// From the texts of the body, without a list (RFC 5173, section 5.3).
+    BodyText,
 }
 
 /// What a test of dates says beside its keys (RFC 5260, sections 4 and 5), whose strings lie at places.

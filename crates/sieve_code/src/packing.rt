@@ -1,7 +1,7 @@
 //! The operations of tests that ask and of commands that act, with what they say in pools.
 ghost use Rattle.std.specs.Prelude.{◌≡◌, IfOk};
-ghost use Rattle.sieve_reading.specs.Reading.{clock_values, compares, date_values, exists_ask, fileinto_leaf, flag_leaf, include_leaf, keep_leaf, mailboxes_ask, redirect_leaf, reject_leaf, set_leaf, vacation_leaf};
-ghost use Rattle.sieve_reading.specs.view.Reading.{ask_as, date_zone_as, leaf_as, settings_as, source_as, texts_as, vacation_as};
+ghost use Rattle.sieve_reading.specs.Reading.{body_values, clock_values, compares, date_values, exists_ask, fileinto_leaf, flag_leaf, include_leaf, keep_leaf, mailboxes_ask, redirect_leaf, reject_leaf, set_leaf, vacation_leaf};
+ghost use Rattle.sieve_reading.specs.view.Reading.{ask_as, date_zone_as, leaf_as, settings_as, source_as, texts_as, transform_as, vacation_as};
 ghost use Rattle.sieve_code.specs.Operation.{act_op, test_op};
 ghost use Rattle.sieve_code.specs.Pool.{Kept, date_packed_in};
 ghost use Rattle.sieve_code.specs.view.Op.{clock_in, date_in, op_in, source_in, zone_in};
@@ -11,7 +11,8 @@ use crate::op::{Inclusion, NOWHERE, Op, PackedDate, PackedTest, PackedZone, Sour
 use crate::pools::{Pools, Target};
 use sieve_base::Place;
 use sieve_reading::{
-    Ask, Comparison, DateZone, FlagChange, Leaf, Rejection, Settings, Text, Vacation, ValueSource,
+    Ask, BodyTransform, Comparison, DateZone, FlagChange, Leaf, Rejection, Settings, Text,
+    Vacation, ValueSource,
 };
 use sieve_variables::{Literal, Modifiers, Parts, Variable};
 use std::alloc::AllocError;
@@ -62,6 +63,20 @@ impl Pools {
         })
     }
 
+    /// Keeps what is taken of a body. Answers its kind, and the place of its list, if it has one.
+    fn keep_body(&mut self, transform: BodyTransform) -> Result<(SourceKind, u32), AllocError>
+        ensures { IfOk result (λ kept. Kept (pool_as self.old) (pool_as self.new) (λ p. source_in p kept.0 kept.1) (body_values (transform_as transform))) }
+    {
+        match transform {
+            BodyTransform::Raw => Ok((SourceKind::RawBody, NOWHERE)),
+            BodyTransform::Content { entries } => {
+                let place = self.keep_list(entries)?;
+                Ok((SourceKind::BodyContent, place))
+            }
+            BodyTransform::Text => Ok((SourceKind::BodyText, NOWHERE)),
+        }
+    }
+
     /// Keeps where a test takes values from. Answers its kind, and the place of its list or of what a test of dates says.
     fn keep_source(&mut self, source: ValueSource) -> Result<(SourceKind, u32), AllocError>
         ensures { IfOk result (λ kept. Kept (pool_as self.old) (pool_as self.new) (λ p. source_in p kept.0 kept.1) (source_as source)) }
@@ -95,6 +110,7 @@ impl Pools {
                 let place = self.keep_current_date(zone, part)?;
                 Ok((SourceKind::CurrentDate, place))
             }
+            ValueSource::Body { transform } => self.keep_body(transform),
         }
     }
 

@@ -10,7 +10,7 @@ use Rattle.sieve_profile.specs.Profile.{Profile}
 use Rattle.message_text.specs.Addresses.{AddrSpec, addresses_of, part_of_address, part_of_path}
 use Rattle.message_text.specs.Fields.{Field, IsNextNamed, fields_of, is_field_named}
 use Rattle.message_text.specs.declared.addressing.AddressPart.{AddressPart}
-use Rattle.sieve_reading.specs.Reading.{ValueSource, address_values, clock_values, date_values, envelope_values, flag_values, header_values, string_values}
+use Rattle.sieve_reading.specs.Reading.{ValueSource, address_values, body_values, clock_values, date_values, envelope_values, flag_values, header_values, string_values}
 use Rattle.sieve_variables.specs.Part.{Part}
 use Rattle.sieve_variables.specs.Value.{text_value}
 use Rattle.sieve_reading.specs.declared.reading.Comparison.{Comparison}
@@ -150,7 +150,7 @@ first_append : {X Y : Type 0} (f : X → Option Y) (xs ys : List X) → first_so
 first_append f [] ys = refl
 first_append f (x ∷ xs) ys = ap (option_or (f x)) (first_append f xs ys) ∙ sym (or_in_turn (f x) (first_some f xs) (first_some f ys))
 
-first_flat : {X Y Z : Type 0} (f : Y → Option Z) (g : X → List Y) (xs : List X) → first_some f (flat_map g xs) ≡ first_some (λ x. first_some f (g x)) xs
+pub first_flat : {X Y Z : Type 0} (f : Y → Option Z) (g : X → List Y) (xs : List X) → first_some f (flat_map g xs) ≡ first_some (λ x. first_some f (g x)) xs
 first_flat f g [] = refl
 first_flat f g (x ∷ xs) = first_append f (g x) (flat_map g xs) ∙ ap (option_or (first_some f (g x))) (first_flat f g xs)
 
@@ -250,6 +250,7 @@ cut_keys (string_values strings) texts cut = absurd (not_both cut)
 cut_keys (flag_values variables) texts cut = refl
 cut_keys (date_values zone field part) texts cut = absurd (not_both cut)
 cut_keys (clock_values zone part) texts cut = absurd (not_both cut)
+cut_keys (body_values transform) texts cut = absurd (not_both cut)
 
 pub whole_keys : (source : ValueSource) (texts : List (List ℕ)) → cuts_keys source ≡ false → texts ≡ keys_from source texts
 whole_keys (header_values names) texts whole = refl
@@ -259,3 +260,4 @@ whole_keys (string_values strings) texts whole = refl
 whole_keys (flag_values variables) texts whole = absurd (not_both (sym whole))
 whole_keys (date_values zone field part) texts whole = refl
 whole_keys (clock_values zone part) texts whole = refl
+whole_keys (body_values transform) texts whole = refl

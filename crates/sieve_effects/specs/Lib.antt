@@ -1,4 +1,5 @@
 pub mod Act
+pub mod Bodies
 pub mod Dates
 pub mod Delivery
 pub mod ErrorKind

@@ -1,6 +1,6 @@
 -- What tests find in a delivery: fields, addresses and parts of the envelope by name, and whether a value matches a key (RFC 5228,
 -- sections 2.7 and 5).
-use Rattle.std.specs.Prelude.{ℕ, Bool, false, ◌||◌, List, [], ◌∷◌, Option, None, Some, is_some, map, filter, length, slice_get, nat_eq, nat_lt, if◌then◌else◌, codes, decimal, option_to_list}
+use Rattle.std.specs.Prelude.{ℕ, Bool, true, false, ◌||◌, List, [], ◌∷◌, Option, None, Some, is_some, map, filter, length, slice_get, nat_eq, nat_lt, if◌then◌else◌, codes, decimal, option_to_list}
 use Rattle.std.specs.List.{filter_map, flat_map, list_any, list_all}
 use Rattle.std.specs.Option.{option_and_then, option_map, option_or}
 use Rattle.std.specs.Str.{str_eq_ignore_ascii_case}
@@ -19,11 +19,12 @@ use Rattle.message_text.specs.Fields.{Field, fields_of, is_field_named}
 use Rattle.message_text.specs.declared.addressing.AddressPart.{AddressPart}
 use Rattle.message_text.specs.declared.addressing.AddressPart.TheVariants.{All}
 use Rattle.sieve_base.specs.Octet.{is_filled}
-use Rattle.sieve_reading.specs.Reading.{ValueSource, header_values, address_values, envelope_values, string_values, flag_values, date_values, clock_values, Ask, compares, exists_ask, over_ask, under_ask, mailboxes_ask, duplicate_ask}
+use Rattle.sieve_reading.specs.Reading.{ValueSource, header_values, address_values, envelope_values, string_values, flag_values, date_values, clock_values, body_values, Ask, compares, exists_ask, over_ask, under_ask, mailboxes_ask, duplicate_ask}
 use Rattle.sieve_reading.specs.declared.reading.Comparison.{Comparison}
 use Rattle.sieve_reading.specs.declared.reading.MatchType.{MatchType}
 use Rattle.sieve_reading.specs.declared.reading.MatchType.TheVariants.{Is, Contains, Matches, Value, Count}
 use Rattle.sieve_table.specs.Address.{is_address_field}
+use Rattle.sieve_effects.specs.Bodies.{body_texts}
 use Rattle.sieve_effects.specs.Dates.{part_of_moment}
 use Rattle.sieve_effects.specs.Delivery.{Delivery, envelope_of, mailbox_names}
 use Rattle.sieve_effects.specs.State.{RunState}
@@ -31,8 +32,8 @@ use Rattle.sieve_effects.specs.declared.envelope.Envelope.{Envelope}
 use Rattle.sieve_variables.specs.Part.{Part}
 use Rattle.sieve_variables.specs.Value.{Values, text_value, with_matched}
 
--- Whether a value matches a key under a comparator (RFC 5228, section 2.7.1), and what `${0}`, `${1}` and so on are behind it (RFC 5229,
--- section 3.2): under `:matches` the value and what each wildcard took; the other match types set none of them. Under `:value` and
+-- Whether a value matches a key under a comparator (RFC 5228, section 2.7.1), and what `${0}`, `${1}` and so on are after it, where the
+-- test sets them (RFC 5229, section 3.2): under `:matches` the value and what each wildcard took; the other match types set none of them. Under `:value` and
 -- `:count` it matches where it stands in the relation to the key (RFC 5231, section 4); what `:count` compares is a number.
 abbrev pub match_by : MatchType → Collation → List ℕ → List ℕ → Option (List (List ℕ))
 match_by Is collation value key = if are_equal collation value key then Some [] else None
@@ -92,7 +93,7 @@ parts_of_envelope part (Some text) = option_to_list (part_of_path part text)
 abbrev pub envelope_named : AddressPart → Envelope → List ℕ → List (List ℕ)
 envelope_named part envelope name = parts_of_envelope part (envelope_text envelope name)
 
--- The values of a test, by names, then by fields, then by addresses; an absent field gives nothing. A test of dates has one value at
+-- The values of a test, by names, then by fields, then by addresses, and of a body by its entities, outer before inner ones; an absent field gives nothing. A test of dates has one value at
 -- most. Strings stand for what they do when the test begins.
 abbrev pub values_of : Delivery → RunState → ValueSource → List (List ℕ)
 values_of delivery state (header_values names) = flat_map (decoded_named delivery.arrival.profile (fields_of delivery.arrival.message)) (map (text_value state.values) names)
@@ -105,11 +106,12 @@ values_of delivery state (date_values zone field part) =
     option_to_list (option_and_then (part_of_moment state.values delivery.arrival.envelope.clock zone part) (date_named (fields_of delivery.arrival.message) (text_value state.values field)))
 values_of delivery state (clock_values zone part) =
     option_to_list (option_and_then (part_of_moment state.values delivery.arrival.envelope.clock zone part) (option_map moment_of delivery.arrival.envelope.clock))
+values_of delivery state (body_values transform) = body_texts state.values delivery.arrival.profile delivery.arrival.message transform
 
 -- The values that `:count` counts (RFC 5231, section 4.2): each field of each name, each address, each address of the envelope that
 -- isn't empty, each string that isn't empty (RFC 5229, section 5), and each flag (RFC 5232, section 4). An address counts whatever part of
--- it the test names, and whether it has that part or not. A test of dates counts
--- its value, where it has one.
+-- it the test names, and whether it has that part or not. A test of dates or of a body counts
+-- its values.
 abbrev pub counted_of : Delivery → RunState → ValueSource → List (List ℕ)
 counted_of delivery state (header_values names) = values_of delivery state (header_values names)
 counted_of delivery state (address_values part names) = values_of delivery state (address_values All names)
@@ -118,6 +120,7 @@ counted_of delivery state (string_values texts) = filter is_filled (values_of de
 counted_of delivery state (flag_values variables) = values_of delivery state (flag_values variables)
 counted_of delivery state (date_values zone field part) = values_of delivery state (date_values zone field part)
 counted_of delivery state (clock_values zone part) = values_of delivery state (clock_values zone part)
+counted_of delivery state (body_values transform) = values_of delivery state (body_values transform)
 
 -- what a test compares with its keys by its match type: under `:count` the number of the values alone, in decimal (RFC 5231, section 4.2)
 abbrev pub compared_of : MatchType → Delivery → RunState → ValueSource → List (List ℕ)
@@ -136,6 +139,7 @@ keys_from (string_values strings) texts = texts
 keys_from (flag_values variables) texts = flag_keys_of_texts texts
 keys_from (date_values zone field part) texts = texts
 keys_from (clock_values zone part) texts = texts
+keys_from (body_values transform) texts = texts
 
 abbrev pub keys_of : RunState → ValueSource → List (List Part) → List (List ℕ)
 keys_of state source keys = keys_from source (map (text_value state.values) keys)
@@ -169,8 +173,8 @@ first_match comparison pairs = first_some (λ pair. match_of comparison pair.val
 unfoldable pub match_found : Delivery → RunState → ValueSource → Comparison → List (List Part) → Option (List (List ℕ))
 match_found delivery state source comparison keys = first_match comparison (pairs_of (compared_of comparison.match_type delivery state source) (keys_of state source keys))
 
--- Whether what a test asks is so: header, address, envelope, string, hasflag, date and currentdate, where some pair matches (RFC 5228,
--- sections 5.7, 5.1 and 5.4; RFC 5229, section 5; RFC 5232, section 4; RFC 5260, sections 4 and 5), exists (RFC 5228, section 5.5), size (section 5.9), where a message of exactly
+-- Whether what a test asks is so: header, address, envelope, string, hasflag, date, currentdate and body, where some pair matches (RFC 5228,
+-- sections 5.7, 5.1 and 5.4; RFC 5229, section 5; RFC 5232, section 4; RFC 5260, sections 4 and 5; RFC 5173, section 4), exists (RFC 5228, section 5.5), size (section 5.9), where a message of exactly
 -- the limit's octets is neither over nor under it, mailboxexists (RFC 5490, section 3.1), and duplicate (RFC 7352, section 3), which is false,
 -- since no message was seen before.
 unfoldable pub truth_of : Delivery → RunState → Ask → Bool
@@ -181,8 +185,8 @@ truth_of delivery state (under_ask limit) = nat_lt (length delivery.arrival.mess
 truth_of delivery state (mailboxes_ask names) = list_all (has_mailbox delivery.arrival.envelope) (map (text_value state.values) names)
 truth_of delivery state duplicate_ask = false
 
--- under `:matches`, the match variables are what the first pair that matches gives; where none does, and under the other match
--- types, they stay (RFC 5229, section 3.2)
+-- Where a test sets match variables, they are under `:matches` what the first pair that matches gives; where none does, and under the other match
+-- types, they stay (RFC 5229, section 3.2).
 abbrev pub with_found : MatchType → Option (List (List ℕ)) → Values → Values
 with_found Matches (Some matched) values = with_matched matched values
 with_found Matches None values = values
@@ -191,9 +195,24 @@ with_found Contains found values = values
 with_found (Value relation) found values = values
 with_found (Count relation) found values = values
 
+-- whether what a test finds sets match variables, which that of a body doesn't (RFC 5173, section 6)
+abbrev pub sets_matched : ValueSource → Bool
+sets_matched (header_values names) = true
+sets_matched (address_values part names) = true
+sets_matched (envelope_values part names) = true
+sets_matched (string_values texts) = true
+sets_matched (flag_values variables) = true
+sets_matched (date_values zone field part) = true
+sets_matched (clock_values zone part) = true
+sets_matched (body_values transform) = false
+
+-- the variables after what a test finds
+abbrev pub with_found_in : ValueSource → MatchType → Option (List (List ℕ)) → Values → Values
+with_found_in source match_type found values = if sets_matched source then with_found match_type found values else values
+
 -- the variables behind what a test asks
 unfoldable pub values_behind : Delivery → RunState → Ask → Values
-values_behind delivery state (compares source comparison keys) = with_found comparison.match_type (match_found delivery state source comparison keys) state.values
+values_behind delivery state (compares source comparison keys) = with_found_in source comparison.match_type (match_found delivery state source comparison keys) state.values
 values_behind delivery state (exists_ask names) = state.values
 values_behind delivery state (over_ask limit) = state.values
 values_behind delivery state (under_ask limit) = state.values

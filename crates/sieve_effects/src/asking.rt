@@ -1,13 +1,14 @@
 //! What tests ask of a delivery, and what they find (RFC 5228, sections 2.7 and 5).
-ghost use Rattle.std.specs.Prelude.{◌≡◌, IfOk, decimal, length, map, nat_lt};
+ghost use Rattle.std.specs.Prelude.{◌≡◌, IfOk, decimal, is_some, length, map, nat_lt};
 ghost use Rattle.sieve_reading.specs.Reading.{compares, exists_ask};
-ghost use Rattle.sieve_effects.specs.Matching.{behind_test, compared_of, counted_of, first_match, first_some, match_found, pairs_with, truth_of, values_of};
+ghost use Rattle.sieve_effects.specs.Matching.{behind_test, compared_of, counted_of, first_match, first_some, match_found, pairs_with, sets_matched, truth_of, values_of, with_found_in};
 ghost use Rattle.sieve_effects.specs.view.Delivery.{delivery_as};
 ghost use Rattle.sieve_effects.specs.view.FieldTests.{cuts_keys, found_with, key_texts};
 ghost use Rattle.sieve_effects.specs.view.Ops.{source_op_as};
 ghost use Rattle.sieve_effects.specs.view.State.{state_of};
 ghost use Rattle.sieve_variables.specs.Value.{text_value};
 
+use crate::body_values::find_in_body;
 use crate::counting::count_in_source;
 use crate::date_values::{find_in_clock, find_in_date};
 use crate::delivery::Delivery;
@@ -55,6 +56,9 @@ fn find_in_source(
         }
         SourceOp::CurrentDate { zone, part } => {
             find_in_clock(delivery, state, zone, *part, matcher)
+        }
+        SourceOp::Body { transform } => {
+            find_in_body(delivery, fields, state, transform, matcher)
         }
     }
 }
@@ -110,7 +114,8 @@ fn cuts_keys(source: &SourceOp<'_>) -> bool
         | SourceOp::Envelope { .. }
         | SourceOp::String { .. }
         | SourceOp::Date { .. }
-        | SourceOp::CurrentDate { .. } => false,
+        | SourceOp::CurrentDate { .. }
+        | SourceOp::Body { .. } => false,
     }
 }
 
@@ -171,9 +176,42 @@ fn find_match(
     find_keyed(delivery, fields, state, source, comparison, keys)
 }
 
+/// Whether what a test finds sets match variables, which that of a body doesn't (RFC 5173, section 6).
+fn sets_matched(source: &SourceOp<'_>) -> bool
+    ensures { result ≡ sets_matched (source_op_as source.now) }
+{
+    match source {
+        SourceOp::Body { .. } => false,
+        SourceOp::Header { .. }
+        | SourceOp::Address { .. }
+        | SourceOp::Envelope { .. }
+        | SourceOp::String { .. }
+        | SourceOp::Flags { .. }
+        | SourceOp::Date { .. }
+        | SourceOp::CurrentDate { .. } => true,
+    }
+}
+
+/// Keeps what was found in a source, where that sets match variables. Answers whether something was found.
+fn keep_found_in(
+    source: &SourceOp<'_>,
+    match_type: MatchType,
+    found: Option<MatchValues>,
+    state: &mut State,
+) -> bool
+    ensures truth { result ≡ is_some found }
+    ensures kept { state_of state.new ≡ record (state_of state.old) { values = with_found_in (source_op_as source.now) match_type found (state_of state.old).values } }
+{
+    if sets_matched(source) {
+        keep_found(match_type, found, state)
+    } else {
+        found.is_some()
+    }
+}
+
 /// Whether some value of a source matches some key (RFC 5228, sections 5.1, 5.4 and 5.7; RFC 5229, section 5; RFC 5232, section 4; RFC 5260, sections 4
-/// and 5), or their number under `:count` (RFC 5231, section 4.2). Under `:matches` the first that does sets the match variables (RFC 5229, section 3.2). All strings stand for what they do when the test begins.
-/// What is made of the message's fields is kept. Fails where memory is refused.
+/// and 5; RFC 5173, section 4), or their number under `:count` (RFC 5231, section 4.2). Under `:matches` the first that does sets the match variables (RFC 5229, section 3.2), but for one of a body (RFC 5173, section 6). All strings stand for what they do when the test begins.
+/// What is made of the message is kept. Fails where memory is refused.
 #[tactic(auto, unfolding(crate::specs::Matching::truth_of, crate::specs::Matching::values_behind))]
 pub fn compare(
     delivery: &Delivery<'_>,
@@ -189,7 +227,7 @@ pub fn compare(
     ensures behind { IfOk result (λ truth. state_of state.new ≡ behind_test (delivery_as delivery.now) (compares (source_op_as source.now) comparison keys.now) (state_of state.old)) }
 {
     let found = find_match(delivery, fields, &*state, source, comparison, keys)?;
-    Ok(keep_found(comparison.match_type, found, state))
+    Ok(keep_found_in(source, comparison.match_type, found, state))
 }
 
 /// Whether all named fields are there (RFC 5228, section 5.5). Fails where memory is refused.

@@ -14,6 +14,7 @@ ghost use Rattle.sieve_effects.specs.view.Ops.{source_op_as};
 ghost use Rattle.sieve_effects.specs.view.State.{state_of};
 ghost use Rattle.sieve_variables.specs.Value.{text_value};
 
+use crate::body_values::count_body;
 use crate::date_values::{count_clock, count_date};
 use crate::delivery::{Arrival, Delivery};
 use crate::field_names::FieldNames;
@@ -29,7 +30,7 @@ use sieve_variables::Values;
 use std::alloc::{AllocError, Global};
 
 /// The sum of two numbers. One of more than 64 bits is answered as want of memory.
-fn plus(count: usize, more: usize) -> Result<usize, AllocError>
+pub(crate) fn plus(count: usize, more: usize) -> Result<usize, AllocError>
     ensures { IfOk result (λ sum. sum ≡ count + more) }
 {
     match count.checked_add(more) {
@@ -286,5 +287,6 @@ pub(crate) fn count_in_source(
         SourceOp::Flags { variables } => count_flags(delivery, state, variables),
         SourceOp::Date { zone, field, part } => count_date(delivery, state, zone, *field, *part),
         SourceOp::CurrentDate { zone, part } => count_clock(delivery, state, zone, *part),
+        SourceOp::Body { transform } => count_body(delivery, fields, state, transform),
     }
 }

@@ -1,18 +1,21 @@
-//! What a run has read of the fields of a message.
-ghost use Rattle.std.specs.Prelude.{◌≡◌, ◌<◌, length, slice_get, IfOk, IfSome, OnOk, Some};
+//! What a run has read of a message: of its fields, and of what it is made of.
+ghost use Rattle.std.specs.Prelude.{◌≡◌, ◌<◌, length, map, slice_get, IfOk, IfSome, OnOk, Some};
 ghost use Rattle.std.specs.Cow.{cow_slice_items};
 ghost use Rattle.message_text.specs.Fields.{decoded_values_of, fields_of};
+ghost use Rattle.mime_text.specs.Entities.{entities_of};
+ghost use Rattle.mime_text.specs.view.Entities.{entity_as};
 ghost use Rattle.sieve_effects.specs.view.Delivery.{arrival_as};
 ghost use Rattle.sieve_effects.specs.view.FieldReads.{HasNoMore, address_lists_of};
 
 use crate::delivery::Arrival;
 use message_text::{Address, Message, addresses};
+use mime_text::{Entity, entities_of};
 use std::alloc::{AllocError, Global};
 use std::borrow::CowSlice;
 use std::marker::Model;
 
-/// What a run has made of the fields of a message, so that none of its tests makes it again. Contracts see what is delivered. It has a
-/// place for each field up to the last that a test has looked at.
+/// What a run has made of a message, so that none of its tests makes it again. Contracts see what is delivered. It has a place for each
+/// field up to the last that a test has looked at.
 #[derive(Drop)]
 pub struct FieldReads<'a> {
     arrival: &'a Arrival<'a>,
@@ -20,18 +23,20 @@ pub struct FieldReads<'a> {
     listed: Vec<Option<Vec<Address>>>,
     // Values with their encoded words replaced, each at its field's place.
     decoded: Vec<Option<CowSlice<'a, u8>>>,
+    // The entities of the message, once a test has looked at them.
+    entities: Option<Vec<Entity<'a>>>,
 }
 
 impl<'a> Model for FieldReads<'a> {
     ghost use Rattle.sieve_effects.specs.Delivery.{Arrival};
     ghost use Rattle.sieve_effects.specs.view.Delivery.{arrival_as};
-    ghost use Rattle.sieve_effects.specs.view.FieldReads.{AreDecoded, AreListed};
+    ghost use Rattle.sieve_effects.specs.view.FieldReads.{AreDecoded, AreEntities, AreListed};
 
     ghost Value = { Arrival };
 
     ghost view = { λ f. arrival_as f.arrival.now };
 
-    ghost invariant = { λ f. let arrival = arrival_as f.arrival.now in AreListed arrival.message f.listed.items × AreDecoded arrival.profile arrival.message f.decoded.items };
+    ghost invariant = { λ f. let arrival = arrival_as f.arrival.now in AreListed arrival.message f.listed.items × (AreDecoded arrival.profile arrival.message f.decoded.items × AreEntities arrival.message f.entities) };
 }
 
 /// Takes what lies at a place, if anything does.
@@ -69,6 +74,7 @@ impl<'a> FieldReads<'a> {
             arrival,
             listed: Vec::new(alloc),
             decoded: Vec::new(alloc),
+            entities: None,
         }
     }
 
@@ -145,5 +151,24 @@ impl<'a> FieldReads<'a> {
         reach(&mut self.decoded, i)?;
         self.decoded[i] = Some(value);
         Ok(())
+    }
+
+    /// The entities of the message, which are found where they aren't kept. [`keep_entities`](FieldReads::keep_entities) takes them back.
+    pub(crate) fn take_entities(&mut self, alloc: Global) -> Result<Vec<Entity<'a>>, AllocError>
+        ensures arrival { self.new ≡ self.old }
+        ensures entities { IfOk result (λ entities. map entity_as entities.items ≡ entities_of self.old.message) }
+    {
+        match self.entities.take() {
+            Some(entities) => Ok(entities),
+            None => entities_of(alloc, self.arrival.message.octets()),
+        }
+    }
+
+    /// Keeps the entities of the message.
+    pub(crate) fn keep_entities(&mut self, entities: Vec<Entity<'a>>)
+        requires { map entity_as entities.items ≡ entities_of self.old.message }
+        ensures { self.new ≡ self.old }
+    {
+        self.entities = Some(entities);
     }
 }

@@ -1,4 +1,4 @@
-//! What tests find in a delivery (RFC 5228, sections 2.7 and 5; RFC 5229, section 5; RFC 5232, section 4; RFC 5260, sections 4 and 5),
+//! What tests find in a delivery (RFC 5228, sections 2.7 and 5; RFC 5229, section 5; RFC 5232, section 4; RFC 5260, sections 4 and 5; RFC 5173, section 4),
 //! and what commands do that act (RFC 5228, section 4; RFC 5229, section 4; RFC 5230, section 4; RFC 5232, sections 3 and 5; RFC 5429, section 2), over the state of a
 //! run.
 #![tactic(auto)]
@@ -7,6 +7,7 @@ mod acting;
 mod action;
 mod actions;
 mod asking;
+mod body_values;
 mod conflicts;
 mod counting;
 mod date_values;
@@ -43,7 +44,7 @@ pub use flagging::change;
 pub use flow::{Flow, fail};
 pub use joined::JoinedStrings;
 pub use mailboxes::{mailbox_count, mailboxes_exist};
-pub use ops::{SettingsOp, SourceOp, VacationOp, ZoneOp};
+pub use ops::{BodyOp, SettingsOp, SourceOp, VacationOp, ZoneOp};
 pub use response::{Response, Texts, reject, respond};
 pub use state::State;
 pub use strings::{StringLists, Strings};

@@ -16,6 +16,20 @@ pub enum ZoneOp<'a> {
     Named(&'a [Part]),
 }
 
+/// What is taken of a body (RFC 5173, section 5).
+#[derive(Drop)]
+pub enum BodyOp<'a> {
+    /// All of it as it stands.
+    Raw,
+    /// The contents of some types.
+    Content {
+        /// The entries that name them.
+        entries: Strings<'a>,
+    },
+    /// Its texts.
+    Text,
+}
+
 /// Where a test takes values from.
 #[derive(Drop)]
 pub enum SourceOp<'a> {
@@ -63,6 +77,11 @@ pub enum SourceOp<'a> {
         zone: ZoneOp<'a>,
         /// Which part of the date.
         part: &'a [Part],
+    },
+    /// From the body of the message (RFC 5173, section 4).
+    Body {
+        /// What is taken of it.
+        transform: BodyOp<'a>,
     },
 }
 

@@ -1,11 +1,12 @@
 -- Laws of what tests and commands do to the state of a run.
 use Rattle.std.proofs.Common.{◌≡◌, ℕ, Bool, true, false, List, Option, None, Some, refl, ap, ◌∙◌}
+use Rattle.std.specs.Prelude.{if◌then◌else◌}
 use Rattle.sieve_reading.specs.Reading.{Ask, Leaf, compares, exists_ask, over_ask, under_ask, mailboxes_ask, duplicate_ask}
 use Rattle.sieve_reading.specs.declared.reading.MatchType.{MatchType}
 use Rattle.sieve_reading.specs.declared.reading.MatchType.TheVariants.{Is, Contains, Matches, Value, Count}
 use Rattle.sieve_reading.specs.Script.{Condition, always, never, asks, negated, both, either, Commands, stops, returns}
 use Rattle.sieve_effects.specs.Delivery.{Delivery}
-use Rattle.sieve_effects.specs.Matching.{behind_test, match_found, values_behind, with_found}
+use Rattle.sieve_effects.specs.Matching.{behind_test, match_found, sets_matched, values_behind, with_found}
 use Rattle.sieve_effects.specs.Act.{Ending, returned, stopped}
 use Rattle.sieve_run.specs.Run.{SetsMatched, Answer, and_then, answer_of, also, or_else, decide, exec}
 use Rattle.sieve_effects.specs.State.{RunState}
@@ -34,9 +35,14 @@ found_keeps Contains found state = (state.values.matched, refl)
 found_keeps (Value relation) found state = (state.values.matched, refl)
 found_keeps (Count relation) found state = (state.values.matched, refl)
 
+-- and one whose match variables stay sets nothing
+found_in_keeps : (sets : Bool) (match_type : MatchType) (found : Option (List (List ℕ))) (state : RunState) → SetsMatched state (record state { values = if sets then with_found match_type found state.values else state.values })
+found_in_keeps true match_type found state = found_keeps match_type found state
+found_in_keeps false match_type found state = (state.values.matched, refl)
+
 ask_keeps : (delivery : Delivery) (ask : Ask) (state : RunState) → SetsMatched state (behind_test delivery ask state)
 unfolding values_behind
-ask_keeps delivery (compares source comparison keys) state = found_keeps comparison.match_type (match_found delivery state source comparison keys) state
+ask_keeps delivery (compares source comparison keys) state = found_in_keeps (sets_matched source) comparison.match_type (match_found delivery state source comparison keys) state
 ask_keeps delivery (exists_ask names) state = (state.values.matched, refl)
 ask_keeps delivery (over_ask limit) state = (state.values.matched, refl)
 ask_keeps delivery (under_ask limit) state = (state.values.matched, refl)

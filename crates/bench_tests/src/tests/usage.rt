@@ -57,7 +57,7 @@ fn check_unknown(rt: &(impl AllocGlobal + Abort), fault: &UsageFault) -> Result<
     let text = format!(in rt.alloc(); "{fault}")?;
     assert_eq!(rt;
         text.as_str(),
-        "error: invalid value 'frobnicate' for '--with <NAME>'\n  [possible values: charsets, comparator-i;ascii-numeric, date, duplicate, encoded-character, envelopes, ereject, lines, mailbox, reject, relational, special-use, subaddress, unused, vacation]\n\nFor more information, try '--help'.\n"
+        "error: invalid value 'frobnicate' for '--with <NAME>'\n  [possible values: body, charsets, comparator-i;ascii-numeric, date, duplicate, encoded-character, envelopes, ereject, lines, mailbox, reject, relational, special-use, subaddress, unused, vacation]\n\nFor more information, try '--help'.\n"
     );
     Ok(())
 }

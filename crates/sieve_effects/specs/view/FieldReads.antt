@@ -1,5 +1,5 @@
--- What is kept of the fields of a message.
-use Rattle.std.specs.Prelude.{◌≡◌, ℕ, List, map, slice_get, Option, Some}
+-- What is kept of the fields of a message, and of what it is made of.
+use Rattle.std.specs.Prelude.{◌≡◌, ℕ, List, map, slice_get, Option, None, Some}
 use Rattle.std.specs.Cow.{cow_slice_items}
 use Rattle.std.specs.declared.alloc.Global.{Global}
 use Rattle.std.specs.declared.borrow.CowSlice.{CowSlice}
@@ -7,6 +7,9 @@ use Rattle.std.specs.declared.vec.Vec.{Vec}
 use Rattle.sieve_profile.specs.Profile.{Profile}
 use Rattle.message_text.specs.Addresses.{AddrSpec, addresses_of}
 use Rattle.message_text.specs.Fields.{decoded_values_of, values_of}
+use Rattle.mime_text.specs.Entities.{entities_of}
+use Rattle.mime_text.specs.declared.entities.Entity as entity
+use Rattle.mime_text.specs.view.Entities.{entity_as}
 
 -- the addresses in the values of the fields, in order
 abbrev pub address_lists_of : List ℕ → List (List AddrSpec)
@@ -19,6 +22,11 @@ AreListed message lists = (i : ℕ) (listed : Vec AddrSpec Global) → slice_get
 -- each value is that of the field at its place, with its encoded words replaced
 abbrev pub AreDecoded : Profile → List ℕ → List (Option (CowSlice ℕ Global)) → Type 0
 AreDecoded profile message values = (i : ℕ) (value : CowSlice ℕ Global) → slice_get values i ≡ Some (Some value) → slice_get (decoded_values_of profile message) i ≡ Some (cow_slice_items value)
+
+-- the entities, where they are kept, are those of the message
+abbrev pub AreEntities : List ℕ → Option (Vec entity.Entity Global) → Type 0
+AreEntities message None = Unit {0}
+AreEntities message (Some kept) = map entity_as kept.items ≡ entities_of message
 
 -- whatever lies at one of these places, lay there before
 abbrev pub HasNoMore : {X : Type 0} → (before places : List (Option X)) → Type 0

@@ -1,4 +1,4 @@
--- What tests find in one value, one field and one name.
+-- What tests find in one value, one field, one name and one entity.
 use Rattle.std.specs.Prelude.{ℕ, Bool, true, false, List, map, Option, None, Some, if◌then◌else◌}
 use Rattle.std.specs.Option.{option_and_then}
 use Rattle.encoded_words.specs.Scan.{decoded_of}
@@ -6,7 +6,9 @@ use Rattle.sieve_profile.specs.Profile.{Profile}
 use Rattle.message_text.specs.Addresses.{AddrSpec, addresses_of, part_of_address, part_of_path}
 use Rattle.message_text.specs.Fields.{Field, is_field_named}
 use Rattle.message_text.specs.declared.addressing.AddressPart.{AddressPart}
-use Rattle.sieve_reading.specs.Reading.{ValueSource, address_values, clock_values, date_values, envelope_values, flag_values, header_values, string_values}
+use Rattle.mime_text.specs.Entities.{Entity}
+use Rattle.mime_text.specs.Values.{texts_if_named}
+use Rattle.sieve_reading.specs.Reading.{ValueSource, address_values, body_values, clock_values, date_values, envelope_values, flag_values, header_values, string_values}
 use Rattle.sieve_variables.specs.Part.{Part}
 use Rattle.sieve_variables.specs.Value.{text_value}
 use Rattle.sieve_base.specs.view.Texts.{octets_of_each}
@@ -40,6 +42,7 @@ cuts_keys (string_values texts) = false
 cuts_keys (flag_values variables) = true
 cuts_keys (date_values zone field part) = false
 cuts_keys (clock_values zone part) = false
+cuts_keys (body_values transform) = false
 
 -- whether fields of that name are looked at
 abbrev pub is_looked_at : Option AddressPart → List ℕ → Bool
@@ -73,3 +76,7 @@ module _ (find : List ℕ → Option (List (List ℕ))) (profile : Profile) wher
   -- the values of the fields of a name, where they are looked at
   abbrev pub name_found : Option AddressPart → List Field → List ℕ → Option (List (List ℕ))
   name_found part fields name = if is_looked_at part name then first_some (field_found part name) fields else None
+
+  -- the texts of an entity, if one of these entries names it
+  abbrev pub entity_found : (entries : List (List ℕ)) → Entity → Option (List (List ℕ))
+  entity_found entries entity = first_some find (texts_if_named profile entries entity)
