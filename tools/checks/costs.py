@@ -108,6 +108,32 @@ def of_times(room):
         yield Linear(room, f"{title} at each place of a value", searches)
 
 
+def of_bodies(room):
+    """Mails whose entities are many, or hard to find: all that a test of a body does is linear in the mail."""
+    script = b'require "body"; if body :content "" :contains "absent" { discard; }'
+    multipart, near = b"Content-Type: multipart/mixed; boundary=b\n\n", b"--" + b"b" * 69
+    encoded = b"Content-Transfer-Encoding: %s\n\n"
+    for title, front, piece, end in (
+        ("delimiters", multipart, b"--b\n", b""),
+        ("lines that are nearly delimiters", b"Content-Type: multipart/mixed; boundary=" + b"b" * 70 + b"\n\n", near + b"\n", b""),
+        ("lines of a multipart whose end never comes", multipart + b"--b\n\n", b"a\n", b""),
+        ("multiparts in parts", multipart, b"--b\n" + multipart, b""),
+        ("octets in base64", encoded % b"base64", b"YWJj", b"="),
+        ("octets outside of base64", encoded % b"base64", b"*\n", b""),
+        ("escapes", encoded % b"quoted-printable", b"=41", b""),
+        ("blanks before the end of a line", encoded % b"quoted-printable", b" ", b"\n"),
+        ("soft line ends", encoded % b"quoted-printable", b"=\n", b""),
+        ("parameters of a type", b"Content-Type: text/plain", b"; a=b", b"\n\n"),
+        ("comments in a type", b"Content-Type: text/plain ", b"(", b"\n\n"),
+        ("lines of a header section", b"", b"Content-Type: a/b\n", b"\n"),
+    ):
+        mails = [front + piece * (size // len(piece)) + end for size in (100_000, 8_000_000)]
+        yield Linear(room, f"{title} for each octet of a body", [judged(script, [mail]) for mail in mails], names="body")
+    mail = [b"Content-Type: text/" + b"()" * 1_000_000 + b"plain\n\n"]
+    tests = [b'require "body"; ' + anyof(b'body :content "text" "%d"', count) for count in (3, 300)]
+    yield Linear(room, "the entities of a mail for each test", [judged(script, mail) for script in tests], names="body")
+
+
 class Devices:
     """A session whose input comes at once makes so few reads and writes that one behind these fails unseen."""
 
@@ -167,6 +193,12 @@ def of_memory(room):
     mail = b"a:\n" * 240_000 + b"z: v\n\n"
     told = ['main personal "main"', 'envelope "" "" mailbox "INBOX"', 'script personal "main" ok', 'message "m0"', "  discard", '  read personal "main"']
     yield limited(room, "a field behind many", judged(b'if header "z" "v" { discard; }', [mail]), lines(*["ok"] * 3, *told, "total 1 messages 0 errors"))
+    # Of a mail of eight parts, whose octets in UTF-8 take twice as many, one part at a time is decoded.
+    part = b"--b\nContent-Type: text/plain; charset=iso-8859-1\nContent-Transfer-Encoding: base64\n\n" + b"6enp" * 450_000 + b"\n"
+    mail = b"Content-Type: multipart/mixed; boundary=b\n\n" + part * 8
+    told = ['main personal "main"', 'envelope "" "" mailbox "INBOX"', "with body", 'script personal "main" ok', 'message "m0"', '  implicit "INBOX"', '  read personal "main"']
+    script, replies = b'require "body"; if body :contains "absent" { discard; }', lines(*["ok"] * 3, *told, "total 1 messages 0 errors")
+    yield limited(room, "the parts of a mail", judged(script, [mail]), replies, "body")
     for title, script, count in [
         ("rules", b"".join(b'if header :contains "subject" "word%d" { discard; }\n' % number for number in range(1_800)), 80),
         ("keep", b"keep;\n" * 16_000, 70),
@@ -179,11 +211,12 @@ def of_memory(room):
         yield bounded(room, f"{count} scripts of {title}", [put(b"script personal s%d" % number, script) for number in range(count)])
 
 
-def limited(room, title, session, replies):
+def limited(room, title, session, replies, names=""):
     """A session with little memory."""
     path = room / f"{len(list(room.iterdir()))}.session"
     path.write_bytes(session)
-    return Run(f"memory for {title}", room, f"ulimit -v {KILOBYTES}; sievebench session < {path.name}", replies)
+    asked = f" --with {names}" if names else ""
+    return Run(f"memory for {title}", room, f"ulimit -v {KILOBYTES}; sievebench session{asked} < {path.name}", replies)
 
 
 def bounded(room, title, commands):
@@ -198,5 +231,6 @@ def of_sessions(room):
     library = room / "refuse.so"
     yield Run("what lets reads and writes fail is built", room, f"cc -shared -fPIC -O2 -o {library} {SOURCE}")
     yield from of_times(room)
+    yield from of_bodies(room)
     yield from of_devices(library)
     yield from of_memory(room)
