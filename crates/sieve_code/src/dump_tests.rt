@@ -248,13 +248,17 @@ fn write_current_date<W: Sink>(
     write_further_string(part, writer)
 }
 
-/// Writes that contents of some types are taken.
+/// Writes a word and a list.
 #[tactic(auto, using(sieve_base::proofs::Writing::writing))]
-fn write_content<W: Sink>(entries: &Strings<'_>, writer: &mut W) -> Result<(), WriteFault>
-    ensures { Writes W.contents W.fault_count result writer.old writer.new (codes " content" ++ further_list entries.now) }
+fn write_word_and_list<W: Sink>(
+    word: &[u8],
+    list: &Strings<'_>,
+    writer: &mut W,
+) -> Result<(), WriteFault>
+    ensures { Writes W.contents W.fault_count result writer.old writer.new (word.now ++ further_list list.now) }
 {
-    write_out(b" content", writer)?;
-    write_further_list(entries, writer)
+    write_out(word, writer)?;
+    write_further_list(list, writer)
 }
 
 /// Writes what is taken of a body.
@@ -264,7 +268,7 @@ fn write_transform<W: Sink>(transform: &BodyOp<'_>, writer: &mut W) -> Result<()
 {
     match transform {
         BodyOp::Raw => write_out(b" raw", writer),
-        BodyOp::Content { entries } => write_content(entries, writer),
+        BodyOp::Content { entries } => write_word_and_list(b" content", entries, writer),
         BodyOp::Text => write_out(b" text", writer),
     }
 }
