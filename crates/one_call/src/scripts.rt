@@ -2,12 +2,14 @@
 
 use crate::telling::{Host, end_line, mark, personal, prepared, tell, tell_refused, written};
 use bench::{TestEnd, dump_text, write_code};
+use sieve_base::hex::hex_octet;
 use sieve_base::{Counted, Piece, write_quoted};
 use sieve_check::{CheckFault, Checked, JudgeFault, Judged, check, judge};
 use sieve_code::{Code, compile};
 use sieve_profile::Profile;
 use sieve_syntax::{Command, ParsedScript, SyntaxFault, Tests, Token, parse, tokens};
 use std::io;
+use std::io::ErrorKind;
 
 // A token of each kind, the last of which is no token of Sieve.
 const TOKENS: &[u8] = b"if x(\n[\"a\", text:\n.\n]) { keep :t 2K; } #\n'";
@@ -39,6 +41,27 @@ pub(crate) fn cut(rt: &impl Host) -> io::Result<()> {
     let answer = tokens(rt.alloc(), TOKENS);
     mark(rt);
     match answer {
+        Ok(found) => tell_tokens(rt, &found),
+        Err(_) => tell_refused(rt),
+    }
+}
+
+/// Makes the call that a word names, on a text that is given as pairs of hexadecimal digits.
+pub(crate) fn call(rt: &impl Host, word: &str, digits: &[u8]) -> io::Result<()> {
+    match word {
+        "tokens" => cut_text(rt, digits),
+        _ => Err(io::Error::from(ErrorKind::InvalidInput)),
+    }
+}
+
+fn cut_text(rt: &impl Host, digits: &[u8]) -> io::Result<()> {
+    let mut text = Vec::new(rt.alloc());
+    let mut rest = digits;
+    while let [high, low, more @ ..] = rest {
+        text.push(hex_octet(*high, *low).unwrap_or(0))?;
+        rest = more;
+    }
+    match tokens(rt.alloc(), &text) {
         Ok(found) => tell_tokens(rt, &found),
         Err(_) => tell_refused(rt),
     }
