@@ -127,7 +127,7 @@ def of_bodies(room):
         ("comments in a type", b"Content-Type: text/plain ", b"(", b"\n\n"),
         ("lines of a header section", b"", b"Content-Type: a/b\n", b"\n"),
     ):
-        mails = [front + piece * (size // len(piece)) + end for size in (100_000, 8_000_000)]
+        mails = [front + piece * (size // len(piece)) + end for size in (200_000, 16_000_000)]
         yield Linear(room, f"{title} for each octet of a body", [judged(script, [mail]) for mail in mails], names="body")
     mail = [b"Content-Type: text/" + b"()" * 1_000_000 + b"plain\n\n"]
     tests = [b'require "body"; ' + anyof(b'body :content "text" "%d"', count) for count in (3, 300)]
