@@ -56,10 +56,15 @@ pub(crate) fn call(rt: &impl Host, word: &str, digits: &[u8]) -> io::Result<()> 
 
 fn cut_text(rt: &impl Host, digits: &[u8]) -> io::Result<()> {
     let mut text = Vec::new(rt.alloc());
-    let mut rest = digits;
-    while let [high, low, more @ ..] = rest {
-        text.push(hex_octet(*high, *low).unwrap_or(0))?;
-        rest = more;
+    let mut high = None;
+    for digit in digits {
+        match high {
+            None => high = Some(*digit),
+            Some(first) => {
+                text.push(hex_octet(first, *digit).unwrap_or(0))?;
+                high = None;
+            }
+        }
     }
     match tokens(rt.alloc(), &text) {
         Ok(found) => tell_tokens(rt, &found),
