@@ -54,6 +54,12 @@ class Children:
         for child in list(self.running):
             child.kill()
 
+    def wait(self) -> None:
+        """Waits until they have ended, which doesn't take long where they were killed."""
+        for child in list(self.running):
+            with contextlib.suppress(subprocess.TimeoutExpired):
+                child.wait(1)
+
 
 CHILDREN = Children()
 

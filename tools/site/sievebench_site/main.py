@@ -140,6 +140,7 @@ def status_of(words: List[str]) -> int:
     except Refusal as refusal:
         return told(refusal.sentence, refusal.status)
     except Signalled as signalled:
+        ends.CHILDREN.wait()
         return signalled.status
     except BrokenPipeError:
         ends.pipe_broke()
@@ -152,7 +153,8 @@ def status_of(words: List[str]) -> int:
 
 def told(sentence: str, status: int) -> int:
     """Ends with a sentence."""
-    for step in (sys.stdout.flush, lambda: print(f"sievebench-site: {sentence}", file=sys.stderr, flush=True)):
-        with contextlib.suppress(OSError):
-            step()
+    with contextlib.suppress(OSError):
+        sys.stdout.flush()
+    with contextlib.suppress(OSError):
+        print(f"sievebench-site: {sentence}", file=sys.stderr, flush=True)
     return status
