@@ -65,7 +65,7 @@ class Checked:
 
     def groups(self, cases: List[Case]) -> List[Group]:
         """Cases in groups, by their differences and why they aren't judged."""
-        return grouped(cases, lambda case: (case.unjudged, changes(case) if case.block() else None), self.each)
+        return grouped(cases, lambda case: case.unjudged or (changes(case) if case.block() else None), self.each)
 
 
 def broken_in(site: Site, judged: Judged) -> List[Tuple[Script, Fault]]:

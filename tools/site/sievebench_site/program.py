@@ -108,7 +108,8 @@ class Session:
     def end(self) -> None:
         """Ends the session, which mustn't have failed until now."""
         self.drain()
-        self.input.close()
+        with contextlib.suppress(BrokenPipeError):
+            self.input.close()
         self.output.read()
         self.child.wait()
         if self.child.returncode or self.said():
@@ -132,11 +133,9 @@ class Session:
         fail("the program answered too little")
 
     def write(self, octets: bytes) -> None:
-        """Writes a line, with what it counts."""
-        try:
+        """Writes a line, with what it counts. Where nobody reads it, what was replied until then says why."""
+        with contextlib.suppress(BrokenPipeError):
             self.input.write(octets)
-        except BrokenPipeError:
-            self.fail()
 
     def line(self) -> bytes:
         """The next line of the replies, without its end."""
@@ -147,10 +146,8 @@ class Session:
 
     def flush(self) -> None:
         """Sends what was written."""
-        try:
+        with contextlib.suppress(BrokenPipeError):
             self.input.flush()
-        except BrokenPipeError:
-            self.fail()
 
     def edit(self, command: str, words: List[bytes], octets: Optional[bytes], what: str) -> None:
         """An edit, whose reply is read later and mustn't be a refusal of what it is."""

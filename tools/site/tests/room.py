@@ -5,7 +5,7 @@ import subprocess
 import sys
 import tempfile
 import unittest
-from typing import Dict, List, Union
+from typing import Dict, List, Tuple, Union
 
 from sievebench_site.program import Program
 
@@ -44,7 +44,7 @@ class Room(unittest.TestCase):
         pipe = subprocess.PIPE
         return subprocess.Popen(whole, cwd=self.room, stdin=subprocess.DEVNULL, stdout=pipe, stderr=pipe)
 
-    def ran(self, *words: str) -> "tuple[int, List[str], str]":
+    def ran(self, *words: str) -> Tuple[int, List[str], str]:
         """The status, the lines of standard output, and what is on standard error."""
         with self.started(*words) as child:
             output, error = child.communicate(timeout=60)

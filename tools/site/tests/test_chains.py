@@ -86,7 +86,7 @@ class Chains(Room):
             self.assertEqual(bench.run(("personal", b"2"))[b"1"].lines[0].text, b'store "INBOX"')
 
     def test_joined(self) -> None:
-        rows = [
+        rows: List[Tuple[List[bytes], List[bytes], List[bytes]]] = [
             ([b'store "A" "x"'], [b'store "A" "X" "y" create'], [b'store "A" "x" "y" create']),
             ([b'store "A"'], [b'store "B"'], [b'store "A"', b'store "B"']),
             (

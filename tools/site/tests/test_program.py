@@ -4,10 +4,11 @@ import resource
 import subprocess
 import sys
 import time
+from typing import List
 
-from sievebench_site import program as module
 from sievebench_site.ends import CHILDREN, Refusal
 from sievebench_site.program import Line, Program, verdict_of
+from sievebench_site.words import MESSAGE_LIMIT
 
 from .room import FAKE, Room
 
@@ -34,7 +35,7 @@ class Programs(Room):
 
     def test_a_refused_edit(self) -> None:
         with self.assertRaises(Refusal) as caught, self.program().session() as session:
-            session.edit("message", [b"1"], b"x" * (module.MESSAGE_LIMIT + 1), "the mail")
+            session.edit("message", [b"1"], b"x" * (MESSAGE_LIMIT + 1), "the mail")
             session.report()
         self.assertEqual(caught.exception.sentence, "the mail is refused: a mail has at most 16,777,216 octets")
 
@@ -118,7 +119,7 @@ class Ends(Room):
             self.assertEqual((child.stderr.read(), child.wait(20)), (b"", -13))
 
 
-def children_of(process: int) -> "list[str]":
+def children_of(process: int) -> List[str]:
     """The processes below another."""
     found = subprocess.run(["pgrep", "-P", str(process)], stdout=subprocess.PIPE)
     return found.stdout.decode().split()
