@@ -41,7 +41,7 @@ class Checks(Room):
 
     def test_groups(self) -> None:
         status, told, error = self.ran("check", ".")
-        wanted = [f"./mails/{mail}.eml under {main}" for mail, main in ("0a", "0b", "1a")]
+        wanted = [f"./mails/{mail}.eml under {main}" for mail, main in (("0", "a"), ("0", "b"), ("1", "a"))]
         wanted += ["and 5 more: 8 verdicts in all, of 4 mails under 2 mains", "  - discard"]
         wanted += ['  + store "INBOX"  (./personal/a.sieve:2 and 1 other line)']
         wanted += ["./mails/4.eml under a: nothing is expected", "./mails/4.eml under b: nothing is expected"]
