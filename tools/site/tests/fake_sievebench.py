@@ -12,7 +12,7 @@ sys.path.insert(0, str(pathlib.Path(__file__).resolve().parent.parent))
 from sievebench_site.sieve_text import Token, required, string_meant, tokens  # noqa: E402
 from sievebench_site.words import quoted, unquoted, words_of  # noqa: E402
 
-KNOWN = {b"fileinto", b"envelope", b"imap4flags", b"include", b"copy"}
+KNOWN = {b"fileinto", b"envelope", b"imap4flags", b"include", b"copy", b"variables"}
 Scripts = Dict[Tuple[str, bytes], bytes]
 
 
@@ -77,7 +77,9 @@ class Run:
         name, line = words[0].octets, text.count(b"\n", 0, words[0].start) + 1
         tags = [it.octets for it in words if it.kind == "tag"]
         strings = [string_meant(it.octets) for it in words if it.kind == "string"]
-        if name == b"addflag":
+        if name == b"setflag":
+            self.flags = strings
+        elif name == b"addflag":
             self.flags += [flag for flag in strings if flag not in self.flags]
         elif name == b"removeflag":
             self.flags = [flag for flag in self.flags if flag not in strings]
@@ -94,7 +96,7 @@ class Run:
 
     def act(self, name: bytes, line: int, tags: List[bytes], strings: List[bytes]) -> None:
         """An action."""
-        if b"" in strings:
+        if b"" in strings or b"a${none}" in strings:
             self.fail(line, "bad-mailbox" if name == b"fileinto" else "bad-address")
         at = f"  at {self.place} line {line}"
         flags = [strings[0]] if b":flags" in tags else list(self.flags)
