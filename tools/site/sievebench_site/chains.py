@@ -117,6 +117,8 @@ def renamed(verdict: Verdict) -> Verdict:
 def joined(before: Verdict, after: Verdict) -> Verdict:
     """All that two scripts did. What adds nothing within a run adds nothing here: a store into the same mailbox brings its flags to
     the first, and a redirect to the same address, a discard or a response that follows another changes nothing."""
+    if before == NOTHING:
+        return after
     lines = list(before.lines)
     for line in after.lines:
         at = next((it for it, other in enumerate(lines) if action_of(other) == action_of(line)), None)

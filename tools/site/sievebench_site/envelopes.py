@@ -7,7 +7,7 @@ from typing import Dict, List, NamedTuple, Optional, Tuple
 
 from .ends import refuse
 from .files import octets_of
-from .words import ADDRESS_LIMIT, quoted, unquoted, words_of
+from .words import ADDRESS_LIMIT, quoted, unquoted, words_in
 
 FIELD = re.compile(rb"([!-9;-~]+)[ \t]*:(.*)", re.S)
 LOCAL = re.compile(rb'[^\x00-\x20"(),:;<>@\[\\\]\x7f]+|"(?:[^\x00-\x1f"\\\x7f]|\\[ -~])*"')
@@ -47,7 +47,7 @@ def wrong_with(address: bytes) -> Optional[str]:
 
 def envelope_in(path: bytes) -> Envelope:
     """The envelope of a file, which has two addresses."""
-    words = words_of(octets_of(path).replace(b"\n", b" "))
+    words = words_in(octets_of(path))
     if words is None or len(words) != 2:
         refuse(f"{quoted(path)} isn't two words, as in a session")
     sender, recipient = (unquoted(word) for word in words)

@@ -7,6 +7,7 @@ from typing import Callable, Dict, Hashable, Iterable, Iterator, List, NamedTupl
 from .judge import Case
 from .program import Line
 from .shown import Look
+from .words import quoted
 
 FIRST = 3
 
@@ -73,7 +74,11 @@ def changes(case: Case) -> Tuple[Change, ...]:
 
 
 def entered_at(group: Group, text: bytes, look: Look) -> str:
-    """The script and the line that entered an action of a group, and how many other lines entered it too."""
+    """The script and the line that entered an action of a group, and how many other lines entered it too. Of an error by an include it is
+    the script that was looked up last."""
+    if text.startswith(b"error ") and text.endswith((b" missing-script", b" invalid-script")):
+        (place, name), _ = group.cases[0].verdict.reads[-1]
+        return f"  ({place} {quoted(name)})"
     places = dict.fromkeys(
         place for case in group.cases for line in case.verdict.lines for place in places_of(case, line, text)
     )

@@ -85,15 +85,9 @@ class Judge:
                 task.cancel()
             pool.shutdown(wait=False)
             self.progress.end()
-        order = {
-            path: at
-            for at, path in enumerate(dict.fromkeys(mail.path for user in self.site.users for mail in user.mails))
-        }
-        cases = sorted((case for cases, _ in found for case in cases), key=lambda case: order[case.mail.path])
+        cases = sorted((case for cases, _ in found for case in cases), key=lambda case: case.mail.path)
         bare = {mail.path: mail for _, mails in found for mail in mails}
-        return Judged(
-            cases, self.surveys, [bare[path] for path in sorted(bare, key=order.__getitem__)], self.progress.seconds()
-        )
+        return Judged(cases, self.surveys, [bare[path] for path in sorted(bare)], self.progress.seconds())
 
     def batch(self, batch: Batch) -> Tuple[List[Case], List[Mail]]:
         """The cases of a batch, and its mails without an envelope."""

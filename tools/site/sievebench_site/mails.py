@@ -9,7 +9,7 @@ from .ends import refuse
 from .envelopes import Envelope, envelope_if_any
 from .expected import Blocks, blocks_of
 from .files import files_in, is_plain, names_in, octets_of, size_of
-from .words import MESSAGE_LIMIT, quoted, unquoted, words_of
+from .words import MESSAGE_LIMIT, quoted, unquoted, words_in
 
 # What may stand beside a mail.
 ENDS = (b".envelope", b".expect", b".users")
@@ -53,7 +53,7 @@ def users_of(path: bytes) -> Optional[FrozenSet[bytes]]:
     place = path + b".users"
     if not os.path.lexists(place):
         return None
-    words = words_of(octets_of(place).replace(b"\n", b" "))
+    words = words_in(octets_of(place))
     if not words:
         refuse(f"{quoted(place)} names no users: it has their names, with blanks or line ends between them")
     return frozenset(unquoted(word) for word in words)

@@ -103,7 +103,7 @@ class Session:
         self.input, self.output = child.stdin, child.stdout
         self.pending: List[Tuple[str, str]] = []
         # Many verdicts are the same one.
-        self.known: Dict[Verdict, Verdict] = {}
+        self.known: Dict[Tuple[bytes, ...], Verdict] = {}
 
     def end(self) -> None:
         """Ends the session, which mustn't have failed until now."""
@@ -225,9 +225,11 @@ class Session:
 
     def take_verdict(self, name: bytes, told: List[bytes], verdicts: Dict[bytes, Verdict]) -> None:
         """Takes the lines of a mail, if any."""
-        if told:
-            verdict = verdict_of(told)
-            verdicts[name] = self.known.setdefault(verdict, verdict)
+        key = tuple(told)
+        if key and key not in self.known:
+            self.known[key] = verdict_of(told)
+        if key:
+            verdicts[name] = self.known[key]
 
 
 def verdict_of(told: List[bytes]) -> Verdict:

@@ -52,6 +52,12 @@ def words_of(text: bytes) -> Optional[List[bytes]]:
         at = found.end()
 
 
+def words_in(text: bytes) -> Optional[List[bytes]]:
+    """The words of all lines of a text, without comments; none where one isn't words."""
+    lines = [words_of(line) for line in lines_of(text)]
+    return None if None in lines else [word for words in lines for word in words or []]
+
+
 def line(command: str, words: List[bytes], octets: Optional[bytes] = None) -> bytes:
     """A line of a session, with the octets that it counts."""
     told = [command, *(quoted(word) for word in words), *([] if octets is None else [str(len(octets))])]

@@ -31,7 +31,7 @@ class Envelopes(unittest.TestCase):
     def test_file(self) -> None:
         with tempfile.TemporaryDirectory() as room:
             path = pathlib.Path(room, "x")
-            path.write_bytes(b'""\r\n  "\\"c d\\"@e"  # to\n')
+            path.write_bytes(b'# from\n""\r\n  "\\"c d\\"@e"  # to\n')
             self.assertEqual(envelope_in(bytes(path)), Envelope(b"", b'"c d"@e'))
             for octets in (b"", b"a@b", b"a@b c@d e@f", b'""a@b', b"a@b c"):
                 path.write_bytes(octets)
