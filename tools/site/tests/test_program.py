@@ -1,8 +1,7 @@
 """Sessions with the program."""
 import os
+import pathlib
 import resource
-import subprocess
-import sys
 import time
 from typing import List
 
@@ -121,5 +120,5 @@ class Ends(Room):
 
 def children_of(process: int) -> List[str]:
     """The processes below another."""
-    found = subprocess.run(["pgrep", "-P", str(process)], stdout=subprocess.PIPE)
-    return found.stdout.decode().split()
+    tasks = pathlib.Path(f"/proc/{process}/task").glob("*/children")
+    return [child for task in tasks for child in task.read_text().split()]
