@@ -37,7 +37,7 @@ class Group(NamedTuple):
         )
 
     def more(self) -> Optional[str]:
-        """What is told behind the first ones, where there are several."""
+        """What is told after the first ones, where there are several."""
         rest = len(self.cases) - FIRST
         if len(self.cases) < 2:
             return None

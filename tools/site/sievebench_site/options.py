@@ -200,7 +200,7 @@ ADDERS = {"check": add_check, "record": add_record, "lint": add_lint, "import": 
 
 
 def parsed(command: str, words: List[str]) -> argparse.Namespace:
-    """What the words of a command say. Behind `--` all are folders."""
+    """What the words of a command say. After `--` all are folders."""
     end = words.index("--") if "--" in words else len(words)
     options = parser_of(command).parse_intermixed_args(words[:end])
     options.folders = [*options.folders, *words[end + 1 :]]
