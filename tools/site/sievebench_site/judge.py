@@ -6,10 +6,10 @@ import os
 import sys
 import threading
 import time
-from typing import Dict, Iterator, List, NamedTuple, Optional, Tuple
+from typing import Iterator, List, NamedTuple, Optional, Tuple
 
 from .chains import Bench, chained
-from .envelopes import Envelope, envelope_if_any, envelope_of
+from .envelopes import envelope_if_any, envelope_of
 from .expected import Block
 from .faults import Survey, put_scripts, requires, survey
 from .files import octets_of
