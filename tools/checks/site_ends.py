@@ -10,7 +10,7 @@ import sys
 import time
 
 from .runs import SECONDS, Run, lines
-from .site import NOBODY, PACK, TOOL, counted, run, site, told, write
+from .site import PACK, TOOL, counted, run, site, told, write
 
 DISCARDS = b"[main]\ndiscard\n"
 PAGE = TOOL.parent.parent / "docs/SITE.md"

@@ -1,4 +1,5 @@
 """The command check: compares the verdicts with what is expected, and tells the results in the form that is wanted."""
+
 from __future__ import annotations
 
 import json

@@ -1,4 +1,5 @@
 """The code of scripts, as the program dumps it: what it includes, and what it does by words that have no variable in them."""
+
 from __future__ import annotations
 
 import re

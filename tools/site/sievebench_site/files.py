@@ -1,4 +1,5 @@
 """Files that are read whole, written whole or not at all, and a lock."""
+
 from __future__ import annotations
 
 import contextlib
@@ -147,7 +148,7 @@ def locked(folder: bytes) -> Iterator[None]:
     with open(handle, "r+b") as file:
         try:
             fcntl.flock(file, fcntl.LOCK_EX | fcntl.LOCK_NB)
-        except OSError:
+        except BlockingIOError:
             refuse(f"{quoted(folder)} is being written by {file.read(500).decode('latin-1')}: {quoted(path)}")
         if not os.path.exists(path) or os.fstat(handle).st_ino != os.stat(path).st_ino:
             refuse(f"{quoted(folder)} was being written until now: try again")

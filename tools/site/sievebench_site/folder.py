@@ -1,4 +1,5 @@
 """A site's folder: what is everybody's, and its users with their scripts, main scripts and mails."""
+
 from __future__ import annotations
 
 import os

@@ -1,4 +1,5 @@
 """Cases that are alike: the same difference of many mails is told once."""
+
 from __future__ import annotations
 
 import difflib

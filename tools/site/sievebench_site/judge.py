@@ -1,4 +1,5 @@
 """The verdict on each mail under each main script: mails go into sessions in batches, and several sessions run at once."""
+
 from __future__ import annotations
 
 import concurrent.futures

@@ -1,4 +1,5 @@
 """The command lint: the faults of scripts, what their includes and actions lead to, and what no main script comes to."""
+
 from __future__ import annotations
 
 import os

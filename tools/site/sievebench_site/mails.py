@@ -1,4 +1,5 @@
 """The mails of a folder, and what in it is left out."""
+
 from __future__ import annotations
 
 import os

@@ -1,4 +1,5 @@
 """The commands, and how a run ends."""
+
 from __future__ import annotations
 
 import argparse

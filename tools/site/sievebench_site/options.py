@@ -1,4 +1,5 @@
 """The words of the command line."""
+
 from __future__ import annotations
 
 import argparse

@@ -1,4 +1,5 @@
 """The command record: writes today's verdicts as what is expected."""
+
 from __future__ import annotations
 
 import os

@@ -1,4 +1,5 @@
 """The text of a Sieve script: its tokens, what it requires, and texts that are made from it without moving a line."""
+
 from __future__ import annotations
 
 import re

@@ -1,5 +1,6 @@
 #!/usr/bin/env python3
 """In place of the program: it speaks sessions, and knows of Sieve what the tests of this folder need. It is no model of the program."""
+
 import os
 import pathlib
 import re

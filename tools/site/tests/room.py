@@ -1,4 +1,5 @@
 """A folder of files that are made for a test, and the fake program."""
+
 import os
 import pathlib
 import signal

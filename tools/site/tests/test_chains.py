@@ -1,4 +1,5 @@
 """Scripts that run one after another."""
+
 from typing import Dict, List, Tuple
 
 from sievebench_site import chains

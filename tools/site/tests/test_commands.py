@@ -1,4 +1,5 @@
 """The commands, by the fake program: what is told, what is written, and the status."""
+
 import json
 import os
 import xml.etree.ElementTree as tree

@@ -1,4 +1,5 @@
 """Sites: users, main scripts and mails."""
+
 from typing import Tuple
 
 from sievebench_site.ends import Refusal

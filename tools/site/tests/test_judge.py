@@ -1,4 +1,5 @@
 """Verdicts, by sessions of batches."""
+
 import io
 import unittest
 from typing import List, Tuple

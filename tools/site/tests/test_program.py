@@ -1,4 +1,5 @@
 """Sessions with the program."""
+
 import os
 import pathlib
 import resource

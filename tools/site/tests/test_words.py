@@ -1,4 +1,5 @@
 """Words of sessions, by hand and by the tool."""
+
 import unittest
 from typing import List, Optional, Tuple
 
