@@ -53,6 +53,20 @@ class Checks(Room):
         )
         self.assertEqual(len(told), 4 * 3 + 2)
 
+    def test_differences_that_begin_alike(self) -> None:
+        self.write({"personal/a.sieve": 'require "fileinto"; if header "subject" "one" { fileinto "A"; } keep;'})
+        self.write({"mails/0.eml": "one", "mails/1.eml": "two", "mails/2.eml": "one"})
+        words = ("check", "--main=a", *(f"--only={number}.eml" for number in range(3)), ".")
+        change = ["  - discard", '  + store "A"  (./personal/a.sieve:1)', '  + store "INBOX"  (./personal/a.sieve:1)']
+        wanted = [
+            "./mails/0.eml under a",
+            "./mails/2.eml under a",
+            "2 verdicts in all, of 2 mails under 1 main",
+            *change,
+        ]
+        wanted += ["./mails/1.eml under a", change[0], change[2]]
+        self.assertEqual(self.ran(*words)[1][:-1], wanted)
+
     def test_few_alike(self) -> None:
         told = self.ran("check", "--main=a", "--only=0.eml", "--only=1.eml", ".")[1]
         self.assertEqual(
