@@ -135,12 +135,16 @@ def refuse_unwritable(path: bytes) -> None:
         refuse(f"cannot write {quoted(path)}: {error.strerror}")
 
 
+def who() -> str:
+    """This process, as others are told of it."""
+    user = os.environ.get("LOGNAME") or os.environ.get("USER") or str(os.getuid())
+    return f"process {os.getpid()} of {user} on {socket.gethostname()}"
+
+
 @contextlib.contextmanager
 def locked(folder: bytes) -> Iterator[None]:
     """Keeps others from writing into a folder meanwhile. Its file of this name says who does."""
     path = os.path.join(folder, b".sievebench-site.lock")
-    user = os.environ.get("LOGNAME") or os.environ.get("USER") or str(os.getuid())
-    holder = f"process {os.getpid()} of {user} on {socket.gethostname()}".encode()
     try:
         handle = os.open(path, os.O_RDWR | os.O_CREAT, 0o666)
     except OSError as error:
@@ -154,7 +158,7 @@ def locked(folder: bytes) -> Iterator[None]:
             refuse(f"{quoted(folder)} was being written until now: try again")
         try:
             file.truncate()
-            file.write(holder)
+            file.write(who().encode())
             file.flush()
             yield
         finally:
