@@ -2,7 +2,13 @@
 
 import json
 import os
+import time
 import xml.etree.ElementTree as tree
+
+from sievebench_site.folder import Wanted, site_of, take_mails
+from sievebench_site.judge import Judge
+from sievebench_site.record import record
+from sievebench_site.shown import Look
 
 from .room import Files, Room
 
@@ -180,30 +186,33 @@ class Records(Room):
         self.assertEqual(self.ran("record", "-q", "."), (0, [], ""))
 
     def test_two_at_once(self) -> None:
-        self.write({"personal/a.sieve": 'sleep "0.3";', "mains": "a\n", "envelope": '"" ""', "mails/1.eml": ""})
+        self.write({"personal/a.sieve": 'sleep "30";', "mains": "a\n", "envelope": '"" ""', "mails/1.eml": ""})
         with self.started("record", ".") as first:
             while not (self.room / ".sievebench-site.lock").exists():
-                pass
+                time.sleep(0.01)
             status, told, error = self.ran("record", ".")
-            self.assertEqual((status, told), (2, []))
-            self.assertIn(f'"." is being written by process {first.pid} of ', error)
+            first.terminate()
             first.communicate()
+        self.assertEqual((status, told), (2, []))
+        self.assertIn(f'"." is being written by process {first.pid} of ', error)
+        self.write({"personal/a.sieve": ""})
         self.assertEqual(self.ran("record", ".")[0], 0)
         self.assertEqual(sorted(os.listdir(self.room)), ["envelope", "mails", "mains", "personal"])
 
     def test_a_file_that_changed_meanwhile(self) -> None:
-        self.write({"personal/a.sieve": 'sleep "0.3";', "mains": "a\n", "envelope": '"" ""', "mails/1.eml": ""})
-        with self.started("record", ".") as first:
-            while not (self.room / ".sievebench-site.lock").exists():
-                pass
-            self.write({"mails/1.eml.expect": "[b]\ndiscard\n"})
-            told, _ = first.communicate()
-        if first.returncode == 1:
-            self.assertIn(b"./mails/1.eml.expect: left, since it was changed meanwhile\n", told)
-            self.assertEqual((self.room / "mails/1.eml.expect").read_text(), "[b]\ndiscard\n")
-        else:
-            # It was there before it was read.
-            self.assertIn("[b]\ndiscard\n", (self.room / "mails/1.eml.expect").read_text())
+        self.write({"personal/a.sieve": "", "mains": "a\n", "mails/1.eml": "", "mails/2.eml": ""})
+        self.write({"mails/2.eml.expect": "[a]\ndiscard\n"})
+        site = site_of(Wanted(bytes(self.room), [], [], [], None))
+        take_mails(site)
+        judged = Judge(site, self.program(), 1).all()
+        for number in (1, 2):
+            self.write({f"mails/{number}.eml.expect": "[b]\ndiscard\n"})
+        told, whole = record(site, judged, Look(False), False)
+        self.assertEqual(
+            (whole, [line[-36:] for line in told[:2]]), (False, ["left, since it was changed meanwhile"] * 2)
+        )
+        for number in (1, 2):
+            self.assertEqual((self.room / f"mails/{number}.eml.expect").read_text(), "[b]\ndiscard\n")
 
 
 class Lints(Room):

@@ -82,12 +82,13 @@ class Programs(Room):
             b'  envelope "a" "b"',
             b'  store "x"',
             b'  at personal "m \\" n" line 12',
-            b'  implicit "y"',
-            b'  read personal "m" missing" missing',
-            b'  read global "g"',
+            b"  discard",
+            b'  at global "g" line 3',
         ]
-        verdict = verdict_of([*told[:4], b'  read personal "m\\" missing" missing', told[5]])
-        self.assertEqual(verdict.lines, (Line(b'store "x"', (("personal", b'm " n'), 12)), Line(b'implicit "y"')))
+        told += [b'  implicit "y"', b'  read personal "m\\" missing" missing', b'  read global "g"']
+        verdict = verdict_of(told)
+        store, discard = Line(b'store "x"', (("personal", b'm " n'), 12)), Line(b"discard", (("global", b"g"), 3))
+        self.assertEqual(verdict.lines, (store, discard, Line(b'implicit "y"')))
         self.assertEqual(verdict.reads, ((("personal", b'm" missing'), False), (("global", b"g"), True)))
 
 
