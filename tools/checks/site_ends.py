@@ -14,9 +14,10 @@ from .site import PACK, TOOL, counted, run, site, told, write
 
 DISCARDS = b"[main]\ndiscard\n"
 PAGE = TOOL.parent.parent / "docs/SITE.md"
-# A program that answers after a while.
-SLOW = b'#!/bin/sh\n[ "$1" = --version ] || sleep 30\nexec sievebench "$@"\n'
+# A program that says that it sleeps, in a file, before it answers anything.
+SLOW = b'#!/bin/sh\n[ "$1" = --version ] || { : > asleep; exec sleep 30; }\nexec sievebench "$@"\n'
 MEBIBYTE = 1 << 20
+WRITTEN = ["envelope", "mails", "mails/1.eml", "mains", "personal", "personal/main.sieve", "program"]
 
 
 class Ended:
@@ -28,14 +29,13 @@ class Ended:
     def differences(self, path):
         """What is otherwise."""
         command = [sys.executable, "-B", str(TOOL), *self.words]
-        before = listed(self.room)
         # Where this runs in the background, Ctrl-C may be ignored.
         heeds = lambda: signal.signal(signal.SIGINT, signal.SIG_DFL)
         with subprocess.Popen(command, cwd=self.room, env={**os.environ, "PATH": path}, stdout=subprocess.PIPE, stderr=subprocess.PIPE, preexec_fn=heeds) as child:
             end = time.monotonic() + SECONDS
-            while not (below := children(child.pid)) and time.monotonic() < end:
+            while not (self.room / "asleep").exists() and time.monotonic() < end:
                 time.sleep(0.01)
-            time.sleep(0.2)
+            below = children(child.pid)
             child.send_signal(self.number)
             began = time.monotonic()
             got = child.communicate(timeout=SECONDS), child.returncode
@@ -43,7 +43,8 @@ class Ended:
         found = [] if got == ((b"", b""), 128 + self.number) else [f"got {got}"]
         found += [] if below and seconds < 5 else [f"{len(below)} children, ended in {seconds:.1f} seconds"]
         found += [f"process {it} is left" for it in below if os.path.exists(f"/proc/{it}")]
-        return found + ([] if listed(self.room) == before else ["files are left or gone"])
+        (self.room / "asleep").unlink()
+        return found + ([] if listed(self.room) == WRITTEN else [f"files: {listed(self.room)}"])
 
 
 def children(process):
@@ -56,7 +57,7 @@ def children(process):
 
 def listed(room):
     """All files below a folder."""
-    return sorted(str(path) for path in room.rglob("*"))
+    return sorted(str(path.relative_to(room)) for path in room.rglob("*"))
 
 
 def of_ends(room):

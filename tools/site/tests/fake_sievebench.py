@@ -87,6 +87,7 @@ class Run:
         elif name == b"stop":
             raise End
         elif name == b"sleep":
+            pathlib.Path("asleep").touch()
             time.sleep(float(strings[0]))
         elif name == b"include":
             here = self.place

@@ -100,14 +100,15 @@ class Ends(Room):
         for command in ("check", "record"):
             for number, status in ((2, 130), (15, 143)):
                 with self.subTest(command=command, number=number), self.started(command, ".") as child:
-                    while not children_of(child.pid):
+                    while not (self.room / "asleep").exists():
                         time.sleep(0.01)
-                    time.sleep(0.2)
+                    (self.room / "asleep").unlink()
                     started, below = time.monotonic(), children_of(child.pid)
                     child.send_signal(number)
                     self.assertEqual(child.communicate(timeout=20), (b"", b""))
                     self.assertEqual(child.returncode, status)
                     self.assertLess(time.monotonic() - started, 5)
+                    self.assertTrue(below)
                     self.assertFalse([it for it in below if os.path.exists(f"/proc/{it}")])
         self.assertEqual(sorted(os.listdir(self.room)), ["envelope", "mails", "mains", "personal"])
         self.assertEqual(os.listdir(self.room / "mails"), ["1.eml"])
