@@ -1,5 +1,5 @@
 """The table of faults, `docs/faults.tsv`, whose columns `docs/LANGUAGE.md` tells: each of its lines is run, and it has a line for each
-word of a fault or an error that the sources have, in their order, and no other. What `tools/sievebench-site` says of a fault is what the table
+word of a fault or an error that the sources have, in their order, and no other. What `tools/site` says of a fault is what the table
 says.
 """
 import pathlib
@@ -8,7 +8,7 @@ import re
 from .runs import Run, lines
 
 TOP = pathlib.Path(__file__).resolve().parent.parent.parent
-TABLE, TOOL = TOP / "docs/faults.tsv", TOP / "tools/sievebench-site"
+TABLE, TOOL = TOP / "docs/faults.tsv", TOP / "tools/site/sievebench_site/faults.py"
 COLUMNS = ["word", "sentence", "wrong", "right", "cause", "told", "front", "scripts", "with"]
 # The functions that give the words, in the order in which the table has them.
 SOURCES = [TOP / "crates" / path for path in ("sieve_check/src/judged.rt", "sieve_table/src/rule.rt", "sieve_effects/src/error.rt")]

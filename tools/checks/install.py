@@ -2,13 +2,14 @@
 import os
 import pathlib
 import shutil
+import sys
 
 from .files import write
 from .runs import Run, lines
 
 SOURCE = pathlib.Path(__file__).resolve().parent.parent / "install"
 # What it and the script for `rt` call: nothing else is in the path that it is given.
-COMMANDS = ["bash", "cat", "chmod", "dirname", "install", "mkdir", "mv", "realpath", "rm", "sed"]
+COMMANDS = ["bash", "cat", "chmod", "dirname", "install", "mkdir", "mktemp", "mv", "realpath", "rm", "sed"]
 INSTALL = 'PATH="$PWD/kit" tools/install'
 BUILDS = b"""#!/bin/sh
 echo "rt $*, in ${PWD##*/}"
@@ -17,20 +18,21 @@ printf '#!/bin/sh\\necho new "$@"\\n' > out/sievebench_cli
 chmod 700 out/sievebench_cli
 """
 OLD = {"p/bin/sievebench": b"#!/bin/sh\necho old\n"}
-# The tool for sites, which is copied as it is, and pages of the manual with what is none.
-SITE = {"tools/sievebench-site": b"#!/bin/sh\necho site\n"}
+# The tool for sites, with what makes one file of it, and pages of the manual with what is none.
+PACK = "tools/site/pack.py"
+SITE = {PACK: (SOURCE.parent / "site/pack.py").read_bytes(), "tools/site/__main__.py": b"import sievebench_site\n", "tools/site/sievebench_site/__init__.py": b'print("site")\n', "tools/site/other.py": b""}
 PAGES = {"docs/man/sievebench.1": b"page\n", "docs/man/sievebench-session.5": b"page of lines\n", "docs/man/notes": b""}
 
 
 def copy(room, rt, files):
     """A folder with what is needed of a repository, a script for `rt`, if any, and other files."""
     top = room / str(len(list(room.iterdir())))
-    site = {} if "tools/sievebench-site/x" in files else SITE
-    write(top, {"tools/install": SOURCE.read_bytes(), "crates/sievebench_cli/args": b"", **site, **({"kit/rt": rt} if rt else {}), **files})
+    write(top, {"tools/install": SOURCE.read_bytes(), "crates/sievebench_cli/args": b"", **SITE, **({"kit/rt": rt} if rt else {}), **files})
     (top / "kit").mkdir(exist_ok=True)
     for command in COMMANDS:
         (top / "kit" / command).symlink_to(shutil.which(command))
-    for path in ["tools/install", "kit/rt", "p/bin/sievebench"]:
+    (top / "kit/python3").symlink_to(sys.executable)
+    for path in ["tools/install", PACK, "kit/rt", "p/bin/sievebench"]:
         if (top / path).is_file():
             (top / path).chmod(0o755)
     return top
@@ -85,13 +87,13 @@ def of_failures(room):
         ("proofs fail, over an older one", fails, OLD, f"p > told; echo $?; {used}", b"7\n" + old, failed),
         ("no program is built", b"#!/bin/sh\n", OLD, f"p > told; echo $?; {used}", b"1\n" + old, [b"out/sievebench_cli"]),
         ("a page can't be copied", BUILDS, {**OLD, "docs/man/1.1/x": b""}, f"p > told; echo $?; {used}", b"1\n" + old, [b"docs/man/1.1"]),
-        ("the tool for sites can't be copied", BUILDS, {**OLD, "tools/sievebench-site/x": b""}, f"p > told; echo $?; {used}", b"1\n" + old, [b"tools/sievebench-site"]),
+        ("the tool for sites can't be made", BUILDS, {**OLD, PACK: b"#!/bin/sh\necho no >&2\nexit 5\n"}, f"p > told; echo $?; {used}", b"5\n" + old, [b"no\n"]),
         ("the folder of pages is a file", calls, {**OLD, **PAGES, "p/share": b""}, "p; echo $?; find p -type f | sort", lines("1", "p/bin/sievebench", "p/share"), [b"install: cannot write to ", b"/p/share\n"]),
         ("the place of the tool for sites is a folder", calls, {"p/bin/sievebench-site/x": b""}, "p; echo $?; find p -type f", b"1\np/bin/sievebench-site/x\n", [b"/p/bin/sievebench-site is a folder\n"]),
         ("there is no rt", None, OLD, f"p; echo $?; {used}", b"1\n" + old, [b"install: there is no rt in the path"]),
         ("a folder is a file", calls, OLD, f"p/bin/sievebench; echo $?; {used}", b"1\n" + old, [b"install: cannot write to ", b"/p/bin/sievebench\n"]),
         ("the program's place is a folder", calls, {"p/bin/sievebench/x": b""}, "p; echo $?; find p -type f", b"1\np/bin/sievebench/x\n", [b"/p/bin/sievebench is a folder\n"]),
-        ("an option is unknown", calls, {}, "--prefix=p; echo $?; find . -name '*p'", b"1\n", [b"install: --prefix=p is no option"]),
+        ("an option is unknown", calls, {}, "--prefix=p; echo $?; find . -path ./kit -prune -o -name '*p' -print", b"1\n", [b"install: --prefix=p is no option"]),
         ("two words are given", calls, {}, "p q; echo $?; find . -name p -o -name q", b"1\n", [b"install: one word at most is wanted"]),
     ]:
         yield Run(f"no install where {title}", copy(room, rt, files), f"{INSTALL} {words}", output, error)

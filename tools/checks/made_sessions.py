@@ -10,7 +10,15 @@ from .amounts import MAILBOX_LIMIT, MESSAGE_LIMIT, NAME_LIMIT, SCRIPT_LIMIT, TEX
 from .files import write
 from .runs import SETTINGS, Run, lines
 
-MAKE = shlex.quote(str(pathlib.Path(__file__).resolve().parent.parent / "make-session"))
+TOOLS = pathlib.Path(__file__).resolve().parent.parent
+MAKE = shlex.quote(str(TOOLS / "make-session"))
+# The tool with another limit of mails.
+FEW = f"""import runpy, sys
+sys.path.insert(0, {str(TOOLS / "site")!r})
+from sievebench_site import words
+words.MAIL_LIMIT = 2
+runpy.run_path({str(TOOLS / "make-session")!r}, run_name="__main__")
+"""
 
 ODD_SCRIPTS = {
     b"-x.sieve": b"keep;",
@@ -215,7 +223,8 @@ def of_refusals(room):
     ]:
         yield Run(f"no session of {title}", room, f"{MAKE} {words}", b"", [f"make-session: {sentence}".encode()], 2)
     # To make so many files would take longer than all else: here the limit is another.
-    few = f"sed 's/ 65_536$/ 2/' {MAKE} > few && python3 few s"
+    (room / "few").write_text(FEW)
+    few = "python3 few s"
     yield Run("no session of many mails", room, f"{few} crowd", b"", b'make-session: more than 2 mails in "crowd"\n', 2)
     yield Run("a session of as many mails as there may be", room, f"{few} pair | tail -n 3", b'message "2" 0\nmain personal "main"\nreport\n')
 

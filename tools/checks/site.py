@@ -7,6 +7,10 @@ import shlex
 from .runs import Run, lines
 
 TOOL = pathlib.Path(__file__).resolve().parent.parent / "sievebench-site"
+PACK = TOOL.parent / "site/pack.py"
+NOBODY = b'"" ""\n'
+# It answers as the program does, and writes to standard error too.
+NOISY = b'#!/bin/sh\nsievebench "$@"\necho noise >&2\n'
 COUNTS = ("mails", "mains", "verdicts", "agree", "disagree", "without expectation", "stale expectations", "scripts with a fault")
 
 
@@ -18,9 +22,9 @@ def write(folder, files):
         path.write_bytes(octets)
 
 
-def counted(*numbers):
-    """The last line of a check."""
-    return ", ".join(f"{number} {what}" for number, what in zip(numbers, COUNTS))
+def counted(*numbers, further=()):
+    """The last line of a check. The last counts are told where they aren't 0."""
+    return ", ".join([*(f"{number} {what}" for number, what in zip(numbers, COUNTS)), *further])
 
 
 def run(title, room, words, output=b"", error=b"", status=0):
@@ -34,8 +38,9 @@ def told(sentence):
 
 
 def site(mails, **scripts):
-    """A site of these personal scripts, all of them main, and these mails."""
+    """A site of these personal scripts, all of them main, and these mails, which have an empty envelope where they have none of their own."""
     files = {f"personal/{name}.sieve": text for name, text in scripts.items()}
+    files["envelope"] = NOBODY
     files["mains"] = lines(*scripts)
     files.update({f"mails/{name}": octets for name, octets in mails.items()})
     return files
@@ -49,46 +54,47 @@ def of_checks(room):
     yield run("a verdict disagrees", room, "check wrong", lines("wrong/mails/1.eml under main", '  - store "A"', "    discard", counted(1, 1, 1, 0, 1, 0, 0, 0)), status=1)
     write(room / "ends", site({"1.eml": b"", "1.eml.expect": b"[main]\r\ndiscard\r\n[other]\r\nimplicit \"INBOX\""}, main=b"discard;", other=b""))
     yield run("CR LF, and no last line end", room, "check ends", lines(counted(1, 2, 2, 2, 0, 0, 0, 0)))
-    write(room / "none", site({"1.eml": b"", "2.eml": b"", "2.eml.expect": b"[main]\ndiscard\n[gone]\nkeep\n"}, main=b"discard;"))
-    yield run("nothing is expected", room, "check none", lines(counted(2, 1, 2, 1, 0, 1, 1, 0)))
+    write(room / "none", site({"1.eml": b"", "2.eml": b"", "2.eml.expect": b'[main]\ndiscard\n[gone]\nstore "K"\n'}, main=b"discard;"))
+    yield run("nothing is expected", room, "check --lax none", lines(counted(2, 1, 2, 1, 0, 1, 1, 0)))
     write(room / "none", {"mails/3.eml.expect": b"", "mails/3.eml.envelope": b""})
     strict = ["none/mails/1.eml under main: nothing is expected", "none/mails/2.eml.expect: no main script is called gone", *(f"none/mails/3.eml.{end}: its mail isn't there" for end in ("envelope", "expect"))]
-    yield run("nothing is expected, and that fails", room, "check --strict none", lines(*strict, counted(2, 1, 2, 1, 0, 1, 3, 0)), status=1)
+    for words in ("", "--strict"):
+        yield run(f"nothing is expected, and that fails {words}", room, f"check {words} none", lines(*strict, counted(2, 1, 2, 1, 0, 1, 3, 0)), status=1)
     yield run("one mail", room, "check --strict --only=2.eml --main=main none", lines(counted(1, 1, 1, 1, 0, 0, 0, 0)))
     write(room / "empty", site({"1.eml": b"", "1.eml.expect": b"[main]\n"}, main=b"discard;"))
-    yield run("the empty text agrees with no verdict", room, "check empty", lines("empty/mails/1.eml under main", "  + discard", counted(1, 1, 1, 0, 1, 0, 0, 0)), status=1)
+    yield run("the empty text agrees with no verdict", room, "check empty", lines("empty/mails/1.eml under main", "  + discard  (empty/personal/main.sieve:1)", counted(1, 1, 1, 0, 1, 0, 0, 0)), status=1)
     envelope = b'require "envelope"; if envelope "from" "" { discard; }'
-    write(room / "null", site({"1.eml": b"", "1.eml.envelope": b'"" ada@home.example\n', "1.eml.expect": b"[main]\ndiscard\n", "2.eml": b"", "2.eml.envelope": b"a@b.example \"c d\"", "2.eml.expect": b'[main]\nimplicit "INBOX"\n'}, main=envelope))
+    write(room / "null", site({"1.eml": b"", "1.eml.envelope": b'"" ada@home.example\n', "1.eml.expect": b"[main]\ndiscard\n", "2.eml": b"", "2.eml.envelope": b'a@b.example "\\"c d\\"@e.example"', "2.eml.expect": b'[main]\nimplicit "INBOX"\n'}, main=envelope))
     yield run("each mail in its envelope", room, "check null", lines(counted(2, 1, 2, 2, 0, 0, 0, 0)))
     write(room / "fault", site({"1.eml": b"", "1.eml.expect": b'[main]\nimplicit "INBOX"\nerror personal "main" line 0 invalid-script\n'}, main=b"kep;"))
     fault = "fault/personal/main.sieve:1: unknown-command: There is no such command or test."
     yield run("a script has a fault", room, "check fault", lines(fault, counted(1, 1, 1, 1, 0, 0, 0, 1)), status=1)
     write(room / "stale", site({"1.eml": b"", "1.eml.expect": b"[main]\ndiscard\n", "2.eml.expect": b""}, main=b"discard;"))
-    yield run("all agree, but a file is stale", room, "check --strict stale", lines("stale/mails/2.eml.expect: its mail isn't there", counted(1, 1, 1, 1, 0, 0, 1, 0)), status=1)
+    yield run("all agree, but a file is stale", room, "check stale", lines("stale/mails/2.eml.expect: its mail isn't there", counted(1, 1, 1, 1, 0, 0, 1, 0)), status=1)
     yield run("an output that is closed early", room, "check --strict none | head -c 4", b"none")
 
 
 def of_spellings(room):
     """Names of files that are taken or passed over, and how names and octets are shown."""
     odd = '-\u00fc "x" \\ y'
-    write(room / "-odd", {f"mails/{odd}.eml": b"", f"mails/{odd}.eml.expect": f'["{odd}"]\n'.replace("\u00fc", "\\xc3\\xbc").replace(' "x" \\', ' \\"x\\" \\\\').encode() + b"discard\n", f"personal/{odd}.sieve": b"discard;", "mains": f"{odd}\n".encode()})
+    write(room / "-odd", {f"mails/{odd}.eml": b"", f"mails/{odd}.eml.expect": f'["{odd}"]\n'.replace("\u00fc", "\\xc3\\xbc").replace(' "x" \\', ' \\"x\\" \\\\').encode() + b"discard\n", f"personal/{odd}.sieve": b"discard;", "mains": f"{odd}\n".encode(), "envelope": NOBODY})
     yield run("odd names", room, "check -- -odd", lines(counted(1, 1, 1, 1, 0, 0, 0, 0)))
     shown = "-bare/mails/-\\xc3\\xbc \"x\" \\\\ y.eml under -\\xc3\\xbc \"x\" \\\\ y: nothing is expected"
-    write(room / "-bare", {f"mails/{odd}.eml": b"", f"personal/{odd}.sieve": b"discard;", "mains": f"{odd}\n".encode()})
+    write(room / "-bare", {f"mails/{odd}.eml": b"", f"personal/{odd}.sieve": b"discard;", "mains": f"{odd}\n".encode(), "envelope": NOBODY})
     yield run("odd names are told", room, "check --strict --no-utf8 -- -bare", lines(shown, counted(1, 1, 1, 0, 0, 1, 0, 0)), status=1)
     write(room / "utf8", site({"\u00fc.eml": b"", "\u00fc.eml.expect": b'[main]\nstore "\\xe4" "\\\\Seen"\n'}, main='require "fileinto"; fileinto "B\u00fcro";'.encode()))
-    shown = lines("utf8/mails/\u00fc.eml under main", '  - store "\\xe4" "\\\\Seen"', '  + store "B\u00fcro"', counted(1, 1, 1, 0, 1, 0, 0, 0))
+    shown = lines("utf8/mails/\u00fc.eml under main", '  - store "\\xe4" "\\\\Seen"', '  + store "B\u00fcro"  (utf8/personal/main.sieve:1)', counted(1, 1, 1, 0, 1, 0, 0, 0))
     yield run("octets of UTF-8 are shown as characters, and others as they were", room, "check --utf8 utf8", shown, status=1)
     write(room / "plain", site({"1.eml": b"", "1.eml.expect": '[main]\nstore "\u00fc"\n'.encode()}, main='require "fileinto"; fileinto "\u00fc";'.encode()))
-    shown = ['  - store "\\xc3\\xbc"', '  + store "\\xc3\\xbc"', "  (a line that is expected has an octet outside of 32 to 126, which verdicts spell \\xHH)"]
-    yield run("what is expected isn't spelled as verdicts are", room, "check plain", lines("plain/mails/1.eml under main", *shown, counted(1, 1, 1, 0, 1, 0, 0, 0)), status=1)
+    yield run("what is expected has characters as they are", room, "check plain", lines(counted(1, 1, 1, 1, 0, 0, 0, 0)))
     write(room / "over", site({"1.eml": b"", "1.eml.expect": b"[main]\ndiscard\n", ".2.eml": b"", "3.EML": b"", "4.eml/x": b"", ".eml": b""}, main=b"discard;"))
     write(room / "over", {"personal/.x.sieve": b"discard;", "personal/.sieve": b"kep;", "personal/x.SIEVE": b"kep;", "personal/y.sieve/x": b""})
     (room / "over/mails/5.eml").symlink_to("nowhere")
     (room / "over/mails/6.eml").symlink_to("1.eml")
-    yield run("files that are passed over, and a link that isn't", room, "check --main main --main .x over", lines(counted(2, 2, 4, 1, 0, 3, 0, 0)))
+    left = ["over/mails/3.EML: left out: its name doesn't end by .eml, in small letters", "over/mails/5.eml: left out: it leads to no plain file"]
+    yield run("files that are passed over, and a link that isn't", room, "check --lax --main main --main .x over", lines(*left, counted(2, 2, 4, 1, 0, 3, 0, 0, further=["2 left out"])))
     write(room / "names", {**site({"\n\x1f\x7f\x80\udcff.eml": b""}, main=b"discard;", other=b""), "mains": b"main\r\n\nother\r\nmain"})
-    yield run("CR LF, an empty line and a name again among those of main scripts, and a mail of an odd name", room, "check names", lines(counted(1, 2, 2, 0, 0, 2, 0, 0)))
+    yield run("CR LF, an empty line and a name again among those of main scripts, and a mail of an odd name", room, "check --lax names", lines(counted(1, 2, 2, 0, 0, 2, 0, 0)))
 
 
 def of_names(room):
@@ -98,14 +104,14 @@ def of_names(room):
     write(room / "asked", {**files, "with": b"subaddress\r\n\nunused"})
     yield run("names of a site", room, "check --strict asked", lines(counted(1, 1, 1, 1, 0, 0, 0, 0)))
     write(room / "unasked", files)
-    yield run("no names of a site", room, "check unasked", [b"unknown-capability"], status=1)
+    yield run("no names of a site", room, "check unasked", [b"unasked/personal/main.sieve:1: not judged: requires subaddress, vacation\n"], status=1)
     script = b'require ["mailbox", "fileinto", "envelope"]; if mailboxexists "Work" { fileinto :create "Work"; } if envelope "to" "c@d.example" { discard; }'
     files = {**site({"1.eml": b"", "1.eml.envelope": b"a@b.example c@d.example", "2.eml": b""}, main=script), "with": b"lines\nmailbox\n", "mailboxes": b"Home\r\nWork"}
     files.update({"mails/1.eml.expect": b'[main]\nstore "Work" create\ndiscard\n', "mails/2.eml.expect": b'[main]\nstore "Work" create\n'})
     write(room / "boxes", files)
     yield run("a list of mailboxes, and lines of a report that are none of a verdict", room, "check --strict boxes", lines(counted(2, 1, 2, 2, 0, 0, 0, 0)))
     write(room / "manyboxes", {**files, "mailboxes": b"x" * 1_048_577})
-    yield run("a list of mailboxes that is refused", room, "check manyboxes", b"", told('the list of mailboxes "manyboxes/mailboxes" is refused: no too-large'), 2)
+    yield run("a list of mailboxes that is refused", room, "check manyboxes", b"", told('the list of mailboxes "manyboxes/mailboxes" is refused: a list of mailboxes has at most 1,048,576 octets'), 2)
     write(room / "nobody", {**site({"1.eml": b"", "1.eml.expect": b"[main]\ndiscard\n"}, main=b"discard;"), "mailboxes": b"x" * 1_048_577})
     yield run("a list of mailboxes that isn't asked for", room, "check nobody", lines(counted(1, 1, 1, 1, 0, 0, 0, 0)))
     write(room / "misnamed", {**files, "with": b"sub address\n"})
@@ -158,7 +164,7 @@ def of_clocks(room):
             yield run(f"no clock: {octets!r:.40}, {command}", room, f"{command} clock{number}", b"", wrong, 2)
     ends = {"mails/1.eml.expect": b'[main]\nimplicit "INBOX"\n'}
     write(room / "last", {**files, **ends, "clock": b"\r\n  000253402300799  -9959 \r\n"})
-    yield run("the last second, with zeros and blanks and an empty line in front", room, "check last", lines(counted(*agree)))
+    yield run("the last second, with zeros and blanks and an empty line before it", room, "check last", lines(counted(*agree)))
     for value in ("x", "1783245600 +0200", "1783245600CEST", ""):
         wrong = told(f'--clock "{value}" isn\'t SECONDS[ZONE], as 1783245600+0200')
         yield run(f"no clock of an option: {value}", room, f"check --clock '{value}' timed", b"", wrong, 2)
@@ -171,9 +177,9 @@ def of_clocks(room):
 def of_refusals(room):
     """Misuse."""
     write(room / "broken", site({"1.eml": b"", "1.eml.expect": b"discard\n"}, main=b""))
-    yield run("no name in front", room, "check broken", b"", told('"broken/mails/1.eml.expect", line 1: in front of it stands no name of a main script in brackets'), 2)
+    yield run("no name before a line", room, "check broken", b"", told('"broken/mails/1.eml.expect", line 1: before it stands no name of a main script in brackets'), 2)
     write(room / "twice", site({"1.eml": b"", "1.eml.expect": b"[main]\ndiscard\n[main]\n"}, main=b""))
-    yield run("a name again", room, "check twice", b"", told('"twice/mails/1.eml.expect", line 3: between the brackets stands no name of a main script, or one that stood there before'), 2)
+    yield run("a name again", room, "check twice", b"", told('"twice/mails/1.eml.expect", line 3: [main] stood there before'), 2)
     write(room / "words", site({"1.eml": b"", "1.eml.envelope": b"a b c\n"}, main=b""))
     yield run("an envelope of three words", room, "check words", b"", told('"words/mails/1.eml.envelope" isn\'t two words, as in a session'), 2)
     write(room / "lone", {"personal/main.sieve": b"", "mains": b"main\n", "mails/x.txt": b""})
@@ -183,21 +189,21 @@ def of_refusals(room):
     yield run("an unknown main script", room, "check --main x unnamed", b"", told('no main script "x": there is no "unnamed/personal/x.sieve"'), 2)
     yield run("an unknown mail", room, "check --main main --only 2.eml unnamed", b"", told('no mail "unnamed/mails/2.eml"'), 2)
     write(room / "large", site({"1.eml": b""}, main=b"#" * 1_048_577))
-    yield run("a script that is refused", room, "check large", b"", told('the script "large/personal/main.sieve" is refused: no too-large'), 2)
+    yield run("a script that is refused", room, "check large", b"", told('the script "large/personal/main.sieve" is refused: a script\'s text has at most 1,048,576 octets, and its name 1,024'), 2)
     yield run("a site that isn't there", room, "check nowhere", b"", told('cannot read "nowhere/personal": No such file or directory'), 2)
     for end in ("envelope", "expect"):
         write(room / end, site({"1.eml": b""}, main=b""))
         (room / end / f"mails/1.eml.{end}").symlink_to("nowhere")
         yield run(f"a link to nothing, {end}", room, f"check {end}", b"", told(f'cannot read "{end}/mails/1.eml.{end}": No such file or directory'), 2)
-    yield run("an unknown option", room, "check --no unnamed", b"", told('"--no" is no option here, or wants a value: --help tells the options'), 2)
-    yield run("a value of an option that takes none", room, "check --strict=no good", b"", told('"--strict" takes no value: --help tells the options'), 2)
-    yield run("the help of a command", room, "lint --help", [b"sievebench-site lint [--main NAME].. [--clock TIME] [--sievec] SITE\n", b"--program P "])
-    yield run("an option without its value", room, "check good --main", b"", told('"--main" is no option here, or wants a value: --help tells the options'), 2)
-    yield run("no command", room, "", b"", told("one of check, record and lint is wanted: --help tells more"), 2)
-    yield run("an unknown command", room, "chek good", b"", told('"chek" is none of check, record and lint: --help tells more'), 2)
+    yield run("an unknown option", room, "check --no unnamed", b"", told("unrecognized arguments: --no: --help tells the options"), 2)
+    yield run("a value of an option that takes none", room, "check --strict=no good", b"", told("argument --strict: ignored explicit argument 'no': --help tells the options"), 2)
+    yield run("the help of a command", room, "lint --help", [b"usage: sievebench-site lint ", b"--sievec", b"--program PROGRAM"])
+    yield run("an option without its value", room, "check good --main", b"", told("argument --main: expected one argument: --help tells the options"), 2)
+    yield run("no command", room, "", b"", told("one of check, record, lint and import is wanted: --help tells more"), 2)
+    yield run("an unknown command", room, "chek good", b"", told('"chek" is none of check, record, lint and import: --help tells more'), 2)
     for words in ("", "good none", "''"):
         yield run(f"one folder is wanted: {words}", room, f"check {words}", b"", told("one folder is wanted, the site: --help tells more"), 2)
-    yield run("an option of another command", room, "lint --strict unnamed", b"", told('"--strict" is no option here, or wants a value: --help tells the options'), 2)
+    yield run("an option of another command", room, "lint --strict unnamed", b"", told("unrecognized arguments: --strict: --help tells the options"), 2)
     yield run("an output that is full", room, "check good > /dev/full", b"", told("cannot write: No space left on device"), 2)
 
 
@@ -206,13 +212,14 @@ def of_programs(room):
     yield run("a program that isn't there", room, "check --program ./absent --main main unnamed", b"", told('cannot run "./absent": No such file or directory'), 3)
     # The program beside the tool comes before that of the path, also where a link leads to the tool; a folder is none.
     for name in ("beside", "folder"):
-        write(room / name, {"sievebench-site": TOOL.read_bytes(), "sievebench" if name == "beside" else "sievebench/x": b"#!/bin/sh\necho beside >&2\nexit 4\n"})
+        write(room / name, {"sievebench" if name == "beside" else "sievebench/x": b"#!/bin/sh\necho beside >&2\nexit 4\n"})
+        yield Run(f"sievebench-site: one file of it, {name}", room, f"python3 {shlex.quote(str(PACK))} {name}/sievebench-site")
     (room / "beside/sievebench").chmod(0o755)
     (room / "linked").symlink_to("beside/sievebench-site")
     yield Run("sievebench-site: the program beside the tool", room, "python3 linked check good", b"", [b'/beside/sievebench" ended with status 4: "beside"\n'], 3)
     yield Run("sievebench-site: a folder beside the tool", room, "python3 folder/sievebench-site lint good")
-    write(room / "mute", {"program": b"#!/bin/sh\ncat > /dev/null\n", "failing": b"#!/bin/sh\ncat > /dev/null\necho 'out of memory' >&2\nexit 4\n"})
-    for name, sentence in (("program", "the program answered too little"), ("failing", '"mute/failing" ended with status 4: "out of memory"')):
+    write(room / "mute", {"program": b"#!/bin/sh\n", "failing": b"#!/bin/sh\necho 'out of memory' >&2\nexit 4\n", "noisy": NOISY})
+    for name, sentence in (("program", "the program answered too little"), ("failing", '"mute/failing" ended with status 4: "out of memory"'), ("noisy", '"mute/noisy" ended with status 0: "noise"')):
         (room / "mute" / name).chmod(0o755)
         yield run(f"a program that answers nothing, {name}", room, f"check --program mute/{name} good", b"", told(sentence), 3)
     # Nothing but the tool itself is in this path.
@@ -224,12 +231,12 @@ def of_broken_files(room):
     """Files that can't be read as what they are."""
     write(room / "touch", site({"1.eml": b"", "1.eml.envelope": b'""ada@home.example\n'}, main=b""))
     yield run("an envelope of words that touch", room, "check touch", b"", told('"touch/mails/1.eml.envelope" isn\'t two words, as in a session'), 2)
-    write(room / "sender", site({"1.eml": b"", "1.eml.envelope": b'"" ' + b"a" * 1_025}, main=b""))
-    yield run("an envelope that is refused", room, "check sender", b"", told('the envelope of "sender/mails/1.eml" is refused: no too-large'), 2)
+    write(room / "sender", site({"1.eml": b"", "1.eml.envelope": b'"" ' + b"a" * 1_020 + b"@b.example"}, main=b""))
+    yield run("an envelope that is refused", room, "check sender", b"", told(f'"sender/mails/1.eml.envelope": the recipient "{"a" * 100}" is no address: it has more than 1,024 octets'), 2)
     write(room / "bare", {**site({"1.eml": b""}, main=b""), "mains": b"\n"})
     yield run("no name of a main script", room, "check bare", b"", told('no main script in "bare/mains"'), 2)
     write(room / "escape", site({"1.eml": b"", "1.eml.expect": b'["m\\ain"]\n'}, main=b""))
-    yield run("a name that is no word", room, "check escape", b"", told('"escape/mails/1.eml.expect", line 1: between the brackets stands no name of a main script, or one that stood there before'), 2)
+    yield run("a name that is no word", room, "check escape", b"", told('"escape/mails/1.eml.expect", line 1: between the brackets stands no name of a main script'), 2)
     write(room / "pipe", site({"1.eml": b""}, main=b""))
     os.mkfifo(room / "pipe/mails/1.eml.expect")
     yield run("an expectation that is a pipe", room, "check pipe", b"", told('cannot read "pipe/mails/1.eml.expect": it is no plain file'), 2)
@@ -238,61 +245,83 @@ def of_broken_files(room):
     yield run("a mail of which nobody knows what it is", room, "check far", b"", told('cannot read "far/mails/2.eml": File name too long'), 2)
 
 
-def of_results(room):
-    """What servers read, and objects."""
+# A parser tells what servers read: the elements with their attributes, without the seconds, and the first lines of their texts.
+READER = """import sys, xml.etree.ElementTree as tree
+for it in tree.parse(sys.argv[1]).iter():
+    seconds = it.attrib.pop("time", None)
+    assert it.tag not in ("testsuite", "testcase") or float(seconds) >= 0
+    print(ascii([it.tag, *it.attrib.values(), (it.text or "").strip()]))
+"""
+SUITE = ["testsuite", "sievebench-site"]
+
+
+def of_junit(room):
+    """What servers read."""
     write(room / "both", site({"1.eml": b"", "1.eml.expect": b"[main]\ndiscard\n[other]\ndiscard\n"}, main=b"discard;", other=b"keep;"))
-    junit = lines(
-        '<?xml version="1.0" encoding="UTF-8"?>',
-        '<testsuite name="sievebench-site" tests="2" failures="1">',
-        '  <testcase classname="main" name="1.eml"/>',
-        '  <testcase classname="other" name="1.eml"><failure>- discard',
-        '+ store "INBOX"</failure></testcase>',
-        "</testsuite>",
-    )
-    yield run("results of tests", room, "check --junit out.xml both > /dev/null; cat out.xml", junit)
-    wrong = lines("both/mails/1.eml under other", "  - discard", '  + store "INBOX"', counted(1, 2, 2, 1, 1, 0, 0, 0))
+    (room / "read").write_text(READER)
+    failed = ["failure", "the verdict isn't as expected", '- discard\n+ store "INBOX"  (both/personal/other.sieve:1)']
+    rows = [[*SUITE, "2", "1", "0", ""], ["testcase", "main", "1.eml", ""], ["testcase", "other", "1.eml", ""], failed]
+    junit = lines(*map(ascii, rows))
+    yield run("results of tests", room, "check --junit out.xml both > /dev/null; python3 read out.xml", junit)
+    yield run("results of tests alone", room, "check --format junit both > out.xml; python3 read out.xml", junit)
+    yield run("results of tests beside an object", room, "check --json --junit out.xml both > out.json; python3 read out.xml; head -c 16 out.json", junit + b'{"passed": false')
+    wrong = lines("both/mails/1.eml under other", "  - discard", '  + store "INBOX"  (both/personal/other.sieve:1)', counted(1, 2, 2, 1, 1, 0, 0, 0))
     for output in ("/dev/stdout", "/dev/fd/1"):
-        yield run(f"results of tests in front of the lines, by {output}", room, f"check --junit {output} both > all; cat all", junit + wrong)
-    counts = ", ".join(f'"{what}": {number}' for what, number in zip(COUNTS, (1, 2, 2, 1, 1, 0, 0, 0)))
-    cases = '{"mail": "1.eml", "main": "main", "agrees": true, "expected": ["discard"], "verdict": ["discard"]}, {"mail": "1.eml", "main": "other", "agrees": false, "expected": ["discard"], "verdict": ["store \\"INBOX\\""]}'
-    yield run("an object", room, "check --json both", lines(f'{{"passed": false, "counts": {{{counts}}}, "cases": [{cases}], "faults": [], "stale": []}}'), status=1)
+        yield run(f"results of tests before the lines, by {output}", room, f"check --junit {output} both > all; sed '/^<.testsuite>/q' all > out.xml; python3 read out.xml; sed '1,/^<.testsuite>/d' all", junit + wrong)
     odd = {'<&"\u00fc.eml': b"", '<&"\u00fc.eml.expect': b'[main]\nstore "A"\n', "2\u00fc.eml.expect": b""}
     write(room / "marks", {**site(odd, main='require "fileinto"; fileinto "<&\u00fc>";'.encode(), **{"\u00f6": b""}), "personal/broken.sieve": b"kep;"})
-    # A parser tells what servers read. Each of the files is one failure, and under --strict that nothing is expected is one too.
-    (room / "read").write_text("import sys, xml.etree.ElementTree as tree\nfor it in tree.parse(sys.argv[1]).iter():\n    print(ascii([it.tag, *it.attrib.values(), (it.text or '').strip()]))\n")
-    wrong = [["testcase", "main", '<&"\u00fc.eml', ""], ["failure", '- store "A"\n+ store "<&\u00fc>"'], ["testcase", "\u00f6", '<&"\u00fc.eml', ""]]
+    # Each of the files is one failure, and that nothing is expected is one too.
+    wrong = [["testcase", "main", '<&"\u00fc.eml', ""], ["failure", "the verdict isn't as expected", '- store "A"\n+ store "<&\u00fc>"  (marks/personal/main.sieve:1)'], ["testcase", "\u00f6", '<&"\u00fc.eml', ""]]
     fault, stale = [["testcase", "sievebench-site", f"marks/{path}", ""] for path in ("personal/broken.sieve", "mails/2\u00fc.eml.expect")]
-    wrong_file = [fault, ["failure", "line 1 unknown-command"]]
+    wrong_file = [fault, ["failure", "line 1 unknown-command", "There is no such command or test."]]
     for title, words, rows in [
-        ("with marks", "", [["testsuite", "sievebench-site", "3", "2", ""], *wrong, ["skipped", ""], *wrong_file]),
-        ("under --strict", "--strict", [["testsuite", "sievebench-site", "4", "4", ""], *wrong, ["failure", "nothing is expected"], *wrong_file, stale, ["failure", "its mail isn't there"]]),
+        ("with marks", "--lax", [[*SUITE, "3", "2", "1", ""], *wrong, ["skipped", ""], *wrong_file]),
+        ("where all is wanted", "", [[*SUITE, "4", "4", "0", ""], *wrong, ["failure", *["nothing is expected"] * 2], *wrong_file, stale, ["failure", *["its mail isn't there"] * 2]]),
     ]:
         yield run(f"results of tests, {title}", room, f"check {words} --junit out.xml marks > /dev/null; python3 read out.xml", lines(*map(ascii, rows)))
+    yield run("a file of results that can't be written is told before the run", room, "check --program ./absent --junit nowhere/out.xml both", b"", told('cannot write "nowhere/out.xml": No such file or directory'), 2)
+    yield run("a folder of results", room, "check --junit marks both", b"", told('cannot write "marks": Is a directory'), 2)
+
+
+MORE = ("not judged", "mails without an envelope", "left out")
+
+
+def of_objects(room):
+    """Objects."""
+    counts = ", ".join(f'"{what}": {number}' for what, number in zip(COUNTS + MORE, (1, 2, 2, 1, 1, 0, 0, 0, 0, 0, 0)))
+    cases = '{"mail": "1.eml", "main": "main", "agrees": true, "expected": ["discard"], "verdict": ["discard"], "lines": ["both/personal/main.sieve:1"]}, '
+    cases += '{"mail": "1.eml", "main": "other", "agrees": false, "expected": ["discard"], "verdict": ["store \\"INBOX\\""], "lines": ["both/personal/other.sieve:1"]}'
+    empty = '"faults": [], "not judged": [], "stale": [], "left out": []'
+    for words in ("--json", "--format json", "--format=text --json"):
+        yield run(f"an object by {words}", room, f"check {words} both", lines(f'{{"passed": false, "counts": {{{counts}}}, "cases": [{cases}], {empty}}}'), status=1)
     write(room / "mark", site({"\u00fc.eml": b""}, **{"\u00f6": 'require "fileinto"; fileinto "\u00e4";'.encode()}))
-    counts = ", ".join(f'"{what}": {number}' for what, number in zip(COUNTS, (1, 1, 1, 0, 0, 1, 0, 0)))
-    cases = '{"mail": "\\u00fc.eml", "main": "\\u00f6", "agrees": null, "expected": null, "verdict": ["store \\"\\\\xc3\\\\xa4\\""]}'
-    yield run("an object, with names as they are and verdicts as they are expected", room, "check --json mark", lines(f'{{"passed": true, "counts": {{{counts}}}, "cases": [{cases}], "faults": [], "stale": []}}'))
+    counts = ", ".join(f'"{what}": {number}' for what, number in zip(COUNTS + MORE, (1, 1, 1, 0, 0, 1, 0, 0, 0, 0, 0)))
+    cases = '{"mail": "\\u00fc.eml", "main": "\\u00f6", "agrees": null, "expected": null, "verdict": ["store \\"\\\\xc3\\\\xa4\\""], "lines": ["mark/personal/\\u00f6.sieve:1"]}'
+    yield run("an object, with names as they are and verdicts as they are expected", room, "check --lax --json mark", lines(f'{{"passed": true, "counts": {{{counts}}}, "cases": [{cases}], {empty}}}'))
+
+
+LEFT = "left, since it isn't as this tool writes it: --force writes it anew, without its comments"
 
 
 def of_records(room):
     """Verdicts that are written as what is expected."""
-    write(room / "fresh", site({"1.eml": b"", "2.eml": b"", "2.eml.expect": b"[main]\nkeep\n", "3.eml": b"", "3.eml.expect": b"\n[main]\nkeep\n"}, main=b"discard;"))
-    wanted = lines("fresh/mails/1.eml.expect: new", "fresh/mails/2.eml.expect: changed", "fresh/mails/3.eml.expect: left, since it isn't as this tool writes it", "3 mails, 2 written, 1 left")
+    write(room / "fresh", site({"1.eml": b"", "2.eml": b"", "2.eml.expect": b'[main]\nstore "K"\n', "3.eml": b"", "3.eml.expect": b'\n[main]\nstore "K"\n'}, main=b"discard;"))
+    wanted = lines("fresh/mails/1.eml.expect: new", "fresh/mails/2.eml.expect: changed", f"fresh/mails/3.eml.expect: {LEFT}", "3 mails, 2 written, 1 left")
     yield run("verdicts are written", room, "record fresh", wanted, status=1)
-    yield Run("sievebench-site: what was written", room, "cat fresh/mails/1.eml.expect fresh/mails/2.eml.expect fresh/mails/3.eml.expect", b"[main]\ndiscard\n" * 2 + b"\n[main]\nkeep\n")
+    yield Run("sievebench-site: what was written", room, "cat fresh/mails/1.eml.expect fresh/mails/2.eml.expect fresh/mails/3.eml.expect", b"[main]\ndiscard\n" * 2 + b'\n[main]\nstore "K"\n')
     yield run("nothing changes", room, "record --only 1.eml fresh", lines("1 mails, 0 written, 0 left"))
     yield run("a script with a fault", room, "record fault", lines("fault/personal/main.sieve:1: unknown-command: There is no such command or test."), status=1)
     write(room / "errors", site({"1.eml": b""}, main=b'redirect "x";'))
     yield run("an error is written", room, "record errors", lines("errors/mails/1.eml.expect: new, with an error", "1 mails, 1 written, 0 left"))
     write(room / "blocks", site({"1.eml": b"", "1.eml.expect": b'[old]\nstore "A"'}, main=b"discard;"))
-    yield run("a block more", room, "record blocks", lines("blocks/mails/1.eml.expect: left, since it isn't as this tool writes it", "1 mails, 0 written, 1 left"), status=1)
+    yield run("a block more", room, "record blocks", lines(f"blocks/mails/1.eml.expect: {LEFT}", "1 mails, 0 written, 1 left"), status=1)
     # Names go in the order of their octets, and what is expected under a main script that isn't run stays, be it right or wrong.
     write(room / "two", {**site({"1.eml": b"", "2.eml": b""}, a=b"discard;", b=b"keep;"), "mains": b"b\na\n"})
     yield run("two main scripts", room, "record two", lines("two/mails/1.eml.expect: new", "two/mails/2.eml.expect: new", "2 mails, 2 written, 0 left"))
     yield Run("sievebench-site: the order of names", room, "cat two/mails/1.eml.expect", lines("[a]", "discard", "[b]", 'store "INBOX"'))
-    write(room / "two", {"mails/1.eml.expect": b"[a]\nkeep\n[b]\nkeep\n"})
+    write(room / "two", {"mails/1.eml.expect": b'[a]\nstore "K"\n[b]\nstore "K"\n'})
     yield run("one main script of two", room, "record --main b two", lines("two/mails/1.eml.expect: changed", "2 mails, 1 written, 0 left"))
-    yield Run("sievebench-site: what stays", room, "cat two/mails/1.eml.expect", lines("[a]", "keep", "[b]", 'store "INBOX"'))
+    yield Run("sievebench-site: what stays", room, "cat two/mails/1.eml.expect", lines("[a]", 'store "K"', "[b]", 'store "INBOX"'))
     write(room / "quote", site({"1.eml": b""}, **{'a"[\\]': b"discard;"}))
     yield run("a name that wants quotes", room, "record quote", lines("quote/mails/1.eml.expect: new", "1 mails, 1 written, 0 left"))
     yield Run("sievebench-site: its quotes", room, "cat quote/mails/1.eml.expect", lines('["a\\"[\\\\]"]', "discard"))
@@ -309,13 +338,13 @@ def of_lints(room):
     main = b'require ["include", "fileinto", "imap4flags"];\ninclude "a";\ninclude :global "there";\ninclude :global "gone";\ninclude :optional "gone";\nredirect "x";\nredirect "a@b.example";\nfileinto ""; fileinto :flags "a" "A";\n'
     write(room / "lint", {"personal/main.sieve": main, "personal/a.sieve": b'require "include"; include "main";', "personal/lost.sieve": b"kep;", "global/there.sieve": b'require "include"; include :once :personal "lost";', "mains": b"main\n", "personal/alone.sieve": b""})
     faults = [
-        ("personal/a.sieve:1", "recursive-include", "The script of this name runs already."),
+        ("personal/a.sieve:1", "recursive-include", 'The script personal "main" runs already.'),
         ("personal/lost.sieve:1", "unknown-command", "There is no such command or test."),
-        ("personal/main.sieve:2", "recursive-include", "The script of this name runs already."),
-        ("personal/main.sieve:4", "missing-script", "There is no script of this name."),
+        ("personal/main.sieve:2", "recursive-include", 'The script personal "a" runs already.'),
+        ("personal/main.sieve:4", "missing-script", 'There is no script global "gone".'),
         ("personal/main.sieve:6", "bad-address", "This isn't one address."),
         ("personal/main.sieve:8", "bad-mailbox", "A mailbox can't have this name."),
-        ("global/there.sieve:1", "invalid-script", "The script of this name has a fault."),
+        ("global/there.sieve:1", "invalid-script", 'The script personal "lost" has a fault.'),
     ]
     order = sorted(faults, key=lambda fault: (not fault[0].startswith("global"), fault[0]))
     wanted = [f"lint/{place}: {word}: {sentence}" for place, word, sentence in order]
@@ -326,15 +355,19 @@ def of_lints(room):
     stores = b'require ["fileinto", "mailbox", "special-use", "copy"];\nfileinto :create :copy "";\nfileinto :specialuse "\\\\Junk" "\t";\n'
     write(room / "stores", {"personal/main.sieve": stores, "mains": b"main\n", "with": b"mailbox\nspecial-use\n"})
     yield run("mailboxes of stores that ask for more", room, "lint stores", lines(*(f"stores/personal/main.sieve:{line}: bad-mailbox: A mailbox can't have this name." for line in (2, 3))), status=1)
+    copies = b'require ["copy", "include"];\nredirect :copy "x";\ninclude :optional "broken";\n'
+    write(room / "copies", {"personal/main.sieve": copies, "personal/broken.sieve": b"\nkep;", "mains": b"main\n"})
+    faults = ["broken.sieve:2: unknown-command: There is no such command or test.", "main.sieve:2: bad-address: This isn't one address.", 'main.sieve:3: invalid-script: The script personal "broken" has a fault.']
+    yield run("a redirect of a copy, and an optional include of a script that has a fault", room, "lint copies", lines(*(f"copies/personal/{fault}" for fault in faults)), status=1)
     write(room / "alone", {"personal/main.sieve": b'require "include"; include :global "a";', "global/a.sieve": b"", "personal/a.sieve": b"", "mains": b"main\n"})
     yield run("a script that no main one comes to", room, "lint alone", lines("alone/personal/a.sieve:0: unreached: No main script comes to it."))
     write(room / "once", {"personal/main.sieve": b'require "include"; include "t";', "personal/t.sieve": b'require "include"; include :once "main";', "mains": b"main\n"})
     yield run("a main script is entered already", room, "lint once")
     write(room / "ring", {"personal/main.sieve": b'require "include"; include :once "t";', "personal/t.sieve": b'require "include"; include "main";', "mains": b"main\n"})
-    yield run("an include once enters", room, "lint ring", lines("ring/personal/t.sieve:1: recursive-include: The script of this name runs already."), status=1)
+    yield run("an include once enters", room, "lint ring", lines('ring/personal/t.sieve:1: recursive-include: The script personal "main" runs already.'), status=1)
     ring = {name: f'require "include"; include "{goal}";'.encode() for name, goal in (("main", "a"), ("a", "b"), ("b", "a"))}
     write(room / "behind", {f"personal/{name}.sieve": text for name, text in ring.items()})
-    told_of = [f"behind/personal/{name}.sieve:1: recursive-include: The script of this name runs already." for name in "ab"]
+    told_of = [f'behind/personal/{name}.sieve:1: recursive-include: The script personal "{goal}" runs already.' for name, goal in ("ab", "ba")]
     yield run("a script that a ring is behind isn't in it", room, "lint behind", lines(*told_of), status=1)
     write(room / "clean", {"personal/main.sieve": b"keep;", "personal/.x.sieve": b"keep;"})
     yield run("no faults", room, "lint clean")
@@ -351,7 +384,7 @@ def of_sievec(room):
     fake = '#!/bin/sh\n[ "$2 $4" = "plugin/sieve=file:$PWD/peer/personal plugin/sieve_global=file:$PWD/peer/global" ] || exit 9\n! grep -n reject "$5" > /dev/null || { echo "x: line 2: error: there is a reject" >&2; exit 89; }\n'
     write(room / "peer", {"bin/sievec": fake.encode(), "personal/main.sieve": b'require "include"; include "a";\ninclude "gone";', "personal/a.sieve": b"\nkep;", "personal/b.sieve": b"# reject", "personal/both.sieve": b"keep;", "personal/c.sieve": b"reject;", "mains": b"main\n"})
     (room / "peer/bin/sievec").chmod(0o755)
-    wanted = ["a.sieve:2: unknown-command: There is no such command or test.", "c.sieve:1: unknown-command: There is no such command or test.", "main.sieve:1: invalid-script: The script of this name has a fault.", "main.sieve:2: missing-script: There is no script of this name.", "a.sieve:2: sievec: It compiles this.", "b.sieve:2: sievec: there is a reject", "main.sieve:1: sievec: It compiles this."]
+    wanted = ["a.sieve:2: unknown-command: There is no such command or test.", "c.sieve:1: unknown-command: There is no such command or test.", 'main.sieve:1: invalid-script: The script personal "a" has a fault.', 'main.sieve:2: missing-script: There is no script personal "gone".', "a.sieve:2: sievec: It compiles this.", "b.sieve:2: sievec: there is a reject", "main.sieve:1: sievec: It compiles this."]
     yield Run("sievebench-site: where sievec says otherwise", room, f'PATH="$PWD/peer/bin:$PATH" python3 {shlex.quote(str(TOOL))} lint --sievec peer', lines(*(f"peer/personal/{line}" for line in wanted)), status=1)
     write(room / "alien", {"bin/sievec": b"#!/bin/sh\nexit 1\n", "personal/a.sieve": b"keep;"})
     (room / "alien/bin/sievec").chmod(0o755)
@@ -363,16 +396,15 @@ def of_many(room):
     files = {f"mails/{number:04}.eml": b"Subject: word%d\n\n" % number for number in range(3_000)}
     names = [f"main{number}" for number in range(5)]
     files.update({f"personal/{name}.sieve": b'if header "subject" "word7" { discard; }' for name in names})
-    files["mains"] = lines(*names)
+    files["mains"], files["envelope"] = lines(*names), NOBODY
     files["mails/0007.eml.expect"] = b"".join(b"[%s]\ndiscard\n" % name.encode() for name in names)
     write(room / "many", files)
-    yield run("three thousand mails", room, "check many", lines(counted(3_000, 5, 15_000, 5, 0, 14_995, 0, 0)))
+    yield run("three thousand mails", room, "check --lax many", lines(counted(3_000, 5, 15_000, 5, 0, 14_995, 0, 0)))
 
 
 def of_sites(room):
     """All of them."""
     room = room / "sites"
     room.mkdir()
-    yield Run("sievebench-site: it compiles", room, f"python3 -c 'import ast, sys; ast.parse(open(sys.argv[1]).read())' {shlex.quote(str(TOOL))}")
-    for part in (of_checks, of_spellings, of_names, of_clocks, of_refusals, of_programs, of_broken_files, of_results, of_records, of_lints, of_sievec, of_many):
+    for part in (of_checks, of_spellings, of_names, of_clocks, of_refusals, of_programs, of_broken_files, of_junit, of_objects, of_records, of_lints, of_sievec, of_many):
         yield from part(room)

@@ -1,0 +1,1 @@
+"""Tests a site's Sieve filters over sample mails, by the program sievebench."""

@@ -1,0 +1,161 @@
+"""Main scripts that run one after another: the next one where the one before kept the mail, with the internal flags of its end."""
+
+from __future__ import annotations
+
+import contextlib
+from typing import Dict, Iterable, Iterator, List, Optional, Set, Tuple
+
+from .program import Line, Place, Session, Verdict
+from .sieve_text import with_flags, without_actions
+from .words import quoted, unquoted, words_of
+
+INBOX = b"INBOX"
+# A mailbox that no script can name, since none may have such an octet: what is stored there was kept.
+KEPT = b"\x01kept"
+Flags = Tuple[bytes, ...]
+NOTHING = Verdict((), ())
+
+
+class Bench:
+    """Scripts in a session, and the mails that were put there."""
+
+    def __init__(self, session: Session, scripts: Dict[Place, bytes]) -> None:
+        self.session, self.scripts = session, scripts
+        self.box = INBOX
+
+    def run(self, place: Place, box: bytes = INBOX) -> Dict[bytes, Verdict]:
+        """The verdict on each mail under a main script, where it is kept in that mailbox."""
+        self.session.edit(f"main {place[0]}", [place[1]], None, "the main script")
+        if box != self.box:
+            self.session.edit("mailbox", [box], None, "the mailbox")
+            self.box = box
+        return self.session.report().verdicts
+
+    @contextlib.contextmanager
+    def changed(self, texts: Dict[Place, bytes]) -> Iterator[None]:
+        """Other texts of scripts, for as long as the block lasts."""
+        texts = {place: text for place, text in texts.items() if text != self.scripts[place]}
+        self.put(texts)
+        yield
+        self.put({place: self.scripts[place] for place in texts})
+
+    def put(self, texts: Dict[Place, bytes]) -> None:
+        """Puts the texts of scripts."""
+        for place, text in texts.items():
+            self.session.script(place, text, f"the script {quoted(place[1])}")
+
+
+def chained(bench: Bench, places: Tuple[Place, ...], ids: Iterable[bytes]) -> Dict[bytes, Verdict]:
+    """The verdict on each mail under scripts that run one after another: all that they did."""
+    told = dict.fromkeys(ids, NOTHING)
+    waiting: Dict[Flags, Set[bytes]] = {(): set(told)}
+    for place in places[:-1]:
+        following: Dict[Flags, Set[bytes]] = {}
+        for flags, group in waiting.items():
+            for name, ends in step(bench, place, flags, group, told).items():
+                following.setdefault(ends, set()).add(name)
+        waiting = following
+    for flags, group in waiting.items():
+        with bench.changed({places[-1]: with_flags(bench.scripts[places[-1]], flags)}):
+            found = bench.run(places[-1])
+        for name in group:
+            told[name] = joined(told[name], found[name])
+    return told
+
+
+def step(bench: Bench, place: Place, flags: Flags, group: Set[bytes], told: Dict[bytes, Verdict]) -> Dict[bytes, Flags]:
+    """Runs a script that others follow, adds what it did, and gives the mails that it kept and the internal flags of its end."""
+    text = with_flags(bench.scripts[place], flags)
+    with bench.changed({place: text}):
+        found = bench.run(place, KEPT)
+    going, asked = {}, set()
+    for name in group:
+        kept = [line for line in found[name].lines if is_kept(line)]
+        failed = any(line.text.startswith(b"error ") for line in found[name].lines)
+        if not kept or failed:
+            told[name] = joined(told[name], renamed(found[name]))
+            continue
+        rest = tuple(line for line in found[name].lines if not is_kept(line))
+        told[name] = joined(told[name], Verdict(rest, found[name].reads))
+        going[name] = flags_of(kept[0])
+        if kept[0].text.startswith(b"store "):
+            asked.add(name)
+    if asked:
+        ends = ends_of(bench, place, text, {at for name in asked for at, there in found[name].reads if there})
+        going.update({name: ends[name] for name in asked})
+    return going
+
+
+def ends_of(bench: Bench, place: Place, text: bytes, reads: Set[Place]) -> Dict[bytes, Flags]:
+    """The internal flags at the end of each run of a script. A store by command has those of its own time, so the scripts run again
+    without stores, redirects and discards, which no flag depends on: then the implicit keep stands, and has the flags of the end.
+    """
+    bare = {at: without_actions(text if at == place else bench.scripts[at]) for at in reads}
+    with bench.changed(bare):
+        found = bench.run(place, KEPT)
+    return {name: flags for name, verdict in found.items() for flags in map(flags_of, filter(is_kept, verdict.lines))}
+
+
+def is_kept(line: Line) -> bool:
+    """Whether a line of a verdict says that the mail is kept, by command or implicitly."""
+    words = words_of(line.text) or [b""]
+    return words[0] in (b"store", b"implicit") and unquoted(words[1]) == KEPT
+
+
+def flags_of(line: Line) -> Flags:
+    """The flags of a store."""
+    return tuple(unquoted(word) for word in (words_of(line.text) or [])[2:] if word.startswith(b'"'))
+
+
+def renamed(verdict: Verdict) -> Verdict:
+    """The verdict with the mailbox by its name."""
+    box, kept = quoted(INBOX).encode(), quoted(KEPT).encode()
+    return Verdict(
+        tuple(Line(it.text.replace(kept, box, 1), it.at) if is_kept(it) else it for it in verdict.lines), verdict.reads
+    )
+
+
+def joined(before: Verdict, after: Verdict) -> Verdict:
+    """All that two scripts did. What adds nothing within a run adds nothing here: a store into the same mailbox brings its flags to
+    the first, and a redirect to the same address, a discard or a response that follows another changes nothing."""
+    if before == NOTHING:
+        return after
+    lines = list(before.lines)
+    for line in after.lines:
+        at = next((it for it, other in enumerate(lines) if action_of(other) == action_of(line)), None)
+        if at is None or action_of(line) is None:
+            lines.append(line)
+        elif line.text.startswith(b"store "):
+            lines[at] = Line(stores_joined(lines[at].text, line.text), lines[at].at)
+    return Verdict(tuple(lines), tuple(dict.fromkeys(before.reads + after.reads)))
+
+
+def action_of(line: Line) -> Optional[List[bytes]]:
+    """What makes two actions one; nothing for what is never one with another."""
+    words = words_of(line.text) or [b""]
+    if words[0] in (b"store", b"redirect"):
+        return words[:2]
+    return words[:1] if words[0] in (b"discard", b"vacation") else None
+
+
+def stores_joined(first: bytes, second: bytes) -> bytes:
+    """Two stores into one mailbox as one: the flags of both, and what either asks for of the mailbox."""
+    (store, flags, asks), (_, more, others) = store_parts(first), store_parts(second)
+    known = {flag.lower() for flag in flags}
+    flags += [flag for flag in more if flag.lower() not in known]
+    for name, words in others.items():
+        asks.setdefault(name, words)
+    made = [word for name in (b"create", b"special-use") for word in asks.get(name, [])]
+    return b" ".join([*store, *flags, *made])
+
+
+def store_parts(text: bytes) -> "Tuple[List[bytes], List[bytes], Dict[bytes, List[bytes]]]":
+    """The mailbox of a store with the word before it, its flags, and the words of each thing that it asks for."""
+    words = words_of(text) or []
+    bare = next((it for it in range(2, len(words)) if not words[it].startswith(b'"')), len(words))
+    asks = {
+        words[it]: words[it : it + (2 if words[it] == b"special-use" else 1)]
+        for it in range(bare, len(words))
+        if not words[it].startswith(b'"')
+    }
+    return words[:2], words[2:bare], asks

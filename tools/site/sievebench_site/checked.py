@@ -1,0 +1,96 @@
+"""What a check finds: the cases by how they went, what is stale, and what is left out."""
+
+from __future__ import annotations
+
+from typing import Dict, List, NamedTuple, Set, Tuple
+
+from .expected import Key
+from .folder import Site
+from .groups import Group, changes, grouped
+from .judge import Case, Judged
+from .mains import Script
+from .program import Fault
+from .shown import Look
+
+EXPECTS_NOTHING = "nothing is expected"
+
+
+class Stale(NamedTuple):
+    """An expectation of nothing that there is: its file and line, and what is wrong with it."""
+
+    path: bytes
+    line: int
+    name: bytes
+
+    def why(self, look: Look) -> str:
+        """What is wrong."""
+        return f"no main script is called {look.name(self.name)}" if self.line else "its mail isn't there"
+
+
+class Checked:
+    """The results of a check."""
+
+    def __init__(self, site: Site, judged: Judged, lax: bool, each: bool) -> None:
+        self.site, self.judged, self.lax, self.each = site, judged, lax, each
+        self.cases = judged.cases
+        self.wrong = [case for case in self.cases if case.agrees() is False]
+        self.unjudged = [case for case in self.cases if case.unjudged]
+        self.unexpected = [case for case in self.cases if case.agrees() is None and not case.unjudged]
+        self.broken = broken_in(site, judged)
+        self.lacking = lacking_in(site, judged)
+        self.stale = stale_in(site)
+        strictly = not lax and (self.unexpected or self.stale)
+        self.failed = bool(self.wrong or self.unjudged or self.broken or strictly)
+
+    def counts(self) -> Dict[str, int]:
+        """The counts that are always told."""
+        users = self.site.users
+        return {
+            "mails": len({mail.path for user in users for mail in user.mails}),
+            "mains": sum(len(user.mains) for user in users),
+            "verdicts": len(self.cases),
+            "agree": sum(case.agrees() is True for case in self.cases),
+            "disagree": len(self.wrong),
+            "without expectation": len(self.unexpected),
+            "stale expectations": len(self.stale),
+            "scripts with a fault": len(self.broken),
+        }
+
+    def further(self) -> Dict[str, int]:
+        """The counts that are told where they aren't 0."""
+        return {
+            "not judged": len(self.unjudged),
+            "mails without an envelope": len(self.judged.bare),
+            "left out": len(self.site.left_out),
+        }
+
+    def groups(self, cases: List[Case]) -> List[Group]:
+        """Cases in groups, by their differences and why they aren't judged."""
+        return grouped(cases, lambda case: case.unjudged or (changes(case) if case.block() else None), self.each)
+
+
+def broken_in(site: Site, judged: Judged) -> List[Tuple[Script, Fault]]:
+    """The scripts with a fault, each once."""
+    found = [it for user, survey in zip(site.users, judged.surveys) for it in survey.broken(user)]
+    return list({script.path: (script, fault) for script, fault in found}.values())
+
+
+def lacking_in(site: Site, judged: Judged) -> List[Tuple[Script, int, str]]:
+    """The scripts that can't be judged, each once."""
+    found = [it for user, survey in zip(site.users, judged.surveys) for it in survey.unjudged(user)]
+    return list({script.path: (script, line, why) for script, line, why in found}.values())
+
+
+def stale_in(site: Site) -> List[Stale]:
+    """What is expected under main scripts that there aren't, where all are looked at, and files of mails that aren't there."""
+    lost = [Stale(path, 0, b"") for path in site.lost]
+    if site.wanted.mains or site.wanted.users:
+        return lost
+    keys: Dict[bytes, Set[Key]] = {}
+    blocks = {}
+    for user in site.users:
+        for mail in user.mails:
+            keys.setdefault(mail.expect_path(), set()).update(main.key for main in user.mains)
+            blocks[mail.expect_path()] = mail.blocks
+    named = [(path, key, block) for path, found in blocks.items() for key, block in found.items()]
+    return [Stale(path, block.number, b" ".join(key)) for path, key, block in named if key not in keys[path]] + lost

@@ -1,0 +1,165 @@
+"""Files that are read whole, written whole or not at all, and a lock."""
+
+from __future__ import annotations
+
+import contextlib
+import errno
+import fcntl
+import os
+import socket
+import stat
+import sys
+import tempfile
+from typing import Iterator, List
+
+from .ends import refuse
+from .words import quoted
+
+# What is answered of a link to nothing, through a plain file, or in a ring: such a link leads to no file.
+LOST = (errno.ENOENT, errno.ENOTDIR, errno.ELOOP)
+OUTPUTS = (b"/dev/stdout", b"/dev/fd/1")
+
+
+@contextlib.contextmanager
+def reading(path: bytes) -> Iterator[None]:
+    """Refuses what can't be read, with the system's reason."""
+    try:
+        yield
+    except OSError as error:
+        refuse(f"cannot read {quoted(path)}: {error.strerror}")
+
+
+def names_in(folder: bytes) -> List[bytes]:
+    """All names of a folder, in the order of their octets."""
+    with reading(folder):
+        return sorted(os.listdir(folder))
+
+
+def files_in(folder: bytes, end: bytes) -> List[bytes]:
+    """The names of a folder's plain files that have this end and something before it, in the order of their octets."""
+    return [it for it in names_in(folder) if it.endswith(end) and it != end and is_plain(os.path.join(folder, it))]
+
+
+def is_plain(path: bytes) -> bool:
+    """Whether a path leads to a plain file, through links too."""
+    with reading(path):
+        try:
+            return stat.S_ISREG(os.stat(path).st_mode)
+        except OSError as error:
+            if error.errno not in LOST:
+                raise
+    return False
+
+
+def octets_of(path: bytes) -> bytes:
+    """What is in a plain file."""
+    if not is_plain(path) and os.path.exists(path):
+        refuse(f"cannot read {quoted(path)}: it is no plain file")
+    with reading(path), open(path, "rb") as file:
+        return file.read()
+
+
+def octets_if_any(path: bytes) -> bytes:
+    """The same, or nothing where there is no such name."""
+    return octets_of(path) if os.path.lexists(path) else b""
+
+
+def size_of(path: bytes) -> int:
+    """How many octets a file has."""
+    with reading(path):
+        return os.stat(path).st_size
+
+
+def umask() -> int:
+    """What new files are denied."""
+    mask = os.umask(0o022)
+    os.umask(mask)
+    return mask
+
+
+@contextlib.contextmanager
+def beside(place: bytes, octets: bytes) -> Iterator[bytes]:
+    """A file with these octets in the folder of a place, which is gone afterwards unless it was renamed."""
+    handle, path = tempfile.mkstemp(prefix=b".", suffix=b".new", dir=os.path.dirname(place) or b".")
+    try:
+        with open(handle, "wb") as file:
+            file.write(octets)
+        yield path
+    finally:
+        with contextlib.suppress(FileNotFoundError):
+            os.unlink(path)
+
+
+def write_file(path: bytes, octets: bytes) -> None:
+    """Writes a file. A plain one is written beside its place first, so that it is there whole or as it was."""
+    if path in OUTPUTS:
+        sys.stdout.flush()
+        sys.stdout.buffer.write(octets)
+        return
+    place = os.path.realpath(path)
+    try:
+        if os.path.exists(path) and not is_plain(path):
+            with open(path, "wb") as file:
+                file.write(octets)
+            return
+        with beside(place, octets) as new:
+            os.chmod(new, stat.S_IMODE(os.stat(place).st_mode) if is_plain(place) else 0o666 & ~umask())
+            os.replace(new, place)
+    except OSError as error:
+        refuse(f"cannot write {quoted(path)}: {error.strerror}")
+
+
+def write_new(path: bytes, octets: bytes) -> bool:
+    """Writes a file where there is none of its name, and says whether it did."""
+    try:
+        with beside(path, octets) as new:
+            os.chmod(new, 0o666 & ~umask())
+            os.link(new, path)
+    except FileExistsError:
+        return False
+    except OSError as error:
+        refuse(f"cannot write {quoted(path)}: {error.strerror}")
+    return True
+
+
+def refuse_unwritable(path: bytes) -> None:
+    """Refuses a file that couldn't be written later."""
+    if path in OUTPUTS or (os.path.exists(path) and not is_plain(path) and not os.path.isdir(path)):
+        return
+    try:
+        if os.path.isdir(path):
+            raise IsADirectoryError(errno.EISDIR, os.strerror(errno.EISDIR))
+        with beside(os.path.realpath(path), b""):
+            pass
+    except OSError as error:
+        refuse(f"cannot write {quoted(path)}: {error.strerror}")
+
+
+def who() -> str:
+    """This process, as others are told of it."""
+    user = os.environ.get("LOGNAME") or os.environ.get("USER") or str(os.getuid())
+    return f"process {os.getpid()} of {user} on {socket.gethostname()}"
+
+
+@contextlib.contextmanager
+def locked(folder: bytes) -> Iterator[None]:
+    """Keeps others from writing into a folder meanwhile. Its file of this name says who does."""
+    path = os.path.join(folder, b".sievebench-site.lock")
+    try:
+        handle = os.open(path, os.O_RDWR | os.O_CREAT, 0o666)
+    except OSError as error:
+        refuse(f"cannot write {quoted(path)}: {error.strerror}")
+    with open(handle, "r+b") as file:
+        try:
+            fcntl.flock(file, fcntl.LOCK_EX | fcntl.LOCK_NB)
+        except BlockingIOError:
+            refuse(f"{quoted(folder)} is being written by {file.read(500).decode('latin-1')}: {quoted(path)}")
+        if not os.path.exists(path) or os.fstat(handle).st_ino != os.stat(path).st_ino:
+            refuse(f"{quoted(folder)} was being written until now: try again")
+        try:
+            file.truncate()
+            file.write(who().encode())
+            file.flush()
+            yield
+        finally:
+            os.unlink(path)

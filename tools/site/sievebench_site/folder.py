@@ -1,0 +1,173 @@
+"""A site's folder: what is everybody's, and its users with their scripts, main scripts and mails."""
+
+from __future__ import annotations
+
+import os
+from typing import List, NamedTuple, Optional, Set
+
+from .clock import clock_in
+from .ends import Refusal, refuse
+from .files import names_in, octets_if_any
+from .mails import LeftOut, Mail, lost_in, mail_at, mail_names, passed_over, too_large
+from .mains import Main, Script, Shelf, lines_in, scripts_in
+from .program import Place
+from .words import lines_of, quoted
+
+
+class Wanted(NamedTuple):
+    """What the words of a command ask for of a site."""
+
+    folder: bytes
+    mains: List[bytes]
+    mails: List[bytes]
+    users: List[bytes]
+    clock: Optional[bytes]
+
+
+class User(NamedTuple):
+    """A user: the scripts that can be run, the main ones, and the mails. A site without users has one without a name."""
+
+    name: bytes
+    home: bytes
+    scripts: List[Script]
+    mains: List[Main]
+    mails: List[Mail]
+
+    def path_of(self, place: Place) -> bytes:
+        """The file of a script, or its name where there is none."""
+        found = (script.path for script in self.scripts if script.at() == place)
+        return next(found, place[0].encode() + b"/" + place[1])
+
+
+class Site(NamedTuple):
+    """What the folder has, as far as it is wanted: what left out is and why, and the files beside mails that aren't there."""
+
+    wanted: Wanted
+    names: List[bytes]
+    mailboxes: bytes
+    clock: Optional[List[bytes]]
+    users: List[User]
+    left_out: List[LeftOut]
+    lost: List[bytes]
+
+    def mailboxes_path(self) -> bytes:
+        """The file of the mailboxes that there are."""
+        return os.path.join(self.wanted.folder, b"mailboxes")
+
+
+def site_of(wanted: Wanted) -> Site:
+    """The site but for its mails."""
+    folder = wanted.folder
+    names = [line for line in lines_of(octets_if_any(os.path.join(folder, b"with"))) if line]
+    users = users_of(wanted)
+    site = Site(wanted, names, boxes_in(folder, names), clock_in(folder, names, wanted.clock), users, [], [])
+    unread = os.path.join(folder, b"personal")
+    if users[0].name and os.path.lexists(unread):
+        site.left_out.append((unread, "each user of the site has scripts of his or her own"))
+    return site
+
+
+def boxes_in(folder: bytes, names: List[bytes]) -> bytes:
+    """The list of the mailboxes that there are, which only a site that asks for it has."""
+    return octets_if_any(os.path.join(folder, b"mailboxes")) if b"mailbox" in names else b""
+
+
+def user_names(wanted: Wanted) -> List[bytes]:
+    """The names of the users that are wanted, in the order of their octets; of a site without users the empty one."""
+    folder = os.path.join(wanted.folder, b"users")
+    there = os.path.lexists(folder)
+    paths = {name: os.path.join(folder, name) for name in (names_in(folder) if there else [])}
+    names = [name for name, path in paths.items() if os.path.isdir(path) and not name.startswith(b".")]
+    for name in wanted.users:
+        if name not in names:
+            refuse(f"no user {quoted(name)}: there is no {quoted(os.path.join(folder, name))}")
+    if there and not names:
+        refuse(f"no users in {quoted(folder)}: each has a folder with scripts")
+    return [name for name in names if name in wanted.users or not wanted.users] if there else [b""]
+
+
+def users_of(wanted: Wanted) -> List[User]:
+    """The users that are wanted, with their scripts and main ones."""
+    shelf, users = Shelf(wanted.folder), []
+    for name in user_names(wanted):
+        home = os.path.join(wanted.folder, b"users", name) if name else wanted.folder
+        own = scripts_in("personal", b"", os.path.join(home, b"personal"))
+        users.append(User(name, home, own, [], []))
+    for user in users:
+        user.mains.extend(mains_of(shelf, user, wanted))
+    found = {line for user in users for line in wanted.mains if has_main(shelf, user, line)}
+    for line in wanted.mains:
+        if line not in found:
+            shelf.main_of(line, users[0].name, users[0].home)
+    shared = [*(script for scripts in shelf.others.values() for script in scripts), *shelf.shared]
+    for user in users:
+        user.scripts.extend(shared)
+    return users
+
+
+def mains_of(shelf: Shelf, user: User, wanted: Wanted) -> List[Main]:
+    """The main scripts of a user, each once: those that are wanted and there, or those of the file `mains`, the user's own or everybody's."""
+    if wanted.mains:
+        lines = [line for line in wanted.mains if has_main(shelf, user, line)]
+    else:
+        paths = [os.path.join(folder, b"mains") for folder in (user.home, wanted.folder)]
+        path = next((path for path in paths if os.path.isfile(path)), None)
+        lines = list(lines_in(path)) if path else []
+    return list(dict.fromkeys(shelf.main_of(line, user.name, user.home) for line in lines))
+
+
+def has_main(shelf: Shelf, user: User, line: bytes) -> bool:
+    """Whether a user has all scripts of a line."""
+    try:
+        shelf.main_of(line, user.name, user.home)
+    except Refusal:
+        return False
+    return True
+
+
+def refuse_no_mains(site: Site) -> None:
+    """Refuses a site in which nothing is to run."""
+    for user in site.users:
+        path = os.path.join(user.home, b"mains")
+        if not user.mains and not site.wanted.mains:
+            if os.path.isfile(path):
+                refuse(f"no main script in {quoted(path)}")
+            refuse(f"no main script: {quoted(path)} names them, one a line, or --main does")
+
+
+def take_mails(site: Site) -> None:
+    """Gives each user the mails that are judged for him or her, and the site what is left out."""
+    top = os.path.join(site.wanted.folder, b"mails")
+    folders = [(b"", top)] if os.path.lexists(top) or not site.users[0].name else []
+    owned = [(user.name, os.path.join(user.home, b"mails")) for user in site.users if user.name]
+    folders += [(name, path) for name, path in owned if os.path.lexists(path)]
+    seen: Set[bytes] = set()
+    for owner, folder in folders:
+        names = mail_names(folder)
+        seen.update(names)
+        for name in names:
+            if not site.wanted.mails or name in site.wanted.mails:
+                give(site, owner, mail_at(folder, name, owner))
+        if not site.wanted.mails:
+            site.left_out.extend(passed_over(folder))
+            site.lost.extend(lost_in(folder))
+    for name in site.wanted.mails:
+        if name not in seen:
+            refuse(f"no mail {quoted(os.path.join(top, name))}")
+    if not any(user.mails for user in site.users):
+        refuse(f"no mails in {quoted(top)}: they are files whose names end by .eml")
+
+
+def give(site: Site, owner: bytes, mail: Mail) -> None:
+    """Gives a mail to those for whom it is judged."""
+    why = too_large(mail)
+    if why:
+        site.left_out.append((mail.path, why))
+        return
+    known = {user.name for user in site.users}
+    unknown = sorted((mail.users or frozenset()) - known) if not site.wanted.users else []
+    if unknown:
+        refuse(f"{quoted(mail.path + b'.users')} names {quoted(unknown[0])}, and the site has no such user")
+    for user in site.users:
+        if user.name == owner or not owner and (mail.users is None or user.name in mail.users):
+            user.mails.append(mail)

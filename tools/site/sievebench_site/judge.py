@@ -1,0 +1,187 @@
+"""The verdict on each mail under each main script: mails go into sessions in batches, and several sessions run at once."""
+
+from __future__ import annotations
+
+import concurrent.futures
+import os
+import sys
+import threading
+import time
+from typing import Iterator, List, NamedTuple, Optional, Tuple
+
+from .chains import Bench, chained
+from .envelopes import envelope_if_any, envelope_of
+from .expected import Block
+from .faults import Survey, put_scripts, requires, survey
+from .files import octets_of
+from .folder import Site, User
+from .mails import Mail
+from .mains import Main
+from .program import Program, Session, Verdict
+from .words import quoted
+
+# A batch has about so many octets at most, or one mail, and so many mails.
+BATCH_OCTETS, BATCH_MAILS, FEW_MAILS = 8 << 20, 500, 50
+
+
+class Case(NamedTuple):
+    """A mail under a main script: the verdict, what is expected if anything, and why it isn't judged, if it isn't."""
+
+    user: User
+    main: Main
+    mail: Mail
+    verdict: Verdict
+    unjudged: Optional[str]
+    seconds: float
+
+    def block(self) -> Optional[Block]:
+        """What is expected."""
+        return self.mail.blocks.get(self.main.key)
+
+    def lines(self) -> Tuple[bytes, ...]:
+        """The lines of the verdict."""
+        return tuple(line.text for line in self.verdict.lines)
+
+    def agrees(self) -> Optional[bool]:
+        """Whether the verdict is as expected; nothing where nothing is expected, or it isn't judged."""
+        block = self.block()
+        return None if block is None or self.unjudged else block.lines == self.lines()
+
+
+class Judged(NamedTuple):
+    """All cases, in the order of the mails, the users and the main scripts; the surveys of the users; the mails without an envelope."""
+
+    cases: List[Case]
+    surveys: List[Survey]
+    bare: List[Mail]
+    seconds: float
+
+
+class Batch(NamedTuple):
+    """Some mails of a user."""
+
+    number: int
+    user: User
+    mails: List[Mail]
+
+
+class Judge:
+    """Judges a site's mails by a program."""
+
+    def __init__(self, site: Site, program: Program, jobs: int) -> None:
+        self.site, self.program, self.jobs = site, program, jobs
+        self.default = envelope_if_any(os.path.join(site.wanted.folder, b"envelope"))
+        self.surveys = surveys(site, program)
+        self.progress = Progress(sum(len(user.mails) for user in site.users))
+
+    def all(self) -> Judged:
+        """The cases of all batches."""
+        batches = list(batches_of(self.site, self.jobs))
+        pool = concurrent.futures.ThreadPoolExecutor(max(1, min(self.jobs, len(batches))))
+        tasks = [pool.submit(self.batch, batch) for batch in batches]
+        try:
+            found = [task.result() for task in tasks]
+        finally:
+            for task in tasks:
+                task.cancel()
+            pool.shutdown(wait=False)
+            self.progress.end()
+        cases = sorted((case for cases, _ in found for case in cases), key=lambda case: case.mail.path)
+        bare = {mail.path: mail for _, mails in found for mail in mails}
+        return Judged(cases, self.surveys, [bare[path] for path in sorted(bare)], self.progress.seconds())
+
+    def batch(self, batch: Batch) -> Tuple[List[Case], List[Mail]]:
+        """The cases of a batch, and its mails without an envelope."""
+        user, found = batch.user, self.surveys[batch.number]
+        cases = []
+        with self.program.session() as session:
+            put_scripts(session, user.scripts)
+            put_settings(session, self.site)
+            ids = {str(at).encode(): mail for at, mail in enumerate(batch.mails)}
+            bare = [mail for name, mail in ids.items() if not self.put_mail(session, name, mail)]
+            bench = Bench(session, {script.at(): script.text for script in user.scripts})
+            for main in user.mains:
+                began = time.monotonic()
+                told = chained(bench, main.scripts, ids)
+                seconds = (time.monotonic() - began) / len(ids)
+                for name, mail in ids.items():
+                    cases.append(Case(user, main, mail, told[name], why_unjudged(told[name], found, user), seconds))
+        self.progress.add(len(batch.mails))
+        return cases, bare
+
+    def put_mail(self, session: Session, name: bytes, mail: Mail) -> bool:
+        """Puts a mail with its envelope, and says whether it has one."""
+        octets = octets_of(mail.path)
+        session.edit("message", [name], octets, f"the mail {quoted(mail.path)}")
+        envelope = mail.envelope
+        if not envelope.known():
+            envelope = envelope.over(envelope_of(octets)).over(self.default)
+        if envelope.sender or envelope.recipient:
+            words = [name, envelope.sender or b"", envelope.recipient or b""]
+            session.edit("message-envelope", words, None, f"the envelope of {quoted(mail.path)}")
+        return envelope.known()
+
+
+def surveys(site: Site, program: Program) -> List[Survey]:
+    """The survey of each user."""
+    found = []
+    for user in site.users:
+        with program.session() as session:
+            found.append(survey(session, user.scripts))
+    return found
+
+
+def put_settings(session: Session, site: Site) -> None:
+    """Puts what is the same for all mails."""
+    if site.mailboxes:
+        session.edit("mailboxes", [], site.mailboxes, f"the list of mailboxes {quoted(site.mailboxes_path())}")
+    if site.clock is not None:
+        session.words("clock", site.clock, "the clock")
+
+
+def batches_of(site: Site, jobs: int) -> Iterator[Batch]:
+    """The mails of each user, in batches that aren't large and give each job some."""
+    for number, user in enumerate(site.users):
+        most = max(FEW_MAILS, min(BATCH_MAILS, -(-len(user.mails) // jobs)))
+        mails: List[Mail] = []
+        octets = 0
+        for mail in user.mails:
+            if mails and (len(mails) == most or octets + mail.size > BATCH_OCTETS):
+                yield Batch(number, user, mails)
+                mails, octets = [], 0
+            mails.append(mail)
+            octets += mail.size
+        if mails:
+            yield Batch(number, user, mails)
+
+
+def why_unjudged(verdict: Verdict, found: Survey, user: User) -> Optional[str]:
+    """Why a mail isn't judged: its run came to a script that requires what isn't there."""
+    came = next((place for place, _ in verdict.reads if place in found.lacking), None)
+    return None if came is None else f"{came[0]} {quoted(came[1])} {requires(found.lacking[came])}"
+
+
+class Progress:
+    """How many mails are judged, told on a terminal after a second."""
+
+    def __init__(self, whole: int) -> None:
+        self.whole, self.done, self.began = whole, 0, time.monotonic()
+        self.lock = threading.Lock()
+        self.told = False
+
+    def seconds(self) -> float:
+        """How long it takes until now."""
+        return time.monotonic() - self.began
+
+    def add(self, count: int) -> None:
+        """Adds mails that are judged."""
+        with self.lock:
+            self.done += count
+            if sys.stderr.isatty() and self.seconds() > 1:
+                print(f"\r{self.done} of {self.whole} mails", end="", file=sys.stderr, flush=True)
+                self.told = True
+
+    def end(self) -> None:
+        """Ends the line."""
+        if self.told:
+            print(file=sys.stderr)

@@ -1,0 +1,185 @@
+"""The command lint: the faults of scripts, what their includes and actions lead to, and what no main script comes to."""
+
+from __future__ import annotations
+
+import os
+import re
+import subprocess
+import tempfile
+from typing import Dict, Iterator, List, Optional, Set
+
+from . import findings
+from .code import Code
+from .ends import fail
+from .faults import SENTENCES, sentence_of, survey
+from .findings import ERROR, NOTE, PLAIN, Finding, Test
+from .folder import Site, User
+from .program import Place, Program, Session
+from .shown import Look
+from .sieve_text import lines_with
+from .words import quoted
+
+SIEVEC_SAYS = re.compile(rb"line ([0-9]+): error: (.*)")
+
+
+class Linted:
+    """What is found in the scripts of a user."""
+
+    def __init__(self, site: Site, user: User, session: Session) -> None:
+        self.site, self.user = site, user
+        self.survey = survey(session, user.scripts)
+        operations = {script.at(): session.dump(script.at()) for script in user.scripts}
+        self.code = Code(user.scripts, operations, {main.scripts[0] for main in user.mains})
+        self.faults = [
+            Finding(it.path, line, word, sentence_of(it, line, word)) for it, (line, word) in self.survey.broken(user)
+        ]
+        self.faults += [*self.include_faults(), *action_faults(session, self.code)]
+
+    def include_faults(self) -> Iterator[Finding]:
+        """Includes of scripts that are missing or have a fault, and those by which a script comes to itself."""
+        for place, script in self.code.scripts.items():
+            for it in self.code.includes(place):
+                kind = self.wrong_with(place, it.place, it.optional, it.once)
+                if kind:
+                    yield Finding(script.path, it.line, kind, include_sentence(kind, it.place))
+
+    def wrong_with(self, place: Place, goal: Place, optional: bool, once: bool) -> Optional[str]:
+        """What is wrong with an include. One that is skipped where its script was entered can't come back to it."""
+        if goal not in self.code.operations:
+            return None if optional else "missing-script"
+        if self.code.operations[goal] is None:
+            return None if goal in self.survey.lacking else "invalid-script"
+        return "recursive-include" if not once and self.code.comes_to(goal, place) else None
+
+    def notes(self) -> Iterator[Finding]:
+        """What is told and is no fault."""
+        for script, line, why in self.survey.unjudged(self.user):
+            yield Finding(script.path, line, "not judged", why, NOTE)
+        if self.site.clock is None:
+            text = "It asks for the current date, and the site has no clock."
+            for place, script in self.code.scripts.items():
+                lines = lines_with(script.text, b"currentdate") if self.code.asks_for_date(place) else []
+                yield from (Finding(script.path, line, "no-clock", text, NOTE) for line in lines)
+
+    def reached(self) -> Optional[Set[bytes]]:
+        """The files of the scripts that main ones come to; nothing where none is named, or one of them has a fault."""
+        seen = self.code.reached(place for main in self.user.mains for place in main.scripts)
+        if not seen or any(self.code.operations[place] is None for place in seen):
+            return None
+        return {self.code.scripts[place].path for place in seen}
+
+
+def include_sentence(kind: str, goal: Place) -> str:
+    """What is wrong with an include of a script."""
+    name = f"{goal[0]} {quoted(goal[1])}"
+    return {"missing-script": f"There is no script {name}.", "invalid-script": f"The script {name} has a fault."}.get(
+        kind, f"The script {name} runs already."
+    )
+
+
+def action_faults(session: Session, code: Code) -> Iterator[Finding]:
+    """Redirects to a text that isn't one address, responses from one that isn't, and stores into what can be no mailbox, by running
+    each that has no variable in it."""
+    place = "personal", b"\x01action"
+    session.edit("message", [b"m"], b"", "a mail")
+    session.edit("main personal", [place[1]], None, "the main script")
+    for action in code.actions():
+        session.script(place, action.shown, "an action")
+        for line in session.report().verdicts[b"m"].lines:
+            if line.text.startswith(b"error "):
+                kind = line.text.split()[-1].decode()
+                yield Finding(action.script.path, action.line, kind, SENTENCES.get(kind, kind))
+
+
+def lint(site: Site, program: Program, sievec: bool) -> List[Finding]:
+    """All findings: the faults, where sievec says otherwise, and what is no fault. Of several users each is told once."""
+    faults: Set[Finding] = set()
+    others: List[Finding] = []
+    notes: List[Finding] = []
+    reached: List[Optional[Set[bytes]]] = []
+    for user in site.users:
+        with program.session() as session:
+            linted = Linted(site, user, session)
+        faults.update(linted.faults)
+        others += sievec_differences(site, linted) if sievec else []
+        notes += linted.notes()
+        reached.append(linted.reached())
+    return [*sorted(faults), *dict.fromkeys(others), *dict.fromkeys(notes), *unreached(site, reached)]
+
+
+def unreached(site: Site, reached: List[Optional[Set[bytes]]]) -> Iterator[Finding]:
+    """The scripts that no main one comes to, of those users of whom that is known."""
+    users: Dict[bytes, List[Optional[Set[bytes]]]] = {}
+    for user, seen in zip(site.users, reached):
+        for script in user.scripts:
+            users.setdefault(script.path, []).append(seen)
+    for path, known in users.items():
+        if all(seen is not None and path not in seen for seen in known):
+            yield Finding(path, 0, "unreached", "No main script comes to it.", NOTE)
+
+
+def sievec_differences(site: Site, linted: Linted) -> Iterator[Finding]:
+    """The scripts that sievec compiles though something was told of them, or of a script that they come to, and the other way round.
+    One that can't be judged here is passed over, and so is one that comes to it."""
+    first = {fault.path: fault.line for fault in sorted(linted.faults, reverse=True)}
+    personal, shared = os.path.join(linted.user.home, b"personal"), os.path.join(site.wanted.folder, b"global")
+    settings = [(b"sieve", personal), (b"sieve_global", shared)]
+    options = [
+        word for name, path in settings for word in (b"-o", b"plugin/" + name + b"=file:" + os.path.abspath(path))
+    ]
+    with tempfile.TemporaryDirectory() as room:
+        for script in linted.user.scripts:
+            reached = linted.code.reached([script.at()])
+            if reached & set(linted.survey.lacking):
+                continue
+            done = compiled(
+                [b"sievec", *options, os.path.abspath(script.path), os.fsencode(os.path.join(room, "compiled"))]
+            )
+            broken = any(linted.code.scripts[at].path in first for at in reached)
+            if done.returncode and not broken:
+                found = SIEVEC_SAYS.search(done.stderr)
+                text = found[2].decode("latin-1") if found else "It can't compile this."
+                yield Finding(script.path, int(found[1]) if found else 0, "sievec", text)
+            elif broken and not done.returncode:
+                yield Finding(script.path, first.get(script.path, 0), "sievec", "It compiles this.")
+
+
+def compiled(words: List[bytes]) -> "subprocess.CompletedProcess[bytes]":
+    """How sievec ended."""
+    try:
+        return subprocess.run(words, stdin=subprocess.DEVNULL, stdout=subprocess.PIPE, stderr=subprocess.PIPE)
+    except OSError as error:
+        fail(f'cannot run "sievec": {error.strerror}')
+
+
+def text_of(found: List[Finding], look: Look, quiet: bool) -> str:
+    """The findings for people, a line each."""
+    told = [it for it in found if it.level == ERROR or not quiet]
+    return "".join(
+        f"{look.name(it.path)}:{it.line}: {it.kind}: {look.line(it.text.encode('latin-1', 'replace'))}\n" for it in told
+    )
+
+
+def failed(found: List[Finding]) -> bool:
+    """Whether a finding fails the run."""
+    return any(it.level == ERROR for it in found)
+
+
+def results(found: List[Finding], tests: List[Test], form: str, look: Look, quiet: bool, version: str) -> str:
+    """The findings in a form."""
+    if form == "json":
+        return findings.findings_json(not failed(found), found)
+    if form == "junit":
+        return findings.junit(tests, sum(it.seconds for it in tests)).decode()
+    if form == "github":
+        return findings.github(found)
+    if form == "sarif":
+        return findings.sarif(found, version)
+    return text_of(found, look, quiet)
+
+
+def tests_of(found: List[Finding], scripts: List[bytes], seconds: float) -> Iterator[Test]:
+    """A test for each script, which fails by its faults. All have the same part of the seconds."""
+    for path in scripts:
+        wrong = [f"line {it.line}: {it.kind}: {it.text}" for it in found if it.path == path and it.level == ERROR]
+        yield Test("lint", PLAIN.name(path), seconds / len(scripts), wrong[0] if wrong else None, "\n".join(wrong))

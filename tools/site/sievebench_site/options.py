@@ -1,0 +1,224 @@
+"""The words of the command line."""
+
+from __future__ import annotations
+
+import argparse
+import os
+import re
+from typing import List, NoReturn, Optional
+
+from .ends import refuse
+from .folder import Wanted
+from .program import GIBIBYTE
+from .shown import Look
+
+DESCRIPTION = """\
+Tests a site's Sieve filters over sample mails, by the program sievebench.
+
+  check    compares the verdict on each mail, under each main script, with what is expected of it
+  record   writes today's verdicts as what is expected
+  lint     tells the faults of scripts, and what their includes, redirects and responses lead to
+  import   takes mails of mailboxes and files into a site
+
+`sievebench-site COMMAND --help` tells the options of a command; `sievebench-site --version` tells the versions of this tool and of the
+program.
+
+"""
+SITE = """\
+SITE has
+  personal/NAME.sieve      personal scripts
+  global/NAME.sieve        global scripts; this folder may be missing
+  mains                    the main scripts, one a line; several in a line run one after another, as before/10-spam main after/90-lists,
+                           where FOLDER/NAME is the site's file FOLDER/NAME.sieve, and a name with blanks stands between quotes
+  with                     the names of what the program is to know beyond what it always does, one a line; may be missing
+  mailboxes                where with has mailbox: the names of the mailboxes that there are, one a line; may be missing
+  clock                    where with has date: the current time, one line SECONDS ZONE as in a session; may be missing
+  envelope                 the sender and the recipient of mails whose own aren't known, two words as in a session; may be missing
+  mails/MAIL.eml           mails
+  mails/MAIL.eml.envelope  the addresses of a mail's sender and recipient, two words; else those of its fields Return-Path, and
+                           Delivered-To, X-Original-To or Envelope-To
+  mails/MAIL.eml.expect    what is expected of a mail: for each line of mains its names in brackets on a line, and then the lines of the
+                           verdict; # begins a comment
+  users/NAME/              where there are several users: personal, mains and mails of each. The folders global and mails and the file
+                           mains at the top are everybody's, and what is expected stands in blocks [NAME/MAIN]
+  mails/MAIL.eml.users     the users for whom a mail is judged; without it, all are
+"""
+STATUS = """\
+Status: 0 all agree, or lint told no fault; 1 a verdict disagrees or can't be judged, a script has a fault, record left a file, or without
+--lax nothing is expected or something is stale; 2 misuse: no mails, no such main script or mail, a file that can't be read or written, an
+edit that was refused; 3 the program, or sievec, can't be run; 130 and 143 after Ctrl-C and SIGTERM.
+"""
+FORMS = ("text", "json", "junit", "github", "sarif")
+UNITS = {"": 1, "K": 1 << 10, "M": 1 << 20, "G": GIBIBYTE}
+
+
+class Parser(argparse.ArgumentParser):
+    """A parser that tells what is wrong as the rest of the tool does."""
+
+    def error(self, message: str) -> NoReturn:
+        refuse(f"{Look(False).name(os.fsencode(message))}: --help tells the options")
+
+
+def memory(text: str) -> int:
+    """A number of octets, maybe with a unit."""
+    found = re.fullmatch(r"([0-9]{1,9})([KMG]?)", text)
+    if not found or not int(found[1]):
+        raise argparse.ArgumentTypeError(f"{text!r} isn't a number of octets, as 512M or 4G")
+    return int(found[1]) * UNITS[found[2]]
+
+
+def jobs(text: str) -> int:
+    """A number of processes."""
+    if not re.fullmatch(r"[0-9]{1,4}", text) or not int(text):
+        raise argparse.ArgumentTypeError(f"{text!r} isn't a number from 1 to 9999")
+    return int(text)
+
+
+SENTENCES = {
+    "check": "Compares the verdict on each mail, under each main script, with what is expected of it.",
+    "record": "Writes today's verdicts as what is expected.",
+    "lint": "Tells the faults of scripts, and what their includes, redirects and responses lead to.",
+    "import": "Takes mails of mailboxes and files into a site, under short names, and none twice.",
+}
+
+
+def parser_of(command: str) -> Parser:
+    """The parser of a command."""
+    places = "MAILBOX.. SITE" if command == "import" else "SITE"
+    name, form = f"sievebench-site {command}", argparse.RawDescriptionHelpFormatter
+    epilog = f"{SITE}\n{STATUS}"
+    parser = Parser(name, description=SENTENCES[command], epilog=epilog, formatter_class=form, allow_abbrev=False)
+    parser.add_argument("folders", nargs="*", metavar=places)
+    add_shown(parser)
+    ADDERS[command](parser)
+    return parser
+
+
+def add_shown(parser: Parser) -> None:
+    """Adds the options that say how names are shown."""
+    group = parser.add_mutually_exclusive_group()
+    shows = "shows octets of UTF-8 as characters, as on a terminal"
+    group.add_argument("--utf8", action="store_true", default=None, help=shows)
+    group.add_argument("--no-utf8", action="store_false", dest="utf8", help="shows them as \\xHH, as elsewhere")
+
+
+def add_running(parser: Parser) -> None:
+    """Adds the options of what runs the program."""
+    parser.add_argument(
+        "--user",
+        action="append",
+        default=[],
+        metavar="NAME",
+        help="a user of the site, and no others; may be given again",
+    )
+    parser.add_argument(
+        "--main",
+        action="append",
+        default=[],
+        metavar="NAME",
+        help="a line of main scripts, in place of those of mains; may be given again",
+    )
+    parser.add_argument(
+        "--clock", metavar="TIME", help="the time in place of that of the file clock, as 1783245600+0200"
+    )
+    parser.add_argument(
+        "--program",
+        metavar="PROGRAM",
+        help="the program, where it isn't the sievebench beside this tool or of the path",
+    )
+    parser.add_argument(
+        "--memory",
+        type=memory,
+        default=4 * GIBIBYTE,
+        metavar="SIZE",
+        help="the memory that each process of the program may take, as 512M; 4G where none is given",
+    )
+    parser.add_argument("-q", "--quiet", action="store_true", help="tells only what fails")
+
+
+def add_judging(parser: Parser) -> None:
+    """Adds the options of what judges mails."""
+    processors = len(os.sched_getaffinity(0)) if hasattr(os, "sched_getaffinity") else os.cpu_count() or 1
+    parser.add_argument(
+        "--only",
+        action="append",
+        default=[],
+        metavar="MAIL",
+        help="a mail by its file's name, as 09.eml, and no others; may be given again",
+    )
+    parser.add_argument(
+        "--jobs",
+        type=jobs,
+        default=processors,
+        metavar="N",
+        help="how many processes of the program run at once; as many as there are processors where none is given",
+    )
+
+
+def add_check(parser: Parser) -> None:
+    """Adds the options of check."""
+    add_running(parser)
+    add_judging(parser)
+    lets = "lets a mail pass of which nothing is expected, and what is stale"
+    parser.add_argument("--lax", action="store_true", help=lets)
+    parser.add_argument("--strict", action="store_true", help="says that they fail, as they do without it")
+    tells = "tells each difference by itself, and not once for all mails that have it"
+    parser.add_argument("--all", action="store_true", help=tells)
+    add_format(parser)
+    same = "the same as --format json"
+    parser.add_argument("--json", action="store_const", const="json", dest="format", help=same)
+    parser.add_argument("--junit", metavar="FILE", help="writes the results also as JUnit has them")
+
+
+def add_record(parser: Parser) -> None:
+    """Adds the options of record."""
+    add_running(parser)
+    add_judging(parser)
+    writes = "writes files anew, too, that aren't as it writes them"
+    parser.add_argument("--force", action="store_true", help=writes)
+
+
+def add_lint(parser: Parser) -> None:
+    """Adds the options of lint."""
+    add_running(parser)
+    add_format(parser)
+    runs = "runs also sievec, which Dovecot's site has, over each script, and tells where the two disagree"
+    parser.add_argument("--sievec", action="store_true", help=runs)
+
+
+def add_import(parser: Parser) -> None:
+    """Adds the options of import."""
+    parser.add_argument("--user", metavar="NAME", help="the user whose mails they become")
+
+
+def add_format(parser: Parser) -> None:
+    """Adds the form of what is printed."""
+    how = "how the results are printed: text, json, junit, github or sarif"
+    parser.add_argument("--format", choices=FORMS, default="text", help=how)
+
+
+ADDERS = {"check": add_check, "record": add_record, "lint": add_lint, "import": add_import}
+
+
+def parsed(command: str, words: List[str]) -> argparse.Namespace:
+    """What the words of a command say. After `--` all are folders."""
+    end = words.index("--") if "--" in words else len(words)
+    options = parser_of(command).parse_intermixed_args(words[:end])
+    options.folders = [*options.folders, *words[end + 1 :]]
+    return options
+
+
+def site_folder(words: List[str]) -> bytes:
+    """The one folder that the words name."""
+    if len(words) != 1 or not words[0]:
+        refuse("one folder is wanted, the site: --help tells more")
+    return os.fsencode(words[0])
+
+
+def wanted(options: argparse.Namespace) -> Wanted:
+    """What of a site the words ask for."""
+    clock: Optional[str] = options.clock
+    mains, mails, users = (
+        [os.fsencode(it) for it in words] for words in (options.main, getattr(options, "only", []), options.user)
+    )
+    return Wanted(site_folder(options.folders), mains, mails, users, None if clock is None else os.fsencode(clock))

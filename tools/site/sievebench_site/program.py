@@ -1,0 +1,267 @@
+"""The program, and a session with it that is held: commands are written, and replies read as they come."""
+
+from __future__ import annotations
+
+import contextlib
+import os
+import re
+import subprocess
+import sys
+import tempfile
+from typing import IO, Dict, Iterator, List, NamedTuple, NoReturn, Optional, Tuple
+
+from .ends import CHILDREN, fail, refuse
+from .words import ADDRESS_LIMIT, MAIL_LIMIT, MESSAGE_LIMIT, SCRIPT_LIMIT, TEXT_LIMIT, line, quoted, unquoted
+
+# Replies wait in a pipe until they are read: so many edits fill none.
+PENDING = 1_000
+GIBIBYTE = 1 << 30
+SCRIPT_LINE = re.compile(rb"script ([a-z]+) (\".*\") (?:ok|line ([0-9]+) ([a-z-]+))")
+READ_LINE = re.compile(rb"  read ([a-z]+) (\".*?\")( missing)?")
+AT_LINE = re.compile(rb"  at ([a-z]+) (\".*\") line ([0-9]+)")
+LIMITS = {
+    "script": f"a script's text has at most {TEXT_LIMIT:,} octets, and its name {ADDRESS_LIMIT:,}",
+    "message": f"a mail has at most {MESSAGE_LIMIT:,} octets",
+    "message-envelope": f"an address has at most {ADDRESS_LIMIT:,} octets",
+    "mailboxes": f"a list of mailboxes has at most {TEXT_LIMIT:,} octets",
+    "full": f"a session has at most {SCRIPT_LIMIT:,} scripts and {MAIL_LIMIT:,} mails",
+}
+# A script in a session: its place and its name.
+Place = Tuple[str, bytes]
+Fault = Tuple[int, str]
+
+
+class Line(NamedTuple):
+    """A line of a verdict, and the script and the line that entered it."""
+
+    text: bytes
+    at: Optional[Tuple[Place, int]] = None
+
+
+class Verdict(NamedTuple):
+    """What became of a mail, and the scripts that were looked up, each with whether it was there."""
+
+    lines: Tuple[Line, ...]
+    reads: Tuple[Tuple[Place, bool], ...]
+
+
+class Report(NamedTuple):
+    """The fault of each script, if any, and the verdict on each mail by its id."""
+
+    faults: Dict[Place, Optional[Fault]]
+    verdicts: Dict[bytes, Verdict]
+
+
+class Program:
+    """The program, what is asked of it beyond what it always knows, and the memory that each of its processes may take."""
+
+    def __init__(self, path: Optional[bytes], names: List[bytes], memory: int = 4 * GIBIBYTE) -> None:
+        self.path = path if path is not None else found_program()
+        self.profile = b"--with=" + b",".join([*names, b"envelopes", b"lines"])
+        self.memory = memory
+        # Whether it can be run is asked once, before a session is wanted.
+        self.version = self.first_line_of([self.path, b"--version"])
+
+    def first_line_of(self, words: List[bytes]) -> str:
+        """What it says first."""
+        try:
+            done = subprocess.run(words, stdin=subprocess.DEVNULL, stdout=subprocess.PIPE, stderr=subprocess.PIPE)
+        except OSError as error:
+            fail(f"cannot run {quoted(self.path)}: {error.strerror}")
+        return done.stdout.split(b"\n")[0].decode("latin-1")
+
+    @contextlib.contextmanager
+    def session(self) -> Iterator["Session"]:
+        """A new session, which ends with the block and mustn't have failed by then."""
+        with tempfile.TemporaryFile() as errors:
+            with CHILDREN.held(lambda: self.started(errors)) as child:
+                limit_memory(child.pid, self.memory)
+                session = Session(self, child, errors)
+                yield session
+                session.end()
+
+    def started(self, errors: IO[bytes]) -> "subprocess.Popen[bytes]":
+        """A new process, which Ctrl-C on a terminal reaches by this tool alone."""
+        words, pipe = [self.path, b"session", self.profile], subprocess.PIPE
+        try:
+            return subprocess.Popen(words, stdin=pipe, stdout=pipe, stderr=errors, start_new_session=True)
+        except OSError as error:
+            fail(f"cannot run {quoted(self.path)}: {error.strerror}")
+
+
+def found_program() -> bytes:
+    """The program beside this tool, or by its name that of the path."""
+    beside = os.path.join(os.path.dirname(os.path.realpath(os.fsencode(sys.argv[0]))), b"sievebench")
+    return beside if os.access(beside, os.X_OK) and os.path.isfile(beside) else b"sievebench"
+
+
+class Session:
+    """A session of the program, for as many edits and reports as are wanted."""
+
+    def __init__(self, program: Program, child: "subprocess.Popen[bytes]", errors: IO[bytes]) -> None:
+        assert child.stdin and child.stdout
+        self.program, self.child, self.errors = program, child, errors
+        self.input, self.output = child.stdin, child.stdout
+        self.pending: List[Tuple[str, str]] = []
+        # Many verdicts are the same one.
+        self.known: Dict[Tuple[bytes, ...], Verdict] = {}
+
+    def end(self) -> None:
+        """Ends the session, which mustn't have failed until now."""
+        self.drain()
+        with contextlib.suppress(BrokenPipeError):
+            self.input.close()
+        self.output.read()
+        self.child.wait()
+        if self.child.returncode or self.said():
+            self.fail()
+
+    def said(self) -> str:
+        """What is on its standard error."""
+        self.errors.seek(0)
+        return quoted(self.errors.read(500).rstrip())[1:-1]
+
+    def fail(self) -> NoReturn:
+        """Says why there is no reply."""
+        self.output.close()
+        self.child.wait()
+        said, status = self.said(), self.child.returncode
+        if status == 2 and said:
+            names = f"{quoted(self.program.profile)}, of the site's file with and what this tool adds"
+            refuse(f'the program doesn\'t take {names}: "{said}"')
+        if status or said:
+            fail(f'{quoted(self.program.path)} ended with status {status}: "{said}"')
+        fail("the program answered too little")
+
+    def write(self, octets: bytes) -> None:
+        """Writes a line, with what it counts. Where nobody reads it, what was replied until then says why."""
+        with contextlib.suppress(BrokenPipeError):
+            self.input.write(octets)
+
+    def line(self) -> bytes:
+        """The next line of the replies, without its end."""
+        found = self.output.readline()
+        if not found.endswith(b"\n"):
+            self.fail()
+        return found[:-1]
+
+    def flush(self) -> None:
+        """Sends what was written."""
+        with contextlib.suppress(BrokenPipeError):
+            self.input.flush()
+
+    def edit(self, command: str, words: List[bytes], octets: Optional[bytes], what: str) -> None:
+        """An edit, whose reply is read later and mustn't be a refusal of what it is."""
+        self.write(line(command, words, octets))
+        self.pending.append((command, what))
+        if len(self.pending) >= PENDING:
+            self.drain()
+
+    def drain(self) -> None:
+        """Reads the replies to the edits until now."""
+        self.flush()
+        pending, self.pending = self.pending, []
+        for command, what in pending:
+            reply = self.line()
+            if reply != b"ok":
+                refuse(f"{what} is refused: {reason(command, reply[3:].decode('latin-1'))}")
+
+    def words(self, command: str, words: List[bytes], what: str) -> None:
+        """An edit whose words must stand without quotes."""
+        self.write(b" ".join([command.encode(), *words]) + b"\n")
+        self.pending.append((command, what))
+
+    def script(self, place: Place, text: bytes, what: str) -> None:
+        """Puts a script's text."""
+        self.edit(f"script {place[0]}", [place[1]], text, what)
+
+    def dump(self, place: Place) -> Optional[List[bytes]]:
+        """The operations of a script, or none where it has a fault."""
+        self.drain()
+        self.write(line(f"dump {place[0]}", [place[1]]))
+        self.flush()
+        operations: List[bytes] = []
+        while True:
+            found = self.line()
+            if found == b"ok":
+                return operations
+            if found.startswith(b"no "):
+                return None
+            operations.append(found)
+
+    def report(self) -> Report:
+        """The faults of the scripts and the verdicts on the mails."""
+        self.drain()
+        self.write(b"report\n")
+        self.flush()
+        report, name = Report({}, {}), b""
+        told: List[bytes] = []
+        for found in self.lines_of_report():
+            if found.startswith(b"script "):
+                self.take_script(found, report.faults)
+            elif found.startswith(b"message "):
+                self.take_verdict(name, told, report.verdicts)
+                name, told = unquoted(found[len(b"message ") :]), []
+            elif found.startswith(b"  "):
+                told.append(found)
+        self.take_verdict(name, told, report.verdicts)
+        return report
+
+    def lines_of_report(self) -> Iterator[bytes]:
+        """The lines of a report but the last one."""
+        while True:
+            found = self.line()
+            if found.startswith(b"no "):
+                refuse(f"the report is refused: {reason('report', found[3:].decode('latin-1'))}")
+            if found.startswith(b"total "):
+                return
+            yield found
+
+    def take_script(self, found: bytes, faults: Dict[Place, Optional[Fault]]) -> None:
+        """Takes the line of a script."""
+        match = SCRIPT_LINE.fullmatch(found)
+        if match:
+            place = match[1].decode(), unquoted(match[2])
+            faults[place] = (int(match[3]), match[4].decode()) if match[3] else None
+
+    def take_verdict(self, name: bytes, told: List[bytes], verdicts: Dict[bytes, Verdict]) -> None:
+        """Takes the lines of a mail, if any."""
+        key = tuple(told)
+        if key and key not in self.known:
+            self.known[key] = verdict_of(told)
+        if key:
+            verdicts[name] = self.known[key]
+
+
+def verdict_of(told: List[bytes]) -> Verdict:
+    """The verdict that the lines of a mail tell."""
+    lines: List[Line] = []
+    reads = []
+    for found in told:
+        at, read = AT_LINE.fullmatch(found), READ_LINE.fullmatch(found)
+        if at:
+            lines[-1] = Line(lines[-1].text, ((at[1].decode(), unquoted(at[2])), int(at[3])))
+        elif read:
+            reads.append(((read[1].decode(), unquoted(read[2])), not read[3]))
+        elif not found.startswith(b"  envelope "):
+            lines.append(Line(found[2:]))
+    return Verdict(tuple(lines), tuple(reads))
+
+
+def reason(command: str, kind: str) -> str:
+    """Why an edit is refused, with the limit where it is one."""
+    if kind == "too-large":
+        return LIMITS.get(command.split()[0], kind)
+    if kind == "no-memory":
+        return "the program has no memory for it: --memory gives more"
+    return LIMITS.get(kind, f"no {kind}")
+
+
+def limit_memory(process: int, octets: int) -> None:
+    """Limits the memory of a process, where the system can."""
+    try:
+        import resource
+
+        resource.prlimit(process, resource.RLIMIT_AS, (octets, octets))
+    except (ImportError, AttributeError, OSError, ValueError):
+        pass
