@@ -130,7 +130,7 @@ def of_sizes(room):
     for number in range(1, 24):
         (room / f"large/mails/{number:02}.eml").symlink_to("00.eml")
     yield Sized(room, 500 * MEBIBYTE)
-    yield Run("sievebench-site: a process that may take little memory", room, f"python3 {shlex.quote(str(TOOL))} check --memory 16M --only 00.eml large; [ $? -ge 2 ]", b"", [b"memory"])
+    yield Run("sievebench-site: a process that may take little memory", room, f"python3 {shlex.quote(str(TOOL))} check --memory 8M --only 00.eml large; [ $? -ge 2 ]", b"", [b"memory"])
     yield run("several jobs", room, "check --lax --jobs 3 --only 00.eml --only 01.eml large", lines(counted(2, 2, 4, 0, 0, 4, 0, 0)))
 
 
