@@ -8,7 +8,7 @@ import os
 import sys
 from typing import Callable, Dict, List, NoReturn
 
-from . import check, ends, lint
+from . import check, diff, ends, lint, untested
 from .checked import Checked
 from .ends import Refusal, Signalled, refuse
 from .files import locked, refuse_unwritable, write_file
@@ -94,17 +94,44 @@ def run_import(options: argparse.Namespace) -> int:
     return 0
 
 
+def run_untested(options: argparse.Namespace) -> int:
+    """The command untested."""
+    site = site_with_mails(options)
+    found = untested.Untested(site, program_of(options, site), options.jobs, options.keys, options.numbers)
+    passed, look = found.passes(options.fail_under), look_of(options.utf8)
+    sys.stdout.write(untested.json_of(found, passed) if options.json else untested.text_of(found, look, options.quiet))
+    return int(not passed)
+
+
+def run_diff(options: argparse.Namespace) -> int:
+    """The command diff."""
+    folders = [os.fsencode(word) for word in options.folders]
+    wants = 1 if options.git is not None else 2
+    if len(folders) != wants or not all(folders):
+        refuse("two folders are wanted, or with --git one: --help tells more")
+    options.folders = options.folders[-1:]
+    site = site_with_mails(options)
+    with contextlib.ExitStack() as room:
+        old = folders[0] if options.git is None else room.enter_context(diff.revision(options.git, folders[0]))
+        found = diff.Diff(diff.other_site(old, site), site, program_of(options, site), options.jobs)
+    form = diff.markdown_of if options.format == "markdown" else diff.text_of
+    sys.stdout.write(form(found, look_of(options.utf8), options.all, options.quiet))
+    return int(bool(found.changed))
+
+
 COMMANDS: Dict[str, Callable[[argparse.Namespace], int]] = {
     "check": run_check,
     "record": run_record,
     "lint": run_lint,
     "import": run_import,
+    "untested": run_untested,
+    "diff": run_diff,
 }
 
 
 def main(words: List[str]) -> int:
     """Runs a command, and gives the status."""
-    names = "check, record, lint and import"
+    names = " and ".join([", ".join(list(COMMANDS)[:-1]), list(COMMANDS)[-1]])
     if not words:
         refuse(f"one of {names} is wanted: --help tells more")
     if words[0] in ("-h", "--help", "help"):

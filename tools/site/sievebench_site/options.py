@@ -18,6 +18,8 @@ Tests a site's Sieve filters over sample mails, by the program sievebench.
   record   writes today's verdicts as what is expected
   lint     tells the faults of scripts, and what their includes, redirects and responses lead to
   import   takes mails of mailboxes and files into a site
+  untested reports what can be changed in the scripts so that no mail's verdict notices
+  diff     reports which verdicts change from one site's scripts to another's, or from a revision in git to the files of today
 
 `sievebench-site COMMAND --help` tells the options of a command; `sievebench-site --version` tells the versions of this tool and of the
 program.
@@ -73,21 +75,30 @@ def jobs(text: str) -> int:
     return int(text)
 
 
+def percent(text: str) -> float:
+    """A number from 0 to 100."""
+    if not re.fullmatch(r"[0-9]{1,3}(\.[0-9]{1,9})?", text) or float(text) > 100:
+        raise argparse.ArgumentTypeError(f"{text!r} isn't a number from 0 to 100")
+    return float(text)
+
+
 SENTENCES = {
     "check": "Compares the verdict on each mail, under each main script, with what is expected of it.",
     "record": "Writes today's verdicts as what is expected.",
     "lint": "Tells the faults of scripts, and what their includes, redirects and responses lead to.",
     "import": "Takes mails of mailboxes and files into a site, under short names, and none twice.",
+    "untested": "Reports what can be changed in the scripts so that no mail's verdict notices.",
+    "diff": "Reports which verdicts on the mails of a site its scripts change: from those of another site, or of a revision in git.",
 }
+PLACES = {"import": "MAILBOX.. SITE", "diff": "[OLD] SITE"}
 
 
 def parser_of(command: str) -> Parser:
     """The parser of a command."""
-    places = "MAILBOX.. SITE" if command == "import" else "SITE"
     name, form = f"sievebench-site {command}", argparse.RawDescriptionHelpFormatter
     epilog = f"{SITE}\n{STATUS}"
     parser = Parser(name, description=SENTENCES[command], epilog=epilog, formatter_class=form, allow_abbrev=False)
-    parser.add_argument("folders", nargs="*", metavar=places)
+    parser.add_argument("folders", nargs="*", metavar=PLACES.get(command, "SITE"))
     add_shown(parser)
     ADDERS[command](parser)
     return parser
@@ -196,7 +207,39 @@ def add_format(parser: Parser) -> None:
     parser.add_argument("--format", choices=FORMS, default="text", help=how)
 
 
-ADDERS = {"check": add_check, "record": add_record, "lint": add_lint, "import": add_import}
+def add_untested(parser: Parser) -> None:
+    """Adds the options of untested."""
+    add_running(parser)
+    add_judging(parser)
+    keys = "takes out also each string of a list of two or more"
+    parser.add_argument("--keys", action="store_true", help=keys)
+    numbers = "moves also each limit of size by one, up and down"
+    parser.add_argument("--numbers", action="store_true", help=numbers)
+    fails = "fails where fewer of a hundred changes are noticed"
+    parser.add_argument("--fail-under", type=percent, default=0.0, metavar="PERCENT", help=fails)
+    parser.add_argument("--json", action="store_true", help="prints one object")
+
+
+def add_diff(parser: Parser) -> None:
+    """Adds the options of diff."""
+    add_running(parser)
+    add_judging(parser)
+    old = "compares with the site's folder in this revision of its repository, in place of another folder"
+    parser.add_argument("--git", metavar="REVISION", help=old)
+    tells = "reports each difference by itself, and not once for all mails that have it"
+    parser.add_argument("--all", action="store_true", help=tells)
+    how = "how the results are printed: text, or markdown for merge requests"
+    parser.add_argument("--format", choices=("text", "markdown"), default="text", help=how)
+
+
+ADDERS = {
+    "check": add_check,
+    "record": add_record,
+    "lint": add_lint,
+    "import": add_import,
+    "untested": add_untested,
+    "diff": add_diff,
+}
 
 
 def parsed(command: str, words: List[str]) -> argparse.Namespace:

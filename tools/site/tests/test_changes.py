@@ -70,7 +70,7 @@ class Changes(unittest.TestCase):
         self.assertEqual(told[f"2 with its condition true: {condition}"], head + b"if true\n\n" + tail)
         self.assertEqual(told[f"2 with its condition false: {condition}"], head + b"if false\n\n" + tail)
         self.assertIn(b" {         \n         } elsif", told['4 without: fileinto "A";'])
-        self.assertIn(b"/* ; */               if", told["9 without: discard;"])
+        self.assertIn(b"/* ; */                if", told["9 without: discard;"])
         self.assertIn(b"elsif true {              \n \n \n  stop;", told['5 without: set "b" text: ..;'])
         self.assertEqual(list(self.told(b"stop; keep;")), ["1 without: stop;", "1 without: keep;"])
 
