@@ -8,7 +8,7 @@ import os
 import sys
 from typing import Callable, Dict, List, NoReturn
 
-from . import check, diff, ends, lint, untested
+from . import check, diff, ends, lint, untested, watch, why
 from .checked import Checked
 from .ends import Refusal, Signalled, refuse
 from .files import locked, refuse_unwritable, write_file
@@ -119,6 +119,24 @@ def run_diff(options: argparse.Namespace) -> int:
     return int(bool(found.changed))
 
 
+def run_why(options: argparse.Namespace) -> int:
+    """The command why."""
+    if len(options.folders) != 2:
+        refuse("a site and a mail are wanted: --help tells more")
+    *options.folders, mail = options.folders
+    options.only = [os.fsdecode(why.mail_name(os.fsencode(mail)))]
+    site = site_with_mails(options)
+    sys.stdout.write(why.text_of(why.answers(site, program_of(options, site)), look_of(options.utf8)))
+    return 0
+
+
+def run_watch(options: argparse.Namespace) -> int:
+    """The command watch, which a signal ends."""
+    look = look_of(options.utf8)
+    watch.watch(watch.Watch(wanted(options), lambda site: program_of(options, site), options.jobs, look, options.all))
+    return 0
+
+
 COMMANDS: Dict[str, Callable[[argparse.Namespace], int]] = {
     "check": run_check,
     "record": run_record,
@@ -126,6 +144,8 @@ COMMANDS: Dict[str, Callable[[argparse.Namespace], int]] = {
     "import": run_import,
     "untested": run_untested,
     "diff": run_diff,
+    "why": run_why,
+    "watch": run_watch,
 }
 
 

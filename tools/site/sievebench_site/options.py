@@ -20,6 +20,8 @@ Tests a site's Sieve filters over sample mails, by the program sievebench.
   import   takes mails of mailboxes and files into a site
   untested reports what can be changed in the scripts so that no mail's verdict notices
   diff     reports which verdicts change from one site's scripts to another's, or from a revision in git to the files of today
+  why      says what entered each line of a mail's verdict, which scripts were looked up, and which branches were taken
+  watch    reports, whenever a file of a site is saved, which verdicts change
 
 `sievebench-site COMMAND --help` tells the options of a command; `sievebench-site --version` tells the versions of this tool and of the
 program.
@@ -89,8 +91,10 @@ SENTENCES = {
     "import": "Takes mails of mailboxes and files into a site, under short names, and none twice.",
     "untested": "Reports what can be changed in the scripts so that no mail's verdict notices.",
     "diff": "Reports which verdicts on the mails of a site its scripts change: from those of another site, or of a revision in git.",
+    "why": "Says what entered each line of one mail's verdict, which scripts were looked up, and which branches the run took.",
+    "watch": "Reports, whenever a file of a site is saved, which verdicts change, until Ctrl-C ends it.",
 }
-PLACES = {"import": "MAILBOX.. SITE", "diff": "[OLD] SITE"}
+PLACES = {"import": "MAILBOX.. SITE", "diff": "[OLD] SITE", "why": "SITE MAIL"}
 
 
 def parser_of(command: str) -> Parser:
@@ -232,6 +236,14 @@ def add_diff(parser: Parser) -> None:
     parser.add_argument("--format", choices=("text", "markdown"), default="text", help=how)
 
 
+def add_watch(parser: Parser) -> None:
+    """Adds the options of watch."""
+    add_running(parser)
+    add_judging(parser)
+    tells = "reports each difference by itself, and not once for all mails that have it"
+    parser.add_argument("--all", action="store_true", help=tells)
+
+
 ADDERS = {
     "check": add_check,
     "record": add_record,
@@ -239,6 +251,8 @@ ADDERS = {
     "import": add_import,
     "untested": add_untested,
     "diff": add_diff,
+    "why": add_running,
+    "watch": add_watch,
 }
 
 
