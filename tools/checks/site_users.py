@@ -109,7 +109,7 @@ def of_expectations(room):
     ]:
         write(room / f"hand {name}", {**site({"1.eml": b"", "1.eml.expect": octets}, main=script)})
         yield run(f"by hand: {name}", room, f"check --lax 'hand {name}'", lines(counted(1, 1, 1, 1, 0, 0, int(name == "two blocks"), 0)))
-    paste = "{ echo '[main]'; cd pasted; sievebench test --with lines personal/main.sieve mails/1.eml | grep '^  '; } > pasted/mails/1.eml.expect; "
+    paste = "(echo '[main]'; cd pasted; sievebench test --with lines personal/main.sieve mails/1.eml | grep '^  ') > pasted/mails/1.eml.expect; "
     write(room / "pasted", site({"1.eml": b""}, main=script))
     it = run("lines that are pasted", room, "check pasted", lines(counted(1, 1, 1, 1, 0, 0, 0, 0)))
     it.command = paste + it.command
