@@ -47,7 +47,8 @@ SITE has
   mails/MAIL.eml.users     the users for whom a mail is judged; without it, all are
 """
 STATUS = """\
-Status: 0 all agree, or lint told no fault; 1 a verdict disagrees or can't be judged, a script has a fault, record left a file, or without
+Status: 0 all agree, or lint told no fault, or diff reports no verdict; 1 diff reports a verdict that changed, fewer changes are noticed
+than untested --fail-under asks for, a verdict disagrees or can't be judged, a script has a fault, record left a file, or without
 --lax nothing is expected or something is stale; 2 misuse: no mails, no such main script or mail, a file that can't be read or written, an
 edit that was refused; 3 the program, or sievec, can't be run; 130 and 143 after Ctrl-C and SIGTERM.
 """
@@ -147,6 +148,10 @@ def add_running(parser: Parser) -> None:
         metavar="SIZE",
         help="the memory that each process of the program may take, as 512M; 4G where none is given",
     )
+
+
+def add_quiet(parser: Parser) -> None:
+    """Adds the option of what needn't be read where all is well."""
     parser.add_argument("-q", "--quiet", action="store_true", help="tells only what fails")
 
 
@@ -172,6 +177,7 @@ def add_judging(parser: Parser) -> None:
 def add_check(parser: Parser) -> None:
     """Adds the options of check."""
     add_running(parser)
+    add_quiet(parser)
     add_judging(parser)
     lets = "lets a mail pass of which nothing is expected, and what is stale"
     parser.add_argument("--lax", action="store_true", help=lets)
@@ -187,6 +193,7 @@ def add_check(parser: Parser) -> None:
 def add_record(parser: Parser) -> None:
     """Adds the options of record."""
     add_running(parser)
+    add_quiet(parser)
     add_judging(parser)
     writes = "writes files anew, too, that aren't as it writes them"
     parser.add_argument("--force", action="store_true", help=writes)
@@ -195,6 +202,7 @@ def add_record(parser: Parser) -> None:
 def add_lint(parser: Parser) -> None:
     """Adds the options of lint."""
     add_running(parser)
+    add_quiet(parser)
     add_format(parser)
     runs = "runs also sievec, which Dovecot's site has, over each script, and tells where the two disagree"
     parser.add_argument("--sievec", action="store_true", help=runs)
@@ -214,6 +222,7 @@ def add_format(parser: Parser) -> None:
 def add_untested(parser: Parser) -> None:
     """Adds the options of untested."""
     add_running(parser)
+    add_quiet(parser)
     add_judging(parser)
     keys = "takes out also each string of a list of two or more"
     parser.add_argument("--keys", action="store_true", help=keys)
@@ -227,6 +236,7 @@ def add_untested(parser: Parser) -> None:
 def add_diff(parser: Parser) -> None:
     """Adds the options of diff."""
     add_running(parser)
+    add_quiet(parser)
     add_judging(parser)
     old = "compares with the site's folder in this revision of its repository, in place of another folder"
     parser.add_argument("--git", metavar="REVISION", help=old)

@@ -118,8 +118,8 @@ class Folders(Room):
 
     def test_misuse(self) -> None:
         self.site("new", main="keep;")
-        for words in (["new"], ["a", "b", "new"], ["--git=HEAD", "a", "new"], []):
-            self.assertEqual(self.ran("diff", *words)[0], 2)
+        for words in ("new", "a b new", "--git=HEAD a new", ""):
+            self.assertEqual(self.ran("diff", *words.split())[0], 2)
         self.assertEqual(
             self.ran("diff", "nowhere", "new")[2],
             'sievebench-site: cannot read "nowhere/personal": No such file or directory\n',
@@ -169,10 +169,10 @@ class Revisions(Room):
         ]
         for revision, folder, sentence in rows:
             with self.subTest(revision=revision):
-                wanted = (2, [], f"sievebench-site: {sentence}\n")
-                self.assertEqual(self.ran("diff", f"--git={revision}", folder), wanted)
+                told = self.ran("diff", f"--git={revision}", folder)
+                self.assertEqual(told, (2, [], f"sievebench-site: {sentence}\n"))
         with mock.patch.dict(os.environ, GIT_CEILING_DIRECTORIES=str(self.room.parent)):
             os.rename(self.room / ".git", self.room / "git")
-            wanted = (2, [], f"sievebench-site: {shown} is in no repository of git\n")
-            self.assertEqual(self.ran("diff", "--git=HEAD", site), wanted)
+            told = self.ran("diff", "--git=HEAD", site)
+            self.assertEqual(told, (2, [], f"sievebench-site: {shown} is in no repository of git\n"))
         self.assertIsNone(git(bytes(self.room), ["no-such-command"]))

@@ -213,7 +213,7 @@ class Looks(Room):
             if writes:
                 place.write_bytes(writes.pop(0))
 
-        with mock.patch.object(module.time, "sleep", pause):
+        with mock.patch("time.sleep", pause):
             place.write_bytes(b"")
             told = self.look()
         self.assertEqual((told[-1], writes), ("2 of 2 verdicts changed, 1 not as expected", []))

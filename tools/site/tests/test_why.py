@@ -151,7 +151,7 @@ class Answers(Room):
         self.assertIn("    personal/x: there is none", told)
 
     def test_misuse(self) -> None:
-        for words in ([], ["."], [".", ""], [".", "mails/"], [".", "1.eml", "2.eml"], [".", "9.eml"]):
+        for words in ("", ".", ". mails/", ". 1.eml 2.eml", ". 9.eml"):
             with self.subTest(words=words):
-                self.assertEqual(self.ran("why", *words)[0], 2)
+                self.assertEqual(self.ran("why", *words.split())[0], 2)
         self.assertEqual(self.ran("why", "--main", "x", "--program", str(FAKE), ".", "1.eml")[0], 2)
