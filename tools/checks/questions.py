@@ -11,7 +11,6 @@ import shutil
 import signal
 import subprocess
 import sys
-import textwrap
 import threading
 import time
 
@@ -91,9 +90,8 @@ def of_untested(room):
     yield run("branches, and runs that end by an error", room, "untested branches", lines(*wanted, "9 of 13 changes are noticed"))
     parts = b'require "include"; include "part";\n'
     write(room / "mains", {**site({"1.eml": b"Subject: a\n\n"}, one=parts + b"discard;", two=parts), "personal/part.sieve": b'if header "subject" "b" {\n  discard;\n}\nkeep;\n', "personal/lost.sieve": b"keep;"})
-    wanted = unnoticed("mains/personal/one.sieve", (1, 'without: include "part";', True))
     wanted = unnoticed("mains/personal/part.sieve", (1, 'with its condition false: if header "subject" "b"', True), (2, "without: discard;", False))
-    yield run("a script that two main ones include", room, "untested mains", lines(*unnoticed("mains/personal/two.sieve"), *wanted, "mains/personal/lost.sieve: no verdict looks it up", "5 of 7 changes are noticed"))
+    yield run("a script that two main ones include", room, "untested mains", lines(*wanted, "mains/personal/lost.sieve: no verdict looks it up", "5 of 7 changes are noticed"))
     yield run("under one of them", room, "untested -q --main one mains", lines(*wanted))
     limit = b'if size :over 18446744073709551615 { discard; }\nif size :under 12 { keep; }\nif header ["a", "b"] ["1", "2"] { discard; }\nif true { stop; }'
     write(room / "limits", site({"1.eml": b"a: 1\nb: 2\n\n", "2.eml": b"\n", "3.eml": b"b: 2\n" + b"\n" * 7}, main=limit))
@@ -102,15 +100,14 @@ def of_untested(room):
         (1, "with its condition false: if size :over 18446744073709551615", True),
         (1, "with 18446744073709551614 in: if size :over 18446744073709551615", True),
         (1, "without: discard;", False),
-        (2, "with 11 in: if size :under 12", True),
         (3, 'without "a" in: if header ["a", "b"] ["1", "2"]', True),
         (3, 'without "1" in: if header ["a", "b"] ["1", "2"]', True),
         (4, "with its condition false: if true", True),
         (4, "without: stop;", True),
     )
-    yield run("strings and limits, and changes that leave a fault or nothing", room, "untested --keys --numbers limits", lines(*wanted, "10 of 18 changes are noticed, 1 leave a fault, 1 change nothing"))
+    yield run("strings and limits, and changes that leave a fault or nothing", room, "untested --keys --numbers limits", lines(*wanted, "11 of 18 changes are noticed, 1 leave a fault, 1 change nothing"))
     yield run("enough are noticed", room, "untested -q --fail-under 50 limits", [b"limits/personal/main.sieve:1"])
-    yield run("too few are noticed", room, "untested --json --fail-under 90 limits", [b'{"passed": false, "counts": {"noticed": 4, "changes": 9, "leave a fault": 0, "change nothing": 1}', b'"reached": false'], status=1)
+    yield run("too few are noticed", room, "untested --json --fail-under 90 limits", [b'{"passed": false, "counts": {"noticed": 7, "changes": 11, "leave a fault": 0, "change nothing": 1}', b'"reached": false'], status=1)
     yield run("a number that isn't one", room, "untested --fail-under x limits", b"", told("argument --fail-under: 'x' isn't a number from 0 to 100: --help tells the options"), 2)
 
 
@@ -120,9 +117,8 @@ def of_chains(room):
     files["personal/main.sieve"] = b'require ["imap4flags", "fileinto"];\nif hasflag "$A" { fileinto "A"; }\nelsif header "subject" "b" { keep; }\n'
     mails = {f"{name}.eml": b"Subject: %s\n\n" % name.encode() for name in "abc"}
     write(room / "chained", {**site(mails), **files})
-    wanted = unnoticed("chained/before/10.sieve")
-    main = unnoticed("chained/personal/main.sieve", (3, 'with its condition false: elsif header "subject" "b"', True), (3, "without: keep;", False))
-    yield run("what isn't tested of a chain", room, "untested chained", lines(*main, *wanted, "10 of 12 changes are noticed"))
+    wanted = unnoticed("chained/personal/main.sieve", (3, 'with its condition false: elsif header "subject" "b"', True), (3, "without: keep;", False))
+    yield run("what isn't tested of a chain", room, "untested chained", lines(*wanted, "10 of 12 changes are noticed"))
     yield run("why a chain goes on", room, "why chained a.eml | sed -n '/branches/,$p'", lines("  branches that are taken:", '    chained/before/10.sieve:2: if header "subject" "a"', '    chained/personal/main.sieve:2: if hasflag "$A"'))
     yield run("why it ends", room, "why chained b.eml | sed -n '/branches/,$p'", lines("  branches that are taken:", '    chained/before/10.sieve:3: if header "subject" "b"'))
     shutil.copytree(room / "chained", room / "rechained")
@@ -200,12 +196,13 @@ def of_answers(room):
     yield run("a rejection, which no redirect goes with", room, "why why mails/b.eml", answer("why/mails/b.eml", "main", verdict, [at], branches))
     # The 33rd redirect fails, and so the second branch of the last line isn't taken.
     many = b"".join(b'if true { redirect "%d@b.example"; }\n' % number for number in range(33)) + b"if true { keep; }\n"
-    write(room / "many", site({"1.eml": b""}, main=many, few=many.replace(b'"32@', b'"31@')))
+    few = b"".join(many.splitlines(True)[:31]) + b"if true { keep; }\n"
+    write(room / "many", site({"1.eml": b""}, main=many, few=few))
     at = "many/personal/main.sieve"
     wanted = answer("many/mails/1.eml", "main", ['implicit "INBOX"', 'error personal "main" line 33 too-many-actions'], [at], [f"{at}:{number}: if true" for number in range(1, 34)], f'  taken out for this question, since it fails: {at}:33: redirect "32@b.example";')
     yield run("an action that is one too many", room, "why --main main many 1.eml", wanted)
     at = "many/personal/few.sieve"
-    yield run("as many actions as there may be", room, "why --main few many 1.eml | tail -n 34", lines(*(f"    {at}:{number}: if true" for number in range(1, 35))).replace(b"    many/personal/few.sieve:34: if true\n", b"  taken out for this question, since it fails: many/personal/few.sieve:34: keep;\n"[:0] + b"    many/personal/few.sieve:34: if true\n"))
+    yield run("as many actions as there may be", room, "why --main few many 1.eml | tail -n 33", lines("  branches that are taken:", *(f"    {at}:{number}: if true" for number in range(1, 33))))
     fails = b'require "include"; keep;\nif true { stop; } keep;\n'
     write(room / "fails", site({"1.eml": b""}, main=b'require ["include", "fileinto"];\nif true { fileinto "A"; include "main"; include "gone"; if true {} }\nif true {}\n', other=fails, wrong=b"kep;"))
     at = "fails/personal/main.sieve"
@@ -265,12 +262,10 @@ def of_watching(room):
 
     def in_two_writes():
         with open(part, "wb") as file:
-            file.write(b"kep; #")
+            file.write(b"kee")
             file.flush()
             time.sleep(0.03)
-            file.write(b"\nkeep;"[:0])
-            file.seek(0)
-            file.write(b"keep;#")
+            file.write(b"p;")
 
     def renamed_over():
         write(room / "watched", {"personal/.part.new": b"\n\ndiscard;"})
@@ -318,8 +313,7 @@ def of_many(room):
     heads = [f"many-mails/mails/{number:04}.eml under main" for number in (7, 107, 207)] + ["and 27 more: 30 verdicts in all, of 30 mails under 1 main"]
     wanted = [*heads, "  - discard", '  + store "INBOX"  (many-mails/personal/part.sieve:1)', "30 of 3,000 verdicts changed, N seconds"]
     yield Watched("three thousand mails", room, "many-mails", [lambda: write(room / "many-mails", {"personal/part.sieve": b"keep;"})], ["3,000 verdicts, N seconds", "many-mails/personal/part.sieve: saved", *wanted])
-    wanted = unnoticed("many-mails/personal/part.sieve")
-    yield run("what isn't tested of them", room, "untested many-mails", lines(*wanted, "4 of 4 changes are noticed"))
+    yield run("what isn't tested of them", room, "untested many-mails", lines("4 of 4 changes are noticed"))
 
 
 class Tried:
@@ -340,6 +334,8 @@ class Tried:
                 wanted += [] if done.returncode else [f"{script}:{it.line} {it.how}"]
                 shutil.rmtree(copy)
         done = subprocess.run([sys.executable, str(TOOL), "untested", "--json", str(self.folder)], env=env, capture_output=True, timeout=SECONDS)
+        if done.returncode:
+            return [f"status {done.returncode}: {done.stderr!r:.300}"]
         got = [f"{it['script']}:{it['line']} {it['change']}" for it in json.loads(done.stdout)["unnoticed"]]
         return [] if sorted(got) == sorted(wanted) else [wanted_and_got(lines(*sorted(wanted)), lines(*sorted(got)))]
 
@@ -348,8 +344,8 @@ def of_pages(room):
     """The example, and what the page of sites says of it."""
     shutil.copytree(EXAMPLES / "site", room / "page/site")
     yield Tried("the changes of the example", room, room / "page/site")
-    blocks = {block.split("\n")[0]: block for block in re.findall(r"^```\n(.*?)^```$", PAGE.read_text(encoding="utf-8"), re.S | re.M)}
-    find = {name: next(block for block in blocks.values() if name in block) for name in ("changes are noticed", "diff --git", "site watch", "site why")}
+    blocks = [block for kind, block in re.findall(r"^```(\w*)\n(.*?)^```$", PAGE.read_text(encoding="utf-8"), re.S | re.M) if not kind]
+    find = {name: next(block for block in blocks if name in block) for name in ("changes are noticed", "diff --git", "site watch", "site why")}
     yield run("untested, as the page has it", room / "page", "untested site", find["changes are noticed"].encode())
     yield run("why, as the page has it", room / "page", "why --main sales site 04-order.eml", find["site why"].partition("\n")[2].encode())
     begin = "git init -q . && git add -A && git -c user.name=a -c user.email=a@b.example commit -qm one"

@@ -131,10 +131,10 @@ def try_change(held: Held, main: Main, it: Tried, base: Verdicts) -> None:
     place = it.script.at()
     held.bench.replace(place, it.change.of(it.script.text))
     told = chained(held.bench, main.scripts, held.mails)
-    it.faulty = it.faulty or bool(held.bench.faults.get(place))
-    it.noticed = it.noticed or any(
-        told[name] is not verdict and told[name].texts() != verdict.texts() for name, verdict in base.items()
-    )
+    if held.bench.faults.get(place):
+        it.faulty = True
+    elif any(told[name] is not verdict and told[name].texts() != verdict.texts() for name, verdict in base.items()):
+        it.noticed = True
 
 
 def text_of(found: Untested, look: Look, quiet: bool) -> str:

@@ -59,9 +59,10 @@ class Question:
         self.texts: Texts = {at: bench.scripts[at] for at, there in verdict.reads if there}
         self.texts[place] = text
         self.domain = own_domain(self.texts.values())
+        error = error_of(verdict)
+        self.failing = self.take_out(error)
         # Whether the runs that answer don't fail.
-        self.known = True
-        self.failing = self.take_out(error_of(verdict))
+        self.known = error is None or self.failing is not None
         self.all = self.take_actions()
 
     def run(self, texts: Texts) -> Verdict:
