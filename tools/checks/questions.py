@@ -317,26 +317,30 @@ def of_many(room):
 
 
 class Tried:
-    """The changes of a site, each written into a copy of it and checked: what isn't noticed so is what `untested` says."""
+    """The changes of a site, each written into a copy of it and checked against what was recorded: what isn't noticed so is what `untested`
+    says. Of scripts that no mail comes to it says nothing."""
 
     def __init__(self, title, room, folder):
         self.title, self.room, self.folder, self.command = f"sievebench-site: {title}", room, folder, f"{TOOL} untested {folder}"
 
     def differences(self, path):
         """What is said otherwise."""
-        env, wanted = {**os.environ, "PATH": path}, []
-        for script in sorted(self.folder.rglob("*.sieve")):
-            for it in changes(script.read_bytes(), False, False):
-                copy = self.room / "copy"
-                shutil.copytree(self.folder, copy)
-                (copy / script.relative_to(self.folder)).write_bytes(it.of(script.read_bytes()))
-                done = subprocess.run([sys.executable, str(TOOL), "check", "-q", str(copy)], env=env, capture_output=True, timeout=SECONDS)
-                wanted += [] if done.returncode else [f"{script}:{it.line} {it.how}"]
-                shutil.rmtree(copy)
-        done = subprocess.run([sys.executable, str(TOOL), "untested", "--json", str(self.folder)], env=env, capture_output=True, timeout=SECONDS)
+        env, wanted, copy = {**os.environ, "PATH": path}, [], self.room / "copy"
+        shutil.copytree(self.folder, copy)
+        subprocess.run([sys.executable, str(TOOL), "record", "--force", str(copy)], env=env, capture_output=True, timeout=SECONDS)
+        done = subprocess.run([sys.executable, str(TOOL), "untested", "--json", "--keys", "--numbers", str(self.folder)], env=env, capture_output=True, timeout=SECONDS)
         if done.returncode:
             return [f"status {done.returncode}: {done.stderr!r:.300}"]
-        got = [f"{it['script']}:{it['line']} {it['change']}" for it in json.loads(done.stdout)["unnoticed"]]
+        found = json.loads(done.stdout)
+        for script in sorted(self.folder.rglob("*.sieve")):
+            text, place = script.read_bytes(), copy / script.relative_to(self.folder)
+            for it in changes(text, True, True) if str(script) not in found["not looked up"] else ():
+                place.write_bytes(it.of(text))
+                done = subprocess.run([sys.executable, str(TOOL), "check", "-q", str(copy)], env=env, capture_output=True, timeout=SECONDS)
+                wanted += [] if done.returncode or it.is_none(text) else [f"{script}:{it.line} {it.how}"]
+            place.write_bytes(text)
+        shutil.rmtree(copy)
+        got = [f"{it['script']}:{it['line']} {it['change']}" for it in found["unnoticed"]]
         return [] if sorted(got) == sorted(wanted) else [wanted_and_got(lines(*sorted(wanted)), lines(*sorted(got)))]
 
 
@@ -344,6 +348,8 @@ def of_pages(room):
     """The example, and what the page of sites says of it."""
     shutil.copytree(EXAMPLES / "site", room / "page/site")
     yield Tried("the changes of the example", room, room / "page/site")
+    for name in ("branches", "limits", "chained"):
+        yield Tried(f"the changes of {name}", room, room / name)
     blocks = [block for kind, block in re.findall(r"^```(\w*)\n(.*?)^```$", PAGE.read_text(encoding="utf-8"), re.S | re.M) if not kind]
     find = {name: next(block for block in blocks if name in block) for name in ("changes are noticed", "diff --git", "site watch", "site why")}
     yield run("untested, as the page has it", room / "page", "untested site", find["changes are noticed"].encode())

@@ -25,15 +25,18 @@ DECLARATIONS = (b"require", b"global")
 BRANCHES = (b"if", b"elsif", b"else")
 # Commands that the report of a run tells as actions.
 ACTIONS = (b"keep", b"fileinto", b"redirect", b"discard", b"vacation", b"reject", b"ereject")
+WITH_CONDITION = "with its condition "
 UNITS = {b"k": 1 << 10, b"m": 1 << 20, b"g": 1 << 30}
 
 
 class Command(NamedTuple):
-    """A command: its tokens up to its `;` or its block, where it begins and ends, and where its block begins if it has one."""
+    """A command: its tokens up to its `;` or its block, where it ends, where its block begins if it has one, and where the block begins
+    in which it is, if it is in one."""
 
     tokens: Tuple[Token, ...]
     end: int
     block: Optional[int]
+    inside: Optional[int]
 
     def name(self) -> bytes:
         """Its name."""
@@ -81,6 +84,10 @@ class Change(NamedTuple):
         """The text with this change."""
         return text[: self.start] + self.octets + text[self.end :]
 
+    def denies(self) -> bool:
+        """Whether it makes a condition false."""
+        return self.how == WITH_CONDITION + "false"
+
     def is_none(self, text: bytes) -> bool:
         """Whether it leaves the script as it is."""
         return text[self.start : self.end].strip().lower() == self.octets.strip()
@@ -90,13 +97,16 @@ def commands(text: bytes) -> List[Command]:
     """The commands of a script in the order of their names, also those in blocks; of one with a fault of syntax up to the fault."""
     found: List[Command] = []
     begun: List[Token] = []
+    blocks: List[int] = []
     for token in tokens(text):
-        if token.kind in (SEMICOLON, OPEN_BRACE) and begun:
-            block = token.end if token.kind == OPEN_BRACE else None
-            found.append(Command(tuple(begun), token.end if block is None else begun[-1].end, block))
+        if token.kind == SEMICOLON and begun:
+            found.append(Command(tuple(begun), token.end, None, blocks[-1] if blocks else None))
             begun = []
-        elif token.kind == CLOSE_BRACE and not begun:
-            continue
+        elif token.kind == OPEN_BRACE and begun:
+            found.append(Command(tuple(begun), begun[-1].end, token.end, blocks[-1] if blocks else None))
+            blocks, begun = [*blocks, token.end], []
+        elif token.kind == CLOSE_BRACE and blocks and not begun:
+            blocks.pop()
         elif token.kind in (SEMICOLON, OPEN_BRACE, CLOSE_BRACE, BAD) or (not begun and token.kind != IDENTIFIER):
             break
         else:
@@ -116,7 +126,7 @@ def changes(text: bytes, keys: bool, numbers: bool) -> List[Change]:
             assert condition
             start, end = condition
             octets = word.encode() + b"\n" * text.count(b"\n", start, end)
-            found.append(Change(it, it.line(), f"with its condition {word}", start, end, octets))
+            found.append(Change(it, it.line(), WITH_CONDITION + word, start, end, octets))
         if keys and it.name() not in DECLARATIONS:
             found += keys_of(text, it)
         if numbers:

@@ -1,11 +1,12 @@
 """Where runs come to, asked of the program: by redirects to addresses of their own, and by an error on a line of its own."""
 from __future__ import annotations
 
-from typing import Iterable, List, Set, Tuple
+from typing import Dict, Iterable, List, Set, Tuple
 
 from .chains import Bench, chained
 from .changes import Command, with_inserted
 from .mains import Main, Script
+from .program import Verdict
 from .sieve_text import required
 from .words import quoted
 
@@ -81,8 +82,25 @@ class Reach:
         self.bench.replace(self.script.at(), self.script.text)
         return found
 
+    def entered(self, blocks: List[int]) -> Dict[int, List[bytes]]:
+        """The mails that come to each block, by where it begins, and those of which that isn't known, since their runs fail."""
+        found: Dict[int, List[bytes]] = {}
+        for at in range(0, len(blocks), AT_ONCE):
+            group = blocks[at : at + AT_ONCE]
+            verdicts = self.verdicts(with_fronts(self.script.text, group, self.domain))
+            texts = {name: set(verdict.texts()) for name, verdict in verdicts.items()}
+            failed = {name for name, lines in texts.items() if any(line.startswith(b"error ") for line in lines)}
+            for number, block in enumerate(group):
+                line = redirect_line(number, self.domain)
+                found[block] = [name for name in self.ids if name in failed or line in texts[name]]
+        self.bench.replace(self.script.at(), self.script.text)
+        return found
+
+    def verdicts(self, text: bytes) -> Dict[bytes, Verdict]:
+        """The verdicts with this text of the script."""
+        self.bench.replace(self.script.at(), text)
+        return chained(self.bench, self.main.scripts, self.ids)
+
     def lines(self, text: bytes) -> Set[bytes]:
         """The lines of all verdicts with this text of the script."""
-        self.bench.replace(self.script.at(), text)
-        verdicts = chained(self.bench, self.main.scripts, self.ids)
-        return {line.text for verdict in set(verdicts.values()) for line in verdict.lines}
+        return {line.text for verdict in set(self.verdicts(text).values()) for line in verdict.lines}

@@ -2,21 +2,22 @@
 from __future__ import annotations
 
 import json
-from typing import Dict, List, Tuple
+from typing import Dict, Iterator, List, Set, Tuple
 
-from .changes import Change, changes
-from .chains import chained
+from .changes import Change, changes, commands
+from .chains import Bench, chained
 from .faults import sentence_of
 from .findings import PLAIN
 from .folder import Site, User
-from .judge import Batch, Held, Judge, batches_of
+from .judge import Batch, Held, Judge, batches_of, put_settings
 from .mains import Main, Script
-from .program import Program, Verdict
+from .program import Program, Session, Verdict
 from .reach import Reach
 from .shown import Look
+from .sieve_text import required
 
-# What one part of the mails notices isn't tried on the others: so parts are small.
-PARTS = 8
+# Most changes are noticed by a few mails.
+SOME, FEW = 4, 40
 # So much of a command is shown.
 SHOWN = 120
 Verdicts = Dict[bytes, Verdict]
@@ -61,15 +62,14 @@ class Untested:
         self.run()
 
     def run(self) -> None:
-        """Tries all of them, and asks where mails come."""
-        batches = list(enumerate(batches_of(self.site, PARTS * self.judge.jobs)))
-        self.judge.each(batches, self.try_batch)
-        self.judge.each(batches, self.ask_batch)
+        """Tries all of them."""
+        self.judge.each(list(enumerate(batches_of(self.site, self.judge.jobs))), self.try_batch)
 
     def try_batch(self, part: Tuple[int, Batch]) -> None:
-        """Tries the changes on some mails."""
+        """Tries the changes on some mails, and asks where these come."""
         number, batch = part
-        with self.judge.held(batch) as held:
+        with self.judge.held(batch) as held, self.judge.program.session() as session:
+            few = Few(self.judge, held, session)
             for main in batch.user.mains:
                 base = chained(held.bench, main.scripts, held.mails)
                 for script in looked_up(batch.user, base):
@@ -77,24 +77,12 @@ class Untested:
                     tried = self.tried.get(script.path, [])
                     # Parts that are tried at once begin at different changes: what one notices, the other needn't try.
                     start = len(tried) * (number % self.judge.jobs) // self.judge.jobs
+                    trial = Trial(held, few, main, script, base)
                     for it in [*tried[start:], *tried[:start]]:
                         if it.open():
-                            try_change(held, main, it, base)
-                    held.bench.replace(script.at(), script.text)
-
-    def ask_batch(self, part: Tuple[int, Batch]) -> None:
-        """Asks whether mails come to the changes that nothing noticed."""
-        _, batch = part
-        with self.judge.held(batch) as held:
-            for main in batch.user.mains:
-                base = chained(held.bench, main.scripts, held.mails)
-                for script in looked_up(batch.user, base):
-                    left = [it for it in self.tried.get(script.path, []) if it.open() and not it.reached]
-                    commands = {it.change.command.start(): it.change.command for it in left}
-                    reach = Reach(held.bench, list(held.mails), main, script)
-                    found = reach.reached(list(commands.values()))
-                    for it in left:
-                        it.reached = it.reached or it.change.command.start() in found
+                            trial.take(it)
+                    trial.end()
+                    trial.ask([it for it in tried if it.open() and not it.reached])
 
     def judged(self) -> List[Tried]:
         """All changes of the scripts that some verdict looked up."""
@@ -126,15 +114,90 @@ def looked_up(user: User, verdicts: Verdicts) -> List[Script]:
     return [script for script in user.scripts if script.at() in there]
 
 
-def try_change(held: Held, main: Main, it: Tried, base: Verdicts) -> None:
-    """Tries a change on the mails of a session."""
-    place = it.script.at()
-    held.bench.replace(place, it.change.of(it.script.text))
-    told = chained(held.bench, main.scripts, held.mails)
-    if held.bench.faults.get(place):
-        it.faulty = True
-    elif any(told[name] is not verdict and told[name].texts() != verdict.texts() for name, verdict in base.items()):
-        it.noticed = True
+class Few:
+    """A session into which mails of another are put as they are wanted."""
+
+    def __init__(self, judge: Judge, held: Held, session: Session) -> None:
+        self.judge, self.held, self.session = judge, held, session
+        self.bench = Bench(session, {})
+        self.bench.become(held.bench.scripts)
+        put_settings(session, judge.site)
+        self.there: Set[bytes] = set()
+
+    def bench_of(self, ids: List[bytes]) -> Bench:
+        """A session with these mails: the other one, with all, where they aren't few."""
+        if len(ids) > FEW:
+            return self.held.bench
+        for name in self.there - set(ids):
+            self.session.edit("drop-message", [name], None, "the end of a mail")
+        for name in ids:
+            if name not in self.there:
+                self.judge.put_mail(self.session, name, self.held.mails[name])
+        self.there = set(ids)
+        return self.bench
+
+
+class Trial:
+    """The changes of a script, tried on some mails under a main script."""
+
+    def __init__(self, held: Held, few: Few, main: Main, script: Script, base: Verdicts) -> None:
+        self.held, self.few, self.main, self.script, self.base = held, few, main, script, base
+        self.ids = [name for name, verdict in base.items() if (script.at(), True) in verdict.reads]
+        self.variables = b"variables" in required(script.text)[1]
+        blocks = [it.block for it in commands(script.text) if it.block is not None]
+        reach = Reach(held.bench, self.ids, main, script)
+        # The mails that come to each block, or may.
+        self.entered = reach.entered(blocks)
+
+    def around(self, it: Tried) -> List[bytes]:
+        """The mails that come to the block in which a change is."""
+        inside = it.change.command.inside
+        return self.ids if inside is None else self.entered[inside]
+
+    def mails(self, it: Tried) -> List[bytes]:
+        """The mails that could notice a change: those that come to the block in which it is. A condition that is made false is noticed
+        by those alone that come to its own block, unless it sets variables where it doesn't hold as a whole."""
+        command = it.change.command
+        denied = it.change.denies() and not self.variables and command.block is not None
+        return self.entered[command.block] if denied and command.block is not None else self.around(it)
+
+    def take(self, it: Tried) -> None:
+        """Tries a change, on a few mails first."""
+        place, text = it.script.at(), it.change.of(it.script.text)
+        for ids in parts_of(self.mails(it)):
+            bench = self.few.bench_of(ids)
+            bench.replace(place, text)
+            told = chained(bench, self.main.scripts, ids)
+            # Other parts of the mails are tried at the same time, so what is known is never unset.
+            if bench.faults.get(place):
+                it.faulty = True
+            elif any(told[name].texts() != self.base[name].texts() for name in ids):
+                it.noticed = True
+            if not it.open():
+                return
+
+    def end(self) -> None:
+        """Puts the script's own text back."""
+        for bench in (self.held.bench, self.few.bench):
+            bench.replace(self.script.at(), self.script.text)
+
+    def ask(self, left: List[Tried]) -> None:
+        """Asks which of these changes mails come to, a few mails first."""
+        points = {it.change.command.start(): it.change.command for it in left if self.around(it)}
+        found: Set[int] = set()
+        for ids in parts_of(self.ids):
+            reach = Reach(self.few.bench_of(ids), ids, self.main, self.script)
+            found |= reach.reached([it for start, it in points.items() if start not in found])
+        for it in left:
+            it.reached = it.reached or it.change.command.start() in found
+
+
+def parts_of(ids: List[bytes]) -> Iterator[List[bytes]]:
+    """Mails in parts: some, more, and all others; one part without mails where there are none."""
+    yield ids[:SOME]
+    for part in (ids[SOME:FEW], ids[FEW:]):
+        if part:
+            yield part
 
 
 def text_of(found: Untested, look: Look, quiet: bool) -> str:
