@@ -164,7 +164,7 @@ def of_clocks(room):
             yield run(f"no clock: {octets!r:.40}, {command}", room, f"{command} clock{number}", b"", wrong, 2)
     ends = {"mails/1.eml.expect": b'[main]\nimplicit "INBOX"\n'}
     write(room / "last", {**files, **ends, "clock": b"\r\n  000253402300799  -9959 \r\n"})
-    yield run("the last second, with zeros and blanks and an empty line in front", room, "check last", lines(counted(*agree)))
+    yield run("the last second, with zeros and blanks and an empty line before it", room, "check last", lines(counted(*agree)))
     for value in ("x", "1783245600 +0200", "1783245600CEST", ""):
         wrong = told(f'--clock "{value}" isn\'t SECONDS[ZONE], as 1783245600+0200')
         yield run(f"no clock of an option: {value}", room, f"check --clock '{value}' timed", b"", wrong, 2)
@@ -177,7 +177,7 @@ def of_clocks(room):
 def of_refusals(room):
     """Misuse."""
     write(room / "broken", site({"1.eml": b"", "1.eml.expect": b"discard\n"}, main=b""))
-    yield run("no name in front", room, "check broken", b"", told('"broken/mails/1.eml.expect", line 1: before it stands no name of a main script in brackets'), 2)
+    yield run("no name before a line", room, "check broken", b"", told('"broken/mails/1.eml.expect", line 1: before it stands no name of a main script in brackets'), 2)
     write(room / "twice", site({"1.eml": b"", "1.eml.expect": b"[main]\ndiscard\n[main]\n"}, main=b""))
     yield run("a name again", room, "check twice", b"", told('"twice/mails/1.eml.expect", line 3: [main] stood there before'), 2)
     write(room / "words", site({"1.eml": b"", "1.eml.envelope": b"a b c\n"}, main=b""))
@@ -355,6 +355,10 @@ def of_lints(room):
     stores = b'require ["fileinto", "mailbox", "special-use", "copy"];\nfileinto :create :copy "";\nfileinto :specialuse "\\\\Junk" "\t";\n'
     write(room / "stores", {"personal/main.sieve": stores, "mains": b"main\n", "with": b"mailbox\nspecial-use\n"})
     yield run("mailboxes of stores that ask for more", room, "lint stores", lines(*(f"stores/personal/main.sieve:{line}: bad-mailbox: A mailbox can't have this name." for line in (2, 3))), status=1)
+    copies = b'require ["copy", "include"];\nredirect :copy "x";\ninclude :optional "broken";\n'
+    write(room / "copies", {"personal/main.sieve": copies, "personal/broken.sieve": b"\nkep;", "mains": b"main\n"})
+    faults = ["broken.sieve:2: unknown-command: There is no such command or test.", "main.sieve:2: bad-address: This isn't one address.", 'main.sieve:3: invalid-script: The script personal "broken" has a fault.']
+    yield run("a redirect of a copy, and an optional include of a script that has a fault", room, "lint copies", lines(*(f"copies/personal/{fault}" for fault in faults)), status=1)
     write(room / "alone", {"personal/main.sieve": b'require "include"; include :global "a";', "global/a.sieve": b"", "personal/a.sieve": b"", "mains": b"main\n"})
     yield run("a script that no main one comes to", room, "lint alone", lines("alone/personal/a.sieve:0: unreached: No main script comes to it."))
     write(room / "once", {"personal/main.sieve": b'require "include"; include "t";', "personal/t.sieve": b'require "include"; include :once "main";', "mains": b"main\n"})

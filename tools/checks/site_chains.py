@@ -41,6 +41,8 @@ ACTS = {
     "unflag": 'setflag ["$X", "$Y"]; removeflag "$X"; keep;',
     "seen": 'setflag "\\\\Seen";',
     "error": 'fileinto :copy "B"; addflag "$X"; set "none" ""; redirect "a${none}";',
+    "answer": 'vacation "away";',
+    "reject": 'reject "no";',
     "shows": 'if hasflag "$X" { fileinto :copy "had-x"; } if hasflag "$Y" { fileinto :copy "had-y"; }',
 }
 FEW = ("nothing", "keep-flag", "keep-flags", "copy", "redirect-copy", "discard", "unflag", "inbox-keep", "error")
@@ -56,9 +58,11 @@ DIFFER = {
     ("copy-inbox", "inbox"),
     ("redirect-copy", "redirect"),
     ("flag-copy", "store"),
+    # A mail that was answered is discarded there, and not rejected.
+    ("answer", "reject"),
 }
 # A word of a script, and the extension that it needs.
-NEEDS = {"fileinto": "fileinto", ":copy": "copy", "flag": "imap4flags", "set ": "variables"}
+NEEDS = {"fileinto": "fileinto", ":copy": "copy", "flag": "imap4flags", "set ": "variables", "vacation": "vacation", "reject": "reject"}
 
 
 def chains():
@@ -83,11 +87,11 @@ def there(output):
         for section, kind in zip(part.split("Implicit keep:"), ("store", "implicit")):
             for action, beside in re.findall(r"^ \* (.*)\n((?:        \+ .*\n)*)", section, re.M):
                 flags = " ".join(re.findall(r"add IMAP flags: (.*)", beside))
-                found = re.fullmatch(r"(store|redirect) message (?:in folder|to): <?(.*?)>?", action)
+                found = re.fullmatch(r"(store|redirect|reject) message (?:in folder|to|with reason): <?(.*?)>?", action)
                 if action == "keep":
                     kept.append((kind, "INBOX", flags))
                 else:
-                    told.append((found[1], found[2], flags) if found else (action, "", ""))
+                    told.append((found[1], found[2], flags) if found else (action.replace("send vacation message:", "vacation"), "", ""))
     return meaning(told + kept)
 
 
@@ -98,7 +102,7 @@ def here(verdict):
         what, *words = re.findall(r'"(?:[^"\\]|\\.)*"|\S+', line)
         words = [json.loads(word) for word in words if word.startswith('"')]
         if what != "error":
-            told.append((what, words[0] if words else "", " ".join(words[1:])))
+            told.append((what, words[0] if words and what != "vacation" else "", " ".join(words[1:])))
     return meaning(told)
 
 
@@ -124,7 +128,7 @@ class Compared:
             acts = {(number, act) for chain in made for number, act in enumerate(chain)}
             write(room, {f"site/personal/{number}-{act}.sieve": text(act, number) for number, act in acts})
             names = [[f"{number}-{act}" for number, act in enumerate(chain)] for chain in made]
-            write(room, {"site/mains": "".join(f"{' '.join(it)}\n" for it in names).encode(), "site/mails/1.eml": MAIL, "conf": configured(room)})
+            write(room, {"site/mains": "".join(f"{' '.join(it)}\n" for it in names).encode(), "site/mails/1.eml": MAIL, "site/with": b"vacation\nreject\n", "conf": configured(room)})
             command = [sys.executable, "-B", str(TOOL), "check", "--lax", "--json", "site"]
             done = subprocess.run(command, cwd=room, env={**os.environ, "PATH": path}, capture_output=True, timeout=SECONDS)
             cases = json.loads(done.stdout)["cases"] if done.returncode == 0 else []

@@ -1,6 +1,6 @@
 """Sites as servers have them: users, scripts that run one after another, envelopes, and what can't be judged."""
 from .runs import lines
-from .site import COUNTS, LEFT, NOBODY, counted, run, site, told, write
+from .site import LEFT, NOBODY, counted, run, site, told, write
 
 DISCARDS = b"[main]\ndiscard\n"
 

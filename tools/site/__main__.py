@@ -1,4 +1,5 @@
 """Runs the tool: from the repository by `tools/sievebench-site`, and as one file that `pack.py` makes."""
+
 import signal
 
 # Ctrl-C is quiet from the start.

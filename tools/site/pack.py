@@ -1,5 +1,6 @@
 #!/usr/bin/env python3
 """Makes one executable file of the tool for sites: tools/site/pack.py FILE."""
+
 import pathlib
 import sys
 import zipapp

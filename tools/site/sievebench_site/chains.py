@@ -1,4 +1,5 @@
 """Main scripts that run one after another: the next one where the one before kept the mail, with the internal flags of its end."""
+
 from __future__ import annotations
 
 import contextlib

@@ -1,15 +1,15 @@
 """The command check: compares the verdicts with what is expected, and tells the results in the form that is wanted."""
+
 from __future__ import annotations
 
 import json
-from typing import Dict, Iterator, List, Optional, Tuple
+from typing import Dict, Iterator, List, Optional
 
 from . import findings
 from .checked import EXPECTS_NOTHING, Checked
 from .faults import sentence_of
 from .findings import ERROR, NOTE, PLAIN, Finding, Test
-from .folder import Site
-from .groups import FIRST, Group, counted, difference, name_of
+from .groups import FIRST, Group, difference, name_of
 from .judge import Case
 from .mails import LeftOut
 from .shown import Look
@@ -39,11 +39,10 @@ def text_of(checked: Checked, look: Look, quiet: bool) -> str:
 
 
 def heads(group: Group, look: Look, end: str) -> List[str]:
-    """The first cases of a group, and how many there are."""
-    more = group.more()
-    return [name_of(case, look) + end for case in group.first()] + (
-        [more + end] if more and len(group.cases) > FIRST else [more] if more and not end else []
-    )
+    """The first cases of a group, and how many there are, but where few lines say each by itself."""
+    told = [name_of(case, look) + end for case in group.first()]
+    sizes = group.more() if len(group.cases) > FIRST or not end else None
+    return told if sizes is None else [*told, sizes + end]
 
 
 def left_out(found: List[LeftOut], look: Look, each: bool) -> List[str]:

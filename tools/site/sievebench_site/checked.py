@@ -1,4 +1,5 @@
 """What a check finds: the cases by how they went, what is stale, and what is left out."""
+
 from __future__ import annotations
 
 from typing import Dict, List, NamedTuple, Set, Tuple

@@ -1,4 +1,5 @@
 """The time at which a site's mails are judged."""
+
 from __future__ import annotations
 
 import os

@@ -1,8 +1,9 @@
 """The code of scripts, as the program dumps it: what it includes, and what it does by words that have no variable in them."""
+
 from __future__ import annotations
 
 import re
-from typing import Dict, Iterable, Iterator, List, NamedTuple, Optional, Set, Tuple
+from typing import Dict, Iterable, Iterator, List, NamedTuple, Optional, Set
 
 from .mains import Script
 from .program import Place

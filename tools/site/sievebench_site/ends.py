@@ -1,4 +1,5 @@
 """How a run ends: by a sentence and a status, or by a signal, with no child and no half-written file left."""
+
 from __future__ import annotations
 
 import contextlib

@@ -1,4 +1,5 @@
 """The envelope of a mail: by its file, by its fields, or by that of the site."""
+
 from __future__ import annotations
 
 import os

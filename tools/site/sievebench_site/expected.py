@@ -1,4 +1,5 @@
 """What is expected of a mail: blocks of lines, one for each of the names in brackets."""
+
 from __future__ import annotations
 
 import re

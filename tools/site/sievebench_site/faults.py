@@ -1,4 +1,5 @@
 """The faults of scripts: what each means, and what a script requires that isn't there."""
+
 from __future__ import annotations
 
 import codecs

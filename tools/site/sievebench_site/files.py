@@ -1,4 +1,5 @@
 """Files that are read whole, written whole or not at all, and a lock."""
+
 from __future__ import annotations
 
 import contextlib
@@ -134,12 +135,16 @@ def refuse_unwritable(path: bytes) -> None:
         refuse(f"cannot write {quoted(path)}: {error.strerror}")
 
 
+def who() -> str:
+    """This process, as others are told of it."""
+    user = os.environ.get("LOGNAME") or os.environ.get("USER") or str(os.getuid())
+    return f"process {os.getpid()} of {user} on {socket.gethostname()}"
+
+
 @contextlib.contextmanager
 def locked(folder: bytes) -> Iterator[None]:
     """Keeps others from writing into a folder meanwhile. Its file of this name says who does."""
     path = os.path.join(folder, b".sievebench-site.lock")
-    user = os.environ.get("LOGNAME") or os.environ.get("USER") or str(os.getuid())
-    holder = f"process {os.getpid()} of {user} on {socket.gethostname()}".encode()
     try:
         handle = os.open(path, os.O_RDWR | os.O_CREAT, 0o666)
     except OSError as error:
@@ -147,13 +152,13 @@ def locked(folder: bytes) -> Iterator[None]:
     with open(handle, "r+b") as file:
         try:
             fcntl.flock(file, fcntl.LOCK_EX | fcntl.LOCK_NB)
-        except OSError:
+        except BlockingIOError:
             refuse(f"{quoted(folder)} is being written by {file.read(500).decode('latin-1')}: {quoted(path)}")
         if not os.path.exists(path) or os.fstat(handle).st_ino != os.stat(path).st_ino:
             refuse(f"{quoted(folder)} was being written until now: try again")
         try:
             file.truncate()
-            file.write(holder)
+            file.write(who().encode())
             file.flush()
             yield
         finally:

@@ -1,4 +1,5 @@
 """What is found, each with a file and a line, and how servers that build are told of it."""
+
 from __future__ import annotations
 
 import json

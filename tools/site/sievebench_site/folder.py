@@ -1,8 +1,9 @@
 """A site's folder: what is everybody's, and its users with their scripts, main scripts and mails."""
+
 from __future__ import annotations
 
 import os
-from typing import Dict, List, NamedTuple, Optional, Set
+from typing import List, NamedTuple, Optional, Set
 
 from .clock import clock_in
 from .ends import Refusal, refuse

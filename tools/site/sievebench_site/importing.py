@@ -1,4 +1,5 @@
 """The command import: mails of mailboxes and files into a site, under short names and with their envelopes."""
+
 from __future__ import annotations
 
 import hashlib

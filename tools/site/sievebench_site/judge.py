@@ -1,4 +1,5 @@
 """The verdict on each mail under each main script: mails go into sessions in batches, and several sessions run at once."""
+
 from __future__ import annotations
 
 import concurrent.futures
@@ -10,7 +11,7 @@ import time
 from typing import Callable, Dict, Iterator, List, NamedTuple, Optional, Tuple, TypeVar
 
 from .chains import Bench, chained
-from .envelopes import Envelope, envelope_if_any, envelope_of
+from .envelopes import envelope_if_any, envelope_of
 from .expected import Block
 from .faults import Survey, put_scripts, requires, survey
 from .files import octets_of

@@ -1,4 +1,5 @@
 """The command lint: the faults of scripts, what their includes and actions lead to, and what no main script comes to."""
+
 from __future__ import annotations
 
 import os
@@ -164,12 +165,12 @@ def failed(found: List[Finding]) -> bool:
     return any(it.level == ERROR for it in found)
 
 
-def results(found: List[Finding], scripts: List[bytes], form: str, look: Look, quiet: bool, version: str) -> str:
+def results(found: List[Finding], tests: List[Test], form: str, look: Look, quiet: bool, version: str) -> str:
     """The findings in a form."""
     if form == "json":
         return findings.findings_json(not failed(found), found)
     if form == "junit":
-        return findings.junit(list(tests_of(found, scripts)), 0).decode()
+        return findings.junit(tests, sum(it.seconds for it in tests)).decode()
     if form == "github":
         return findings.github(found)
     if form == "sarif":
@@ -177,8 +178,8 @@ def results(found: List[Finding], scripts: List[bytes], form: str, look: Look, q
     return text_of(found, look, quiet)
 
 
-def tests_of(found: List[Finding], scripts: List[bytes]) -> Iterator[Test]:
-    """A test for each script, which fails by its faults."""
+def tests_of(found: List[Finding], scripts: List[bytes], seconds: float) -> Iterator[Test]:
+    """A test for each script, which fails by its faults. All have the same part of the seconds."""
     for path in scripts:
         wrong = [f"line {it.line}: {it.kind}: {it.text}" for it in found if it.path == path and it.level == ERROR]
-        yield Test("lint", PLAIN.name(path), 0, wrong[0] if wrong else None, "\n".join(wrong))
+        yield Test("lint", PLAIN.name(path), seconds / len(scripts), wrong[0] if wrong else None, "\n".join(wrong))

@@ -1,9 +1,10 @@
 """The mails of a folder, and what in it is left out."""
+
 from __future__ import annotations
 
 import os
 import re
-from typing import Dict, FrozenSet, List, NamedTuple, Optional, Tuple
+from typing import FrozenSet, List, NamedTuple, Optional, Tuple
 
 from .ends import refuse
 from .envelopes import Envelope, envelope_if_any

@@ -1,4 +1,5 @@
 """The commands, and how a run ends."""
+
 from __future__ import annotations
 
 import argparse
@@ -6,6 +7,7 @@ import contextlib
 import io
 import os
 import sys
+import time
 from typing import Callable, Dict, List, NoReturn
 
 from . import check, diff, ends, lint, untested, watch, why
@@ -21,7 +23,7 @@ from .record import record
 from .shown import look_of
 from .words import quoted
 
-VERSION = "2.0"
+VERSION = "0.1.0"
 
 
 def program_of(options: argparse.Namespace, site: Site) -> Program:
@@ -66,11 +68,13 @@ def run_record(options: argparse.Namespace) -> int:
 
 def run_lint(options: argparse.Namespace) -> int:
     """The command lint."""
+    began = time.monotonic()
     site = site_of(wanted(options))
     found = lint.lint(site, program_of(options, site), options.sievec)
     scripts = list(dict.fromkeys(script.path for user in site.users for script in user.scripts))
+    tests = list(lint.tests_of(found, scripts, time.monotonic() - began))
     look = look_of(options.utf8)
-    sys.stdout.write(lint.results(found, scripts, options.format, look, options.quiet, VERSION))
+    sys.stdout.write(lint.results(found, tests, options.format, look, options.quiet, VERSION))
     return int(lint.failed(found))
 
 

@@ -1,4 +1,5 @@
 """Main scripts: which they are, and which run one after another."""
+
 from __future__ import annotations
 
 import os

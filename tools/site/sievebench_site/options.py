@@ -1,4 +1,5 @@
 """The words of the command line."""
+
 from __future__ import annotations
 
 import argparse
@@ -267,7 +268,7 @@ ADDERS = {
 
 
 def parsed(command: str, words: List[str]) -> argparse.Namespace:
-    """What the words of a command say. Behind `--` all are folders."""
+    """What the words of a command say. After `--` all are folders."""
     end = words.index("--") if "--" in words else len(words)
     options = parser_of(command).parse_intermixed_args(words[:end])
     options.folders = [*options.folders, *words[end + 1 :]]

@@ -1,4 +1,5 @@
 """The program, and a session with it that is held: commands are written, and replies read as they come."""
+
 from __future__ import annotations
 
 import contextlib

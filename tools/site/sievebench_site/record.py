@@ -1,15 +1,15 @@
 """The command record: writes today's verdicts as what is expected."""
+
 from __future__ import annotations
 
 import os
-from typing import Dict, Iterator, List, NamedTuple, Optional, Tuple
+from typing import Dict, List, NamedTuple, Optional, Tuple
 
 from .checked import broken_in, lacking_in
 from .expected import Key, text_of
 from .faults import sentence_of
 from .files import octets_of, write_file
 from .folder import Site
-from .groups import grouped
 from .judge import Case, Judged
 from .mails import Mail
 from .shown import Look

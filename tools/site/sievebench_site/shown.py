@@ -1,4 +1,5 @@
 """How names and lines are shown to people."""
+
 from __future__ import annotations
 
 import os

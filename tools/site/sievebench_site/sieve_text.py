@@ -1,4 +1,5 @@
 """The text of a Sieve script: its tokens, what it requires, and texts that are made from it without moving a line."""
+
 from __future__ import annotations
 
 import re
@@ -67,7 +68,7 @@ def required(text: bytes) -> Tuple[int, List[bytes]]:
 
 
 def with_flags(text: bytes, flags: Iterable[bytes]) -> bytes:
-    """The script with these internal flags from its start on. They are added behind its leading `require` commands, on their line."""
+    """The script with these internal flags from its start on. They are added after its leading `require` commands, on their line."""
     end, names = required(text)
     spelled = b", ".join(b'"' + it.replace(b"\\", b"\\\\").replace(b'"', b'\\"') + b'"' for it in flags)
     require = b"" if b"imap4flags" in names else b' require "imap4flags";'

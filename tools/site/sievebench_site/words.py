@@ -1,4 +1,5 @@
 """The words and lines of a session, and the limits of what a session takes."""
+
 from __future__ import annotations
 
 import re

@@ -1,5 +1,6 @@
 #!/usr/bin/env python3
 """In place of the program: it speaks sessions, and knows of Sieve what the tests of this folder need. It is no model of the program."""
+
 import os
 import pathlib
 import sys
@@ -92,6 +93,7 @@ class Run:
         elif name == b"stop":
             raise End
         elif name == b"sleep":
+            pathlib.Path("asleep").touch()
             time.sleep(float(strings[0]))
         elif name == b"include":
             here = self.place

@@ -1,6 +1,8 @@
 """A folder of files that are made for a test, and the fake program."""
+
 import os
 import pathlib
+import signal
 import subprocess
 import sys
 import tempfile
@@ -42,7 +44,11 @@ class Room(unittest.TestCase):
         program = ["--program", str(FAKE)] if command[0] != "import" else []
         whole = [sys.executable, "-B", str(HERE.parent), *command, *program, *rest]
         pipe = subprocess.PIPE
-        return subprocess.Popen(whole, cwd=self.room, stdin=subprocess.DEVNULL, stdout=pipe, stderr=pipe)
+        # Where the tests run in the background, Ctrl-C may be ignored.
+        heeds = lambda: signal.signal(signal.SIGINT, signal.SIG_DFL)  # noqa: E731
+        return subprocess.Popen(
+            whole, cwd=self.room, stdin=subprocess.DEVNULL, stdout=pipe, stderr=pipe, preexec_fn=heeds
+        )
 
     def ran(self, *words: str) -> Tuple[int, List[str], str]:
         """The status, the lines of standard output, and what is on standard error."""

@@ -1,4 +1,5 @@
 """Scripts that run one after another."""
+
 from typing import Dict, List, Tuple
 
 from sievebench_site import chains
@@ -26,7 +27,7 @@ ROWS: List[Tuple[str, List[str], List[str]]] = [
     ("flags go on", [FLAGGED, HAS_X], ['store "HAD" "$X"']),
     ("over a script that names none", [FLAGGED, "keep;", HAS_X], ['store "HAD" "$X"']),
     ("into the last keep", [FLAGGED, ""], ['implicit "INBOX" "$X"']),
-    ("flags behind a keep go on", ['require "imap4flags"; keep; addflag "$X";', HAS_X], ['store "HAD" "$X"']),
+    ("flags after a keep go on", ['require "imap4flags"; keep; addflag "$X";', HAS_X], ['store "HAD" "$X"']),
     ("flags of a keep don't", ['require "imap4flags"; keep :flags "$X";', HAS_X], ['implicit "INBOX"']),
     ("removed flags don't", [FLAGGED, 'require "imap4flags"; removeflag "$X";', HAS_X], ['implicit "INBOX"']),
     (

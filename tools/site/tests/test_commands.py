@@ -1,7 +1,14 @@
 """The commands, by the fake program: what is told, what is written, and the status."""
+
 import json
 import os
+import time
 import xml.etree.ElementTree as tree
+
+from sievebench_site.folder import Wanted, site_of, take_mails
+from sievebench_site.judge import Judge
+from sievebench_site.record import record
+from sievebench_site.shown import Look
 
 from .room import Files, Room
 
@@ -51,6 +58,20 @@ class Checks(Room):
             told[3:6], ["./mails/1.eml under a", "  - discard", '  + store "INBOX"  (./personal/a.sieve:2)']
         )
         self.assertEqual(len(told), 4 * 3 + 2)
+
+    def test_differences_that_begin_alike(self) -> None:
+        self.write({"personal/a.sieve": 'require "fileinto"; if header "subject" "one" { fileinto "A"; } keep;'})
+        self.write({"mails/0.eml": "one", "mails/1.eml": "two", "mails/2.eml": "one"})
+        words = ("check", "--main=a", *(f"--only={number}.eml" for number in range(3)), ".")
+        change = ["  - discard", '  + store "A"  (./personal/a.sieve:1)', '  + store "INBOX"  (./personal/a.sieve:1)']
+        wanted = [
+            "./mails/0.eml under a",
+            "./mails/2.eml under a",
+            "2 verdicts in all, of 2 mails under 1 main",
+            *change,
+        ]
+        wanted += ["./mails/1.eml under a", change[0], change[2]]
+        self.assertEqual(self.ran(*words)[1][:-1], wanted)
 
     def test_few_alike(self) -> None:
         told = self.ran("check", "--main=a", "--only=0.eml", "--only=1.eml", ".")[1]
@@ -165,30 +186,33 @@ class Records(Room):
         self.assertEqual(self.ran("record", "-q", "."), (0, [], ""))
 
     def test_two_at_once(self) -> None:
-        self.write({"personal/a.sieve": 'sleep "0.3";', "mains": "a\n", "envelope": '"" ""', "mails/1.eml": ""})
+        self.write({"personal/a.sieve": 'sleep "30";', "mains": "a\n", "envelope": '"" ""', "mails/1.eml": ""})
         with self.started("record", ".") as first:
             while not (self.room / ".sievebench-site.lock").exists():
-                pass
+                time.sleep(0.01)
             status, told, error = self.ran("record", ".")
-            self.assertEqual((status, told), (2, []))
-            self.assertIn(f'"." is being written by process {first.pid} of ', error)
+            first.terminate()
             first.communicate()
+        self.assertEqual((status, told), (2, []))
+        self.assertIn(f'"." is being written by process {first.pid} of ', error)
+        self.write({"personal/a.sieve": ""})
         self.assertEqual(self.ran("record", ".")[0], 0)
-        self.assertEqual(sorted(os.listdir(self.room)), ["envelope", "mails", "mains", "personal"])
+        self.assertNotIn(".sievebench-site.lock", os.listdir(self.room))
 
     def test_a_file_that_changed_meanwhile(self) -> None:
-        self.write({"personal/a.sieve": 'sleep "0.3";', "mains": "a\n", "envelope": '"" ""', "mails/1.eml": ""})
-        with self.started("record", ".") as first:
-            while not (self.room / ".sievebench-site.lock").exists():
-                pass
-            self.write({"mails/1.eml.expect": "[b]\ndiscard\n"})
-            told, _ = first.communicate()
-        if first.returncode == 1:
-            self.assertIn(b"./mails/1.eml.expect: left, since it was changed meanwhile\n", told)
-            self.assertEqual((self.room / "mails/1.eml.expect").read_text(), "[b]\ndiscard\n")
-        else:
-            # It was there before it was read.
-            self.assertIn("[b]\ndiscard\n", (self.room / "mails/1.eml.expect").read_text())
+        self.write({"personal/a.sieve": "", "mains": "a\n", "mails/1.eml": "", "mails/2.eml": ""})
+        self.write({"mails/2.eml.expect": "[a]\ndiscard\n"})
+        site = site_of(Wanted(bytes(self.room), [], [], [], None))
+        take_mails(site)
+        judged = Judge(site, self.program(), 1).all()
+        for number in (1, 2):
+            self.write({f"mails/{number}.eml.expect": "[b]\ndiscard\n"})
+        told, whole = record(site, judged, Look(False), False)
+        self.assertEqual(
+            (whole, [line[-36:] for line in told[:2]]), (False, ["left, since it was changed meanwhile"] * 2)
+        )
+        for number in (1, 2):
+            self.assertEqual((self.room / f"mails/{number}.eml.expect").read_text(), "[b]\ndiscard\n")
 
 
 class Lints(Room):

@@ -1,4 +1,5 @@
 """Envelopes, by files and by fields."""
+
 import pathlib
 import tempfile
 import unittest

@@ -1,4 +1,5 @@
 """What is expected, as it is written by hand and by the tool."""
+
 import unittest
 
 from sievebench_site.ends import Refusal

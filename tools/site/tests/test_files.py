@@ -1,4 +1,5 @@
 """Files that are written whole or not at all, and the lock."""
+
 import os
 import pathlib
 import stat

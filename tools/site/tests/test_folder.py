@@ -1,5 +1,6 @@
 """Sites: users, main scripts and mails."""
-from typing import List, Tuple
+
+from typing import Tuple
 
 from sievebench_site.ends import Refusal
 from sievebench_site.folder import Site, Wanted, refuse_no_mains, site_of, take_mails

@@ -1,4 +1,7 @@
 """Verdicts, by sessions of batches."""
+
+import io
+import unittest
 from typing import List, Tuple
 from unittest import mock
 
@@ -10,6 +13,7 @@ from sievebench_site.judge import Judge, Judged, batches_of
 from sievebench_site.mails import Mail
 
 from .room import Files, Room
+from .test_shown import Terminal
 
 
 class Verdicts(Room):
@@ -113,3 +117,21 @@ class Verdicts(Room):
         (self.room / "mails/1.eml").unlink()
         with self.assertRaisesRegex(Refusal, "No such file or directory"):
             Judge(site, self.program(), 2).all()
+
+
+class Told(unittest.TestCase):
+    """How many mails are judged until now."""
+
+    def test_progress(self) -> None:
+        for output, seconds, wanted in [
+            (Terminal(), 2, "\r3 of 10 mails\r10 of 10 mails\n"),
+            (Terminal(), 0.5, ""),
+            (io.StringIO(), 2, ""),
+        ]:
+            with self.subTest(seconds=seconds), mock.patch("sys.stderr", output):
+                progress = module.Progress(10)
+                progress.began -= seconds
+                progress.add(3)
+                progress.add(7)
+                progress.end()
+                self.assertEqual(output.getvalue(), wanted)

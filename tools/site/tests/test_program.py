@@ -1,8 +1,8 @@
 """Sessions with the program."""
+
 import os
+import pathlib
 import resource
-import subprocess
-import sys
 import time
 from typing import List
 
@@ -82,12 +82,13 @@ class Programs(Room):
             b'  envelope "a" "b"',
             b'  store "x"',
             b'  at personal "m \\" n" line 12',
-            b'  implicit "y"',
-            b'  read personal "m" missing" missing',
-            b'  read global "g"',
+            b"  discard",
+            b'  at global "g" line 3',
         ]
-        verdict = verdict_of([*told[:4], b'  read personal "m\\" missing" missing', told[5]])
-        self.assertEqual(verdict.lines, (Line(b'store "x"', (("personal", b'm " n'), 12)), Line(b'implicit "y"')))
+        told += [b'  implicit "y"', b'  read personal "m\\" missing" missing', b'  read global "g"']
+        verdict = verdict_of(told)
+        store, discard = Line(b'store "x"', (("personal", b'm " n'), 12)), Line(b"discard", (("global", b"g"), 3))
+        self.assertEqual(verdict.lines, (store, discard, Line(b'implicit "y"')))
         self.assertEqual(verdict.reads, ((("personal", b'm" missing'), False), (("global", b"g"), True)))
 
 
@@ -99,14 +100,15 @@ class Ends(Room):
         for command in ("check", "record"):
             for number, status in ((2, 130), (15, 143)):
                 with self.subTest(command=command, number=number), self.started(command, ".") as child:
-                    while not children_of(child.pid):
+                    while not (self.room / "asleep").exists():
                         time.sleep(0.01)
-                    time.sleep(0.2)
+                    (self.room / "asleep").unlink()
                     started, below = time.monotonic(), children_of(child.pid)
                     child.send_signal(number)
                     self.assertEqual(child.communicate(timeout=20), (b"", b""))
                     self.assertEqual(child.returncode, status)
                     self.assertLess(time.monotonic() - started, 5)
+                    self.assertTrue(below)
                     self.assertFalse([it for it in below if os.path.exists(f"/proc/{it}")])
         self.assertEqual(sorted(os.listdir(self.room)), ["envelope", "mails", "mains", "personal"])
         self.assertEqual(os.listdir(self.room / "mails"), ["1.eml"])
@@ -121,5 +123,5 @@ class Ends(Room):
 
 def children_of(process: int) -> List[str]:
     """The processes below another."""
-    found = subprocess.run(["pgrep", "-P", str(process)], stdout=subprocess.PIPE)
-    return found.stdout.decode().split()
+    tasks = pathlib.Path(f"/proc/{process}/task").glob("*/children")
+    return [child for task in tasks for child in task.read_text().split()]

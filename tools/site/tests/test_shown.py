@@ -1,4 +1,5 @@
 """How names and lines are shown."""
+
 import io
 import os
 import unittest

@@ -1,4 +1,5 @@
 """Texts of scripts, and what is made from them."""
+
 import unittest
 
 from sievebench_site.sieve_text import lines_with, required, with_flags, without_actions

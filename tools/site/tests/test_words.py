@@ -1,4 +1,5 @@
 """Words of sessions, by hand and by the tool."""
+
 import unittest
 from typing import List, Optional, Tuple
 
@@ -42,6 +43,11 @@ class Words(unittest.TestCase):
             with self.subTest(octets=octets):
                 self.assertEqual(words.word_of(octets), wanted)
                 self.assertEqual(words.unquoted(wanted.encode()), octets)
+
+    def test_quoted(self) -> None:
+        for octets, wanted in [(b" ~", '" ~"'), (b"\x1f\x7f\x80\xff", '"\\x1f\\x7f\\x80\\xff"'), (b'"\\', '"\\"\\\\"')]:
+            with self.subTest(octets=octets):
+                self.assertEqual(words.quoted(octets), wanted)
 
     def test_line(self) -> None:
         self.assertEqual(words.line("message", [b"a b"], b"x\n"), b'message "a b" 2\nx\n')
