@@ -2,7 +2,6 @@
 and what is reported while files are saved. What each must say of the sites that are made here is written from the rules."""
 import json
 import os
-import pathlib
 import queue
 import random
 import re
@@ -16,7 +15,7 @@ import time
 
 from . import rows
 from .runs import SECONDS, Run, lines, wanted_and_got
-from .site import NOBODY, TOOL, run, site, told, write
+from .site import TOOL, run, site, told, write
 
 TOP = TOOL.parent.parent
 EXAMPLES, PAGE = TOP / "examples", TOP / "docs/SITE.md"
