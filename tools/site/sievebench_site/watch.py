@@ -5,7 +5,7 @@ import contextlib
 import os
 import sys
 import time
-from typing import Callable, Dict, Iterator, List, NamedTuple, Optional, Tuple
+from typing import Callable, Dict, FrozenSet, Iterator, List, NamedTuple, Optional, Tuple
 
 from .chains import Bench, chained
 from .check import heads
@@ -25,7 +25,8 @@ from .shown import Look
 PAUSE, SETTLING, SETTLES = 0.5, 0.05, 20
 # The files that a site has, and in how deep folders they are.
 NAMES = (b"mains", b"with", b"mailboxes", b"clock", b"envelope")
-ENDS = (SCRIPT_END, b".eml", b".eml.envelope", b".eml.expect", b".eml.users")
+MAIL_ENDS = (b".eml", b".eml.envelope", b".eml.expect", b".eml.users")
+ENDS = (SCRIPT_END, *MAIL_ENDS)
 DEPTH = 4
 # When a file was changed, how large it is, and which one.
 Stamp = Tuple[int, int, int]
@@ -103,10 +104,16 @@ class Desk:
 
 
 class Seen(NamedTuple):
-    """What was seen at a look: the verdicts, and the faults by the files of their scripts, each as it is told."""
+    """What was seen at a look: the site, the verdicts, those that aren't as expected, and the faults by the files of their scripts, each
+    as it is told."""
 
+    users: List[User]
     cases: Dict[Which, Case]
+    wrong: FrozenSet[Which]
     faults: Dict[bytes, str]
+
+
+NOTHING = Seen([], {}, frozenset(), {})
 
 
 class Watch:
@@ -121,6 +128,8 @@ class Watch:
         # The last text of each script of a user that had no fault.
         self.whole: Dict[Tuple[bytes, Place], bytes] = {}
         self.seen: Optional[Seen] = None
+        # Whether the last look was refused.
+        self.refused = False
 
     def lines(self) -> List[str]:
         """What is told of a look: nothing where no file has changed."""
@@ -129,8 +138,8 @@ class Watch:
             return []
         for _ in range(SETTLES if self.seen else 0):
             time.sleep(SETTLING)
-            before, files = files, stamps_in(self.wanted.folder)
-            if before == files:
+            earlier, files = files, stamps_in(self.wanted.folder)
+            if earlier == files:
                 break
         changed = sorted(path for path in {*files, *self.files} if files.get(path) != self.files.get(path))
         first, self.files = self.seen is None, files
@@ -138,22 +147,34 @@ class Watch:
             return []
         began = time.monotonic()
         try:
-            now = self.read(files)
+            now = self.read(files, changed)
         except Refusal as refusal:
             self.close()
+            self.refused = True
             if first or refusal.status != 2:
                 raise
             return [*self.heading(changed), f"{refusal.sentence}: the last verdicts stand"]
-        before_seen, self.seen = self.seen or Seen({}, {}), now
-        told = list(self.differences(before_seen, now))
+        before, self.seen, self.refused = self.seen or NOTHING, now, False
+        found = changed_cases(before, now)
+        told = list(self.differences(before, now, found))
         head = [] if first else self.heading(changed)
-        return [*head, *told, f"{self.summary(before_seen, now, first)}, {time.monotonic() - began:.2f} seconds"]
+        return [*head, *told, f"{summary(before, now, len(found))}, {time.monotonic() - began:.2f} seconds"]
 
-    def read(self, files: Stamps) -> Seen:
-        """Reads the site, and brings the sessions to what it has."""
+    def site(self, changed: List[bytes]) -> Site:
+        """The site as its files have it. Mails are read again where one of their files has changed, or those of the users."""
         site = site_of(self.wanted)
         refuse_no_mains(site)
-        take_mails(site)
+        mails = {user.name: user.mails for user in self.seen.users} if self.seen and not self.refused else {}
+        if set(mails) == {user.name for user in site.users} and not any(it.endswith(MAIL_ENDS) for it in changed):
+            for user in site.users:
+                user.mails.extend(mails[user.name])
+        else:
+            take_mails(site)
+        return site
+
+    def read(self, files: Stamps, changed: List[bytes]) -> Seen:
+        """Reads the site, and brings the sessions to what it has."""
+        site = self.site(changed)
         if site.names != self.names or self.running is None:
             self.close()
             self.names, self.running = site.names, self.program(site)
@@ -177,7 +198,10 @@ class Watch:
             ]
 
         found = [it for part in judge.each(work, cases) for it in part] if work else []
-        return Seen({(it.user.name, it.main.key, it.mail.path): it for it in found}, faults)
+        told = {(it.user.name, it.main.key, it.mail.path): it for it in found}
+        before = self.seen or NOTHING
+        wrong = frozenset(which for which, case in told.items() if is_wrong(which, case, before))
+        return Seen(site.users, told, wrong, faults)
 
     def texts(self, judge: Judge) -> Tuple[Dict[bytes, Texts], Dict[bytes, str]]:
         """The texts of each user's scripts, of one with a fault the last that had none, and the faults."""
@@ -205,32 +229,18 @@ class Watch:
         more = len(changed) - FIRST
         return told + ([f"and {counted(more, 'other file')}"] if more > 0 else [])
 
-    def differences(self, before: Seen, now: Seen) -> Iterator[str]:
+    def differences(self, before: Seen, now: Seen, found: List[Tuple[Case, str]]) -> Iterator[str]:
         """The faults, changed verdicts and disagreements that are new."""
         yield from (line for path, line in now.faults.items() if before.faults.get(path) != line)
         yield from (f"{self.look.name(path)}: no fault any more" for path in before.faults if path not in now.faults)
-        found = changed_cases(before, now)
         for mark in dict.fromkeys(mark for _, mark in found):
             for group in grouped([case for case, it in found if it == mark], changes, self.each):
                 yield from heads(group, self.look, mark)
                 yield from (f"  {line}" for line in difference(group, self.look))
-        wrong = [case for which, case in now.cases.items() if is_news(before.cases.get(which), case)]
+        wrong = [now.cases[it] for it in now.cases if it in now.wrong and is_news(before.cases.get(it), now.cases[it])]
         for group in grouped(wrong, changes, self.each):
             yield from heads(group, self.look, ": not as expected")
             yield from (f"  {line}" for line in difference(group, self.look))
-
-    def summary(self, before: Seen, now: Seen, first: bool) -> str:
-        """The last line but for the time."""
-        changed = len(changed_cases(before, now))
-        number = counted(len(now.cases), "verdict")
-        further = {
-            "new": 0 if first else len(set(now.cases) - set(before.cases)),
-            "gone": len(set(before.cases) - set(now.cases)),
-            "not as expected": sum(case.agrees() is False for case in now.cases.values()),
-            "not judged": sum(bool(case.unjudged) for case in now.cases.values()),
-        }
-        told = [number if first else f"{changed} of {number} changed"]
-        return ", ".join([*told, *(f"{count} {what}" for what, count in further.items() if count)])
 
     def close(self) -> None:
         """Ends the sessions."""
@@ -243,12 +253,33 @@ def state_of(mail: Mail, files: Stamps, default: Envelope) -> object:
     return files.get(mail.path), mail.envelope, default
 
 
+def summary(before: Seen, now: Seen, changed: int) -> str:
+    """The last line but for the time."""
+    first, number = before is NOTHING, counted(len(now.cases), "verdict")
+    further = {
+        "new": 0 if first else len(set(now.cases) - set(before.cases)),
+        "gone": len(set(before.cases) - set(now.cases)),
+        "not as expected": len(now.wrong),
+        "not judged": sum(bool(case.unjudged) for case in now.cases.values()),
+    }
+    told = [number if first else f"{changed} of {number} changed"]
+    return ", ".join([*told, *(f"{count} {what}" for what, count in further.items() if count)])
+
+
+def is_wrong(which: Which, case: Case, before: Seen) -> bool:
+    """Whether a verdict isn't as expected. What is known of one that is as it was needn't be looked at again."""
+    was = before.cases.get(which)
+    if was and was.verdict is case.verdict and was.mail is case.mail and was.unjudged == case.unjudged:
+        return which in before.wrong
+    return case.agrees() is False
+
+
 def changed_cases(before: Seen, now: Seen) -> List[Tuple[Case, str]]:
     """The verdicts that changed, each with the one before in place of what is expected, and what that means for what is expected."""
     found = []
     for which, case in now.cases.items():
         was = before.cases.get(which)
-        if was and was.lines() != case.lines():
+        if was and was.verdict is not case.verdict and was.lines() != case.lines():
             mark = ": no longer as expected" if was.agrees() and case.agrees() is False else ""
             mark = ": now as expected" if case.agrees() and was.agrees() is False else mark
             blocks = {case.main.key: Block(0, was.lines())}
@@ -257,9 +288,7 @@ def changed_cases(before: Seen, now: Seen) -> List[Tuple[Case, str]]:
 
 
 def is_news(was: Optional[Case], case: Case) -> bool:
-    """Whether a verdict isn't as expected, and that wasn't told before, nor is told by its having changed."""
-    if case.agrees() is not False:
-        return False
+    """Whether it wasn't told before, nor is told by its having changed, that a verdict isn't as expected."""
     if was is None or was.agrees() is None:
         return True
     same = was.lines() == case.lines()

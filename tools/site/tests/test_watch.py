@@ -168,6 +168,7 @@ class Looks(Room):
             ],
         )
         self.assertEqual(self.look(), [])
+        self.assertEqual(self.saved({"personal/part.sieve": "discard; "}), told)
         os.rename(self.room / "site", self.room / "away")
         self.assertEqual(self.look()[-1], 'cannot read "personal": No such file or directory' + stand)
         self.assertEqual(self.look(), [])
