@@ -105,6 +105,9 @@ def of_untested(room):
         (4, "without: stop;", True),
     )
     yield run("strings and limits, and changes that leave a fault or nothing", room, "untested --keys --numbers limits", lines(*wanted, "11 of 18 changes are noticed, 1 leave a fault, 1 change nothing"))
+    variables = b'require ["variables", "fileinto"];\nif allof (header :matches "subject" "x*", exists "none") {\n  discard;\n}\nfileinto "B${1}";\n'
+    write(room / "set", site({"1.eml": b"Subject: xyz\n\n"}, main=variables))
+    yield run("a condition that sets variables and doesn't hold", room, "untested set", lines(*unnoticed("set/personal/main.sieve", (3, "without: discard;", False)), "3 of 4 changes are noticed"))
     yield run("enough are noticed", room, "untested -q --fail-under 50 limits", [b"limits/personal/main.sieve:1"])
     yield run("too few are noticed", room, "untested --json --fail-under 90 limits", [b'{"passed": false, "counts": {"noticed": 7, "changes": 11, "leave a fault": 0, "change nothing": 1}', b'"reached": false'], status=1)
     yield run("a number that isn't one", room, "untested --fail-under x limits", b"", told("argument --fail-under: 'x' isn't a number from 0 to 100: --help tells the options"), 2)

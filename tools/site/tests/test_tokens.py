@@ -40,6 +40,7 @@ class Tokens(unittest.TestCase):
             b"a\n\xff;": ["Identifier a 1", "Bad \xff; 2"],
             b"a\x0cb": ["Identifier a 1", "Bad \x0cb 1"],
             b":1": ["Bad :1 1"],
+            b"a '": ["Identifier a 1", "Bad ' 1"],
             b" \t\r\n": [],
             b"": [],
         }

@@ -102,6 +102,14 @@ class Commands(Room):
         self.assertEqual(lines[0], "./personal/wrong.sieve:2: unknown-command: There is no such command or test.")
         self.assertEqual(lines[1], "./personal/lacking.sieve:1: not judged: requires z")
 
+    def test_what_a_verdict_is(self) -> None:
+        self.write({"personal/main.sieve": 'require "fileinto"; fileinto "A";\nfileinto "A";'})
+        told = self.ran("untested", "-q", ".")[1]
+        self.assertEqual([line.split(": ")[0] for line in told], [f"./personal/main.sieve:{line}" for line in (1, 2)])
+        self.write({"personal/main.sieve": 'if true {\nif header "subject" "k2" { discard; } }'})
+        told = self.ran("untested", ".")[1]
+        self.assertEqual(told[-1], "4 of 4 changes are noticed, 1 change nothing")
+
     def test_several_mains(self) -> None:
         self.write(
             {
