@@ -74,7 +74,9 @@ class Untested:
                 base = chained(held.bench, main.scripts, held.mails)
                 for script in looked_up(batch.user, base):
                     self.unasked.pop(script.path, None)
-                    tried = self.tried.get(script.path, [])
+                    tried = self.tried.get(script.path)
+                    if not tried:
+                        continue
                     # Parts that are tried at once begin at different changes: what one notices, the other needn't try.
                     start = len(tried) * (number % self.judge.jobs) // self.judge.jobs
                     trial = Trial(held, few, main, script, base)
@@ -157,9 +159,9 @@ class Trial:
     def mails(self, it: Tried) -> List[bytes]:
         """The mails that could notice a change: those that come to the block in which it is. A condition that is made false is noticed
         by those alone that come to its own block, unless it sets variables where it doesn't hold as a whole."""
-        command = it.change.command
-        denied = it.change.denies() and not self.variables and command.block is not None
-        return self.entered[command.block] if denied and command.block is not None else self.around(it)
+        block = it.change.command.block
+        narrow = it.change.denies() and not self.variables
+        return self.entered[block] if narrow and block is not None else self.around(it)
 
     def take(self, it: Tried) -> None:
         """Tries a change, on a few mails first."""
