@@ -191,7 +191,9 @@ class Watch:
             number, user, main = part
             mails = [(mail, state_of(mail, files, judge.default)) for mail in user.mails]
             told = self.desks[user.name, main.key].told(judge, main, texts[user.name], mails)
-            found = judge.surveys[number]
+            # Of a script whose last text stands it doesn't matter what it requires now.
+            lacking = {at: it for at, it in judge.surveys[number].lacking.items() if (user.name, at) not in self.whole}
+            found = judge.surveys[number]._replace(lacking=lacking)
             return [
                 Case(user, main, mail, told[mail.path], why_unjudged(told[mail.path], found, user), 0.0)
                 for mail in user.mails

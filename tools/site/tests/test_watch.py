@@ -96,6 +96,12 @@ class Looks(Room):
             [f"personal/new.sieve:{FAULT}", "0 of 2 verdicts changed, 2 not as expected"],
         )
 
+    def test_what_is_required_and_lacks(self) -> None:
+        self.look()
+        told = self.saved({"personal/part.sieve": 'require "z"; keep;'})
+        self.assertEqual(told[-1], "0 of 2 verdicts changed")
+        self.assertTrue(told[0].endswith("There is no such extension here. The verdicts of its last text stand."))
+
     def test_faults_from_the_start(self) -> None:
         self.write(
             {
