@@ -6,8 +6,9 @@ import contextlib
 import os
 import signal
 import subprocess
+import threading
 from types import FrameType
-from typing import Iterator, NoReturn, Optional, Set
+from typing import Callable, Iterator, NoReturn, Optional, Set
 
 
 class Refusal(Exception):
@@ -31,15 +32,22 @@ class Children:
 
     def __init__(self) -> None:
         self.running: Set["subprocess.Popen[bytes]"] = set()
-        self.ending = False
+        self.starting: Set[int] = set()
+        self.status: Optional[int] = None
 
     @contextlib.contextmanager
-    def held(self, child: "subprocess.Popen[bytes]") -> Iterator["subprocess.Popen[bytes]"]:
-        """The process, which ends with the block at the latest."""
-        self.running.add(child)
+    def held(self, start: "Callable[[], subprocess.Popen[bytes]]") -> Iterator["subprocess.Popen[bytes]"]:
+        """A process that is started, and ends with the block at the latest. A signal that comes while it starts waits until it is
+        known here."""
+        self.starting.add(threading.get_ident())
         try:
-            if self.ending:
-                raise Signalled(128)
+            child = start()
+            self.running.add(child)
+        finally:
+            self.starting.discard(threading.get_ident())
+        try:
+            if self.status is not None:
+                raise Signalled(self.status)
             yield child
         finally:
             child.kill()
@@ -51,7 +59,6 @@ class Children:
 
     def kill(self) -> None:
         """Ends them all at once."""
-        self.ending = True
         for child in list(self.running):
             child.kill()
 
@@ -75,10 +82,12 @@ def fail(sentence: str) -> NoReturn:
     raise Refusal(sentence, 3)
 
 
-def by_signal(number: int, frame: Optional[FrameType]) -> NoReturn:
+def by_signal(number: int, frame: Optional[FrameType]) -> None:
     """Ends the children, and unwinds the run."""
+    CHILDREN.status = 128 + number
     CHILDREN.kill()
-    raise Signalled(128 + number)
+    if threading.get_ident() not in CHILDREN.starting:
+        raise Signalled(CHILDREN.status)
 
 
 def arm() -> None:

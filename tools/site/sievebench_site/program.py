@@ -78,7 +78,7 @@ class Program:
     def session(self) -> Iterator["Session"]:
         """A new session, which ends with the block and mustn't have failed by then."""
         with tempfile.TemporaryFile() as errors:
-            with CHILDREN.held(self.started(errors)) as child:
+            with CHILDREN.held(lambda: self.started(errors)) as child:
                 limit_memory(child.pid, self.memory)
                 session = Session(self, child, errors)
                 yield session

@@ -3,9 +3,12 @@
 import os
 import pathlib
 import resource
+import subprocess
 import time
 from typing import List
+from unittest import mock
 
+from sievebench_site import ends
 from sievebench_site.ends import CHILDREN, Refusal
 from sievebench_site.program import Line, Program, verdict_of
 from sievebench_site.words import MESSAGE_LIMIT
@@ -112,6 +115,22 @@ class Ends(Room):
                     self.assertFalse([it for it in below if os.path.exists(f"/proc/{it}")])
         self.assertEqual(sorted(os.listdir(self.room)), ["envelope", "mails", "mains", "personal"])
         self.assertEqual(os.listdir(self.room / "mails"), ["1.eml"])
+
+    def test_a_signal_while_a_process_starts(self) -> None:
+        children = ends.Children()
+        begun: List["subprocess.Popen[bytes]"] = []
+
+        def start() -> "subprocess.Popen[bytes]":
+            begun.append(subprocess.Popen(["sleep", "30"]))
+            ends.by_signal(15, None)
+            return begun[0]
+
+        with mock.patch.object(ends, "CHILDREN", children):
+            with self.assertRaises(ends.Signalled) as caught, children.held(start):
+                self.fail("the process runs on")
+            self.assertEqual((caught.exception.status, begun[0].returncode, children.running), (143, -9, set()))
+            with self.assertRaises(ends.Signalled):
+                ends.by_signal(2, None)
 
     def test_a_broken_pipe(self) -> None:
         self.write({"personal/a.sieve": "kep;", "mains": "a\n", "mails/1.eml": "", "envelope": '"" ""'})
