@@ -211,6 +211,12 @@ def of_answers(room):
     wanted = answer("fails/mails/1.eml", "main", ['implicit "INBOX"', 'error personal "main" line 2 recursive-include'], [at], [f"{at}:2: if true"], f'  taken out for this question, since it fails: {at}:2: include "main";')
     yield run("an include that fails", room, "why --main main fails 1.eml", wanted)
     yield run("a script with a fault", room, "why --main wrong fails 1.eml | tail -n 1", lines("  the branches aren't known: the run fails, whatever is taken out"))
+    twice = b'require "include"; include "part"; if true {} include "part";\n'
+    write(room / "twice-included", {**site({"1.eml": b""}, main=twice), "personal/part.sieve": b'require "reject"; if true { reject "a"; }', "with": b"reject\n"})
+    at, part = "twice-included/personal/main.sieve", "twice-included/personal/part.sieve"
+    ends = [f'  taken out for this question, since it fails: {part}:1: reject "a";', "  a script is included again: the branches end where the run first comes to this command"]
+    verdict = ['implicit "INBOX"', 'error personal "part" line 1 conflicting-actions']
+    yield run("a command that fails where it is done again", room, "why twice-included 1.eml", answer("twice-included/mails/1.eml", "main", verdict, [at, part], [f"{part}:1: if true"], *ends))
     yield run("no such mail", room, "why why x.eml", b"", told('no mail "why/mails/x.eml"'), 2)
     yield run("no mail", room, "why why", b"", told("a site and a mail are wanted: --help tells more"), 2)
 

@@ -37,7 +37,8 @@ class Branch(NamedTuple):
 
 class Answer(NamedTuple):
     """Of a mail under a main script: the verdict, why it isn't judged if it isn't, the branches in the order in which they were taken
-    first, the commands that were taken out to find them, and whether they are known then."""
+    first, the commands that were taken out to find them, whether they are known then, and whether such a command may have been done
+    before it failed, in a script that is included again."""
 
     user: User
     main: Main
@@ -47,6 +48,7 @@ class Answer(NamedTuple):
     branches: List[Branch]
     left_out: List[Branch]
     known: bool
+    again: bool
 
 
 class Question:
@@ -63,6 +65,7 @@ class Question:
         self.failing = self.take_out(error)
         # Whether the runs that answer don't fail.
         self.known = error is None or self.failing is not None
+        self.again = self.failing is not None and self.failing.place != place and self.includes_again()
         self.all = self.take_actions()
 
     def run(self, texts: Texts) -> Verdict:
@@ -83,6 +86,12 @@ class Question:
                 self.texts[place] = text[: it.start()] + b"stop;" + rest + text[it.end :]
                 return Branch(place, line, it.shown(text), it.end)
         return None
+
+    def includes_again(self) -> bool:
+        """Whether two commands include the same script."""
+        found = [it for text in self.texts.values() for it in commands(text) if it.name() == b"include"]
+        goals = [(b":global" in [word.octets for word in it.tokens], it.tokens[-1].octets) for it in found]
+        return len(set(goals)) < len(goals)
 
     def take_actions(self) -> List[Branch]:
         """Takes the actions out, on which no test depends, and gives all branches."""
@@ -150,8 +159,8 @@ def answers(site: Site, program: Program) -> List[Answer]:
                     asked = [(it, it.branches()) for it in questions(held.bench, name, main)]
                     branches = [branch for _, taken in asked for branch in taken]
                     left_out = [it.failing for it, _ in asked if it.failing]
-                    known = all(it.known for it, _ in asked)
-                    found.append(Answer(user, main, mail, verdict, unjudged, branches, left_out, known))
+                    known, again = all(it.known for it, _ in asked), any(it.again for it, _ in asked)
+                    found.append(Answer(user, main, mail, verdict, unjudged, branches, left_out, known, again))
     return found
 
 
@@ -192,6 +201,8 @@ def lines_of(answer: Answer, look: Look) -> Iterator[str]:
         yield f"    {it.told(user, look)}"
     for it in answer.left_out:
         yield f"  taken out for this question, since it fails: {it.told(user, look)}"
+    if answer.again:
+        yield "  a script is included again: the branches end where the run first comes to this command"
 
 
 def mail_name(word: bytes) -> bytes:
