@@ -78,6 +78,9 @@ class Folders(Room):
         told = self.ran("diff", "old", "new")[1]
         self.assertIn("  - discard", told)
         self.assertEqual(told[-1], "2 of 2 verdicts changed")
+        told = self.ran("diff", "new", "old")[1]
+        self.assertIn("  + discard  (old/personal/part.sieve:1)", told)
+        self.assertEqual(told[-1], "2 of 2 verdicts changed")
         self.write({"new/mains": "main\nnew\n", "old/mains": "main\ngone\n"})
         told = self.ran("diff", "old", "new")[1]
         self.assertEqual(told[0], "new: not compared: its scripts weren't all there before")
@@ -100,6 +103,10 @@ class Folders(Room):
         )
         told = self.ran("diff", "new", "old")
         self.assertIn('old/mails/1.eml under main: not judged: personal "main" requires z', told[1])
+        self.site("old", main='require "include"; include "part";', part='require "z";')
+        told = self.ran("diff", "old", "new")
+        self.assertIn('new/mails/1.eml under main: not judged: before, personal "part" requires z', told[1])
+        self.assertEqual(told[1][-1], "0 of 0 verdicts changed, 2 not judged")
 
     def test_users(self) -> None:
         for name, text in (("old", "keep;"), ("new", "discard;")):
