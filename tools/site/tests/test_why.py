@@ -93,6 +93,13 @@ class Answers(Room):
         ]
         self.assertEqual(self.branches(".", "1.eml")[1:], wanted)
 
+    def test_few_of_many_branches(self) -> None:
+        never = "if false {}\n"
+        main = 'require "include";\n' + never * 15 + 'if true {}\ninclude "part";\nif true {}\n'
+        self.write({"personal/main.sieve": main, "personal/part.sieve": never * 9 + "if true {}\n"})
+        wanted = ["main.sieve:17: if true", "part.sieve:10: if true", "main.sieve:19: if true"]
+        self.assertEqual(self.branches(".", "1.eml")[1:], wanted)
+
     def test_an_error(self) -> None:
         self.write(
             {
