@@ -19,7 +19,7 @@ SITE = shlex.quote(str(TOP / "tools/sievebench-site"))
 # Each page, the commands whose help tells its options, what an option is in that help, and the options by which help is asked for.
 # The program's help has a line for each, which begins with blanks; that of the tool tells some within sentences.
 LISTED, NAMED = r"^ +(-[^\s,]+)(?:, (--\S+))?", r"(?<![\w-])(--?[a-z][a-z0-9-]*)()"
-COMMANDS = ("check", "record", "lint", "import")
+COMMANDS = ("check", "record", "lint", "import", "untested", "diff", "why", "watch")
 HELP = [
     ("sievebench.1", [f"sievebench {words}" for words in ("--help", "help session", "help dump", "help test")], LISTED, set()),
     ("sievebench-site.1", [f"{SITE} {words}" for words in ("--help", "-h", *(f"{it} --help" for it in COMMANDS))], NAMED, {"-h", "--help"}),

@@ -5,7 +5,7 @@ from __future__ import annotations
 import contextlib
 from typing import Dict, Iterable, Iterator, List, Optional, Set, Tuple
 
-from .program import Line, Place, Session, Verdict
+from .program import Fault, Line, Place, Session, Verdict
 from .sieve_text import with_flags, without_actions
 from .words import quoted, unquoted, words_of
 
@@ -22,14 +22,21 @@ class Bench:
     def __init__(self, session: Session, scripts: Dict[Place, bytes]) -> None:
         self.session, self.scripts = session, scripts
         self.box = INBOX
+        self.main: Optional[Place] = None
+        # The faults of the scripts in the last report.
+        self.faults: Dict[Place, Optional[Fault]] = {}
 
     def run(self, place: Place, box: bytes = INBOX) -> Dict[bytes, Verdict]:
         """The verdict on each mail under a main script, where it is kept in that mailbox."""
-        self.session.edit(f"main {place[0]}", [place[1]], None, "the main script")
+        if place != self.main:
+            self.session.edit(f"main {place[0]}", [place[1]], None, "the main script")
+            self.main = place
         if box != self.box:
             self.session.edit("mailbox", [box], None, "the mailbox")
             self.box = box
-        return self.session.report().verdicts
+        report = self.session.report()
+        self.faults = report.faults
+        return report.verdicts
 
     @contextlib.contextmanager
     def changed(self, texts: Dict[Place, bytes]) -> Iterator[None]:
@@ -43,6 +50,22 @@ class Bench:
         """Puts the texts of scripts."""
         for place, text in texts.items():
             self.session.script(place, text, f"the script {quoted(place[1])}")
+
+    def replace(self, place: Place, text: bytes) -> None:
+        """Another text of a script, from now on."""
+        if self.scripts[place] != text:
+            self.put({place: text})
+            self.scripts[place] = text
+
+    def become(self, scripts: Dict[Place, bytes]) -> None:
+        """Puts other scripts in place of all that are there. Those that stay as they are aren't touched."""
+        for place in self.scripts:
+            if place not in scripts:
+                self.session.edit(
+                    f"drop-script {place[0]}", [place[1]], None, f"the end of the script {quoted(place[1])}"
+                )
+        self.put({place: text for place, text in scripts.items() if self.scripts.get(place) != text})
+        self.scripts = dict(scripts)
 
 
 def chained(bench: Bench, places: Tuple[Place, ...], ids: Iterable[bytes]) -> Dict[bytes, Verdict]:

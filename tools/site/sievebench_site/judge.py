@@ -3,11 +3,12 @@
 from __future__ import annotations
 
 import concurrent.futures
+import contextlib
 import os
 import sys
 import threading
 import time
-from typing import Iterator, List, NamedTuple, Optional, Tuple
+from typing import Callable, Dict, Iterator, List, NamedTuple, Optional, Tuple, TypeVar
 
 from .chains import Bench, chained
 from .envelopes import envelope_if_any, envelope_of
@@ -22,6 +23,8 @@ from .words import quoted
 
 # A batch has about so many octets at most, or one mail, and so many mails.
 BATCH_OCTETS, BATCH_MAILS, FEW_MAILS = 8 << 20, 500, 50
+Part = TypeVar("Part")
+Result = TypeVar("Result")
 
 
 class Case(NamedTuple):
@@ -40,7 +43,7 @@ class Case(NamedTuple):
 
     def lines(self) -> Tuple[bytes, ...]:
         """The lines of the verdict."""
-        return tuple(line.text for line in self.verdict.lines)
+        return self.verdict.texts()
 
     def agrees(self) -> Optional[bool]:
         """Whether the verdict is as expected; nothing where nothing is expected, or it isn't judged."""
@@ -65,6 +68,14 @@ class Batch(NamedTuple):
     mails: List[Mail]
 
 
+class Held(NamedTuple):
+    """A session of a user's scripts and of some mails: the mails by their ids, and those without an envelope."""
+
+    bench: Bench
+    mails: Dict[bytes, Mail]
+    bare: List[Mail]
+
+
 class Judge:
     """Judges a site's mails by a program."""
 
@@ -76,38 +87,46 @@ class Judge:
 
     def all(self) -> Judged:
         """The cases of all batches."""
-        batches = list(batches_of(self.site, self.jobs))
-        pool = concurrent.futures.ThreadPoolExecutor(max(1, min(self.jobs, len(batches))))
-        tasks = [pool.submit(self.batch, batch) for batch in batches]
+        found = self.each(list(batches_of(self.site, self.jobs)), self.batch)
+        cases = sorted((case for cases, _ in found for case in cases), key=lambda case: case.mail.path)
+        bare = {mail.path: mail for _, mails in found for mail in mails}
+        return Judged(cases, self.surveys, [bare[path] for path in sorted(bare)], self.progress.seconds())
+
+    def each(self, parts: List[Part], work: Callable[[Part], Result]) -> List[Result]:
+        """What comes of each part of the work, of which several are done at once."""
+        pool = concurrent.futures.ThreadPoolExecutor(max(1, min(self.jobs, len(parts))))
+        tasks = [pool.submit(work, part) for part in parts]
         try:
-            found = [task.result() for task in tasks]
+            return [task.result() for task in tasks]
         finally:
             for task in tasks:
                 task.cancel()
             pool.shutdown(wait=False)
             self.progress.end()
-        cases = sorted((case for cases, _ in found for case in cases), key=lambda case: case.mail.path)
-        bare = {mail.path: mail for _, mails in found for mail in mails}
-        return Judged(cases, self.surveys, [bare[path] for path in sorted(bare)], self.progress.seconds())
 
     def batch(self, batch: Batch) -> Tuple[List[Case], List[Mail]]:
         """The cases of a batch, and its mails without an envelope."""
         user, found = batch.user, self.surveys[batch.number]
         cases = []
-        with self.program.session() as session:
-            put_scripts(session, user.scripts)
-            put_settings(session, self.site)
-            ids = {str(at).encode(): mail for at, mail in enumerate(batch.mails)}
-            bare = [mail for name, mail in ids.items() if not self.put_mail(session, name, mail)]
-            bench = Bench(session, {script.at(): script.text for script in user.scripts})
+        with self.held(batch) as held:
             for main in user.mains:
                 began = time.monotonic()
-                told = chained(bench, main.scripts, ids)
-                seconds = (time.monotonic() - began) / len(ids)
-                for name, mail in ids.items():
+                told = chained(held.bench, main.scripts, held.mails)
+                seconds = (time.monotonic() - began) / len(held.mails)
+                for name, mail in held.mails.items():
                     cases.append(Case(user, main, mail, told[name], why_unjudged(told[name], found, user), seconds))
         self.progress.add(len(batch.mails))
-        return cases, bare
+        return cases, held.bare
+
+    @contextlib.contextmanager
+    def held(self, batch: Batch) -> Iterator[Held]:
+        """A session of a batch, which ends with the block."""
+        with self.program.session() as session:
+            put_scripts(session, batch.user.scripts)
+            put_settings(session, self.site)
+            mails = {str(at).encode(): mail for at, mail in enumerate(batch.mails)}
+            bare = [mail for name, mail in mails.items() if not self.put_mail(session, name, mail)]
+            yield Held(Bench(session, {script.at(): script.text for script in batch.user.scripts}), mails, bare)
 
     def put_mail(self, session: Session, name: bytes, mail: Mail) -> bool:
         """Puts a mail with its envelope, and says whether it has one."""

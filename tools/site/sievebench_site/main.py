@@ -10,7 +10,7 @@ import sys
 import time
 from typing import Callable, Dict, List, NoReturn
 
-from . import check, ends, lint
+from . import check, diff, ends, lint, untested, watch, why
 from .checked import Checked
 from .ends import Refusal, Signalled, refuse
 from .files import locked, refuse_unwritable, write_file
@@ -98,17 +98,64 @@ def run_import(options: argparse.Namespace) -> int:
     return 0
 
 
+def run_untested(options: argparse.Namespace) -> int:
+    """The command untested."""
+    site = site_with_mails(options)
+    found = untested.Untested(site, program_of(options, site), options.jobs, options.keys, options.numbers)
+    passed, look = found.passes(options.fail_under), look_of(options.utf8)
+    sys.stdout.write(untested.json_of(found, passed) if options.json else untested.text_of(found, look, options.quiet))
+    return int(not passed)
+
+
+def run_diff(options: argparse.Namespace) -> int:
+    """The command diff."""
+    folders = [os.fsencode(word) for word in options.folders]
+    wants = 1 if options.git is not None else 2
+    if len(folders) != wants or not all(folders):
+        refuse("two folders are wanted, or with --git one: --help tells more")
+    options.folders = options.folders[-1:]
+    site = site_with_mails(options)
+    with contextlib.ExitStack() as room:
+        old = folders[0] if options.git is None else room.enter_context(diff.revision(options.git, folders[0]))
+        found = diff.Diff(diff.other_site(old, site), site, program_of(options, site), options.jobs)
+    form = diff.markdown_of if options.format == "markdown" else diff.text_of
+    sys.stdout.write(form(found, look_of(options.utf8), options.all, options.quiet))
+    return int(bool(found.changed))
+
+
+def run_why(options: argparse.Namespace) -> int:
+    """The command why."""
+    if len(options.folders) != 2:
+        refuse("a site and a mail are wanted: --help tells more")
+    *options.folders, mail = options.folders
+    options.only = [os.fsdecode(why.mail_name(os.fsencode(mail)))]
+    site = site_with_mails(options)
+    sys.stdout.write(why.text_of(why.answers(site, program_of(options, site)), look_of(options.utf8)))
+    return 0
+
+
+def run_watch(options: argparse.Namespace) -> int:
+    """The command watch, which a signal ends."""
+    look = look_of(options.utf8)
+    watch.watch(watch.Watch(wanted(options), lambda site: program_of(options, site), options.jobs, look, options.all))
+    return 0
+
+
 COMMANDS: Dict[str, Callable[[argparse.Namespace], int]] = {
     "check": run_check,
     "record": run_record,
     "lint": run_lint,
     "import": run_import,
+    "untested": run_untested,
+    "diff": run_diff,
+    "why": run_why,
+    "watch": run_watch,
 }
 
 
 def main(words: List[str]) -> int:
     """Runs a command, and gives the status."""
-    names = "check, record, lint and import"
+    names = " and ".join([", ".join(list(COMMANDS)[:-1]), list(COMMANDS)[-1]])
     if not words:
         refuse(f"one of {names} is wanted: --help tells more")
     if words[0] in ("-h", "--help", "help"):

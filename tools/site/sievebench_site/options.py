@@ -19,6 +19,10 @@ Tests a site's Sieve filters over sample mails, by the program sievebench.
   record   writes today's verdicts as what is expected
   lint     tells the faults of scripts, and what their includes, redirects and responses lead to
   import   takes mails of mailboxes and files into a site
+  untested reports what can be changed in the scripts so that no mail's verdict notices
+  diff     reports which verdicts change from one site's scripts to another's, or from a revision in git to the files of today
+  why      says what entered each line of a mail's verdict, which scripts were looked up, and which branches were taken
+  watch    reports, whenever a file of a site is saved, which verdicts change
 
 `sievebench-site COMMAND --help` tells the options of a command; `sievebench-site --version` tells the versions of this tool and of the
 program.
@@ -44,7 +48,8 @@ SITE has
   mails/MAIL.eml.users     the users for whom a mail is judged; without it, all are
 """
 STATUS = """\
-Status: 0 all agree, or lint told no fault; 1 a verdict disagrees or can't be judged, a script has a fault, record left a file, or without
+Status: 0 all agree, or lint told no fault, or diff reports no verdict; 1 diff reports a verdict that changed, fewer changes are noticed
+than untested --fail-under asks for, a verdict disagrees or can't be judged, a script has a fault, record left a file, or without
 --lax nothing is expected or something is stale; 2 misuse: no mails, no such main script or mail, a file that can't be read or written, an
 edit that was refused; 3 the program, or sievec, can't be run; 130 and 143 after Ctrl-C and SIGTERM.
 """
@@ -74,21 +79,32 @@ def jobs(text: str) -> int:
     return int(text)
 
 
+def percent(text: str) -> float:
+    """A number from 0 to 100."""
+    if not re.fullmatch(r"[0-9]{1,3}(\.[0-9]{1,9})?", text) or float(text) > 100:
+        raise argparse.ArgumentTypeError(f"{text!r} isn't a number from 0 to 100")
+    return float(text)
+
+
 SENTENCES = {
     "check": "Compares the verdict on each mail, under each main script, with what is expected of it.",
     "record": "Writes today's verdicts as what is expected.",
     "lint": "Tells the faults of scripts, and what their includes, redirects and responses lead to.",
     "import": "Takes mails of mailboxes and files into a site, under short names, and none twice.",
+    "untested": "Reports what can be changed in the scripts so that no mail's verdict notices.",
+    "diff": "Reports which verdicts on the mails of a site its scripts change: from those of another site, or of a revision in git.",
+    "why": "Says what entered each line of one mail's verdict, which scripts were looked up, and which branches the run took.",
+    "watch": "Reports, whenever a file of a site is saved, which verdicts change, until Ctrl-C ends it.",
 }
+PLACES = {"import": "MAILBOX.. SITE", "diff": "[OLD] SITE", "why": "SITE MAIL"}
 
 
 def parser_of(command: str) -> Parser:
     """The parser of a command."""
-    places = "MAILBOX.. SITE" if command == "import" else "SITE"
     name, form = f"sievebench-site {command}", argparse.RawDescriptionHelpFormatter
     epilog = f"{SITE}\n{STATUS}"
     parser = Parser(name, description=SENTENCES[command], epilog=epilog, formatter_class=form, allow_abbrev=False)
-    parser.add_argument("folders", nargs="*", metavar=places)
+    parser.add_argument("folders", nargs="*", metavar=PLACES.get(command, "SITE"))
     add_shown(parser)
     ADDERS[command](parser)
     return parser
@@ -133,6 +149,10 @@ def add_running(parser: Parser) -> None:
         metavar="SIZE",
         help="the memory that each process of the program may take, as 512M; 4G where none is given",
     )
+
+
+def add_quiet(parser: Parser) -> None:
+    """Adds the option of what needn't be read where all is well."""
     parser.add_argument("-q", "--quiet", action="store_true", help="tells only what fails")
 
 
@@ -158,6 +178,7 @@ def add_judging(parser: Parser) -> None:
 def add_check(parser: Parser) -> None:
     """Adds the options of check."""
     add_running(parser)
+    add_quiet(parser)
     add_judging(parser)
     lets = "lets a mail pass of which nothing is expected, and what is stale"
     parser.add_argument("--lax", action="store_true", help=lets)
@@ -173,6 +194,7 @@ def add_check(parser: Parser) -> None:
 def add_record(parser: Parser) -> None:
     """Adds the options of record."""
     add_running(parser)
+    add_quiet(parser)
     add_judging(parser)
     writes = "writes files anew, too, that aren't as it writes them"
     parser.add_argument("--force", action="store_true", help=writes)
@@ -181,6 +203,7 @@ def add_record(parser: Parser) -> None:
 def add_lint(parser: Parser) -> None:
     """Adds the options of lint."""
     add_running(parser)
+    add_quiet(parser)
     add_format(parser)
     runs = "runs also sievec, which Dovecot's site has, over each script, and tells where the two disagree"
     parser.add_argument("--sievec", action="store_true", help=runs)
@@ -197,7 +220,51 @@ def add_format(parser: Parser) -> None:
     parser.add_argument("--format", choices=FORMS, default="text", help=how)
 
 
-ADDERS = {"check": add_check, "record": add_record, "lint": add_lint, "import": add_import}
+def add_untested(parser: Parser) -> None:
+    """Adds the options of untested."""
+    add_running(parser)
+    add_quiet(parser)
+    add_judging(parser)
+    keys = "takes out also each string of a list of two or more"
+    parser.add_argument("--keys", action="store_true", help=keys)
+    numbers = "moves also each limit of size by one, up and down"
+    parser.add_argument("--numbers", action="store_true", help=numbers)
+    fails = "fails where fewer of a hundred changes are noticed"
+    parser.add_argument("--fail-under", type=percent, default=0.0, metavar="PERCENT", help=fails)
+    parser.add_argument("--json", action="store_true", help="prints one object")
+
+
+def add_diff(parser: Parser) -> None:
+    """Adds the options of diff."""
+    add_running(parser)
+    add_quiet(parser)
+    add_judging(parser)
+    old = "compares with the site's folder in this revision of its repository, in place of another folder"
+    parser.add_argument("--git", metavar="REVISION", help=old)
+    tells = "reports each difference by itself, and not once for all mails that have it"
+    parser.add_argument("--all", action="store_true", help=tells)
+    how = "how the results are printed: text, or markdown for merge requests"
+    parser.add_argument("--format", choices=("text", "markdown"), default="text", help=how)
+
+
+def add_watch(parser: Parser) -> None:
+    """Adds the options of watch."""
+    add_running(parser)
+    add_judging(parser)
+    tells = "reports each difference by itself, and not once for all mails that have it"
+    parser.add_argument("--all", action="store_true", help=tells)
+
+
+ADDERS = {
+    "check": add_check,
+    "record": add_record,
+    "lint": add_lint,
+    "import": add_import,
+    "untested": add_untested,
+    "diff": add_diff,
+    "why": add_running,
+    "watch": add_watch,
+}
 
 
 def parsed(command: str, words: List[str]) -> argparse.Namespace:

@@ -44,6 +44,10 @@ class Verdict(NamedTuple):
     lines: Tuple[Line, ...]
     reads: Tuple[Tuple[Place, bool], ...]
 
+    def texts(self) -> Tuple[bytes, ...]:
+        """The lines without what entered them."""
+        return tuple(line.text for line in self.lines)
+
 
 class Report(NamedTuple):
     """The fault of each script, if any, and the verdict on each mail by its id."""

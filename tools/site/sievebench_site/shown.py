@@ -25,7 +25,11 @@ class Look(NamedTuple):
         """The same of a line in which octets are escaped already, as verdicts have them."""
         if self.utf8:
             line = ESCAPES.sub(lambda it: octets_meant(it[0]), line)
-        text = line.decode("utf-8", "surrogateescape") if self.utf8 else line.decode("latin-1")
+        return self.text(line)
+
+    def text(self, octets: bytes) -> str:
+        """The same of octets in which nothing is escaped, as those of a script."""
+        text = octets.decode("utf-8", "surrogateescape") if self.utf8 else octets.decode("latin-1")
         return "".join(it if is_shown(it, self.utf8) else escaped(it, self.utf8) for it in text)
 
     def mark(self, text: str, kind: str) -> str:

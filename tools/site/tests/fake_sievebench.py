@@ -3,7 +3,6 @@
 
 import os
 import pathlib
-import re
 import sys
 import time
 from typing import Dict, List, NoReturn, Optional, Tuple
@@ -49,6 +48,7 @@ class Run:
 
     def commands(self, text: bytes, left: List[Token]) -> None:
         """Runs commands, and blocks whose test holds."""
+        taken = False
         while left:
             words = [left.pop(0)]
             while words[-1].octets not in (b";", b"{"):
@@ -58,20 +58,26 @@ class Run:
                 while depth:
                     block.append(left.pop(0))
                     depth += {b"{": 1, b"}": -1}.get(block[-1].octets, 0)
-                if self.holds(words):
+                taken = taken and words[0].octets != b"if"
+                if not taken and self.holds(words):
+                    taken = True
                     self.commands(text, block[:-1])
             else:
                 self.command(text, words)
 
     def holds(self, words: List[Token]) -> bool:
-        """A test."""
+        """A test, or an `else`."""
         strings = [string_meant(it.octets) for it in words if it.kind == "string"]
         name = words[1].octets
+        if name in (b"true", b"false", b"{"):
+            return name != b"false"
+        if name == b"size":
+            return len(self.mail) > int(words[3].octets)
         if name == b"hasflag":
             return strings[0].lower() in [flag.lower() for flag in self.flags]
         if name == b"envelope":
             return self.envelope[strings[0] == b"to"] == strings[1]
-        return name == b"true" or bool(re.search(re.escape(strings[-1].lower()), self.mail))
+        return any(key.lower() in self.mail for key in strings[1:])
 
     def command(self, text: bytes, words: List[Token]) -> None:
         """A command."""
@@ -179,6 +185,10 @@ class Bench:
             self.main = rest[0].decode(), rest[1]
         elif command == b"mailbox":
             self.box = rest[0]
+        elif command == b"drop-script":
+            del self.scripts[rest[0].decode(), rest[1]]
+        elif command == b"drop-message":
+            del self.mails[rest[0]]
         return ["ok"]
 
 

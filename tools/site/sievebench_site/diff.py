@@ -1,0 +1,197 @@
+"""The command diff: which verdicts on a site's mails change where its scripts take the place of others."""
+from __future__ import annotations
+
+import contextlib
+import io
+import os
+import re
+import subprocess
+import tarfile
+import tempfile
+from typing import Dict, Iterator, List, NamedTuple, Optional
+
+from .chains import chained
+from .check import heads
+from .ends import fail, refuse
+from .expected import Block
+from .faults import Survey, sentence_of
+from .files import octets_if_any
+from .findings import PLAIN
+from .folder import Site, User, Wanted, site_of
+from .groups import Group, changes, counted, difference, grouped
+from .judge import Batch, Case, Judge, batches_of, surveys, why_unjudged
+from .mains import Main
+from .program import Place, Program
+from .shown import Look
+from .words import quoted
+
+Scripts = Dict[Place, bytes]
+# What an environment may say of another repository than that of the site, as git does in hooks.
+ELSEWHERE = ("GIT_DIR", "GIT_WORK_TREE", "GIT_INDEX_FILE", "GIT_PREFIX")
+
+
+class Former(NamedTuple):
+    """What a user had in the other site: the scripts and the survey of them."""
+
+    user: User
+    survey: Survey
+
+    def scripts(self) -> Scripts:
+        """The texts of the scripts."""
+        return {script.at(): script.text for script in self.user.scripts}
+
+    def has(self, main: Main) -> bool:
+        """Whether all scripts of a line are there."""
+        return all(place in self.scripts() for place in main.scripts)
+
+
+class Diff:
+    """The verdicts on the mails of a site under its scripts, and before under those of another."""
+
+    def __init__(self, old: Site, new: Site, program: Program, jobs: int) -> None:
+        self.old, self.new, self.judge = old, new, Judge(new, program, jobs)
+        found = zip(old.users, surveys(old, program))
+        self.former = {user.name: Former(user, survey) for user, survey in found}
+        cases = [it for part in self.judge.each(list(batches_of(new, jobs)), self.batch) for it in part]
+        self.cases = sorted(cases, key=lambda case: case.mail.path)
+        self.unjudged = [it for it in self.cases if it.unjudged]
+        self.changed = [it for it in self.cases if not it.unjudged and it.agrees() is False]
+
+    def batch(self, batch: Batch) -> List[Case]:
+        """The verdicts on some mails. What was before stands in place of what is expected."""
+        cases: List[Case] = []
+        former = self.former.get(batch.user.name)
+        if former is None:
+            return cases
+        survey = self.judge.surveys[batch.number]
+        with self.judge.held(batch) as held:
+            now = dict(held.bench.scripts)
+            for main in filter(former.has, batch.user.mains):
+                held.bench.become(former.scripts())
+                before = chained(held.bench, main.scripts, held.mails)
+                held.bench.become(now)
+                after = chained(held.bench, main.scripts, held.mails)
+                for name, mail in held.mails.items():
+                    was = why_unjudged(before[name], former.survey, former.user)
+                    why = f"before, {was}" if was else why_unjudged(after[name], survey, batch.user)
+                    blocks = {main.key: Block(0, before[name].texts())}
+                    cases.append(Case(batch.user, main, mail._replace(blocks=blocks), after[name], why, 0.0))
+        return cases
+
+    def groups(self, each: bool) -> List[Group]:
+        """The changed verdicts in groups, by their differences."""
+        return grouped(self.changed, changes, each)
+
+    def notes(self, look: Look) -> Iterator[str]:
+        """What can't be compared, and where what isn't a script differs too."""
+        for user in self.new.users:
+            former = self.former.get(user.name)
+            for main in user.mains:
+                if former is None or not former.has(main):
+                    yield f"{look.name(main.label())}: not compared: its scripts weren't all there before"
+        old, new = self.old.wanted.folder, self.new.wanted.folder
+        for name in (b"with", b"mailboxes", b"clock"):
+            if octets_if_any(os.path.join(old, name)) != octets_if_any(os.path.join(new, name)):
+                yield f"{look.name(os.path.join(new, name))}: it was another, and is taken for both"
+
+    def faults(self, look: Look) -> Iterator[str]:
+        """The faults that there are now and weren't before."""
+        told: Dict[str, None] = {}
+        for user, survey in zip(self.new.users, self.judge.surveys):
+            former = self.former.get(user.name)
+            for script, fault in survey.broken(user):
+                if former is None or former.survey.faults.get(script.at()) != fault:
+                    told[f"{look.name(script.path)}:{fault[0]}: {fault[1]}: {sentence_of(script, *fault)}"] = None
+        return iter(told)
+
+    def summary(self) -> str:
+        """The last line."""
+        told = len(self.cases) - len(self.unjudged)
+        more = f", {len(self.unjudged)} not judged" if self.unjudged else ""
+        return f"{len(self.changed)} of {counted(told, 'verdict')} changed{more}"
+
+
+def other_site(folder: bytes, new: Site) -> Site:
+    """The other site's scripts, for the users that are wanted, where they were there."""
+    site = site_of(Wanted(folder, [], [], [], None))
+    wanted = [user.name for user in new.users]
+    site.users[:] = [user for user in site.users if user.name in wanted]
+    return site
+
+
+def text_of(found: Diff, look: Look, each: bool, quiet: bool) -> str:
+    """The results for people."""
+    told = [] if quiet else list(found.notes(look))
+    told += found.faults(look)
+    for group in found.groups(each):
+        told += heads(group, look, "") + [f"  {line}" for line in difference(group, look)]
+    for group in grouped(found.unjudged, lambda case: case.unjudged, each):
+        told += heads(group, look, f": not judged: {group.cases[0].unjudged}")
+    if not quiet:
+        told.append(found.summary())
+    return "".join(f"{line}\n" for line in told)
+
+
+def markdown_of(found: Diff, look: Look, each: bool, quiet: bool) -> str:
+    """The results as a merge request shows them."""
+    told = [] if quiet else [f"**{found.summary()}**", ""]
+    for line in [*([] if quiet else found.notes(PLAIN)), *found.faults(PLAIN)]:
+        told.append(f"- {code(line)}")
+    for group in found.groups(each):
+        lines = difference(group, PLAIN)
+        fence = "`" * max(3, longest(lines) + 1)
+        told += ["", *(f"- {code(line)}" for line in heads(group, PLAIN, "")), "", f"{fence}diff", *lines, fence]
+    for group in grouped(found.unjudged, lambda case: case.unjudged, each):
+        told += ["", *(f"- {code(line)}" for line in heads(group, PLAIN, f": not judged: {group.cases[0].unjudged}"))]
+    return "".join(f"{line}\n" for line in told)
+
+
+def longest(lines: List[str]) -> int:
+    """How many of these quotes stand beside each other at most."""
+    return max((len(it) for line in lines for it in re.findall("`+", line)), default=0)
+
+
+def code(line: str) -> str:
+    """A line of which nothing is a mark."""
+    quotes = "`" * (longest([line]) + 1)
+    blank = " " if line.startswith("`") or line.endswith("`") else ""
+    return f"{quotes}{blank}{line}{blank}{quotes}"
+
+
+@contextlib.contextmanager
+def revision(name: str, folder: bytes) -> Iterator[bytes]:
+    """A folder as it is in a revision of its repository, for as long as the block lasts."""
+    if not os.path.isdir(folder):
+        refuse(f"no folder {quoted(folder)}")
+    inside = git(folder, ["rev-parse", "--show-prefix"])
+    if inside is None:
+        refuse(f"{quoted(folder)} is in no repository of git")
+    prefix = inside.rstrip(b"\n").rstrip(b"/")
+    commit = git(folder, ["rev-parse", "--verify", "--quiet", "--end-of-options", name + "^{commit}"])
+    if commit is None:
+        refuse(f"no revision {quoted(os.fsencode(name))} in the repository of {quoted(folder)}")
+    tree = os.fsdecode(commit.strip() + b":" + prefix)
+    kind = git(folder, ["cat-file", "-t", tree])
+    if kind != b"tree\n":
+        refuse(f"the revision {quoted(os.fsencode(name))} has no folder {quoted(prefix)}")
+    top = git(folder, ["rev-parse", "--show-toplevel"]) or b"."
+    packed = git(top[:-1] if top.endswith(b"\n") else top, ["archive", "--format=tar", tree])
+    if packed is None:
+        fail(f"git can't pack {quoted(prefix)} of the revision {quoted(os.fsencode(name))}")
+    with tempfile.TemporaryDirectory() as room:
+        with tarfile.open(fileobj=io.BytesIO(packed)) as box:
+            # Newer versions of Python ask what of an archive is trusted: this one is the repository's own.
+            setattr(box, "extraction_filter", getattr(tarfile, "fully_trusted_filter", None))
+            box.extractall(room)
+        yield os.fsencode(room)
+
+
+def git(folder: bytes, words: List[str]) -> Optional[bytes]:
+    """What git prints in a folder, if it succeeds."""
+    env = {name: value for name, value in os.environ.items() if name not in ELSEWHERE}
+    quiet, pipe = subprocess.DEVNULL, subprocess.PIPE
+    try:
+        done = subprocess.run(["git", *words], cwd=folder, env=env, stdin=quiet, stdout=pipe, stderr=quiet)
+    except OSError as error:
+        fail(f'cannot run "git": {error.strerror}')
+    return None if done.returncode else done.stdout

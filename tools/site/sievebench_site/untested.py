@@ -1,0 +1,247 @@
+"""The command untested: what can be changed in the scripts so that no mail's verdict notices."""
+from __future__ import annotations
+
+import json
+from typing import Dict, Iterator, List, Set, Tuple
+
+from .changes import Change, changes, commands
+from .chains import Bench, chained
+from .faults import sentence_of
+from .findings import PLAIN
+from .folder import Site, User
+from .judge import Batch, Held, Judge, batches_of, put_settings
+from .mains import Main, Script
+from .program import Program, Session, Verdict
+from .reach import Reach
+from .shown import Look
+from .sieve_text import required
+
+# Most changes are noticed by a few mails.
+SOME, FEW = 4, 40
+# So much of a command is shown.
+SHOWN = 120
+Verdicts = Dict[bytes, Verdict]
+
+
+class Tried:
+    """A change of a script, and what became of it: whether it leaves a fault, a verdict notices it, and mails come there."""
+
+    def __init__(self, script: Script, change: Change) -> None:
+        self.script, self.change = script, change
+        self.text = change.command.shown(script.text)
+        self.same = change.is_none(script.text)
+        self.faulty = self.noticed = self.reached = False
+
+    def open(self) -> bool:
+        """Whether it could be noticed and wasn't until now."""
+        return not (self.same or self.faulty or self.noticed)
+
+    def why(self, look: Look) -> str:
+        """What isn't noticed."""
+        shown = look.text(self.text if len(self.text) <= SHOWN else self.text[:SHOWN] + b" ..")
+        how = look.text(self.change.how.encode("latin-1"))
+        return f"no mail notices {how}: {shown}  ({'mails come there' if self.reached else 'reached by no mail'})"
+
+
+class Untested:
+    """The changes of a site's scripts, each tried on all mails until one notices it."""
+
+    def __init__(self, site: Site, program: Program, jobs: int, keys: bool, numbers: bool) -> None:
+        self.site, self.judge = site, Judge(site, program, jobs)
+        surveyed = list(zip(site.users, self.judge.surveys))
+        self.broken = {it[0].path: it for user, found in surveyed for it in found.broken(user)}
+        self.lacking = {it[0].path: it for user, found in surveyed for it in found.unjudged(user)}
+        whole = {it.path: it for user in site.users for it in user.scripts}
+        self.tried: Dict[bytes, List[Tried]] = {
+            path: [Tried(script, it) for it in changes(script.text, keys, numbers)]
+            for path, script in whole.items()
+            if path not in self.broken and path not in self.lacking
+        }
+        # The scripts that no verdict looked up, until one does.
+        self.unasked = dict.fromkeys(whole)
+        self.run()
+
+    def run(self) -> None:
+        """Tries all of them."""
+        self.judge.each(list(enumerate(batches_of(self.site, self.judge.jobs))), self.try_batch)
+
+    def try_batch(self, part: Tuple[int, Batch]) -> None:
+        """Tries the changes on some mails, and asks where these come."""
+        number, batch = part
+        with self.judge.held(batch) as held, self.judge.program.session() as session:
+            few = Few(self.judge, held, session)
+            for main in batch.user.mains:
+                base = chained(held.bench, main.scripts, held.mails)
+                for script in looked_up(batch.user, base):
+                    self.unasked.pop(script.path, None)
+                    tried = self.tried.get(script.path)
+                    if not tried:
+                        continue
+                    # Parts that are tried at once begin at different changes: what one notices, the other needn't try.
+                    start = len(tried) * (number % self.judge.jobs) // self.judge.jobs
+                    trial = Trial(held, few, main, script, base)
+                    for it in [*tried[start:], *tried[:start]]:
+                        if it.open():
+                            trial.take(it)
+                    trial.end()
+                    trial.ask([it for it in tried if it.open() and not it.reached])
+
+    def judged(self) -> List[Tried]:
+        """All changes of the scripts that some verdict looked up."""
+        return [it for path, tried in self.tried.items() if path not in self.unasked for it in tried]
+
+    def left(self) -> List[Tried]:
+        """Those that no verdict notices."""
+        return [it for it in self.judged() if it.open()]
+
+    def counts(self) -> Dict[str, int]:
+        """How many there are."""
+        judged = self.judged()
+        return {
+            "noticed": sum(it.noticed for it in judged),
+            "changes": sum(not it.same and not it.faulty for it in judged),
+            "leave a fault": sum(it.faulty for it in judged),
+            "change nothing": sum(it.same for it in judged),
+        }
+
+    def passes(self, percent: float) -> bool:
+        """Whether so many in a hundred are noticed. Where there are none, all are."""
+        counts = self.counts()
+        return counts["noticed"] * 100 >= percent * counts["changes"]
+
+
+def looked_up(user: User, verdicts: Verdicts) -> List[Script]:
+    """The scripts that some of these verdicts looked up: no other can matter to them."""
+    there = {place for verdict in set(verdicts.values()) for place, found in verdict.reads if found}
+    return [script for script in user.scripts if script.at() in there]
+
+
+class Few:
+    """A session into which mails of another are put as they are wanted."""
+
+    def __init__(self, judge: Judge, held: Held, session: Session) -> None:
+        self.judge, self.held, self.session = judge, held, session
+        self.bench = Bench(session, {})
+        self.bench.become(held.bench.scripts)
+        put_settings(session, judge.site)
+        self.there: Set[bytes] = set()
+
+    def bench_of(self, ids: List[bytes]) -> Bench:
+        """A session with these mails: the other one, with all, where they aren't few."""
+        if len(ids) > FEW:
+            return self.held.bench
+        for name in self.there - set(ids):
+            self.session.edit("drop-message", [name], None, "the end of a mail")
+        for name in ids:
+            if name not in self.there:
+                self.judge.put_mail(self.session, name, self.held.mails[name])
+        self.there = set(ids)
+        return self.bench
+
+
+class Trial:
+    """The changes of a script, tried on some mails under a main script."""
+
+    def __init__(self, held: Held, few: Few, main: Main, script: Script, base: Verdicts) -> None:
+        self.held, self.few, self.main, self.script, self.base = held, few, main, script, base
+        self.ids = [name for name, verdict in base.items() if (script.at(), True) in verdict.reads]
+        self.variables = b"variables" in required(script.text)[1]
+        blocks = [it.block for it in commands(script.text) if it.block is not None]
+        reach = Reach(held.bench, self.ids, main, script)
+        # The mails that come to each block, or may.
+        self.entered = reach.entered(blocks)
+
+    def around(self, it: Tried) -> List[bytes]:
+        """The mails that come to the block in which a change is."""
+        inside = it.change.command.inside
+        return self.ids if inside is None else self.entered[inside]
+
+    def mails(self, it: Tried) -> List[bytes]:
+        """The mails that could notice a change: those that come to the block in which it is. A condition that is made false is noticed
+        by those alone that come to its own block, unless it sets variables where it doesn't hold as a whole."""
+        block = it.change.command.block
+        narrow = it.change.denies() and not self.variables
+        return self.entered[block] if narrow and block is not None else self.around(it)
+
+    def take(self, it: Tried) -> None:
+        """Tries a change, on a few mails first."""
+        place, text = it.script.at(), it.change.of(it.script.text)
+        for ids in parts_of(self.mails(it)):
+            bench = self.few.bench_of(ids)
+            bench.replace(place, text)
+            told = chained(bench, self.main.scripts, ids)
+            # Other parts of the mails are tried at the same time, so what is known is never unset.
+            if bench.faults.get(place):
+                it.faulty = True
+            elif any(told[name].texts() != self.base[name].texts() for name in ids):
+                it.noticed = True
+            if not it.open():
+                return
+
+    def end(self) -> None:
+        """Puts the script's own text back."""
+        for bench in (self.held.bench, self.few.bench):
+            bench.replace(self.script.at(), self.script.text)
+
+    def ask(self, left: List[Tried]) -> None:
+        """Asks which of these changes mails come to, a few mails first."""
+        points = {it.change.command.start(): it.change.command for it in left if self.around(it)}
+        found: Set[int] = set()
+        for ids in parts_of(self.ids):
+            reach = Reach(self.few.bench_of(ids), ids, self.main, self.script)
+            found |= reach.reached([it for start, it in points.items() if start not in found])
+        for it in left:
+            it.reached = it.reached or it.change.command.start() in found
+
+
+def parts_of(ids: List[bytes]) -> Iterator[List[bytes]]:
+    """Mails in parts: some, more, and all others; one part without mails where there are none."""
+    yield ids[:SOME]
+    for part in (ids[SOME:FEW], ids[FEW:]):
+        if part:
+            yield part
+
+
+def text_of(found: Untested, look: Look, quiet: bool) -> str:
+    """The results for people."""
+    told = [
+        f"{look.name(it.path)}:{line}: {word}: {sentence_of(it, line, word)}"
+        for it, (line, word) in found.broken.values()
+    ]
+    told += [f"{look.name(script.path)}:{line}: not judged: {why}" for script, line, why in found.lacking.values()]
+    told += [f"{look.name(it.script.path)}:{it.change.line}: {it.why(look)}" for it in found.left()]
+    if not quiet:
+        told += [f"{look.name(path)}: no verdict looks it up" for path in found.unasked]
+        counts = found.counts()
+        further = [f"{counts[it]} {it}" for it in ("leave a fault", "change nothing") if counts[it]]
+        told.append(", ".join([f"{counts['noticed']} of {counts['changes']} changes are noticed", *further]))
+    return "".join(f"{line}\n" for line in told)
+
+
+def json_of(found: Untested, passed: bool) -> str:
+    """The results as one object."""
+    told: Dict[str, object] = {
+        "passed": passed,
+        "counts": found.counts(),
+        "unnoticed": [change_object(it) for it in found.left()],
+        "faults": [
+            {"script": PLAIN.name(it.path), "line": line, "word": word} for it, (line, word) in found.broken.values()
+        ],
+        "not judged": [
+            {"script": PLAIN.name(it.path), "line": line, "why": why} for it, line, why in found.lacking.values()
+        ],
+        "not looked up": [PLAIN.name(path) for path in found.unasked],
+    }
+    return json.dumps(told) + "\n"
+
+
+def change_object(it: Tried) -> Dict[str, object]:
+    """A change as an object."""
+    how, text = (PLAIN.text(octets) for octets in (it.change.how.encode("latin-1"), it.text))
+    return {
+        "script": PLAIN.name(it.script.path),
+        "line": it.change.line,
+        "change": how,
+        "text": text,
+        "reached": it.reached,
+    }

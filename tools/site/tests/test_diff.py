@@ -1,0 +1,185 @@
+"""The command diff, by the fake program."""
+import os
+import subprocess
+from unittest import mock
+
+from sievebench_site.diff import code, git
+
+from .room import Files, Room
+
+MAILS: Files = {"envelope": '"" ""', "mains": "main\n", "mails/1.eml": "subject: k1", "mails/2.eml": "subject: k2"}
+
+
+class Folders(Room):
+    """Two folders."""
+
+    def site(self, name: str, **scripts: str) -> None:
+        """Makes a site."""
+        files: Files = {f"{name}/{path}": text for path, text in MAILS.items()}
+        self.write({**files, **{f"{name}/personal/{it}.sieve": text for it, text in scripts.items()}})
+
+    def test_groups(self) -> None:
+        self.site("old", main='if header "subject" "k1" { discard; }\nkeep;')
+        self.site("new", main='redirect :copy "a@b.example";\n\nkeep;')
+        wanted = [
+            "new/mails/1.eml under main",
+            "  - discard",
+            '  + redirect "a@b.example"  (new/personal/main.sieve:1)',
+            '    store "INBOX"',
+            "new/mails/2.eml under main",
+            '  + redirect "a@b.example"  (new/personal/main.sieve:1)',
+            '    store "INBOX"',
+            "2 of 2 verdicts changed",
+        ]
+        self.assertEqual(self.ran("diff", "old", "new"), (1, wanted, ""))
+        self.assertEqual(self.ran("diff", "-q", "old", "new"), (1, wanted[:-1], ""))
+        self.assertEqual(self.ran("diff", "new", "new"), (0, ["0 of 2 verdicts changed"], ""))
+        backwards = self.ran("diff", "new", "old")[1]
+        self.assertEqual(
+            backwards[:3],
+            ["old/mails/1.eml under main", '  - redirect "a@b.example"', "  + discard  (old/personal/main.sieve:1)"],
+        )
+
+    def test_several_mails(self) -> None:
+        self.site("old", main="keep;")
+        self.site("new", main="discard;")
+        told = self.ran("diff", "old", "new")[1]
+        self.assertEqual(told[:2], ["new/mails/1.eml under main", "new/mails/2.eml under main"])
+        self.assertEqual(told[2:4], ["2 verdicts in all, of 2 mails under 1 main", '  - store "INBOX"'])
+        self.assertEqual(len(self.ran("diff", "--all", "old", "new")[1]), 7)
+        self.assertEqual(self.ran("diff", "--only", "1.eml", "old", "new")[1][-1], "1 of 1 verdict changed")
+
+    def test_markdown(self) -> None:
+        self.site("old", main='require "fileinto"; fileinto "`";', other="")
+        self.site("new", main='require "fileinto"; fileinto "``` `";', other="kep;")
+        wanted = [
+            "**2 of 2 verdicts changed**",
+            "",
+            "- ``new/personal/other.sieve:1: unknown-command: There is no such command or test.``",
+            "",
+            "- `new/mails/1.eml under main`",
+            "- `new/mails/2.eml under main`",
+            "- `2 verdicts in all, of 2 mails under 1 main`",
+            "",
+            "````diff",
+            '- store "`"',
+            '+ store "``` `"  (new/personal/main.sieve:1)',
+            "````",
+        ]
+        wanted[2] = wanted[2].replace("``", "`")
+        self.assertEqual(self.ran("diff", "--format", "markdown", "old", "new"), (1, wanted, ""))
+        for line, spelled in (("a", "`a`"), ("a`b", "``a`b``"), ("`a", "`` `a ``"), ("a``", "``` a`` ```")):
+            self.assertEqual(code(line), spelled)
+
+    def test_scripts_that_come_and_go(self) -> None:
+        include = 'require "include"; include "part";'
+        self.site("old", main=include, part="discard;", gone="keep;")
+        self.site("new", main=include, new="keep;")
+        told = self.ran("diff", "old", "new")[1]
+        self.assertIn("  - discard", told)
+        self.assertEqual(told[-1], "2 of 2 verdicts changed")
+        told = self.ran("diff", "new", "old")[1]
+        self.assertIn("  + discard  (old/personal/part.sieve:1)", told)
+        self.assertEqual(told[-1], "2 of 2 verdicts changed")
+        self.write({"new/mains": "main\nnew\n", "old/mains": "main\ngone\n"})
+        told = self.ran("diff", "old", "new")[1]
+        self.assertEqual(told[0], "new: not compared: its scripts weren't all there before")
+        self.assertEqual(told[-1], "2 of 2 verdicts changed")
+
+    def test_what_is_not_judged(self) -> None:
+        self.site("old", main='require "z"; discard;', other="kep;")
+        self.site("new", main="discard;", other="kep;")
+        told = self.ran("diff", "old", "new")
+        self.assertEqual(
+            told[:2],
+            (
+                0,
+                [
+                    'new/mails/1.eml under main: not judged: before, personal "main" requires z',
+                    'new/mails/2.eml under main: not judged: before, personal "main" requires z',
+                    "0 of 0 verdicts changed, 2 not judged",
+                ],
+            ),
+        )
+        told = self.ran("diff", "new", "old")
+        self.assertIn('old/mails/1.eml under main: not judged: personal "main" requires z', told[1])
+        self.site("old", main='require "include"; include "part";', part='require "z";')
+        told = self.ran("diff", "old", "new")
+        self.assertIn('new/mails/1.eml under main: not judged: before, personal "part" requires z', told[1])
+        self.assertEqual(told[1][-1], "0 of 0 verdicts changed, 2 not judged")
+
+    def test_users(self) -> None:
+        for name, text in (("old", "keep;"), ("new", "discard;")):
+            self.write({f"{name}/users/ada/personal/m.sieve": text, f"{name}/mails/1.eml": "", f"{name}/mains": "m"})
+        self.write({"new/users/eva/personal/m.sieve": "keep;", "new/with": "copy\n"})
+        told = self.ran("diff", "old", "new")[1]
+        self.assertEqual(
+            told[:3],
+            [
+                "eva/m: not compared: its scripts weren't all there before",
+                "new/with: it was another, and is taken for both",
+                "new/mails/1.eml under ada/m",
+            ],
+        )
+        self.assertEqual(told[-1], "1 of 1 verdict changed")
+
+    def test_misuse(self) -> None:
+        self.site("new", main="keep;")
+        for words in ("new", "a b new", "--git=HEAD a new", ""):
+            self.assertEqual(self.ran("diff", *words.split())[0], 2)
+        self.assertEqual(
+            self.ran("diff", "nowhere", "new")[2],
+            'sievebench-site: cannot read "nowhere/personal": No such file or directory\n',
+        )
+
+
+class Revisions(Room):
+    """A folder in git."""
+
+    def git(self, *words: str) -> None:
+        """A command of git in the test's folder."""
+        names = ["-c", "user.name=a", "-c", "user.email=a@b.example", "-c", "init.defaultBranch=main"]
+        subprocess.run(["git", *names, *words], cwd=self.room, check=True, stdout=subprocess.DEVNULL)
+
+    def setUp(self) -> None:
+        super().setUp()
+        self.git("init", "-q")
+        self.write({"readme": ""})
+        self.git("add", "-A")
+        self.git("commit", "-qm", "one")
+        files: Files = {f"a/s \u00fc/{path}": text for path, text in MAILS.items()}
+        self.write({**files, "a/s \u00fc/personal/link.sieve": "keep;"})
+        os.symlink("link.sieve", self.room / "a/s \u00fc/personal/main.sieve")
+        self.git("add", "-A")
+        self.git("commit", "-qm", "two")
+        self.write({"a/s \u00fc/personal/link.sieve": "discard;"})
+
+    def test_revision(self) -> None:
+        site = "a/s \u00fc"
+        told = self.ran("diff", "--git", "HEAD", site)
+        self.assertEqual((told[0], told[1][-1]), (1, "2 of 2 verdicts changed"))
+        self.assertEqual(self.ran("diff", f"--git={'HEAD'}", "--utf8", site)[1][0], f"{site}/mails/1.eml under main")
+        self.git("commit", "-qam", "three")
+        self.assertEqual(self.ran("diff", "--git", "main", site)[1], ["0 of 2 verdicts changed"])
+        self.assertEqual(self.ran("diff", "--git", "main~1", site)[0], 1)
+        with mock.patch.dict(os.environ, GIT_DIR="/nowhere", GIT_INDEX_FILE="/nowhere/index"):
+            self.assertEqual(self.ran("diff", "--git", "main", site)[0], 0)
+
+    def test_refusals(self) -> None:
+        site = "a/s \u00fc"
+        shown = '"a/s \\xc3\\xbc"'
+        rows = [
+            ("HEAD~1", site, f'the revision "HEAD~1" has no folder {shown}'),
+            ("x", site, f'no revision "x" in the repository of {shown}'),
+            ("-x", site, f'no revision "-x" in the repository of {shown}'),
+            ("HEAD", "b", 'cannot read "b/personal": No such file or directory'),
+        ]
+        for revision, folder, sentence in rows:
+            with self.subTest(revision=revision):
+                told = self.ran("diff", f"--git={revision}", folder)
+                self.assertEqual(told, (2, [], f"sievebench-site: {sentence}\n"))
+        with mock.patch.dict(os.environ, GIT_CEILING_DIRECTORIES=str(self.room.parent)):
+            os.rename(self.room / ".git", self.room / "git")
+            told = self.ran("diff", "--git=HEAD", site)
+            self.assertEqual(told, (2, [], f"sievebench-site: {shown} is in no repository of git\n"))
+        self.assertIsNone(git(bytes(self.room), ["no-such-command"]))
