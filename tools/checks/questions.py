@@ -26,8 +26,10 @@ from sievebench_site.tokens import tokens  # noqa: E402
 
 COMES, NONE = "  (mails come there)", "  (reached by no mail)"
 RANDOM_TEXTS, TEXTS_AT_ONCE = 3_000, 250
-# Of what random texts are made: what tokens are spelled with, and what ends or spoils them.
-PIECES = [b"if", b"text:", b"TEXT:\t", b"text", b":", b":is", b"_a1", b"10", b"7K", b"2g", b'"', b'"a"', b"\\", b"#", b"# c\n", b"/*", b"*/", b"/", b"*", b".", b".\n", b".\r\n", b"..", b"\n", b"\r\n", b"\r", b" ", b"\t", b";", b"{", b"}", b"(", b")", b"[", b"]", b",", b"\x00", b"\x7f", b"\xc3\xbc", b"'", b"-", b"\x0b"]
+# Of what random texts are made: what tokens and white space are spelled with, and what spoils them, which is taken less often.
+WHOLE = [b"if", b"text", b"_a1", b":is", b":Text", b"10", b"7K", b"2g9", b'"a"', b'"\\"\n"', b'""', b"text:\n.\n", b"TEXT:\t \na.\n..\n.\r\n", b"text: # c\n.x\n.\n", b"text:\r\n. \n.\n", b"# c\n", b"/* \n**/", b"/**/", b" ", b"\n", b"\r\n", b"\t", b"\r", *(b"%c" % mark for mark in b";{}()[],")]
+SPOILT = [b":", b"text:", b'"', b"\\", b"#", b"/*", b"*/", b"/", b"*", b".", b".\n", b"\x00", b"\x7f", b"\xc3\xbc", b"'", b"-", b"\x0b"]
+WEIGHTS = [40] * len(WHOLE) + [3] * len(SPOILT)
 
 
 class Cut:
@@ -63,7 +65,7 @@ def of_tokens(caller):
     yield Cut("the scripts of the examples", caller, [path.read_bytes() for path in sorted(EXAMPLES.rglob("*.sieve"))])
     yield Cut("the texts of the rows", caller, list(texts_of_rows()))
     chosen = random.Random(7)
-    texts = [b"".join(chosen.choices(PIECES, k=chosen.randrange(1, 25))) for _ in range(RANDOM_TEXTS)]
+    texts = [b"".join(chosen.choices(WHOLE + SPOILT, WEIGHTS, k=chosen.randrange(1, 25))) for _ in range(RANDOM_TEXTS)]
     for at in range(0, RANDOM_TEXTS, TEXTS_AT_ONCE):
         yield Cut(f"random texts from {at} on", caller, texts[at : at + TEXTS_AT_ONCE])
 

@@ -135,6 +135,7 @@ class Looks(Room):
         os.unlink(self.room / "site/mails/3.eml")
         os.unlink(self.room / "site/mails/3.eml.expect")
         self.assertEqual(self.look()[-1], "0 of 1 verdict changed, 2 gone, 1 not as expected")
+        self.assertEqual([len(desk.mails) for desk in self.watch.desks.values()], [1])
 
     def test_envelopes(self) -> None:
         self.write({"site/personal/part.sieve": 'require "envelope"; if envelope "from" "a@b" { discard; }'})
