@@ -163,8 +163,8 @@ def of_page(room):
     write(room, {"run.sh": block("status=0\n").encode()})
     agree = lines(counted(1, 1, 1, 1, 0, 0, 0, 0))
     yield Run("the page of sites: its shell script", room, f"{found} sh run.sh && head -c 5 results.xml", agree + b"<?xml")
-    for form in ("github", "gitlab"):
-        steps = re.findall(r"^ *- (?:run: )?(bin/sievebench-site .*)", "".join(text for language, text in blocks() if language == "yaml" and (("runs-on" in text) == (form == "github"))), re.M)
+    for form, first in (("github", "runs-on: "), ("gitlab", "filters:\n")):
+        steps = re.findall(r"^ *- (?:run: )?(bin/sievebench-site .*)", block(first), re.M)
         yield Run(f"the page of sites: the job of {form}", room, f"{found} {' && '.join(steps)}", agree if form == "gitlab" else b"")
     if not shutil.which("git"):
         return
