@@ -7,7 +7,7 @@ import sys
 from .files import write
 from .runs import Run, lines
 
-SOURCE = pathlib.Path(__file__).resolve().parent.parent / "install"
+TOOLS = pathlib.Path(__file__).resolve().parent.parent
 # What it and the script for `rt` call: nothing else is in the path that it is given.
 COMMANDS = ["bash", "cat", "chmod", "dirname", "install", "mkdir", "mktemp", "mv", "realpath", "rm", "sed"]
 INSTALL = 'PATH="$PWD/kit" tools/install'
@@ -20,19 +20,20 @@ chmod 700 out/sievebench_cli
 OLD = {"p/bin/sievebench": b"#!/bin/sh\necho old\n"}
 # The tool for sites, with what makes one file of it, and pages of the manual with what is none.
 PACK = "tools/site/pack.py"
-SITE = {PACK: (SOURCE.parent / "site/pack.py").read_bytes(), "tools/site/__main__.py": b"import sievebench_site\n", "tools/site/sievebench_site/__init__.py": b'print("site")\n', "tools/site/other.py": b""}
+SCRIPTS = ["tools/install", "tools/programs", PACK]
+SITE = {**{it: (TOOLS.parent / it).read_bytes() for it in SCRIPTS}, "tools/completion.bash": b"completion\n", "tools/site/__main__.py": b"import sievebench_site\n", "tools/site/sievebench_site/__init__.py": b'print("site")\n', "tools/site/other.py": b""}
 PAGES = {"docs/man/sievebench.1": b"page\n", "docs/man/sievebench-session.5": b"page of lines\n", "docs/man/notes": b""}
 
 
 def copy(room, rt, files):
     """A folder with what is needed of a repository, a script for `rt`, if any, and other files."""
     top = room / str(len(list(room.iterdir())))
-    write(top, {"tools/install": SOURCE.read_bytes(), "crates/sievebench_cli/args": b"", **SITE, **({"kit/rt": rt} if rt else {}), **files})
+    write(top, {"crates/sievebench_cli/args": b"", **SITE, **({"kit/rt": rt} if rt else {}), **files})
     (top / "kit").mkdir(exist_ok=True)
     for command in COMMANDS:
         (top / "kit" / command).symlink_to(shutil.which(command))
     (top / "kit/python3").symlink_to(sys.executable)
-    for path in ["tools/install", PACK, "kit/rt", "p/bin/sievebench"]:
+    for path in [*SCRIPTS, "kit/rt", "p/bin/sievebench"]:
         if (top / path).is_file():
             (top / path).chmod(0o755)
     return top
@@ -51,7 +52,8 @@ def of_successes(room):
     top = copy(room, BUILDS, {})
     here = os.fsencode(os.path.realpath(top))
     used = "find 'a b' -type f | LC_ALL=C sort; 'a b/bin/sievebench' x; eval \"$(grep export told)\"; sievebench y; sievebench-site"
-    found = lines("0", "a b/bin/sievebench", "a b/bin/sievebench-site", "new x", "new y", "site")
+    completions = [f"share/bash-completion/completions/{name}" for name in ("sievebench", "sievebench-site")]
+    found = lines("0", "a b/bin/sievebench", "a b/bin/sievebench-site", *(f"a b/{it}" for it in completions), "new x", "new y", "site")
     yield Run("an install into a folder that isn't there", top, f"{INSTALL} 'a b' > told; echo $?; {used}", found)
     told = [b"installed as %s/a b/bin/sievebench.\n" % here, b"28 minutes", b"6 GB of disk", b"3 GB of memory"]
     told += [b"rt run -- --version, in sievebench_cli\n", b"The program is %s/a b/bin/sievebench.\n" % here, b"Beside it is sievebench-site"]
@@ -68,7 +70,7 @@ def of_successes(room):
     here = os.fsencode(os.path.realpath(top))
     other = b"The path has another one before it, %s/p/bin/sievebench.\n" % here
     yield Run("an install where the path has another", top, 'PATH="$PWD/kit:$PWD/p/bin" tools/install q | tail -n 1', other)
-    pages = ["p/share/man/man1/sievebench.1", "p/share/man/man5/sievebench-session.5"]
+    pages = [*(f"p/{it}" for it in completions), "p/share/man/man1/sievebench.1", "p/share/man/man5/sievebench-session.5"]
     found = lines("0", "p/bin/sievebench", "p/bin/sievebench-site", *pages, "new x", "page", "page of lines")
     used = "find p -type f | LC_ALL=C sort; p/bin/sievebench x; cat p/share/man/man1/* p/share/man/man5/*"
     yield Run("an install over an older one, with pages of the manual", top, f"{INSTALL} p > told; echo $?; {used}", found)
@@ -79,15 +81,15 @@ def of_successes(room):
 def of_failures(room):
     """What isn't installed: what was there before stays as it was."""
     fails, calls = b"#!/bin/sh\nexit 7\n", b"#!/bin/sh\necho called\n"
-    failed = [b"install: rt failed with status 7, so nothing is installed\n"]
+    failed = [b"install: tools/programs failed with status 7, so nothing is installed\n"]
     old = lines("p/bin/sievebench") + OLD["p/bin/sievebench"]
     used = "find p -type f; cat p/bin/*"
     for title, rt, files, words, output, error in [
         ("proofs fail", fails, {}, "p > told; echo $?; find . -name p", b"7\n", failed),
         ("proofs fail, over an older one", fails, OLD, f"p > told; echo $?; {used}", b"7\n" + old, failed),
-        ("no program is built", b"#!/bin/sh\n", OLD, f"p > told; echo $?; {used}", b"1\n" + old, [b"out/sievebench_cli"]),
+        ("no program is built", b"#!/bin/sh\n", OLD, f"p > told; echo $?; {used}", b"1\n" + old, [b"out/sievebench_cli", b"status 1"]),
         ("a page can't be copied", BUILDS, {**OLD, "docs/man/1.1/x": b""}, f"p > told; echo $?; {used}", b"1\n" + old, [b"docs/man/1.1"]),
-        ("the tool for sites can't be made", BUILDS, {**OLD, PACK: b"#!/bin/sh\necho no >&2\nexit 5\n"}, f"p > told; echo $?; {used}", b"5\n" + old, [b"no\n"]),
+        ("the tool for sites can't be made", BUILDS, {**OLD, PACK: b"#!/bin/sh\necho no >&2\nexit 5\n"}, f"p > told; echo $?; {used}", b"5\n" + old, [b"no\n", b"status 5"]),
         ("the folder of pages is a file", calls, {**OLD, **PAGES, "p/share": b""}, "p; echo $?; find p -type f | sort", lines("1", "p/bin/sievebench", "p/share"), [b"install: cannot write to ", b"/p/share\n"]),
         ("the place of the tool for sites is a folder", calls, {"p/bin/sievebench-site/x": b""}, "p; echo $?; find p -type f", b"1\np/bin/sievebench-site/x\n", [b"/p/bin/sievebench-site is a folder\n"]),
         ("there is no rt", None, OLD, f"p; echo $?; {used}", b"1\n" + old, [b"install: there is no rt in the path"]),

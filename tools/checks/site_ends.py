@@ -80,7 +80,6 @@ def of_ends(room):
         yield Run("sievebench-site: a link into another file system", room, f"python3 {shlex.quote(str(TOOL))} record linked; cat {far}; test -L linked/mails/1.eml.expect && rm {far}", lines("linked/mails/1.eml.expect: changed", "1 mails, 1 written, 0 left") + DISCARDS)
     closed = f"python3 {shlex.quote(str(TOOL))} check slow --program sievebench >&-; echo $?"
     yield Run("sievebench-site: an output that is closed from the start", room, f"{{ {closed}; }} 2>&1 >told; cat told", lines("1"))
-    yield Run("sievebench-site: the version, and that of the program", room, f'[ "$(python3 {shlex.quote(str(TOOL))} --version)" = "sievebench-site 0.1.0, with $(sievebench --version)" ]')
     yield run("colours are none where there is no terminal, and -q", room, "check -q slow --program sievebench", lines("slow/mails/1.eml under main: nothing is expected"), status=1)
 
 

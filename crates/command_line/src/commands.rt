@@ -11,7 +11,7 @@ use clap::{Arg, ArgAction, Command};
 use std::alloc::{AllocError, Global};
 
 /// The version that `--version` answers.
-const VERSION: &str = "0.1.0";
+const VERSION: &str = "0.2.0";
 
 // A path that must be there, under the name `id`.
 fn path_argument<'a>(alloc: Global, id: &'a str, value: &'a str, help: &'a str) -> Arg<'a>

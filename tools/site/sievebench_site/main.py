@@ -23,7 +23,7 @@ from .record import record
 from .shown import look_of
 from .words import quoted
 
-VERSION = "0.1.0"
+VERSION = "0.2.0"
 
 
 def program_of(options: argparse.Namespace, site: Site) -> Program:

@@ -1,0 +1,139 @@
+"""What `tools/package` makes, and what it is to install, run, upgrade and remove it, in copies of the repository; and the versions of programs.
+
+In the place of `rt` stands a script that hands on the program of the path, with the version of the copy, so that nothing is proved.
+"""
+import os
+import pathlib
+import re
+import shutil
+import subprocess
+import sys
+
+from .runs import Run, lines
+
+TOP = pathlib.Path(__file__).resolve().parent.parent.parent
+VERSION = re.search(r"^## \[(\S+)\]", (TOP / "CHANGELOG.md").read_text(encoding="utf-8"), re.M)[1]
+NEXT = f"{VERSION[:-1]}{(int(VERSION[-1]) + 1) % 10}"
+COMMANDS = "crates/command_line/src/commands.rt"
+PARTS = ["CHANGELOG.md", "README.md", "docs", "examples", "tools", COMMANDS]
+# The versions have as many octets, so that one can stand for the other in a program.
+HANDS_ON = rf"""#!/bin/sh
+mkdir -p out
+version=$(sed -nE 's/^const VERSION: &str = "([^" ]*).*/\1/p' ../command_line/src/commands.rt)
+LC_ALL=C sed "s/{re.escape(VERSION)}/$version/g" "$(command -v sievebench)" > out/sievebench_cli
+chmod 700 out/sievebench_cli
+"""
+SAYS = r"""#!/bin/sh
+mkdir -p out
+sed -nE 's/^const VERSION: &str = "(.*)";/#!\/bin\/sh\necho sievebench \1/p' ../command_line/src/commands.rt > out/sievebench_cli
+chmod 700 out/sievebench_cli
+"""
+GIT = "git -c user.name=Ada -c user.email=ada@a.example -c commit.gpgsign=false"
+# A folder that dpkg takes for a system: what the package depends on is there, as on this machine.
+SYSTEM = r"""
+mkdir -p root/var/lib/dpkg/info root/var/lib/dpkg/updates
+for it in "libc6 $(getconf GNU_LIBC_VERSION | cut -d ' ' -f 2)" "python3 $(python3 -c 'import platform; print(platform.python_version())')"; do
+    printf 'Package: %s\nStatus: install ok installed\nMaintainer: Ada <ada@a.example>\nArchitecture: all\nVersion: %s\nDescription: a stand-in\n\n' $it
+done > root/var/lib/dpkg/status
+"""
+DPKG = 'PATH="$PATH:/usr/sbin:/sbin" dpkg --root="$PWD/root" --force-not-root --force-bad-path --log=/dev/null'
+SITE = "6 mails, 2 mains, 12 verdicts, 12 agree, 0 disagree, 0 without expectation, 0 stale expectations, 0 scripts with a fault"
+COMPLETES = """bash -c 'source "$0"; COMP_WORDS=("$@"); COMP_CWORD=$(($# - 1)); _sievebench "$1" "${@: -1}" "${@: -2:1}"; printf "%s\\n" "${COMPREPLY[@]}"' """
+
+
+def copy(room, rt):
+    """A repository of one commit with the parts that a package is made of."""
+    top = room / str(len(list(room.iterdir())))
+    for part in PARTS:
+        place = top / part
+        place.parent.mkdir(parents=True, exist_ok=True)
+        ignored = shutil.ignore_patterns("__pycache__", "out")
+        shutil.copytree(TOP / part, place, ignore=ignored) if (TOP / part).is_dir() else shutil.copy(TOP / part, place)
+    (top / "crates/sievebench_cli").mkdir()
+    (top / "crates/sievebench_cli/args").write_text("session\n")
+    (top / ".gitignore").write_text("out/\nkit/\nroot/\n")
+    (top / "kit").mkdir()
+    (top / "kit/rt").write_text(rt)
+    (top / "kit/rt").chmod(0o755)
+    env = {**os.environ, "GIT_AUTHOR_DATE": "1783245600 +0200", "GIT_COMMITTER_DATE": "1783245600 +0200"}
+    subprocess.run(f"git init -q -b main; git add -A; {GIT} commit -q -m one", shell=True, cwd=top, env=env, check=True)
+    return top
+
+
+def of_packages(room):
+    """All of them. Where there is no dpkg, packages are left out."""
+    room = room / "packages"
+    room.mkdir()
+    yield from of_versions(room)
+    if shutil.which("dpkg-deb"):
+        yield from of_made(room)
+        yield from of_installed(room)
+        yield from of_refusals(room)
+    else:
+        print("there is no dpkg-deb: packages are left out", file=sys.stderr)
+
+
+def of_versions(room):
+    """Both programs have the version of the newest changes, and where they are built of a commit, they say which."""
+    says = rf"{re.escape(VERSION)}( \([0-9a-f]{{12}}(-dirty)?\))?"
+    yield Run("the version of the program", room, f"sievebench --version | grep -cxE 'sievebench {says}'", b"1\n")
+    site = TOP / "tools/sievebench-site"
+    yield Run("the version of the tool for sites", room, f"'{site}' --version | grep -cxE 'sievebench-site {says}, with sievebench {says}'", b"1\n")
+    top = copy(room, SAYS)
+    builds = 'mkdir -p out; PATH="$PWD/kit:$PATH" tools/programs out && out/sievebench --version && out/sievebench-site --version'
+    both = f"commit=$(git rev-parse --short=12 HEAD); {builds} | sed s/$commit/COMMIT/g"
+    told = lines(f"sievebench {VERSION} (COMMIT)", f"sievebench-site {VERSION} (COMMIT), with sievebench {VERSION} (COMMIT)")
+    yield Run("the commit of programs", top, both, told)
+    yield Run("nothing is changed in the files that are built of a commit", top, "git status --porcelain; git stash list")
+    changed = f"echo '# more' >> tools/site/sievebench_site/why.py; {both}; tail -n 1 tools/site/sievebench_site/why.py"
+    yield Run("the commit of programs with changes", top, changed, told.replace(b"COMMIT", b"COMMIT-dirty") + b"# more\n")
+    without = f"rm -rf .git; {builds}"
+    yield Run("programs without a repository", top, without, lines(f"sievebench {VERSION}", f"sievebench-site {VERSION}, with sievebench {VERSION}"))
+
+
+def of_made(room):
+    """Equal commits give equal octets, and the package says what it needs."""
+    one, other = copy(room, HANDS_ON), copy(room, HANDS_ON)
+    makes = 'PATH="$PWD/kit:$PATH" tools/package > told'
+    yield Run("a package", one, f"{makes}; echo $?; cd out && ls && sha256sum --quiet -c SHA256SUMS", [b"0\n", b"SHA256SUMS\n", f"sievebench_{VERSION}_".encode(), f"sievebench-{VERSION}-linux-".encode()])
+    again = f"umask 077; sleep 1; find . -name .git -prune -o -exec touch {{}} +; {makes}; cmp out/SHA256SUMS {one}/out/SHA256SUMS && cmp out/*.deb {one}/out/*.deb && cmp out/*.gz {one}/out/*.gz"
+    yield Run("the same package of the same commit elsewhere, later and with another mask", other, again)
+    needs = "dpkg-deb --field out/*.deb Depends | grep -cxE 'libc6 \\(>= 2\\.[0-9]+\\), python3 \\(>= 3\\.8\\)'"
+    yield Run("what a package depends on", one, needs, b"1\n")
+    newest = "objdump -T \"$(command -v sievebench)\" | grep -oE 'GLIBC_[0-9.]+' | sort -Vu | tail -n 1 | cut -c 7-"
+    if shutil.which("objdump"):
+        yield Run("the glibc that a package asks for is that of the program's newest symbol", one, f"dpkg-deb --field out/*.deb Depends | grep -cF \"(>= $({newest}))\"", b"1\n")
+    if shutil.which("lintian"):
+        # Whoever builds it has no address of the archive's maintainers, and no licence has been chosen.
+        yield Run("lintian finds no error", one, "LC_ALL=C lintian --allow-root --fail-on error --tag-display-limit 0 out/*.deb > lintian.told 2>&1 || cat lintian.told")
+    unpacked = "mkdir p && tar -C p --strip-components=1 -xf out/*.tar.gz && p/bin/sievebench-site check p/share/doc/sievebench/examples/site; find p -type f -perm /022; ls p p/share/man/man5"
+    yield Run("the archive over a prefix", one, unpacked, lines(SITE, "p:", "bin", "share", "", "p/share/man/man5:", "sievebench-session.5.gz"))
+    completes = f"{COMPLETES} p/share/bash-completion/completions/sievebench"
+    for words, wanted in [("p/bin/sievebench d", "dump"), ("p/bin/sievebench dump --w", "--with"), ("p/bin/sievebench test --with body,e", "body,encoded-character body,envelopes body,ereject"), ("p/bin/sievebench-site unt", "untested"), ("p/bin/sievebench-site check --format s", "sarif")]:
+        yield Run(f"completion of {words[2:]}", one, f"{completes} {words}", lines(*wanted.split()))
+
+
+def of_installed(room):
+    """A package in a system of its own: installed, run, upgraded and removed."""
+    top = copy(room, HANDS_ON)
+    makes = 'PATH="$PWD/kit:$PATH" tools/package > told'
+    checks = 'PATH="$PWD/root/usr/bin:$PATH" root/usr/bin/sievebench-site check root/usr/share/doc/sievebench/examples/site'
+    yield Run("a package is installed and run", top, f"{makes}; {SYSTEM} {DPKG} -i out/*.deb > told && {checks} && man -l root/usr/share/man/man1/sievebench.1.gz | grep -c '^NAME'", lines(SITE, "1"))
+    newer = f"sed -i s/{re.escape(VERSION)}/{NEXT}/ CHANGELOG.md {COMMANDS} tools/site/sievebench_site/main.py; rm out/*; {GIT} commit -qam two; {makes}"
+    yield Run("it is upgraded", top, f"{newer}; {DPKG} -i out/*.deb > told && root/usr/bin/sievebench --version | cut -c 1-{len('sievebench ') + len(NEXT)} && {checks}", lines(f"sievebench {NEXT}", SITE))
+    left = f"{DPKG} --purge sievebench > told; find root -path root/var/lib/dpkg -prune -o ! -type d -print; find root -name '*sievebench*'"
+    yield Run("it is removed, and nothing of it is left", top, left)
+
+
+def of_refusals(room):
+    """What no package is made of."""
+    made = 'PATH="$PWD/kit:$PATH" tools/package {}; echo $?; ls out 2> /dev/null'
+    differ = b"package: tracked files differ from the commit, or this is no repository of git: a package is made of a commit\n"
+    for title, before, words, status, error in [
+        ("files differ from the commit", "echo >> README.md", "", 1, differ),
+        ("there is no repository", "rm -rf .git", "", 1, differ),
+        ("proofs fail", "printf '#!/bin/sh\\nexit 7\\n' > kit/rt", "", 7, [b"package: tools/programs failed with status 7, so nothing is packed\n"]),
+        ("an option is unknown", ":", "--deb", 1, [b"package: one word at most is wanted"]),
+        ("two words are given", ":", "a b", 1, [b"package: one word at most is wanted"]),
+    ]:
+        yield Run(f"no package where {title}", copy(room, HANDS_ON), f"{before}; {made.format(words)}", lines(status), error)
