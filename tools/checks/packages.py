@@ -25,7 +25,7 @@ chmod 700 out/sievebench_cli
 """
 SAYS = r"""#!/bin/sh
 mkdir -p out
-sed -nE 's/^const VERSION: &str = "(.*)";/#!\/bin\/sh\necho sievebench \1/p' ../command_line/src/commands.rt > out/sievebench_cli
+sed -nE 's/^const VERSION: &str = "(.*)";/#!\/bin\/sh\necho "sievebench \1"/p' ../command_line/src/commands.rt > out/sievebench_cli
 chmod 700 out/sievebench_cli
 """
 GIT = "git -c user.name=Ada -c user.email=ada@a.example -c commit.gpgsign=false"
@@ -51,7 +51,7 @@ def copy(room, rt):
         shutil.copytree(TOP / part, place, ignore=ignored) if (TOP / part).is_dir() else shutil.copy(TOP / part, place)
     (top / "crates/sievebench_cli").mkdir()
     (top / "crates/sievebench_cli/args").write_text("session\n")
-    (top / ".gitignore").write_text("out/\nkit/\nroot/\n")
+    (top / ".gitignore").write_text("out/\nkit/\nroot/\ntold\n")
     (top / "kit").mkdir()
     (top / "kit/rt").write_text(rt)
     (top / "kit/rt").chmod(0o755)
@@ -79,8 +79,10 @@ def of_versions(room):
     yield Run("the version of the program", room, f"sievebench --version | grep -cxE 'sievebench {says}'", b"1\n")
     site = TOP / "tools/sievebench-site"
     yield Run("the version of the tool for sites", room, f"'{site}' --version | grep -cxE 'sievebench-site {says}, with sievebench {says}'", b"1\n")
+    named = "grep -ohE 'sievebench[-_][0-9]+\\.[0-9]+\\.[0-9]+' README.md docs/SITE.md | sort -u"
+    yield Run("the version that documents name", TOP, named, lines(f"sievebench-{VERSION}", f"sievebench_{VERSION}"))
     top = copy(room, SAYS)
-    builds = 'mkdir -p out; PATH="$PWD/kit:$PATH" tools/programs out && out/sievebench --version && out/sievebench-site --version'
+    builds = 'mkdir -p out; PATH="$PWD/kit:$PATH" tools/programs out > told && { out/sievebench --version; out/sievebench-site --version; }'
     both = f"commit=$(git rev-parse --short=12 HEAD); {builds} | sed s/$commit/COMMIT/g"
     told = lines(f"sievebench {VERSION} (COMMIT)", f"sievebench-site {VERSION} (COMMIT), with sievebench {VERSION} (COMMIT)")
     yield Run("the commit of programs", top, both, told)
@@ -109,8 +111,14 @@ def of_made(room):
     unpacked = "mkdir p && tar -C p --strip-components=1 -xf out/*.tar.gz && p/bin/sievebench-site check p/share/doc/sievebench/examples/site; find p -type f -perm /022; ls p p/share/man/man5"
     yield Run("the archive over a prefix", one, unpacked, lines(SITE, "p:", "bin", "share", "", "p/share/man/man5:", "sievebench-session.5.gz"))
     completes = f"{COMPLETES} p/share/bash-completion/completions/sievebench"
-    for words, wanted in [("p/bin/sievebench d", "dump"), ("p/bin/sievebench dump --w", "--with"), ("p/bin/sievebench test --with body,e", "body,encoded-character body,envelopes body,ereject"), ("p/bin/sievebench-site unt", "untested"), ("p/bin/sievebench-site check --format s", "sarif")]:
-        yield Run(f"completion of {words[2:]}", one, f"{completes} {words}", lines(*wanted.split()))
+    for words, wanted in [
+        ("p/bin/sievebench d", ["dump"]),
+        ("p/bin/sievebench dump --w", ["--with"]),
+        ("p/bin/sievebench test --with body,e", ["body,encoded-character", "body,envelopes", "body,ereject"]),
+        ("p/bin/sievebench-site unt", ["untested"]),
+        ("p/bin/sievebench-site check --format s", ["sarif"]),
+    ]:
+        yield Run(f"completion of {words}", one, f"{completes} {words}", lines(*wanted))
 
 
 def of_installed(room):
@@ -127,7 +135,7 @@ def of_installed(room):
 
 def of_refusals(room):
     """What no package is made of."""
-    made = 'PATH="$PWD/kit:$PATH" tools/package {}; echo $?; ls out 2> /dev/null'
+    made = 'PATH="$PWD/kit:$PATH" tools/package {}; echo $?; find . -name "*.deb"'
     differ = b"package: tracked files differ from the commit, or this is no repository of git: a package is made of a commit\n"
     for title, before, words, status, error in [
         ("files differ from the commit", "echo >> README.md", "", 1, differ),

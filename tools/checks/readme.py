@@ -1,7 +1,7 @@
 """The commands of the README, run at the top of the repository as they stand there.
 
-A block ```` ```sh ```` holds commands, and the block without a word that follows it holds what they print. Commands that prove have
-none: they aren't run, but their files must be executable. In the place of `rt try`, which builds a program without proofs and runs it in
+A block ```` ```sh ```` holds commands, and the block without a word that follows it holds what they print. Commands that prove or install
+have none: they aren't run, but files of the repository must be executable, and a package is of the newest version. In the place of `rt try`, which builds a program without proofs and runs it in
 a folder of its own, stands a script that runs the program that is tested.
 """
 import os
@@ -9,10 +9,12 @@ import pathlib
 import re
 import shlex
 
+from .packages import VERSION
 from .runs import Run
 
 TOP = pathlib.Path(__file__).resolve().parent.parent.parent
-PROVE = ["tools/install", ".ci/run", "tools/check"]
+PROVE = ["tools/install", "tools/package", ".ci/run", "tools/check"]
+INSTALL = f"sudo apt install ./sievebench_{VERSION}_amd64.deb"
 BLOCK = re.compile(r"^```sh\n(.*?)^```\n(?:\n```\n(.*?)^```\n)?", re.M | re.S)
 TRY = """#!/bin/sh
 [ "${PWD##*/} $1 $2" = "sievebench_cli try --" ] || exit 70
@@ -29,6 +31,8 @@ class Proving:
 
     def differences(self, path):
         """What is missing for it to be run, or to be told."""
+        if self.command == INSTALL:
+            return []
         file = shlex.split(self.command, comments=True)[0]
         if file not in PROVE:
             return ["no block behind it holds what it prints"]
