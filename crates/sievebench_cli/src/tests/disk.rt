@@ -22,6 +22,11 @@ fn given_at<'a>(paths: Paths<'a>, path: &str) -> Option<Given<'a>> {
     None
 }
 
+/// Whether a path is one of these.
+fn is_one_of(paths: Paths<'_>, path: &str) -> bool {
+    paths.iter().any(|(place, _)| *place == path)
+}
+
 /// An open file.
 #[derive(Drop)]
 pub(crate) struct Opened<'a> {
@@ -91,9 +96,9 @@ impl<'a> Files for Machine<'a> {
         if let Some(given) = given_at(self.files, path) {
             return Ok(Metadata::of_file(given.octets.len() as u64));
         }
-        match given_at(self.folders, path) {
-            Some(_) => Ok(Metadata::of_dir()),
-            None => Err(io::Error::from(ErrorKind::NotFound)),
+        match is_one_of(self.folders, path) {
+            true => Ok(Metadata::of_dir()),
+            false => Err(io::Error::from(self.missing)),
         }
     }
 

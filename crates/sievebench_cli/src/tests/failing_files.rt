@@ -2,7 +2,7 @@
 
 use super::holds;
 use super::machine::{Given, Machine, Paths, Room, Written};
-use super::program::{check_written, whole};
+use super::program::{KINDS, check_kept, check_written, failing, whole};
 use std::alloc::{AllocError, Global};
 use std::io::ErrorKind;
 use std::process::Abort;
@@ -47,51 +47,102 @@ fn check_failing(
     check_written(rt, at, &written, b"", errors.as_bytes())
 }
 
-/// Octets that come at once, and then fail.
-fn failing(octets: &[u8]) -> Given<'_> {
-    Given {
-        octets,
-        piece: 65_536,
-        fails: true,
-    }
-}
-
-/// Compares a dump whose script fails.
-fn check_failing_dump(rt: &(impl AllocGlobal + Abort)) -> Result<(), Fail> {
-    let words: [&[u8]; 3] = [b"sievebench", b"dump", b"c.sieve"];
-    let files = [("c.sieve", failing(b"keep;"))];
-    let told = "sievebench: cannot read \"c.sieve\"\n";
-    check_failing(rt, &words, &[], &files, ErrorKind::NotFound, 3, told)
-}
-
-/// Compares a test with a folder of scripts, where something fails.
+/// Compares a test with a folder of scripts, where something fails in such a way.
 fn check_failing_folder(
     rt: &(impl AllocGlobal + Abort),
     folders: Paths<'_>,
     files: Paths<'_>,
+    missing: ErrorKind,
     errors: &str,
 ) -> Result<(), Fail> {
     let words: [&[u8]; 6] = [b"x", b"test", b"--personal", b"p", b"a.sieve", b"m"];
-    check_failing(rt, &words, folders, files, ErrorKind::NotFound, 3, errors)
+    check_failing(rt, &words, folders, files, missing, 3, errors)
+}
+
+/// Compares runs of which a file or a folder fails in such a way while it is read, or when it is looked at.
+fn check_named(rt: &(impl AllocGlobal + Abort), kind: ErrorKind) -> Result<(), Fail> {
+    let words: [&[u8]; 3] = [b"sievebench", b"dump", b"c.sieve"];
+    let files = [("c.sieve", failing(b"keep;", kind))];
+    let told = "sievebench: cannot read \"c.sieve\"\n";
+    check_failing(rt, &words, &[], &files, kind, 3, told)?;
+    let stops = ("", whole(b"stop;"));
+    let broken = [("p/", failing(b"a.sieve\0", kind))];
+    let folder = "sievebench: cannot read \"p\"\n";
+    check_failing_folder(rt, &broken, &[stops], kind, folder)?;
+    let listed = [("p/", whole(b"b.sieve\0a.sieve\0"))];
+    let files = [("p/a.sieve", failing(b"", kind)), stops];
+    let first = "sievebench: cannot read \"p/a.sieve\"\n";
+    check_failing_folder(rt, &listed, &files, kind, first)?;
+    check_failing_folder(rt, &listed, &[("a.sieve", whole(b"stop;"))], kind, first)
 }
 
 #[test]
 fn a_file_that_fails_is_named(rt: HostRuntime) -> Result<(), Fail> {
-    check_failing_dump(&rt)?;
-    let broken = failing(b"a.sieve\0");
-    let stops = ("", whole(b"stop;"));
-    check_failing_folder(
-        &rt,
-        &[("p/", broken)],
-        &[stops],
-        "sievebench: cannot read \"p\"\n",
-    )?;
-    check_failing_folder(
-        &rt,
-        &[("p/", whole(b"b.sieve\0a.sieve\0"))],
-        &[("p/a.sieve", broken), stops],
-        "sievebench: cannot read \"p/a.sieve\"\n",
-    )
+    for kind in KINDS {
+        check_named(&rt, kind)?;
+    }
+    Ok(())
+}
+
+/// Compares a test whose folder lists a name that leads nowhere: it is passed over.
+fn check_passed_over(rt: &(impl AllocGlobal + Abort), kind: ErrorKind) -> Result<(), Fail> {
+    let at = ("a name that leads nowhere", 0);
+    let written = Written::new(rt.alloc());
+    let words: [&[u8]; 6] = [b"x", b"test", b"--personal", b"p", b"a.sieve", b"m"];
+    let folders = [("p/", whole(b"b.sieve\0"))];
+    let files = [("a.sieve", whole(b"stop;")), ("m", whole(b""))];
+    let status = failing_status(rt.alloc(), &words, &folders, &files, kind, &written);
+    holds(rt, at, status == 0);
+    check_kept(rt, at, &written.errors, b"")
+}
+
+#[test]
+fn a_name_that_leads_nowhere_is_passed_over(rt: HostRuntime) -> Result<(), Fail> {
+    check_passed_over(&rt, ErrorKind::NotFound)?;
+    check_passed_over(&rt, ErrorKind::NotADirectory)?;
+    check_passed_over(&rt, ErrorKind::FilesystemLoop)
+}
+
+/// What a test reads first of what isn't there is what it names: the list of mailboxes, the folders, the script, and at last the message.
+#[test]
+fn files_are_read_in_the_order_of_the_manual(rt: HostRuntime) -> Result<(), Fail> {
+    let words: [&[u8]; 12] = [
+        b"x",
+        b"test",
+        b"--with",
+        b"mailbox",
+        b"--mailboxes",
+        b"boxes",
+        b"--personal",
+        b"p",
+        b"--global",
+        b"g",
+        b"a.sieve",
+        b"mail",
+    ];
+    let folders = [("p/", whole(b"")), ("g/", whole(b""))];
+    let files = [("boxes", whole(b"")), ("a.sieve", whole(b""))];
+    let rows = [
+        (0, 0, "boxes"),
+        (0, 1, "p"),
+        (1, 1, "g"),
+        (2, 1, "a.sieve"),
+        (2, 2, "mail"),
+    ];
+    for (folder, file, name) in rows {
+        let errors = format!(in rt.alloc(); "sievebench: cannot read \"{name}\"\n")?;
+        let kind = ErrorKind::NotFound;
+        check_failing(
+            &rt,
+            &words,
+            &folders[..folder],
+            &files[..file],
+            kind,
+            3,
+            errors.as_str(),
+        )?;
+    }
+    Ok(())
 }
 
 /// A file that is refused for want of memory is no file that can't be read.
@@ -107,7 +158,7 @@ fn a_read_without_memory_is_told(rt: HostRuntime) -> Result<(), Fail> {
 fn large_files_are_refused(rt: HostRuntime) -> Result<(), Fail> {
     let large = vec![in rt.alloc(); b' '; 1_048_577]?;
     let words: [&[u8]; 3] = [b"x", b"dump", b"a"];
-    let files = [("a", failing(large.as_slice()))];
+    let files = [("a", failing(large.as_slice(), ErrorKind::Other))];
     let told = "sievebench: too large \"a\"\n";
     check_failing(&rt, &words, &[], &files, ErrorKind::NotFound, 2, told)
 }

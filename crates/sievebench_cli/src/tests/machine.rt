@@ -37,16 +37,17 @@ pub(crate) struct Given<'a> {
     pub octets: &'a [u8],
     /// How many octets a read gives at most.
     pub piece: usize,
-    pub fails: bool,
+    /// How a read fails after the last octet, if it does.
+    pub fails: Option<ErrorKind>,
 }
 
 impl Given<'_> {
-    /// Gives the next octets, or fails behind the last.
+    /// Gives the next octets, or fails after the last.
     pub(crate) fn give(&mut self, buf: &mut [u8]) -> io::Result<usize>
         ensures { ReadsAtMost result buf.new }
     {
-        if self.octets.is_empty() && self.fails {
-            return Err(io::Error::from(ErrorKind::ConnectionReset));
+        if let (true, Some(kind)) = (self.octets.is_empty(), self.fails) {
+            return Err(io::Error::from(kind));
         }
         let octets = self.octets;
         let len = octets.len().min(self.piece).min(buf.len());
@@ -95,7 +96,7 @@ pub(crate) struct Machine<'a> {
     pub files: Paths<'a>,
     /// The folders by their paths with a slash: the names in them, with a NUL behind each.
     pub folders: Paths<'a>,
-    /// How a file fails that is not there.
+    /// How a file fails that is not there, whatever is asked of it.
     pub missing: ErrorKind,
     pub room: Room,
     pub written: &'a Written,

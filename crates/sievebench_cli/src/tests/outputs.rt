@@ -5,8 +5,11 @@ use super::program::{
     SESSION_WORDS, check_kept, check_steps, check_written, lines_of, status_with, whole,
 };
 use super::{At, holds};
+use crate::streams::Output;
 use std::alloc::Global;
-use std::io::ErrorKind;
+use std::cell::RefCell;
+use std::io;
+use std::io::{ErrorKind, Write};
 use std::process::Abort;
 use std::test::Fail;
 
@@ -43,7 +46,7 @@ fn check_failure(
     let input = Given {
         octets,
         piece,
-        fails: false,
+        fails: None,
     };
     let room = Room {
         octets: 1_000,
@@ -176,4 +179,39 @@ fn a_dump_is_written_once(rt: HostRuntime) -> Result<(), Fail> {
     let at = ("a dump", 0);
     holds(&rt, at, status == 3);
     check_written_by(&rt, at, &written, (b"", COMPLAINT), &[0])
+}
+
+/// A device that takes all, and of which a flush fails: how often it was flushed.
+#[derive(Drop)]
+struct Flushed<'a> {
+    count: &'a RefCell<usize>,
+}
+
+impl Write for Flushed<'_> {
+    fn write(&mut self, buf: &[u8]) -> io::Result<usize> {
+        Ok(buf.len())
+    }
+
+    fn flush(&mut self) -> io::Result<()> {
+        *self.count.try_borrow_mut()? += 1;
+        Err(io::Error::from(ErrorKind::Other))
+    }
+}
+
+/// An output of which a flush failed is asked nothing more.
+#[test]
+fn a_flush_that_failed_is_not_tried_again(rt: HostRuntime) -> Result<(), Fail> {
+    let at = ("flushes", 0);
+    let count = RefCell::new(0);
+    let device = Flushed { count: &count };
+    let mut held = Output::held(rt.alloc(), device)?;
+    holds(&rt, at, held.flush().is_err());
+    holds(&rt, at, held.flush().is_err());
+    holds(
+        &rt,
+        at,
+        held.write_all(b"x").is_ok() && held.flush().is_err(),
+    );
+    holds(&rt, at, *count.try_borrow()? == 1);
+    Ok(())
 }

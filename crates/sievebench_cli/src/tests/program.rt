@@ -2,13 +2,14 @@
 
 use super::machine::{Given, Machine, Room, Written};
 use super::{At, holds, same};
-use crate::{answer_usage, complaint_of};
+use crate::{SESSION_TURNS, answer_usage, complaint_of};
 use sievebench::{SessionEnd, UsageFault};
 use std::alloc::{AllocError, Global};
 use std::cell::RefCell;
 use std::fmt::Debug;
 use std::io::ErrorKind;
 use std::process::Abort;
+use std::str;
 use std::test::Fail;
 
 /// The words that ask for a session.
@@ -23,7 +24,7 @@ pub(crate) fn whole(octets: &[u8]) -> Given<'_> {
     Given {
         octets,
         piece: 65_536,
-        fails: false,
+        fails: None,
     }
 }
 
@@ -88,25 +89,59 @@ fn check_run(
     check_written(rt, at, &written, output, errors)
 }
 
-/// Runs a session whose input fails behind the octets, and compares.
+/// Octets that come at once, and then fail.
+pub(crate) fn failing(octets: &[u8], kind: ErrorKind) -> Given<'_> {
+    Given {
+        octets,
+        piece: 65_536,
+        fails: Some(kind),
+    }
+}
+
+/// Ways in which a device fails, but for those that have a meaning of their own.
+pub(crate) const KINDS: [ErrorKind; 8] = [
+    ErrorKind::BrokenPipe,
+    ErrorKind::ConnectionReset,
+    ErrorKind::InvalidData,
+    ErrorKind::IsADirectory,
+    ErrorKind::Other,
+    ErrorKind::PermissionDenied,
+    ErrorKind::TimedOut,
+    ErrorKind::UnexpectedEof,
+];
+
+/// Runs a session whose input fails after the octets, and compares.
 fn check_failing_input(
     rt: &(impl AllocGlobal + Abort),
     octets: &[u8],
+    kind: ErrorKind,
     output: &[u8],
 ) -> Result<(), Fail> {
     let errors = b"sievebench: cannot read standard input\n";
-    let input = Given {
-        octets,
-        piece: 65_536,
-        fails: true,
-    };
-    check_run(rt, input, 1_000, 3, output, errors)
+    check_run(rt, failing(octets, kind), 1_000, 3, output, errors)
 }
 
 #[test]
 fn an_input_that_fails_is_told(rt: HostRuntime) -> Result<(), Fail> {
-    check_failing_input(&rt, b"", b"")?;
-    check_failing_input(&rt, b"message m 0\nreport", b"ok\n")
+    for kind in KINDS {
+        check_failing_input(&rt, b"", kind, b"")?;
+        check_failing_input(&rt, b"message m 0\nreport", kind, b"ok\n")?;
+    }
+    Ok(())
+}
+
+/// The help names as many reads as a session may make.
+#[test]
+fn the_help_names_how_many_reads_there_may_be(rt: HostRuntime) -> Result<(), Fail> {
+    let written = Written::new(rt.alloc());
+    let words: [&[u8]; 2] = [b"sievebench", b"--help"];
+    let status = status_with(rt.alloc(), &words, whole(b""), Room::of(1), &written);
+    holds(&rt, ("help", 0), status == 0);
+    let told = format!(in rt.alloc(); "a session made {SESSION_TURNS} reads, and")?;
+    let output = written.output.try_borrow()?;
+    let help = str::from_utf8(output.as_slice()).unwrap_or("");
+    holds(&rt, ("help", 1), help.contains(told.as_str()));
+    Ok(())
 }
 
 /// Runs a session that may write so much, which is only its first replies, and compares.
@@ -137,7 +172,7 @@ fn an_output_that_fails_is_told(rt: HostRuntime) -> Result<(), Fail> {
     let lines = Given {
         octets: SESSION,
         piece: 8,
-        fails: false,
+        fails: None,
     };
     check_failing_output(&rt, lines, 9, b"ok\nok\nok\n")
 }
@@ -163,7 +198,7 @@ fn a_session_may_make_many_reads(rt: HostRuntime) -> Result<(), Fail> {
     let input = Given {
         octets: octets.as_slice(),
         piece: 1,
-        fails: false,
+        fails: None,
     };
     check_run(&rt, input, 1_000, 0, b"ok\nok\n", b"")
 }
@@ -192,7 +227,7 @@ fn check_reads(
     let input = Given {
         octets: b"no-main\nno-main\nno-main\n",
         piece,
-        fails: false,
+        fails: None,
     };
     let status = status_with(rt.alloc(), SESSION_WORDS, input, Room::of(1_000), &written);
     let at = ("pieces of so many octets", piece);
