@@ -139,6 +139,20 @@ class Words:
         return wrong[:3]
 
 
+class Complaint(Words):
+    """What words ask for that name a file that isn't there. Where there is no memory for its name in quotes, it is left out."""
+
+    WITHOUT = b"", b"sievebench: cannot read\n", 3
+
+    def differences(self, path):
+        counted = self.room / "requests"
+        whole = b"", b'sievebench: cannot read "%s"\n' % os.fsencode(self.words[-1]), 3
+        found = self.answer(path, LD_PRELOAD=str(self.library), REQUESTS=str(counted))
+        told = [self.answer(path, LD_PRELOAD=str(self.library), REFUSE=str(number)) for number in range(1, int(counted.read_text()) + 1)]
+        wrong = [f"got {it!r:.1000}" for it in [found, *told] if it not in (whole, self.WITHOUT, self.OUT)]
+        return wrong[:3] + [f"never got {it!r}" for it in (whole, self.WITHOUT, self.OUT) if it not in [found, *told]]
+
+
 class Pieces:
     """A session whose reads give an octet each."""
 
@@ -259,5 +273,7 @@ def of_sessions(room):
     (room / "lib/lib.sieve").write_bytes(b'require ["variables", "include"]; set "global.box" "Lists";')
     yield Words(room, library, ["dump", script.name])
     yield Words(room, library, ["test", "-f", "a@b.example", "--personal", "lib", script.name, mail.name])
+    yield Complaint(room, library, ["dump", "gone.sieve"])
+    yield Complaint(room, library, ["test", script.name, "gone"])
     yield Narrow()
     yield from map(Bounded, BOUNDED)
