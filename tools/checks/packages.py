@@ -32,6 +32,7 @@ GIT = "git -c user.name=Ada -c user.email=ada@a.example -c commit.gpgsign=false"
 # A folder that dpkg takes for a system: what the package depends on is there, as on this machine.
 SYSTEM = r"""
 mkdir -p root/var/lib/dpkg/info root/var/lib/dpkg/updates
+touch root/var/lib/dpkg/info/libc6.list root/var/lib/dpkg/info/python3.list
 for it in "libc6 $(getconf GNU_LIBC_VERSION | cut -d ' ' -f 2)" "python3 $(python3 -c 'import platform; print(platform.python_version())')"; do
     printf 'Package: %s\nStatus: install ok installed\nMaintainer: Ada <ada@a.example>\nArchitecture: all\nVersion: %s\nDescription: a stand-in\n\n' $it
 done > root/var/lib/dpkg/status

@@ -3,6 +3,7 @@
 
 from __future__ import annotations
 
+import io
 import pathlib
 import sys
 import zipfile
@@ -19,19 +20,20 @@ def parts() -> List[pathlib.Path]:
     return [HERE / "__main__.py", *sorted((HERE / "sievebench_site").glob("*.py"))]
 
 
-def pack(target: pathlib.Path) -> None:
-    """Writes the file."""
-    with target.open("wb") as file:
-        file.write(BEGIN)
-        with zipfile.ZipFile(file, "w", zipfile.ZIP_DEFLATED) as archive:
-            for part in parts():
-                member = zipfile.ZipInfo(part.relative_to(HERE).as_posix(), TIME)
-                member.external_attr = 0o644 << 16
-                archive.writestr(member, part.read_bytes(), zipfile.ZIP_DEFLATED)
-    target.chmod(0o755)
+def packed() -> bytes:
+    """The parts as an archive, whose places count from its own first octet: so its first line may be another."""
+    octets = io.BytesIO()
+    with zipfile.ZipFile(octets, "w") as archive:
+        for part in parts():
+            member = zipfile.ZipInfo(part.relative_to(HERE).as_posix(), TIME)
+            member.external_attr = 0o644 << 16
+            archive.writestr(member, part.read_bytes(), zipfile.ZIP_DEFLATED)
+    return octets.getvalue()
 
 
 if __name__ == "__main__":
     if len(sys.argv) != 2:
         sys.exit("pack.py: one word is wanted, the file that is made")
-    pack(pathlib.Path(sys.argv[1]))
+    target = pathlib.Path(sys.argv[1])
+    target.write_bytes(BEGIN + packed())
+    target.chmod(0o755)
