@@ -8,7 +8,7 @@ import shlex
 
 from .amounts import MAILBOX_LIMIT, MESSAGE_LIMIT, NAME_LIMIT, SCRIPT_LIMIT, TEXT_LIMIT
 from .files import write
-from .runs import SETTINGS, Run, lines
+from .runs import SETTINGS, Run, lines, some
 
 TOOLS = pathlib.Path(__file__).resolve().parent.parent
 MAKE = shlex.quote(str(TOOLS / "make-session"))
@@ -234,4 +234,4 @@ def of_folders(room):
     for part in (of_odd_names, of_settings, of_amounts, of_refusals):
         folder = room / f"made {part.__name__}"
         folder.mkdir()
-        yield from part(folder)
+        yield from some(part.__name__, part(folder))

@@ -9,7 +9,7 @@ import pathlib
 import re
 import shlex
 
-from .runs import Run
+from .runs import Reading, Run
 
 TOP = pathlib.Path(__file__).resolve().parent.parent.parent
 PROVE = ["tools/install", ".ci/run", "tools/check"]
@@ -35,8 +35,21 @@ class Proving:
         return [] if os.access(TOP / file, os.X_OK) else [f"{file} can't be executed"]
 
 
+class Blocks(Reading):
+    """Whether each block of the page is one of commands, or one of what commands print."""
+
+    title, command = "README", "its blocks"
+
+    def found(self, path):
+        """What else stands between fences."""
+        text = (TOP / "README.md").read_text(encoding="utf-8")
+        self.looked = len(BLOCK.findall(text))
+        return [f"a fence stands alone: {line}" for line in BLOCK.sub("", text).splitlines() if line.startswith("```")]
+
+
 def of_blocks(room):
     """The commands of all blocks."""
+    yield Blocks()
     kit = room / "kit"
     kit.mkdir()
     (kit / "rt").write_text(TRY)

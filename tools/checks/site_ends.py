@@ -9,7 +9,7 @@ import subprocess
 import sys
 import time
 
-from .runs import SECONDS, Run, lines
+from .runs import SECONDS, Run, lines, some
 from .site import PACK, TOOL, counted, run, site, told, write
 
 DISCARDS = b"[main]\ndiscard\n"
@@ -165,6 +165,7 @@ def of_page(room):
     yield Run("the page of sites: its shell script", room, f"{found} sh run.sh && head -c 5 results.xml", agree + b"<?xml")
     for form, first in (("github", "runs-on: "), ("gitlab", "filters:\n")):
         steps = re.findall(r"^ *- (?:run: )?(bin/sievebench-site .*)", block(first), re.M)
+        assert steps, f"the page of sites: the job of {form} has no step"
         yield Run(f"the page of sites: the job of {form}", room, f"{found} {' && '.join(steps)}", agree if form == "gitlab" else b"")
     if not shutil.which("git"):
         return
@@ -184,4 +185,4 @@ def of_sites(room):
     room = room / "ends of sites"
     room.mkdir()
     for part in (of_ends, of_colours, of_sizes, of_imports, of_page):
-        yield from part(room)
+        yield from some(part.__name__, part(room))
