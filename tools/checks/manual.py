@@ -11,7 +11,7 @@ import shlex
 import shutil
 import subprocess
 
-from .runs import SECONDS, Reading
+from .runs import SECONDS, LeftOut, Reading
 
 TOP = pathlib.Path(__file__).resolve().parent.parent.parent
 PAGES = TOP / "docs/man"
@@ -79,4 +79,6 @@ class Pages(Reading):
 def of_pages():
     """A page for each that is there, and each that must be."""
     yield Pages()
+    if not shutil.which("mandoc"):
+        yield LeftOut("the form of the pages", "since mandoc isn't installed")
     yield from (Page(*row) for row in HELP)

@@ -3,6 +3,7 @@ import os
 import pathlib
 import shlex
 import subprocess
+import sys
 
 SECONDS = 60
 SETTINGS = 'envelope "" "" mailbox "INBOX"'
@@ -46,6 +47,18 @@ class Nothing:
     def differences(self, path):
         """That there is none."""
         return ["nothing is run or read here"]
+
+
+class LeftOut:
+    """What isn't compared on this machine, as standard error says."""
+
+    def __init__(self, title, why):
+        self.title, self.command, self.why = title, "left out", why
+
+    def differences(self, path):
+        """Nothing."""
+        print(f"{self.title}: left out, {self.why}", file=sys.stderr)
+        return []
 
 
 def some(title, runs):
