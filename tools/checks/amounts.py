@@ -1,6 +1,6 @@
 """Sessions that are too long for a row: many of something, long ones, and what stands at a limit or past it."""
 from . import runs
-from .runs import lines, put, reported, session
+from .runs import lines, put, reported, session, some
 
 TEXT_LIMIT, MESSAGE_LIMIT, EXPECTED_LIMIT, NAME_LIMIT, MAILBOX_LIMIT, SCRIPT_LIMIT, MAIL_LIMIT, LINE_LIMIT = 1_048_576, 16_777_216, 65_536, 1_024, 255, 4_096, 65_536, 16_384
 MAILBOXES_LIMIT = 1_048_576
@@ -15,7 +15,7 @@ def of_sessions(room):
     for part in (of_cuts, of_lines, of_words, of_counts, of_mails, of_keys, of_texts, of_nesting, of_actions, of_variables, of_flags, of_includes):
         folder = room / part.__name__
         folder.mkdir()
-        yield from part(folder)
+        yield from some(part.__name__, part(folder))
 
 
 def of_cuts(room):

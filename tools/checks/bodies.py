@@ -161,6 +161,7 @@ def tests_of(dice, values):
 
 def of_mails(room, title, dice, mails):
     """A session of mails, each put with its script and reported."""
+    assert mails, f"there are no {title}"
     octets, told = [put(b"script personal main", b""), b"main personal main\n"], ["ok"] * 2
     settings = ['main personal "main"', SETTINGS, f"with {PROFILE}", 'script personal "main" ok']
     for number, mail in enumerate(mails):

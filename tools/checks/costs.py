@@ -153,6 +153,9 @@ class Devices:
                 done = subprocess.run(["sievebench", "session"], stdin=octets, env=env, capture_output=True, timeout=SECONDS)
             if done.returncode or done.stdout != self.replies:
                 found.append(f"{name} {count + 1}: status {done.returncode}, {len(done.stdout)} octets of {len(self.replies)}, {done.stderr!r:.200}")
+            with given.open("rb") as octets:
+                done = subprocess.run(["sievebench", "session"], stdin=octets, env={**env, name: "1"}, capture_output=True, timeout=SECONDS)
+            found += [] if done.returncode == 3 else [f"{name} 1: status {done.returncode}, so no call fails"]
         return found
 
 

@@ -6,7 +6,7 @@ import re
 import shlex
 import textwrap
 
-from .runs import Run, lines, put
+from .runs import Reading, Run, lines, put
 
 TOP = pathlib.Path(__file__).resolve().parent.parent.parent
 FORMATS, LANGUAGE, SCRIPT = TOP / "docs/FORMATS.md", TOP / "docs/LANGUAGE.md", TOP / "examples/office/main.sieve"
@@ -62,13 +62,13 @@ def of_failing(room):
     yield Run("the line that finds faults", room, f"sievebench session < faulty > replies; {finder}", lines('script personal "ok" line 1 unknown-command'))
 
 
-class Shown:
-    """Whether what a document shows is what stands elsewhere."""
+class Shown(Reading):
+    """Whether what a document shows, a text or a list, is what stands elsewhere."""
 
     def __init__(self, title, wanted, got):
-        self.title, self.command, self.wanted, self.got = title, LANGUAGE.name, wanted, got
+        self.title, self.command, self.wanted, self.got, self.looked = title, LANGUAGE.name, wanted, got, len(got)
 
-    def differences(self, path):
+    def found(self, path):
         """What is shown otherwise."""
         return [] if self.wanted == self.got else [f"wanted {self.wanted!r:.2000}, got {self.got!r:.2000}"]
 

@@ -3,7 +3,7 @@ as patterns, and by the replies of the whole lines, which are written out."""
 import re
 
 from .amounts import TEXT_LIMIT
-from .runs import lines, put, session
+from .runs import lines, put, session, some
 
 WORD = r'(?:[!#-\[\]-~]+|"(?:[ !#-\[\]-~]|\\["\\]|\\x[0-9A-Fa-f]{2})*")'
 NAME = rf"(?:personal|global) +{WORD}"
@@ -98,4 +98,4 @@ def of_sessions(room):
     for part in (of_lines, of_texts):
         folder = room / f"fronts_{part.__name__}"
         folder.mkdir()
-        yield from part(folder)
+        yield from some(part.__name__, part(folder))

@@ -99,3 +99,10 @@ def of_failures(room):
         ("two words are given", calls, {}, "p q; echo $?; find . -name p -o -name q", b"1\n", [b"install: one word at most is wanted"]),
     ]:
         yield Run(f"no install where {title}", copy(room, rt, files), f"{INSTALL} {words}", output, error)
+    # It is seen before anything is proved, so that `rt` isn't called.
+    for link in ("p/bin", "p/share", "p/share/man", "p/share/man/man1"):
+        for goal in ("nowhere", "docs/man/notes/x", link):
+            top = copy(room, calls, PAGES)
+            (top / link).parent.mkdir(parents=True)
+            (top / link).symlink_to(top / goal)
+            yield Run(f"no install where {link} is a link to {'itself' if goal == link else goal}", top, f"{INSTALL} p; echo $?; find . -name nowhere", b"1\n", [b"install: cannot write to ", f"/{link}\n".encode()])

@@ -8,10 +8,12 @@ import shlex
 
 from .amounts import MAILBOX_LIMIT, MESSAGE_LIMIT, NAME_LIMIT, SCRIPT_LIMIT, TEXT_LIMIT
 from .files import write
-from .runs import SETTINGS, Run, lines
+from .runs import SETTINGS, Run, lines, some
 
 TOOLS = pathlib.Path(__file__).resolve().parent.parent
 MAKE = shlex.quote(str(TOOLS / "make-session"))
+# The octets of a file that takes no room, and the memory of a run that reads some.
+ENDLESS, KILOBYTES = 1 << 40, 2_000_000
 # The tool with another limit of mails.
 FEW = f"""import runpy, sys
 sys.path.insert(0, {str(TOOLS / "site")!r})
@@ -118,6 +120,8 @@ def of_odd_names(room):
         (folder / f"lost{suffix}").symlink_to("nowhere")
         (folder / f"ring{suffix}").symlink_to(f"ring{suffix}")
         (folder / f"through{suffix}").symlink_to("a.sieve/x" if suffix else "-1/x")
+        (folder / f"device{suffix}").symlink_to("/dev/zero")
+        (folder / f"linked pipe{suffix}").symlink_to(f"pipe{suffix}")
     yield Run("a session of odd names", room, f"{MAKE} --global g -- -s -m/", ODD_SESSION + b"report\n")
     yield Run("its replies and report", room, f"{MAKE} --global g -- -s -m/ | sievebench session", ODD_REPORT)
 
@@ -179,6 +183,12 @@ def refused_folders(room):
     write(room / "large", {"a.sieve": b"\n" * (TEXT_LIMIT + 1), "main.sieve": b""})
     write(room / "long", {"1": b"", "2\x1b[2J": b"\n" * (MESSAGE_LIMIT + 1)})
     write(room / "full", {f"{number:04}.sieve": b"" for number in range(SCRIPT_LIMIT)})
+    # Files that have no end, for whoever reads them whole.
+    for folder, name in [("endless", "a.sieve"), ("endless mails", "1")]:
+        write(room / folder, {"main.sieve": b""} if name == "a.sieve" else {})
+        with open(room / folder / name, "wb") as file:
+            file.truncate(ENDLESS)
+    os.mkfifo(room / "pipe")
     for folder, name in [("torn", "x.sieve"), ("broken", "z\u00fc")]:
         # It is a plain file, of which nothing can be read.
         write(room / folder, {"main.sieve": b""})
@@ -210,18 +220,30 @@ def of_refusals(room):
         ("a large script", "large m", 'more than 1048576 octets in "large/a.sieve"\n'),
         ("a large global script", "--global large s m", 'more than 1048576 octets in "large/a.sieve"\n'),
         ("a large mail", "s long", 'more than 16777216 octets in "long/2\\x1b[2J"\n'),
+        ("a script without an end", "endless m", 'more than 1048576 octets in "endless/a.sieve"\n'),
+        ("a global script without an end", "--global endless s m", 'more than 1048576 octets in "endless/a.sieve"\n'),
+        ("a mail without an end", "s 'endless mails'", 'more than 16777216 octets in "endless mails/1"\n'),
+        ("a pipe for a folder of scripts", "pipe m", 'cannot read "pipe": '),
+        ("a pipe for a folder of mails", "s pipe", 'cannot read "pipe": '),
+        ("a device for a folder of global scripts", "--global /dev/zero s m", 'cannot read "/dev/zero": '),
         ("a long sender", f"--envelope {address} b s m", f'more than 1024 octets in "{address}"\n'),
         ("a long recipient", f"--envelope b {address} s m", f'more than 1024 octets in "{address}"\n'),
         ("a long mailbox", f"--mailbox {mailbox} s m", f'more than 255 octets in "{mailbox}"\n'),
         ("many scripts", "--global full s m", 'more than 4096 scripts in "s" and "full"\n'),
         ("one folder", "s", "two folders are wanted, of scripts and of mails"),
         ("three folders", "s m m", "two folders are wanted, of scripts and of mails"),
+        ("three folders behind --", "-- s m m", "two folders are wanted, of scripts and of mails"),
+        ("a third folder behind --", "s m -- m", "two folders are wanted, of scripts and of mails"),
+        ("a word like an option behind --", "s m -- --main", "two folders are wanted, of scripts and of mails"),
+        ("two folders behind -- and one before", "s -- m m", "two folders are wanted, of scripts and of mails"),
+        ("one folder behind --", "-- s", "two folders are wanted, of scripts and of mails"),
         ("an unknown option", "--m\u00e4in a s m", '"--m\\xc3\\xa4in" is no option, stands twice, or wants a value'),
         ("an option again", "--global s s m --global s", '"--global" is no option, stands twice, or wants a value'),
         ("an option without its values", "s m --envelope a", '"--envelope" is no option, stands twice, or wants a value'),
         ("an output that is full", "s m > /dev/full", "cannot write: "),
     ]:
-        yield Run(f"no session of {title}", room, f"{MAKE} {words}", b"", [f"make-session: {sentence}".encode()], 2)
+        limit = f"ulimit -v {KILOBYTES}; timeout 20 " if " without an end" in title else ""
+        yield Run(f"no session of {title}", room, f"{limit}{MAKE} {words}", b"", [f"make-session: {sentence}".encode()], 2)
     # To make so many files would take longer than all else: here the limit is another.
     (room / "few").write_text(FEW)
     few = "python3 few s"
@@ -234,4 +256,4 @@ def of_folders(room):
     for part in (of_odd_names, of_settings, of_amounts, of_refusals):
         folder = room / f"made {part.__name__}"
         folder.mkdir()
-        yield from part(folder)
+        yield from some(part.__name__, part(folder))

@@ -11,7 +11,7 @@ import shlex
 import shutil
 import subprocess
 
-from .runs import SECONDS
+from .runs import SECONDS, LeftOut, Reading
 
 TOP = pathlib.Path(__file__).resolve().parent.parent.parent
 PAGES = TOP / "docs/man"
@@ -27,7 +27,7 @@ HELP = [
 ]
 
 
-class Page:
+class Page(Reading):
     """Whether a page has the options of the help, its own name, and no pages but those that are there in what it refers to."""
 
     title = "the manual"
@@ -35,7 +35,7 @@ class Page:
     def __init__(self, name, commands, pattern, asked):
         self.command, self.commands, self.pattern, self.asked = name, commands, pattern, asked
 
-    def differences(self, path):
+    def found(self, path):
         """What the page has otherwise."""
         wanted, found = set(self.asked), []
         for command in self.commands:
@@ -53,6 +53,8 @@ class Page:
             told = subprocess.run(["mandoc", "-T", "lint", PAGES / self.command], capture_output=True, text=True).stdout
             found += [line for line in told.splitlines() if "referenced manual not found" not in line]
         others = [f"{other}.{number}" for other, number in re.findall(r"^\.Xr (\S+) (\d)", text, re.M)]
+        # Each page refers to others, so that none is looked at where these aren't found.
+        self.looked = len(wanted) + len(others) if others else 0
         return found + [f"it refers to {other}" for other in others if not (PAGES / other).is_file()]
 
 
@@ -62,6 +64,21 @@ def flags(text, pattern):
     return {f"-{word}" for words in behind for word in words if word not in tuple(",|.:;")}
 
 
+class Pages(Reading):
+    """Whether all pages that are there are looked at."""
+
+    title, command = "the manual", "docs/man"
+
+    def found(self, path):
+        """The pages that are there alone, or looked at alone."""
+        there = sorted(it.name for it in PAGES.iterdir())
+        self.looked = len(there)
+        return [] if there == sorted(name for name, *_ in HELP) else [f"there are {there}"]
+
+
 def of_pages():
     """A page for each that is there, and each that must be."""
+    yield Pages()
+    if not shutil.which("mandoc"):
+        yield LeftOut("the form of the pages", "since mandoc isn't installed")
     yield from (Page(*row) for row in HELP)

@@ -1,7 +1,7 @@
 """Many of each thing that a script or a message holds: a few, some more, and as many as there may be. What must come out is written from the
 rules: the report, the code, and the report once more behind two renames."""
 from .amounts import MAIL_LIMIT, SCRIPT_LIMIT
-from .runs import SETTINGS, lines, put, session
+from .runs import SETTINGS, lines, put, session, some
 
 COUNTS = (1, 12, 25, 60, 150, 1_200)
 KEPT = ['implicit "INBOX"']
@@ -185,4 +185,4 @@ def of_sessions(room):
     for part in (of_messages, of_lists, of_conditions, of_commands, of_variables, of_flags, of_benches):
         folder = room / f"many_{part.__name__}"
         folder.mkdir()
-        yield from part(folder)
+        yield from some(part.__name__, part(folder))

@@ -8,6 +8,8 @@ a name, as `i;ascii-casemap`, isn't looked for.
 import pathlib
 import re
 
+from .runs import Reading, some
+
 TOP = pathlib.Path(__file__).resolve().parent.parent.parent
 PROVED, RULES, ADDING = (TOP / "docs" / name for name in ("PROVED.md", "RULES.md", "ADDING.md"))
 NAME = r"[A-Za-z_][A-Za-z0-9_]*"
@@ -38,14 +40,15 @@ def names_in(text):
     return [name for path in re.findall(rf"`({NAME}(?:::{NAME})*)`", text) for name in path.split("::")]
 
 
-class Named:
-    """Whether what a part of a document names is there."""
+class Named(Reading):
+    """Whether what a part of a document names is there: some names at least."""
 
     def __init__(self, title, wanted, there, document=PROVED):
         self.title, self.command, self.wanted, self.there = f"what is said: {title}", document.name, wanted, there
 
-    def differences(self, path):
+    def found(self, path):
         """The names of nothing."""
+        self.looked = len(set(self.wanted))
         return [f"nothing is called {name}" for name in dict.fromkeys(self.wanted) if name not in self.there]
 
 
@@ -57,17 +60,17 @@ def of_claims():
     texts = {crate: sources(crate) for crate in crates}
     words = set(re.findall(NAME, "\n".join(texts.values())))
     head, *parts = re.split(r"^\*\*`(.*)`\*\*$", claims, flags=re.M)
-    for crate, part in zip(parts[::2], parts[1::2]):
+    parts = dict(zip(parts[::2], parts[1::2]))
+    yield Named("a part for each library", [crate for crate in crates if (TOP / "crates" / crate / "specs").is_dir()], parts)
+    for crate, part in parts.items():
         declared = {name for names in re.findall(DECLARED, texts.get(crate, ""), re.M) for name in names}
         claimed = [name for inside in re.findall(r"\(((?:the law )?`[^()]*`)\)", part) for name in names_in(inside)]
         yield Named(f"clauses of {crate}", claimed, declared)
         yield Named(f"names of {crate}", names_in(part), words)
         laws = TOP / "crates" / crate / "src/laws.rt"
-        told = re.findall(rf"^pub fn ({NAME})", laws.read_text(encoding="utf-8"), re.M) if laws.is_file() else []
-        yield Named(f"laws of {crate}", told, set(names_in(part)))
-        contracts = [it[0] for it in re.finditer(PUBLIC, texts.get(crate, ""), re.M | re.S) if not it[0].endswith("{}")]
-        named = [name for contract in contracts for name in re.findall(rf"^ *ensures ({NAME}) ", contract, re.M)]
-        yield Named(f"each named clause of {crate}", named, set(names_in(part)))
+        if laws.is_file():
+            yield Named(f"laws of {crate}", re.findall(rf"^pub fn ({NAME})", laws.read_text(encoding="utf-8"), re.M), set(names_in(part)))
+    yield from some("each named clause of the libraries", of_clauses(parts, texts))
     yield Named("the headline", names_in(head), words)
     # The last cell of a row names tests and files of rows.
     rows = [line.strip("| ").split(" | ")[-1] for line in calls.splitlines() if line.startswith("| `")]
@@ -75,6 +78,15 @@ def of_claims():
     yield Named("tests of calls", [name for row in rows for name in re.findall(r"`([^`]*)`", row)], tests)
     told = {name for row in calls.splitlines() if row.startswith("| `") for name in names_in(row.split(" | ")[0])}
     yield Named("each call", told, words)
+
+
+def of_clauses(parts, texts):
+    """The clauses with a name of the public functions of each crate that has some: its part has them all."""
+    for crate, part in parts.items():
+        contracts = [it[0] for it in re.finditer(PUBLIC, texts.get(crate, ""), re.M | re.S) if not it[0].endswith("{}")]
+        named = [name for contract in contracts for name in re.findall(rf"^ *ensures ({NAME}) ", contract, re.M)]
+        if named:
+            yield Named(f"each named clause of {crate}", named, set(names_in(part)))
 
 
 def of_rules():
@@ -105,15 +117,14 @@ def of_additions():
     anywhere = set().union(*crates.values(), places(TOP / "tools/checks"), ("docs", "man", "tools", "checks", "tsv"), pages)
     rows, others = {}, []
     for line in ADDING.read_text(encoding="utf-8").splitlines():
-        crate, *cells = re.split(r" \| ", line.strip("|"))
-        crate = re.match(rf" `({NAME})`", crate)
-        if line.startswith("| ") and crate:
+        first, *cells = re.split(r" \| ", line.strip("|"))
+        crate = re.match(rf" `({NAME})`", first)
+        if line.startswith("| ") and crate and crate[1] in crates:
             rows.setdefault(crate[1], []).extend(cells[:-1])
             others += cells[-1:]
         else:
             others.append(line)
-    for crate, cells in rows.items():
-        yield Named(f"additions to {crate}", parts_of_names("\n".join(cells)), crates.get(crate, set()), ADDING)
+    yield from some("additions to crates", (Named(f"additions to {crate}", parts_of_names("\n".join(cells)), crates[crate], ADDING) for crate, cells in rows.items()))
     yield Named("other names of additions", parts_of_names("\n".join(others)), anywhere | set(crates), ADDING)
 
 

@@ -14,7 +14,7 @@ import threading
 import time
 
 from . import rows
-from .runs import SECONDS, Run, lines, wanted_and_got
+from .runs import SECONDS, Reading, Run, lines, some, wanted_and_got
 from .site import TOOL, run, site, told, write
 
 TOP = TOOL.parent.parent
@@ -32,15 +32,16 @@ SPOILT = [b":", b"text:", b'"', b"\\", b"#", b"/*", b"*/", b"/", b"*", b".", b".
 WEIGHTS = [40] * len(WHOLE) + [3] * len(SPOILT)
 
 
-class Cut:
+class Cut(Reading):
     """Texts that the tool's tokenizer has to cut as the program does."""
 
     def __init__(self, title, caller, texts):
         self.title, self.command, self.caller, self.texts = f"tokens: {title}", f"{caller} tokens", caller, texts
 
-    def differences(self, path):
+    def found(self, path):
         """The first text that is cut otherwise."""
         for text in self.texts:
+            self.looked += 1
             done = subprocess.run([self.caller, "tokens", text.hex()], stdin=subprocess.DEVNULL, capture_output=True, timeout=SECONDS)
             wanted = lines(*(f"{it.kind} {it.start} {it.end} {it.line}" for it in tokens(text)))
             if (done.stdout, done.returncode) != (wanted, 0):
@@ -326,14 +327,14 @@ def of_many(room):
     yield run("what isn't tested of them", room, "untested many-mails", lines("4 of 4 changes are noticed"))
 
 
-class Tried:
+class Tried(Reading):
     """The changes of a site, each written into a copy of it and checked against what was recorded: what isn't noticed so is what `untested`
     says. Of scripts that no mail comes to it says nothing."""
 
     def __init__(self, title, room, folder):
         self.title, self.room, self.folder, self.command = f"sievebench-site: {title}", room, folder, f"{TOOL} untested {folder}"
 
-    def differences(self, path):
+    def found(self, path):
         """What is said otherwise."""
         env, wanted, copy = {**os.environ, "PATH": path}, [], self.room / "copy"
         shutil.copytree(self.folder, copy)
@@ -345,6 +346,7 @@ class Tried:
         for script in sorted(self.folder.rglob("*.sieve")):
             text, place = script.read_bytes(), copy / script.relative_to(self.folder)
             for it in changes(text, True, True) if str(script) not in found["not looked up"] else ():
+                self.looked += 1
                 place.write_bytes(it.of(text))
                 done = subprocess.run([sys.executable, str(TOOL), "check", "-q", str(copy)], env=env, capture_output=True, timeout=SECONDS)
                 wanted += [] if done.returncode or it.is_none(text) else [f"{script}:{it.line} {it.how}"]
@@ -379,4 +381,4 @@ def of_sites(room):
     room = room / "questions"
     room.mkdir()
     for part in (of_untested, of_chains, of_diffs, of_revisions, of_answers, of_watching, of_many, of_pages):
-        yield from part(room)
+        yield from some(part.__name__, part(room))

@@ -10,7 +10,7 @@ import re
 import shlex
 
 from .packages import VERSION
-from .runs import Run
+from .runs import Reading, Run
 
 TOP = pathlib.Path(__file__).resolve().parent.parent.parent
 PROVE = ["tools/install", "tools/package", ".ci/run", "tools/check"]
@@ -39,8 +39,21 @@ class Proving:
         return [] if os.access(TOP / file, os.X_OK) else [f"{file} can't be executed"]
 
 
+class Blocks(Reading):
+    """Whether each block of the page is one of commands, or one of what commands print."""
+
+    title, command = "README", "its blocks"
+
+    def found(self, path):
+        """What else stands between fences."""
+        text = (TOP / "README.md").read_text(encoding="utf-8")
+        self.looked = len(BLOCK.findall(text))
+        return [f"a fence stands alone: {line}" for line in BLOCK.sub("", text).splitlines() if line.startswith("```")]
+
+
 def of_blocks(room):
     """The commands of all blocks."""
+    yield Blocks()
     kit = room / "kit"
     kit.mkdir()
     (kit / "rt").write_text(TRY)

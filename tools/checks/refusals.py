@@ -102,12 +102,13 @@ class Refusals:
         count = int(counted.read_text())
         if count < len(self.commands):
             return [f"only {count} requests"]
-        wrong = []
+        wrong, refused = [], 0
         for number in range(1, count + 1):
             found = answered(octets, path, LD_PRELOAD=str(self.library), REFUSE=str(number))
+            refused += found != whole
             if found not in told and found != (b"", 4):
                 wrong.append(f"request {number} of {count} refused: got {found!r:.2000}")
-        return wrong[:3]
+        return wrong[:3] + ([] if refused else [f"none of {count} refusals is told"])
 
 
 class Words:
@@ -132,6 +133,7 @@ class Words:
         if found != whole or not whole[0] or whole[1]:
             return [f"wanted {whole!r}, got {found!r}"]
         wrong, most = [], int(counted.read_text())
+        wrong += [] if most else ["no requests"]
         for number, name in itertools.product(range(1, most + 1), ("REFUSE", "REFUSE_FROM")):
             found = self.answer(path, LD_PRELOAD=str(self.library), **{name: str(number)})
             if found not in (whole, self.OUT) or (found == whole and name == "REFUSE_FROM" and number == 1):
@@ -163,7 +165,12 @@ class Pieces:
     def differences(self, path):
         wanted = self.wanted or answered(self.octets, path)
         found = answered(self.octets, path, LD_PRELOAD=str(self.library), READ="1", **self.settings)
-        return [] if found == wanted else [f"wanted {wanted!r:.2000}, got {found!r:.2000}"]
+        if found != wanted:
+            return [f"wanted {wanted!r:.2000}, got {found!r:.2000}"]
+        # So many reads are made where each gives an octet, and where each other one is interrupted too; else there are fewer.
+        reads = 2 * len(self.octets) if self.settings else 10
+        found = answered(self.octets, path, LD_PRELOAD=str(self.library), READ="1", **self.settings, FAIL_READ=str(reads))
+        return [] if found[1] == 3 else [f"there are less than {reads} reads: status {found[1]}"]
 
 
 class Failing:

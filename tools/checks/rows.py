@@ -94,9 +94,10 @@ def of_faults(path, room):
         case = Case(path.name, [line for line in paragraph if line[:1] in ("|", "+")], "|+")
         front = case.octets.get("|", front)
         names = case.lines.get("+", [""])[0]
-        for text in paragraph:
-            if text[:1] in ("|", "+"):
-                continue
+        texts = [text for text in paragraph if text[:1] not in ("|", "+")]
+        if not texts:
+            sys.exit(f"{path.name}, {fault}: no text has this fault")
+        for text in texts:
             script = front + unescaped(text if text != "\\" else "")
             replies = runs.lines("ok", "main none", runs.SETTINGS, *runs.profile_lines(names), f'script personal "main" {fault}', "total 0 messages 0 errors")
             yield runs.session(room, f"{path.name}, {text}", runs.put(b"script personal main", script) + b"report\n", replies, names=names)
@@ -126,4 +127,4 @@ def of_files(folder, room):
     room = room / "rows"
     room.mkdir()
     for path in sorted(folder.iterdir()):
-        yield from KINDS[path.suffix](path, room)
+        yield from runs.some(f"cases of {path.name}", KINDS[path.suffix](path, room))

@@ -1,7 +1,9 @@
 """A run of the program, and the sessions and reports that the checks have in common."""
 import os
+import pathlib
 import shlex
 import subprocess
+import sys
 
 SECONDS = 60
 SETTINGS = 'envelope "" "" mailbox "INBOX"'
@@ -23,6 +25,55 @@ class Run:
             return [f"no end in {SECONDS} seconds"]
         told = [("standard output", self.output, done.stdout), ("standard error", self.error, done.stderr), ("status", self.status, done.returncode)]
         return [f"{what}: {wanted_and_got(wanted, got)}" for what, wanted, got in told if not is_as(wanted, got)]
+
+
+class Reading:
+    """What is read and compared, without a run. `looked` says at how many things it looked, once it has: of none it knows nothing, and that
+    is a failure."""
+
+    looked = 0
+
+    def differences(self, path):
+        """What is otherwise than it must be."""
+        return self.found(path) or ([] if self.looked else ["it has looked at nothing"])
+
+
+class Nothing:
+    """What stands in the place of runs that aren't there."""
+
+    def __init__(self, title):
+        self.title, self.command = title, "nothing"
+
+    def differences(self, path):
+        """That there is none."""
+        return ["nothing is run or read here"]
+
+
+class LeftOut:
+    """What isn't compared on this machine, as standard error says."""
+
+    def __init__(self, title, why):
+        self.title, self.command, self.why = title, "left out", why
+
+    def differences(self, path):
+        """Nothing."""
+        print(f"{self.title}: left out, {self.why}", file=sys.stderr)
+        return []
+
+
+def some(title, runs):
+    """These runs, and where there are none, one that fails."""
+    is_empty = True
+    for run in runs:
+        is_empty = False
+        yield run
+    if is_empty:
+        yield Nothing(title)
+
+
+def name_of(part):
+    """The module and the name of a part, which is a generator."""
+    return f"{pathlib.Path(part.gi_code.co_filename).stem}.{part.__name__}"
 
 
 def is_as(wanted, got):

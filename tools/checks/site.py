@@ -4,7 +4,7 @@ import os
 import pathlib
 import shlex
 
-from .runs import Run, lines
+from .runs import Run, lines, some
 
 TOOL = pathlib.Path(__file__).resolve().parent.parent / "sievebench-site"
 PACK = TOOL.parent / "site/pack.py"
@@ -407,4 +407,4 @@ def of_sites(room):
     room = room / "sites"
     room.mkdir()
     for part in (of_checks, of_spellings, of_names, of_clocks, of_refusals, of_programs, of_broken_files, of_junit, of_objects, of_records, of_lints, of_sievec, of_many):
-        yield from part(room)
+        yield from some(part.__name__, part(room))

@@ -13,7 +13,7 @@ import sys
 import tempfile
 
 from .files import write
-from .runs import SECONDS
+from .runs import SECONDS, LeftOut
 
 TOOL = pathlib.Path(__file__).resolve().parent.parent / "sievebench-site"
 MAIL = b"From: a@b.example\nTo: c@d.example\nSubject: one\n\ntext\n"
@@ -156,5 +156,4 @@ def run_there(room, names):
 
 def of_chains():
     """The comparison, where there is something to compare with."""
-    if shutil.which("sieve-test"):
-        yield Compared()
+    yield Compared() if shutil.which("sieve-test") else LeftOut(Compared.title, "since it isn't installed")

@@ -9,7 +9,7 @@ import subprocess
 import sys
 import time
 
-from .runs import SECONDS, Run, lines
+from .runs import SECONDS, Run, lines, some
 from .site import PACK, TOOL, counted, run, site, told, write
 
 DISCARDS = b"[main]\ndiscard\n"
@@ -130,6 +130,14 @@ def of_sizes(room):
         (room / f"large/mails/{number:02}.eml").symlink_to("00.eml")
     yield Sized(room, 500 * MEBIBYTE)
     yield Run("sievebench-site: a process that may take little memory", room, f"python3 {shlex.quote(str(TOOL))} check --memory 8M --only 00.eml large; [ $? -ge 2 ]", b"", [b"memory"])
+    # Of the second mail a string of 400,000,000 octets is made: it is left out, and the others are judged.
+    makes = b'require "variables"; if header :matches "subject" "*" { if string "' + b"${1}" * 40 + b'" "x" {} } discard;'
+    mails = {f"{number}.eml": b"Subject: " + b"a" * size + b"\n\n" for number, size in enumerate((1, 10_000_000, 2), 1)}
+    write(room / "scarce", site({**mails, **{f"{number}.eml.expect": DISCARDS for number in (1, 2, 3)}}, main=makes))
+    refused = "scarce/mails/2.eml under main: not judged: the program has no memory for it: --memory gives more"
+    yield run("a mail for which memory is refused", room, "check --memory 200M scarce", lines(refused, counted(3, 1, 3, 2, 0, 0, 0, 0, further=["1 not judged"])), status=1)
+    yield run("it is left out of what is recorded", room, "record --memory 200M scarce", lines("3 mails, 0 written, 0 left, 1 verdicts not judged"))
+    yield run("with more memory it is judged", room, "check --memory 2G scarce", lines(counted(3, 1, 3, 3, 0, 0, 0, 0)))
     yield run("several jobs", room, "check --lax --jobs 3 --only 00.eml --only 01.eml large", lines(counted(2, 2, 4, 0, 0, 4, 0, 0)))
 
 
@@ -164,6 +172,7 @@ def of_page(room):
     yield Run("the page of sites: its shell script", room, f"{found} sh run.sh && head -c 5 results.xml", agree + b"<?xml")
     for form, first in (("github", "runs-on: "), ("gitlab", "filters:\n")):
         steps = re.findall(r"^ *- (?:run: )?(bin/sievebench-site .*)", block(first), re.M)
+        assert steps, f"the page of sites: the job of {form} has no step"
         yield Run(f"the page of sites: the job of {form}", room, f"{found} {' && '.join(steps)}", agree if form == "gitlab" else b"")
     if not shutil.which("git"):
         return
@@ -183,4 +192,4 @@ def of_sites(room):
     room = room / "ends of sites"
     room.mkdir()
     for part in (of_ends, of_colours, of_sizes, of_imports, of_page):
-        yield from part(room)
+        yield from some(part.__name__, part(room))

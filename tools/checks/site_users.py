@@ -1,5 +1,5 @@
 """Sites as servers have them: users, scripts that run one after another, envelopes, and what can't be judged."""
-from .runs import lines
+from .runs import lines, some
 from .site import LEFT, NOBODY, counted, run, site, told, write
 
 DISCARDS = b"[main]\ndiscard\n"
@@ -147,4 +147,4 @@ def of_sites(room):
     room = room / "users of sites"
     room.mkdir()
     for part in (of_users, of_chains, of_envelopes, of_unjudged, of_expectations, of_groups):
-        yield from part(room)
+        yield from some(part.__name__, part(room))

@@ -6,13 +6,14 @@ and empty lines stand before a command alone.
 """
 import os
 
-from .runs import Run
+from .runs import Run, some
 
 
 def of_folders(here):
     """The runs of all transcripts."""
     for transcript in sorted(here.rglob("transcript")):
-        yield from runs_of(transcript, transcript.parent.relative_to(here))
+        title = transcript.parent.relative_to(here)
+        yield from some(f"commands of {title}", runs_of(transcript, title))
 
 
 def runs_of(transcript, title):

@@ -10,7 +10,7 @@ import tarfile
 import tempfile
 from typing import Dict, Iterator, List, NamedTuple, Optional
 
-from .chains import chained
+from .chains import NOTHING, chained
 from .check import heads
 from .ends import fail, refuse
 from .expected import Block
@@ -19,9 +19,9 @@ from .files import octets_if_any
 from .findings import PLAIN
 from .folder import Site, User, Wanted, site_of
 from .groups import Group, changes, counted, difference, grouped
-from .judge import Batch, Case, Judge, batches_of, surveys, why_unjudged
+from .judge import Batch, Case, Judge, surveys, why_unjudged
 from .mains import Main
-from .program import Place, Program
+from .program import NO_MEMORY, Place, Program
 from .shown import Look
 from .words import quoted
 
@@ -52,7 +52,7 @@ class Diff:
         self.old, self.new, self.judge = old, new, Judge(new, program, jobs)
         found = zip(old.users, surveys(old, program))
         self.former = {user.name: Former(user, survey) for user, survey in found}
-        cases = [it for part in self.judge.each(list(batches_of(new, jobs)), self.batch) for it in part]
+        cases = [it for part in self.judge.batches(self.batch, self.refused) for it in part]
         self.cases = sorted(cases, key=lambda case: case.mail.path)
         self.unjudged = [it for it in self.cases if it.unjudged]
         self.changed = [it for it in self.cases if not it.unjudged and it.agrees() is False]
@@ -77,6 +77,12 @@ class Diff:
                     blocks = {main.key: Block(0, before[name].texts())}
                     cases.append(Case(batch.user, main, mail._replace(blocks=blocks), after[name], why, 0.0))
         return cases
+
+    def refused(self, batch: Batch) -> List[Case]:
+        """The cases of mails for which memory is refused, before or now."""
+        former = self.former.get(batch.user.name)
+        mains = [main for main in batch.user.mains if former and former.has(main)]
+        return [Case(batch.user, main, mail, NOTHING, NO_MEMORY, 0.0) for main in mains for mail in batch.mails]
 
     def groups(self, each: bool) -> List[Group]:
         """The changed verdicts in groups, by their differences."""

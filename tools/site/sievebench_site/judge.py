@@ -10,7 +10,7 @@ import threading
 import time
 from typing import Callable, Dict, Iterator, List, NamedTuple, Optional, Tuple, TypeVar
 
-from .chains import Bench, chained
+from .chains import NOTHING, Bench, chained
 from .envelopes import envelope_if_any, envelope_of
 from .expected import Block
 from .faults import Survey, put_scripts, requires, survey
@@ -18,7 +18,7 @@ from .files import octets_of
 from .folder import Site, User
 from .mails import Mail
 from .mains import Main
-from .program import Program, Session, Verdict
+from .program import NO_MEMORY, NoMemory, Program, Session, Verdict
 from .words import quoted
 
 # A batch has about so many octets at most, or one mail, and so many mails.
@@ -87,10 +87,24 @@ class Judge:
 
     def all(self) -> Judged:
         """The cases of all batches."""
-        found = self.each(list(batches_of(self.site, self.jobs)), self.batch)
+        found = self.batches(self.batch, self.refused)
         cases = sorted((case for cases, _ in found for case in cases), key=lambda case: case.mail.path)
         bare = {mail.path: mail for _, mails in found for mail in mails}
         return Judged(cases, self.surveys, [bare[path] for path in sorted(bare)], self.progress.seconds())
+
+    def batches(self, work: Callable[[Batch], Result], without: Callable[[Batch], Result]) -> List[Result]:
+        """What comes of the work on each batch. One for which memory is refused is cut in two, again and again, so that one mail doesn't
+        stop the others: what comes of that mail is said without the work."""
+
+        def parted(batch: Batch) -> List[Result]:
+            try:
+                return [work(batch)]
+            except NoMemory:
+                if len(batch.mails) == 1:
+                    return [without(batch)]
+            return [it for half in halves(batch) for it in parted(half)]
+
+        return [it for part in self.each(list(batches_of(self.site, self.jobs)), parted) for it in part]
 
     def each(self, parts: List[Part], work: Callable[[Part], Result]) -> List[Result]:
         """What comes of each part of the work, of which several are done at once."""
@@ -117,6 +131,12 @@ class Judge:
                     cases.append(Case(user, main, mail, told[name], why_unjudged(told[name], found, user), seconds))
         self.progress.add(len(batch.mails))
         return cases, held.bare
+
+    def refused(self, batch: Batch) -> Tuple[List[Case], List[Mail]]:
+        """The cases of mails for which memory is refused."""
+        self.progress.add(len(batch.mails))
+        mains = batch.user.mains
+        return [Case(batch.user, main, mail, NOTHING, NO_MEMORY, 0.0) for main in mains for mail in batch.mails], []
 
     @contextlib.contextmanager
     def held(self, batch: Batch) -> Iterator[Held]:
@@ -172,6 +192,12 @@ def batches_of(site: Site, jobs: int) -> Iterator[Batch]:
             octets += mail.size
         if mails:
             yield Batch(number, user, mails)
+
+
+def halves(batch: Batch) -> List[Batch]:
+    """A batch in two."""
+    middle = len(batch.mails) // 2
+    return [batch._replace(mails=mails) for mails in (batch.mails[:middle], batch.mails[middle:])]
 
 
 def why_unjudged(verdict: Verdict, found: Survey, user: User) -> Optional[str]:

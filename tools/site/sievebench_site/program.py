@@ -10,7 +10,7 @@ import sys
 import tempfile
 from typing import IO, Dict, Iterator, List, NamedTuple, NoReturn, Optional, Tuple
 
-from .ends import CHILDREN, fail, refuse
+from .ends import CHILDREN, Refusal, fail, refuse
 from .words import ADDRESS_LIMIT, MAIL_LIMIT, MESSAGE_LIMIT, SCRIPT_LIMIT, TEXT_LIMIT, line, quoted, unquoted
 
 # Replies wait in a pipe until they are read: so many edits fill none.
@@ -26,9 +26,14 @@ LIMITS = {
     "mailboxes": f"a list of mailboxes has at most {TEXT_LIMIT:,} octets",
     "full": f"a session has at most {SCRIPT_LIMIT:,} scripts and {MAIL_LIMIT:,} mails",
 }
+NO_MEMORY = "the program has no memory for it: --memory gives more"
 # A script in a session: its place and its name.
 Place = Tuple[str, bytes]
 Fault = Tuple[int, str]
+
+
+class NoMemory(Refusal):
+    """Memory was refused to the program, for an edit or for a report."""
 
 
 class Line(NamedTuple):
@@ -167,6 +172,8 @@ class Session:
         pending, self.pending = self.pending, []
         for command, what in pending:
             reply = self.line()
+            if reply == b"no no-memory":
+                raise NoMemory(f"{what} is refused: {NO_MEMORY}")
             if reply != b"ok":
                 refuse(f"{what} is refused: {reason(command, reply[3:].decode('latin-1'))}")
 
@@ -216,7 +223,7 @@ class Session:
         while True:
             found = self.line()
             if found.startswith(b"no "):
-                refuse(f"the report is refused: {reason('report', found[3:].decode('latin-1'))}")
+                raise NoMemory(f"the report is refused: {NO_MEMORY}")
             if found.startswith(b"total "):
                 return
             yield found
@@ -256,8 +263,6 @@ def reason(command: str, kind: str) -> str:
     """Why an edit is refused, with the limit where it is one."""
     if kind == "too-large":
         return LIMITS.get(command.split()[0], kind)
-    if kind == "no-memory":
-        return "the program has no memory for it: --memory gives more"
     return LIMITS.get(kind, f"no {kind}")
 
 

@@ -1,17 +1,18 @@
 """The command untested: what can be changed in the scripts so that no mail's verdict notices."""
 from __future__ import annotations
 
+import itertools
 import json
-from typing import Dict, Iterator, List, Set, Tuple
+from typing import Dict, Iterator, List, Set
 
 from .changes import Change, changes, commands
 from .chains import Bench, chained
 from .faults import sentence_of
 from .findings import PLAIN
 from .folder import Site, User
-from .judge import Batch, Held, Judge, batches_of, put_settings
+from .judge import Batch, Held, Judge, put_settings
 from .mains import Main, Script
-from .program import Program, Session, Verdict
+from .program import NO_MEMORY, Program, Session, Verdict
 from .reach import Reach
 from .shown import Look
 from .sieve_text import required
@@ -59,15 +60,18 @@ class Untested:
         }
         # The scripts that no verdict looked up, until one does.
         self.unasked = dict.fromkeys(whole)
-        self.run()
+        # The mails for which memory is refused.
+        self.refused: Dict[bytes, None] = {}
+        self.numbers = itertools.count()
+        self.judge.batches(self.try_batch, self.refuse_batch)
 
-    def run(self) -> None:
-        """Tries all of them."""
-        self.judge.each(list(enumerate(batches_of(self.site, self.judge.jobs))), self.try_batch)
+    def refuse_batch(self, batch: Batch) -> None:
+        """Leaves out mails for which memory is refused."""
+        self.refused.update(dict.fromkeys(mail.path for mail in batch.mails))
 
-    def try_batch(self, part: Tuple[int, Batch]) -> None:
+    def try_batch(self, batch: Batch) -> None:
         """Tries the changes on some mails, and asks where these come."""
-        number, batch = part
+        number = next(self.numbers)
         with self.judge.held(batch) as held, self.judge.program.session() as session:
             few = Few(self.judge, held, session)
             for main in batch.user.mains:
@@ -209,6 +213,7 @@ def text_of(found: Untested, look: Look, quiet: bool) -> str:
         for it, (line, word) in found.broken.values()
     ]
     told += [f"{look.name(script.path)}:{line}: not judged: {why}" for script, line, why in found.lacking.values()]
+    told += [f"{look.name(path)}: not judged: {NO_MEMORY}" for path in sorted(found.refused)]
     told += [f"{look.name(it.script.path)}:{it.change.line}: {it.why(look)}" for it in found.left()]
     if not quiet:
         told += [f"{look.name(path)}: no verdict looks it up" for path in found.unasked]
@@ -228,7 +233,8 @@ def json_of(found: Untested, passed: bool) -> str:
             {"script": PLAIN.name(it.path), "line": line, "word": word} for it, (line, word) in found.broken.values()
         ],
         "not judged": [
-            {"script": PLAIN.name(it.path), "line": line, "why": why} for it, line, why in found.lacking.values()
+            *({"script": PLAIN.name(it.path), "line": line, "why": why} for it, line, why in found.lacking.values()),
+            *({"mail": PLAIN.name(path), "why": NO_MEMORY} for path in sorted(found.refused)),
         ],
         "not looked up": [PLAIN.name(path) for path in found.unasked],
     }

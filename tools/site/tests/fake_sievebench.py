@@ -169,7 +169,8 @@ class Bench:
         """The reply to a line."""
         command, *rest = [unquoted(word) for word in words]
         if command == b"report":
-            return self.report()
+            refused = any(b"no memory to run" in mail for mail, _ in self.mails.values())
+            return ["no no-memory"] if refused and self.main else self.report()
         if command == b"dump":
             text = self.scripts.get((rest[0].decode(), rest[1]), b"kep;")
             return ["no invalid-script"] if self.fault(text) else ["ok"]
@@ -178,6 +179,8 @@ class Bench:
         elif command == b"message":
             if len(octets) > 16_777_216:
                 return ["no too-large"]
+            if b"no memory to put" in octets:
+                return ["no no-memory"]
             self.mails[rest[0]] = (octets, [b"", b""])
         elif command == b"message-envelope":
             self.mails[rest[0]] = (self.mails[rest[0]][0], rest[1:])

@@ -113,6 +113,17 @@ class Checks(Room):
         )
         self.assertEqual(told[-1], counted(5, 1, 5, 0, 0, 0, 0, 0) + ", 5 not judged")
 
+    def test_memory(self) -> None:
+        self.write({"personal/main.sieve": "discard;", "mains": "main\n", "envelope": '"" ""\n'})
+        self.write({f"mails/{number}.eml": "no memory to run" if number == 1 else "" for number in range(5)})
+        self.write({f"mails/{number}.eml.expect": "[main]\ndiscard\n" for number in range(5)})
+        counts = "5 mails, 1 mains, 5 verdicts, 4 agree, 0 disagree, 0 without expectation"
+        counts += ", 0 stale expectations, 0 scripts with a fault, 1 not judged"
+        why = "not judged: the program has no memory for it: --memory gives more"
+        self.assertEqual(self.ran("check", "."), (1, [f"./mails/1.eml under main: {why}", counts], ""))
+        written = "5 mails, 0 written, 0 left, 1 verdicts not judged"
+        self.assertEqual(self.ran("record", "."), (0, [written], ""))
+
     def test_forms(self) -> None:
         self.write({"personal/c.sieve": "\n\nkep;", "mails/x.EML": "", "mails/9.eml.expect": ""})
         found = json.loads("".join(self.ran("check", "--format", "json", ".")[1]))

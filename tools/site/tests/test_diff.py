@@ -108,6 +108,22 @@ class Folders(Room):
         self.assertIn('new/mails/1.eml under main: not judged: before, personal "part" requires z', told[1])
         self.assertEqual(told[1][-1], "0 of 0 verdicts changed, 2 not judged")
 
+    def test_memory(self) -> None:
+        self.site("old", main="keep;")
+        self.site("new", main="discard;")
+        self.write({"new/mails/2.eml": "no memory to run", "new/mails/3.eml": "no memory to put"})
+        why = "not judged: the program has no memory for it: --memory gives more"
+        wanted = [
+            "new/mails/1.eml under main",
+            '  - store "INBOX"',
+            "  + discard  (new/personal/main.sieve:1)",
+            f"new/mails/2.eml under main: {why}",
+            f"new/mails/3.eml under main: {why}",
+            "1 of 1 verdict changed, 2 not judged",
+        ]
+        status, told, error = self.ran("diff", "old", "new")
+        self.assertEqual((status, told, error), (1, wanted, ""))
+
     def test_users(self) -> None:
         for name, text in (("old", "keep;"), ("new", "discard;")):
             self.write({f"{name}/users/ada/personal/m.sieve": text, f"{name}/mails/1.eml": "", f"{name}/mains": "m"})

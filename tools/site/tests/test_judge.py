@@ -11,6 +11,7 @@ from sievebench_site.envelopes import Envelope
 from sievebench_site.folder import Site, Wanted, site_of, take_mails
 from sievebench_site.judge import Judge, Judged, batches_of
 from sievebench_site.mails import Mail
+from sievebench_site.program import NO_MEMORY, Session
 
 from .room import Files, Room
 from .test_shown import Terminal
@@ -110,6 +111,32 @@ class Verdicts(Room):
             [(it.unjudged, it.agrees()) for it in judged.cases], [('personal "b" requires y, x', None), (None, None)]
         )
         self.assertEqual(judged.surveys[0].lacking, {("personal", b"b"): [b"y", b"x"], ("personal", b"c"): [b"z"]})
+
+    def test_memory(self) -> None:
+        refused = {1: "no memory to put", 4: "no memory to run", 9: "no memory to run"}
+        self.write({f"mails/{number}.eml": refused.get(number, "") + "\n" for number in range(10)})
+        self.write({"personal/a.sieve": "discard;", "personal/b.sieve": "keep;", "mains": "a\nb a\n"})
+        for few in (1, 3, 50):
+            with self.subTest(few=few), mock.patch.object(module, "FEW_MAILS", few):
+                judged = self.judged(2)
+                verdicts = {"a": ["discard"], "b a": ["discard"]}
+                wanted = [
+                    (f"{number}.eml", main, [] if number in refused else verdicts[main])
+                    for number in range(10)
+                    for main in verdicts
+                ]
+                self.assertEqual(self.told(judged), wanted)
+                unjudged = {it.mail.name: it.unjudged for it in judged.cases if it.unjudged}
+                self.assertEqual(unjudged, {b"%d.eml" % number: NO_MEMORY for number in refused})
+                self.assertEqual(len(judged.bare), 7)
+
+    def test_memory_for_scripts(self) -> None:
+        self.write({"personal/a.sieve": "", "mains": "a\n", "mails/1.eml": ""})
+        refuses = mock.patch.object(Session, "line", return_value=b"no no-memory")
+        with refuses, self.assertRaisesRegex(
+            Refusal, "the script .*a.sieve.* is refused: the program has no memory for it"
+        ):
+            self.judged()
 
     def test_a_mail_that_is_gone(self) -> None:
         self.write({"personal/a.sieve": "keep;", "mains": "a\n", "mails/1.eml": "x"})

@@ -58,6 +58,17 @@ class Commands(Room):
         self.assertEqual(self.ran("untested", ".")[1], told)
         self.assertEqual(self.ran("untested", "-q", ".")[1], told[:-2])
 
+    def test_memory(self) -> None:
+        self.write({"mails/3.eml": "no memory to run", "mails/4.eml": "no memory to put"})
+        why = "the program has no memory for it: --memory gives more"
+        told = self.ran("untested", ".")[1]
+        self.assertEqual(
+            [line for line in told if why in line], [f"./mails/{it}.eml: not judged: {why}" for it in "34"]
+        )
+        self.assertRegex(told[-1], r"^[1-9]\d* of \d+ changes are noticed")
+        lost = json.loads(self.ran("untested", "--json", ".")[1][0])["not judged"]
+        self.assertEqual(lost, [{"mail": f"./mails/{it}.eml", "why": why} for it in "34"])
+
     def test_percent(self) -> None:
         for percent, status in (("0", 0), ("33.3", 0), ("33.4", 1), ("100", 1)):
             with self.subTest(percent=percent):
