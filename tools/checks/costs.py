@@ -14,6 +14,8 @@ SOURCE = pathlib.Path(__file__).with_name("refuse.c")
 LEEWAY, RUNS, SECONDS, KILOBYTES = 4, 3, 30, 32_768
 # A read asks for 65,536 octets without those of a line that isn't whole yet, which are 16,386 at most; so much is held of replies, too.
 ROOM, LINE = 65_536, 16_386
+# So many verdicts are kept at once in that memory.
+VERDICTS = 14_000
 
 
 class Linear:
@@ -192,6 +194,12 @@ def of_memory(room):
     ]:
         yield bounded(room, title, [b"message m 0\n", *commands * count])
     yield bounded(room, "messages as large as nearly all memory", [put(b"message m%d" % number, b"x" * 8_500_000) for number in range(3)])
+    # A verdict takes no more than what it has: these take two thirds of the memory with their messages, and room for 32 actions in each would
+    # take twice as much.
+    for script, action in (b"", 'implicit "INBOX"'), (b"discard;", "discard"), (b'require "fileinto"; fileinto "a";', 'store "a"'):
+        told = [line for number in range(VERDICTS) for line in (f'message "m{number}"', f"  {action}", '  read personal "main"')]
+        told = ['main personal "main"', 'envelope "" "" mailbox "INBOX"', 'script personal "main" ok', *told, f"total {VERDICTS} messages 0 errors"]
+        yield limited(room, f"verdicts that are kept: {action}", judged(script, [b""] * VERDICTS), lines(*["ok"] * (VERDICTS + 2), *told))
     # A run has a place of five words for each field up to the last that it looks at, and a message six words for each.
     mail = b"a:\n" * 240_000 + b"z: v\n\n"
     told = ['main personal "main"', 'envelope "" "" mailbox "INBOX"', 'script personal "main" ok', 'message "m0"', "  discard", '  read personal "main"']
