@@ -307,7 +307,7 @@ def of_statuses():
     yield Statuses("the help of the program", STATUSES, re.findall(r"^  (\d)  (.*?)(?=^  \d|\Z)", f"{program}\n", re.M | re.S))
     for function in ("of_session", "of_dump", "of_test"):
         yield Statuses(f"the help, {function}", STATUSES, sentence(helped(function)), is_list=False)
-    yield Statuses(SITE, SITE_STATUSES, rows(SITE, "\n```sh\ncp PREFIX"))
+    yield Statuses(SITE, SITE_STATUSES, rows(SITE, "\n```sh\ntar --strip-components"))
     yield Statuses(SITE_PAGE, SITE_STATUSES, items(SITE_PAGE, "EXIT STATUS"))
     told = re.search(r'STATUS = """\\\nStatus: (.*?)\.\n"""', text_of(OPTIONS), re.S)[1].replace("130 and 143 after Ctrl-C and SIGTERM", "130, 143 after Ctrl-C and SIGTERM")
     yield Statuses("the help of the tool for sites", SITE_STATUSES, re.findall(r"(\d+(?:, \d+)?) (.*?)(?=; \d|\Z)", told, re.S))
