@@ -9,7 +9,7 @@ import subprocess
 import sys
 import time
 
-from .runs import SECONDS, Run, lines, some
+from .runs import SECONDS, LeftOut, Run, lines, some
 from .site import PACK, TOOL, counted, run, site, told, write
 
 DISCARDS = b"[main]\ndiscard\n"
@@ -78,6 +78,8 @@ def of_ends(room):
         (room / "linked/mails/1.eml.expect").symlink_to(far)
         far.touch()
         yield Run("sievebench-site: a link into another file system", room, f"python3 {shlex.quote(str(TOOL))} record linked; cat {far}; test -L linked/mails/1.eml.expect && rm {far}", lines("linked/mails/1.eml.expect: changed", "1 mails, 1 written, 0 left") + DISCARDS)
+    else:
+        yield LeftOut("sievebench-site: a link into another file system", "since /dev/shm is none")
     closed = f"python3 {shlex.quote(str(TOOL))} check slow --program sievebench >&-; echo $?"
     yield Run("sievebench-site: an output that is closed from the start", room, f"{{ {closed}; }} 2>&1 >told; cat told", lines("1"))
     yield Run("sievebench-site: the version, and that of the program", room, f'[ "$(python3 {shlex.quote(str(TOOL))} --version)" = "sievebench-site 0.1.0, with $(sievebench --version)" ]')
@@ -176,6 +178,7 @@ def of_page(room):
         assert steps, f"the page of sites: the job of {form} has no step"
         yield Run(f"the page of sites: the job of {form}", room, f"{found} {' && '.join(steps)}", agree if form == "gitlab" else b"")
     if not shutil.which("git"):
+        yield LeftOut("the page of sites: its hooks", "since git isn't installed")
         return
     name = "git config user.name a && git config user.email a@b.example"
     write(room, {"pre-commit": block("git checkout-index").encode(), "pre-receive": block("git archive").encode()})
