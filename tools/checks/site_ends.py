@@ -9,7 +9,7 @@ import subprocess
 import sys
 import time
 
-from .runs import SECONDS, Run, lines, some
+from .runs import SECONDS, LeftOut, Run, lines, some
 from .site import PACK, TOOL, counted, run, site, told, write
 
 DISCARDS = b"[main]\ndiscard\n"
@@ -78,6 +78,8 @@ def of_ends(room):
         (room / "linked/mails/1.eml.expect").symlink_to(far)
         far.touch()
         yield Run("sievebench-site: a link into another file system", room, f"python3 {shlex.quote(str(TOOL))} record linked; cat {far}; test -L linked/mails/1.eml.expect && rm {far}", lines("linked/mails/1.eml.expect: changed", "1 mails, 1 written, 0 left") + DISCARDS)
+    else:
+        yield LeftOut("sievebench-site: a link into another file system", "since /dev/shm is none")
     closed = f"python3 {shlex.quote(str(TOOL))} check slow --program sievebench >&-; echo $?"
     yield Run("sievebench-site: an output that is closed from the start", room, f"{{ {closed}; }} 2>&1 >told; cat told", lines("1"))
     yield run("colours are none where there is no terminal, and -q", room, "check -q slow --program sievebench", lines("slow/mails/1.eml under main: nothing is expected"), status=1)
@@ -177,6 +179,7 @@ def of_page(room):
         assert steps, f"the page of sites: the job of {form} has no step"
         yield Run(f"the page of sites: the job of {form}", room, f"{found} {' && '.join(steps)}", agree if form == "gitlab" else b"")
     if not shutil.which("git"):
+        yield LeftOut("the page of sites: its hooks", "since git isn't installed")
         return
     name = "git config user.name a && git config user.email a@b.example"
     write(room, {"pre-commit": block("git checkout-index").encode(), "pre-receive": block("git archive").encode()})
