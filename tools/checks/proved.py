@@ -20,7 +20,7 @@ DEFINED = rf"^ *(?:pub |data |record |abbrev |unfoldable )*({NAME})"
 # A public function with its contract; a law does nothing.
 PUBLIC = r"^( *)pub fn \w+.*?\n\1\{\}?"
 # How files end.
-FILES = "rt|antt|py|md|rows|faults|sessions"
+FILES = "rt|antt|py|md|tsv|rows|faults|sessions"
 TESTS = ("text_tests", "library_tests", "bench_tests")
 
 
@@ -105,7 +105,7 @@ def of_rules():
 
 def places(folder):
     """The words of the files in a folder, and the names of these and of their folders, but for what is built."""
-    files = [path for path in sorted(folder.rglob("*")) if path.suffix in (".rt", ".antt", ".edit", ".py") and "out" not in path.parts]
+    files = [path for path in sorted(folder.rglob("*")) if path.suffix in (".rt", ".antt", ".edit", ".py", ".tsv") and "out" not in path.parts]
     names = {part for path in files for part in (*path.parts, path.stem)}
     return names | set(re.findall(NAME, text_of(files)))
 
