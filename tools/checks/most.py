@@ -279,11 +279,7 @@ def of_references(room):
     require = b'require ["variables", "fileinto"];\n'
     for size, most in (1, None), (4_096, 4_096):
         front, end = require + b'set "a" "' + b"x" * size + b'"; set :length "n" "', b'"; fileinto "${n}";'
-<<<<<<< HEAD
-        counts = around(most or fitting(b"${a}", front, b"y", end), 8, 12, 16)
-=======
         counts = around(most or fitting(b"${a}", front, end, b"y"), 8, 12, 16)
->>>>>>> through
         cases = [(front + b"${a}" * count + more + end, b"", [f'store "{size * count + len(more)}"']) for count in counts for more in (b"", b"y")]
         yield turns(room, f"references to {size} octets", cases)
     most = fitting(b"x", subject(b""), limit=MESSAGE_LIMIT)
