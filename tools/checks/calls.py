@@ -282,7 +282,9 @@ class Call:
         found = self.answered(MARKS=str(marks))
         if found != self.told.whole:
             return [f"wanted {self.told.whole!r}, got {found!r}"]
-        before, self.requests, count = map(int, marks.read_text().split())
+        before, self.requests, count, made = map(int, marks.read_text().split())
+        if made < 2:
+            return ["no call is marked"]
         if bool(self.requests) != self.takes:
             return [f"{self.requests} requests"]
         # One more than there are: then nothing is refused.

@@ -120,7 +120,8 @@ def run(title, folder, told, wrong, names):
     asked = f" --with '{names}'" if names else ""
     test = f"sievebench test{asked} --personal . main.sieve mail"
     if told.startswith("script "):
-        return Run(title, folder, f"sievebench dump{asked} main.sieve", lines(told), status=1) if wrong else Run(title, folder, f"{test} > /dev/null")
+        sound = [lines('script personal "main" ok'), lines("total 1 messages 0 errors")]
+        return Run(title, folder, f"sievebench dump{asked} main.sieve", lines(told), status=1) if wrong else Run(title, folder, test, sound)
     if wrong:
         return Run(title, folder, f"{test} | grep '^  error '", lines(f"  {told}"))
     return Run(title, folder, f"{test} | tail -n 1", lines("total 1 messages 0 errors"))

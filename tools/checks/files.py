@@ -3,7 +3,7 @@ and numbers at their limits and past them."""
 import os
 
 from .amounts import MAILBOX_LIMIT, MAILBOXES_LIMIT, MESSAGE_LIMIT, NAME_LIMIT, SCRIPT_LIMIT, TEXT_LIMIT
-from .runs import SETTINGS, Run, report
+from .runs import SETTINGS, Run, lines, report
 
 
 def odd_files(folder):
@@ -117,7 +117,8 @@ def of_limits(room):
     scripts = [f'personal "{i:04}" ok' for i in range(SCRIPT_LIMIT - 1)] + [small]
     yield Run("as many scripts as there may be", folder, "sievebench test --personal full small.sieve small.eml", report(scripts, "small", "small.eml", kept))
     yield Run("one more", folder, "sievebench test --personal over small.sieve small.eml", b"", b"sievebench: too many scripts\n", 2)
-    yield Run("one more, but for the script of the same name", folder, "sievebench test --personal over over/0007.sieve small.eml > /dev/null")
+    count = "sievebench test --personal over over/0007.sieve small.eml | grep -c '^script personal .* ok$'"
+    yield Run("one more, but for the script of the same name", folder, count, lines(SCRIPT_LIMIT))
 
 
 def of_words(room):

@@ -9,7 +9,8 @@
    NO_WRITE=N      lets it take no octet
    INTERRUPT=1     interrupts each other read of standard input, and each other write to standard output
    REQUESTS=PATH   writes how many requests there were
-   MARKS=PATH      writes how many of them came before the first mark, how many between a mark and the next, and how many there were
+   MARKS=PATH      writes how many of them came before the first mark, how many between a mark and the next, how many there were, and how many
+                   marks
 
    A mark is a write to standard error, and each second one ends what the one before began. So a program that writes there for marks alone
    tells which requests are a call's: a mark is a single write, takes no memory, and leaves standard output to what the call writes. */
@@ -64,7 +65,7 @@ __attribute__((destructor)) static void end(void) {
     counts = 0;
     snprintf(text, sizeof text, "%lu\n", requests);
     put("REQUESTS", text);
-    snprintf(text, sizeof text, "%lu %lu %lu\n", before, between, requests);
+    snprintf(text, sizeof text, "%lu %lu %lu %d\n", before, between, requests, marks);
     put("MARKS", text);
 }
 
