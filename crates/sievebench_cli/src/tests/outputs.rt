@@ -193,7 +193,8 @@ impl Write for Flushed<'_> {
     }
 
     fn flush(&mut self) -> io::Result<()> {
-        *self.count.try_borrow_mut()? += 1;
+        let mut count = self.count.try_borrow_mut()?;
+        *count = count.wrapping_add(1);
         Err(io::Error::from(ErrorKind::Other))
     }
 }
