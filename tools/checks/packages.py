@@ -37,6 +37,8 @@ for it in "libc6 $(getconf GNU_LIBC_VERSION | cut -d ' ' -f 2)" "python3 $(pytho
     printf 'Package: %s\nStatus: install ok installed\nMaintainer: Ada <ada@a.example>\nArchitecture: all\nVersion: %s\nDescription: a stand-in\n\n' $it
 done > root/var/lib/dpkg/status
 """
+# What is proved is kept beside, and not where a user keeps it.
+ENV = 'XDG_CACHE_HOME="$PWD/cache" PATH="$PWD/kit:$PATH"'
 DPKG = 'PATH="$PATH:/usr/sbin:/sbin" dpkg --root="$PWD/root" --force-not-root --force-bad-path --log=/dev/null'
 SITE = "6 mails, 2 mains, 12 verdicts, 12 agree, 0 disagree, 0 without expectation, 0 stale expectations, 0 scripts with a fault"
 COMPLETES = """bash -c 'source "$0"; COMP_WORDS=("$@"); COMP_CWORD=$(($# - 1)); _sievebench "$1" "${@: -1}" "${@: -2:1}"; printf "%s\\n" "${COMPREPLY[@]}"' """
@@ -52,7 +54,7 @@ def copy(room, rt):
         shutil.copytree(TOP / part, place, ignore=ignored) if (TOP / part).is_dir() else shutil.copy(TOP / part, place)
     (top / "crates/sievebench_cli").mkdir()
     (top / "crates/sievebench_cli/args").write_text("session\n")
-    (top / ".gitignore").write_text("out/\nkit/\nroot/\ntold\n")
+    (top / ".gitignore").write_text("out/\nkit/\nroot/\ncache/\ntold\n")
     (top / "kit").mkdir()
     (top / "kit/rt").write_text(rt)
     (top / "kit/rt").chmod(0o755)
@@ -83,7 +85,7 @@ def of_versions(room):
     named = "grep -ohE 'sievebench[-_][0-9]+\\.[0-9]+\\.[0-9]+' README.md docs/SITE.md | sort -u"
     yield Run("the version that documents name", TOP, named, lines(f"sievebench-{VERSION}", f"sievebench_{VERSION}"))
     top = copy(room, SAYS)
-    builds = 'mkdir -p out; PATH="$PWD/kit:$PATH" tools/programs out > told && { out/sievebench --version; out/sievebench-site --version; }'
+    builds = f'mkdir -p out; {ENV} tools/programs out > told && {{ out/sievebench --version; out/sievebench-site --version; }}'
     both = f"commit=$(git rev-parse --short=12 HEAD); {builds} | sed s/$commit/COMMIT/g"
     told = lines(f"sievebench {VERSION} (COMMIT)", f"sievebench-site {VERSION} (COMMIT), with sievebench {VERSION} (COMMIT)")
     yield Run("the commit of programs", top, both, told)
@@ -97,7 +99,7 @@ def of_versions(room):
 def of_made(room):
     """Equal commits give equal octets, and the package says what it needs."""
     one, other = copy(room, HANDS_ON), copy(room, HANDS_ON)
-    makes = 'PATH="$PWD/kit:$PATH" tools/package > told'
+    makes = f'{ENV} tools/package > told'
     yield Run("a package", one, f"{makes}; echo $?; cd out && ls && sha256sum --quiet -c SHA256SUMS", [b"0\n", b"SHA256SUMS\n", f"sievebench_{VERSION}_".encode(), f"sievebench-{VERSION}-linux-".encode()])
     again = f"umask 077; sleep 1; find . -name .git -prune -o -exec touch {{}} +; {makes}; cmp out/SHA256SUMS {one}/out/SHA256SUMS && cmp out/*.deb {one}/out/*.deb && cmp out/*.gz {one}/out/*.gz"
     yield Run("the same package of the same commit elsewhere, later and with another mask", other, again)
@@ -125,7 +127,7 @@ def of_made(room):
 def of_installed(room):
     """A package in a system of its own: installed, run, upgraded and removed."""
     top = copy(room, HANDS_ON)
-    makes = 'PATH="$PWD/kit:$PATH" tools/package > told'
+    makes = f'{ENV} tools/package > told'
     checks = 'PATH="$PWD/root/usr/bin:$PATH" root/usr/bin/sievebench-site check root/usr/share/doc/sievebench/examples/site'
     yield Run("a package is installed and run", top, f"{makes}; {SYSTEM} {DPKG} -i out/*.deb > told && {checks} && man -l root/usr/share/man/man1/sievebench.1.gz | grep -c '^NAME'", lines(SITE, "1"))
     newer = f"sed -i s/{re.escape(VERSION)}/{NEXT}/ CHANGELOG.md {COMMANDS} tools/site/sievebench_site/main.py; rm out/*; {GIT} commit -qam two; {makes}"
@@ -136,7 +138,7 @@ def of_installed(room):
 
 def of_refusals(room):
     """What no package is made of."""
-    made = 'PATH="$PWD/kit:$PATH" tools/package {}; echo $?; find . -name "*.deb"'
+    made = f'{ENV} tools/package {{}}; echo $?; find . -name "*.deb"'
     differ = b"package: tracked files differ from the commit, or this is no repository of git: a package is made of a commit\n"
     for title, before, words, status, error in [
         ("files differ from the commit", "echo >> README.md", "", 1, differ),
