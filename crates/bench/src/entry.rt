@@ -9,7 +9,7 @@ ghost use Rattle.bench.specs.view.Site.{site_as};
 
 use crate::site::Site;
 use sieve_base::{Octets, ScriptName};
-use sieve_run::{Addresses, Message, Meter, Outcome, run};
+use sieve_run::{Addresses, Mail, Message, Meter, Outcome, run};
 use std::alloc::{AllocError, Global};
 
 /// A message with the text that its verdict is expected to have, where there is one, with the addresses that it has of its own, where it has some,
@@ -95,15 +95,12 @@ impl Entry {
         ensures ran { OnErr result (meter.new ≡ next_run meter.old) }
     {
         if self.kept.is_none() {
-            let outcome = run(
-                alloc,
-                site.scripts,
-                site.main,
-                site.envelope,
-                self.addresses.as_ref(),
-                &self.message,
-                meter,
-            )?;
+            let mail = Mail {
+                message: &self.message,
+                envelope: site.envelope,
+                own: self.addresses.as_ref(),
+            };
+            let outcome = run(alloc, site.scripts, site.main, mail, meter)?;
             self.kept = Some(outcome);
         }
         Ok(())

@@ -133,7 +133,8 @@ fn text_breaks(
     octets: &[u8],
     rule: Rule,
 ) -> Result<bool, AllocError>
-    ensures { IfOk result (λ broken. broken ≡ text_breaks (context_as context.entry) role octets.now rule) }
+    ensures { IfOk result
+        (λ broken. broken ≡ text_breaks (context_as context.entry) role octets.now rule) }
 {
     let required = context.spot.required;
     let broken = match rule {
@@ -194,7 +195,8 @@ fn first_broken(
     role: Option<Role>,
     octets: &[u8],
 ) -> Result<Option<Rule>, AllocError>
-    ensures { IfOk result (λ first. first ≡ find (text_breaks (context_as context.entry) role octets.now) rules.now) }
+    ensures { IfOk result
+        (λ first. first ≡ find (text_breaks (context_as context.entry) role octets.now) rules.now) }
 {
     for rule in rules {
         if text_breaks(alloc, context, role, octets, *rule)? {
@@ -212,7 +214,8 @@ fn check_text(
     role: Option<Role>,
     text: &Text,
 ) -> Result<(), CheckFault>
-    ensures { Finds (breaches_at (the_text (context_as context.entry) role (text_of text.now))) result }
+    ensures { Finds
+        (breaches_at (the_text (context_as context.entry) role (text_of text.now))) result }
 {
     let line = text.line as u64;
     let Some(said) = said(alloc, context.spot.required, role, text.octets())? else {
@@ -233,7 +236,8 @@ fn check_texts(
     role: Option<Role>,
     texts: &[Text],
 ) -> Result<(), CheckFault>
-    ensures { FindsIn (text_elements (context_as context.entry) role (map text_of texts.now)) result }
+    ensures { FindsIn
+        (text_elements (context_as context.entry) role (map text_of texts.now)) result }
 {
     for text in texts {
         check_text(alloc, context, role, text)?;
@@ -263,7 +267,8 @@ fn check_argument(
     role: Option<Role>,
     argument: &Argument,
 ) -> Result<(), CheckFault>
-    ensures { FindsIn (argument_elements (context_as context.entry) role (argument_of argument.now)) result }
+    ensures { FindsIn
+        (argument_elements (context_as context.entry) role (argument_of argument.now)) result }
 {
     match argument {
         Argument::Strings { items, .. } => check_texts(alloc, context, role, items),
@@ -280,7 +285,8 @@ pub(crate) fn check_arguments(
     labels: &[Label],
     args: &[Argument],
 ) -> Result<(), CheckFault>
-    ensures { FindsIn (labelled_elements (context_as context.entry) labels.now (map argument_of args.now)) result }
+    ensures { FindsIn (labelled_elements (context_as context.entry) labels.now
+        (map argument_of args.now)) result }
 {
     let mut labels_left = labels;
     for argument in args {
@@ -299,8 +305,10 @@ fn use_lacks(
     labels: &[Label],
     args: &[Argument],
 ) -> Result<bool, AllocError>
-    requires { labels.now ≡ known_labels (context_as context).profile (row_as row.now) (map argument_of args.now) }
-    ensures { IfOk result (λ lacks. lacks ≡ use_lacks (context_as context.entry).profile (context_as context.entry).required (row_as row.now) (map argument_of args.now)) }
+    requires { labels.now
+        ≡ known_labels (context_as context).profile (row_as row.now) (map argument_of args.now) }
+    ensures { IfOk result (λ lacks. lacks ≡ use_lacks (context_as context.entry).profile
+        (context_as context.entry).required (row_as row.now) (map argument_of args.now)) }
 {
     let required = context.spot.required;
     if lacks_required(required, row, labels) {
@@ -309,22 +317,40 @@ fn use_lacks(
     arguments_lack(alloc, context.spot.profile, required, labels, args)
 }
 
+/// A command or a test of a row, apart from the tests and the block of it.
+#[derive(Clone, Copy)]
+pub(crate) struct Use<'a> {
+    pub(crate) line: u64,
+    pub(crate) row: &'a Row,
+    pub(crate) args: &'a [Argument],
+    pub(crate) tests: &'a Tests,
+    pub(crate) ends_by_block: bool,
+    /// Whether it follows an `if` that isn't there.
+    pub(crate) stands_alone: bool,
+}
+
 /// Checks a command or a test of a row, apart from its tests and its block, and from whether a `require` may stand there.
-/// `stands_alone` says whether it goes on with an `if` that isn't there.
 #[tactic(auto, using(crate::proofs::Uses::use_steps))]
 pub(crate) fn check_use(
     alloc: Global,
     context: Context<'_>,
-    line: u64,
-    row: &Row,
-    args: &[Argument],
-    tests: &Tests,
-    ends_by_block: bool,
-    stands_alone: bool,
+    used: Use<'_>,
 ) -> Result<Vec<Label>, CheckFault>
-    ensures labels { IfOk result (λ labels. labels.items ≡ known_labels (context_as context.entry).profile (row_as row.now) (map argument_of args.now)) }
-    ensures found { Finds (row_found stands_alone (context_as context.entry) line (row_as row.now) (map argument_of args.now) (tests_of tests.now) ends_by_block) result }
+    ensures labels { IfOk result (λ labels. labels.items ≡ known_labels
+        (context_as context.entry).profile (row_as used.entry.row.now)
+        (map argument_of used.entry.args.now)) }
+    ensures found { Finds (row_found used.entry.stands_alone (context_as context.entry)
+        used.entry.line (row_as used.entry.row.now) (map argument_of used.entry.args.now)
+        (tests_of used.entry.tests.now) used.entry.ends_by_block) result }
 {
+    let Use {
+        line,
+        row,
+        args,
+        tests,
+        ends_by_block,
+        stands_alone,
+    } = used;
     let RowLabels { labels, filled } = known_labels::<AsOctets>(
         alloc,
         context.spot.profile,

@@ -17,7 +17,7 @@ ghost use Rattle.sieve_check.specs.view.Context.{at_spot, context_as};
 ghost use Rattle.sieve_check.specs.view.Finds.{Finds, FindsIn};
 ghost use Rattle.sieve_check.specs.view.Head.{command_head, kind_found};
 
-use crate::arguments::check_use;
+use crate::arguments::{Use, check_use};
 use crate::context::{Context, Spot, continues_if, is_require};
 use crate::cutting::cut_arguments;
 use crate::said::say_arguments;
@@ -62,16 +62,15 @@ fn check_kind(
         return Err(CheckFault::Breach { line, rule });
     }
     let ends_by_block = command.block.is_some();
-    check_use(
-        alloc,
-        context,
+    let used = Use {
         line,
-        &kind.row(),
-        &command.args,
-        &command.tests,
+        row: &kind.row(),
+        args: &command.args,
+        tests: &command.tests,
         ends_by_block,
-        stands_alone(context, kind),
-    )
+        stands_alone: stands_alone(context, kind),
+    };
+    check_use(alloc, context, used)
 }
 
 /// The kind of a command, where it is known.

@@ -12,7 +12,7 @@ ghost use Rattle.sieve_reading.specs.view.Tree.{test_of, tests_of};
 ghost use Rattle.sieve_profile.specs.view.Profile.{profile_as};
 ghost use Rattle.sieve_table.specs.Known as spec;
 
-use crate::arguments::check_use;
+use crate::arguments::{Use, check_use};
 use crate::context::Context;
 use crate::cutting::say_and_cut;
 use crate::validator::CheckFault;
@@ -47,16 +47,15 @@ fn check_test_head(
         }),
         Some(kind) => {
             let row = kind.row();
-            check_use(
-                alloc,
-                context,
+            let used = Use {
                 line,
-                &row,
-                &test.args,
-                &test.tests,
-                false,
-                false,
-            )
+                row: &row,
+                args: &test.args,
+                tests: &test.tests,
+                ends_by_block: false,
+                stands_alone: false,
+            };
+            check_use(alloc, context, used)
         }
     }
 }

@@ -4,4 +4,5 @@ pub mod Entry
 pub mod Found
 pub mod Include
 pub mod Left
+pub mod Mail
 pub mod Step

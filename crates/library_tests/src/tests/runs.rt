@@ -6,7 +6,8 @@ ghost use Rattle.std.specs.Prelude.{◌≤◌, IfOk, length};
 use super::{holds, same};
 use sieve_profile::Profile;
 use sieve_run::{
-    Action, Envelope, ErrorKind, Message, Meter, Octets, Outcome, Place, ScriptName, Shelf, run,
+    Action, Envelope, ErrorKind, Mail, Message, Meter, Octets, Outcome, Place, ScriptName, Shelf,
+    run,
 };
 use std::alloc::{AllocError, Global};
 use std::process::Abort;
@@ -48,7 +49,12 @@ fn outcome_on(
     (envelope, message): (&Envelope, &Message),
     meter: &mut Meter,
 ) -> Result<Outcome, Fail> {
-    Ok(run(alloc, shelf, main, envelope, None, message, meter)?)
+    let mail = Mail {
+        message,
+        envelope,
+        own: None,
+    };
+    Ok(run(alloc, shelf, main, mail, meter)?)
 }
 
 /// The outcome of a main script on a message of no octets.
