@@ -17,7 +17,7 @@ ghost use Rattle.bench.specs.view.ReportFault.{MatchReportFault};
 ghost use Rattle.bench.specs.Content.{after, Answers, expected_refusal, message_refusal, new_content, Refuses, script_refusal, text_at};
 ghost use Rattle.bench.specs.Content as edit;
 
-use crate::entry::Entry;
+use crate::entry::EntryBox;
 use crate::fault::{EditFault, ReportFault};
 use crate::marking::{forget_all, forget_readers};
 use crate::message::message_of;
@@ -46,7 +46,7 @@ pub struct Bench {
     main: Option<ScriptName>,
     pub(crate) envelope: Envelope,
     scripts: Scripts,
-    pub(crate) messages: IndexMap<Octets, Entry>,
+    pub(crate) messages: IndexMap<Octets, EntryBox>,
 }
 
 impl Model for Bench {
@@ -129,7 +129,7 @@ impl Bench {
         ensures refused { Refuses (after self.old.content (edit.put_message id bytes)) result }
     {
         let message = message_of(self.alloc, bytes)?;
-        put(&mut self.messages, id, message)?;
+        put(self.alloc, &mut self.messages, id, message)?;
         Ok(())
     }
 
@@ -331,7 +331,7 @@ impl Bench {
         ensures listed { self.now.stale ≡ ids_where (λ message. is_among message.0 self.now.stale) self.now.content.messages }
     {
         match self.messages.get(id) {
-            Some(entry) => entry.kept.as_ref(),
+            Some(entry) => entry.kept(),
             None => None,
         }
     }

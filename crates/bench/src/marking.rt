@@ -9,13 +9,13 @@ ghost use Rattle.bench.specs.Report.{Site, verdict_by};
 ghost use Rattle.bench.specs.view.Entry.{KeepsDue, forgotten, unread, messages_of};
 ghost use Rattle.bench.specs.view.Site.{with_scripts};
 
-use crate::entry::Entry;
+use crate::entry::EntryBox;
 use indexmap::IndexMap;
 use sieve_base::{Octets, ScriptName};
 use sieve_run::laws::a_verdict_depends_on_what_it_looked_up;
 
 /// Marks all messages stale.
-pub(crate) fn forget_all(messages: &mut IndexMap<Octets, Entry>)
+pub(crate) fn forget_all(messages: &mut IndexMap<Octets, EntryBox>)
     ensures entries { messages.new.entries ≡ map (λ e. (e.0, forgotten e.1)) messages.old.entries }
     ensures messages { messages_of messages.new.entries ≡ messages_of messages.old.entries }
     ensures unique { IsUnique (pointwise nat_eq) messages.new }
@@ -27,7 +27,7 @@ pub(crate) fn forget_all(messages: &mut IndexMap<Octets, Entry>)
 }
 
 /// Marks those stale whose runs looked the name up. Where the text at no other name changes, each verdict that is kept stays due.
-pub(crate) fn forget_readers(messages: &mut IndexMap<Octets, Entry>, name: &ScriptName)
+pub(crate) fn forget_readers(messages: &mut IndexMap<Octets, EntryBox>, name: &ScriptName)
     ensures entries { messages.new.entries ≡ map (λ e. (e.0, unread name.now e.1)) messages.old.entries }
     ensures messages { messages_of messages.new.entries ≡ messages_of messages.old.entries }
     ensures unique { IsUnique (pointwise nat_eq) messages.new }

@@ -3,7 +3,7 @@ ghost use Rattle.std.specs.Prelude.{◌≡◌};
 ghost use Rattle.bench.specs.Content as spec;
 ghost use Rattle.bench.specs.view.Entry.{messages_of};
 
-use crate::entry::Entry;
+use crate::entry::EntryBox;
 use crate::fault::EditFault;
 use crate::scripts::Scripts;
 use crate::sought::SoughtId;
@@ -37,7 +37,7 @@ pub(crate) fn refuse_script(scripts: &Scripts, name: &ScriptName, text: &[u8]) -
 /// Why a message isn't put, apart from memory.
 #[tactic(auto, using(crate::proofs::Entries::entries))]
 pub(crate) fn refuse_message(
-    messages: &IndexMap<Octets, Entry>,
+    messages: &IndexMap<Octets, EntryBox>,
     id: &Octets,
     bytes: &[u8],
 ) -> Option<EditFault>
@@ -54,7 +54,7 @@ pub(crate) fn refuse_message(
 
 /// Why a message isn't removed, or why what is expected of it or its own addresses aren't.
 #[tactic(auto, using(crate::proofs::Entries::entries))]
-pub(crate) fn refuse_absent(messages: &IndexMap<Octets, Entry>, id: &[u8]) -> Option<EditFault>
+pub(crate) fn refuse_absent(messages: &IndexMap<Octets, EntryBox>, id: &[u8]) -> Option<EditFault>
     ensures { result ≡ spec.absent_refusal (messages_of messages.now.entries) id.now }
 {
     if id.len() > MAX_ID {
@@ -69,7 +69,7 @@ pub(crate) fn refuse_absent(messages: &IndexMap<Octets, Entry>, id: &[u8]) -> Op
 /// Why a text isn't expected of a message, apart from memory.
 #[tactic(auto, using(crate::proofs::Entries::entries))]
 pub(crate) fn refuse_expected(
-    messages: &IndexMap<Octets, Entry>,
+    messages: &IndexMap<Octets, EntryBox>,
     id: &[u8],
     text: &[u8],
 ) -> Option<EditFault>
@@ -137,7 +137,7 @@ fn are_long(from: &[u8], to: &[u8]) -> bool
 /// Why a message isn't given addresses of its own, apart from memory.
 #[tactic(auto, using(crate::proofs::Entries::entries))]
 pub(crate) fn refuse_addresses(
-    messages: &IndexMap<Octets, Entry>,
+    messages: &IndexMap<Octets, EntryBox>,
     id: &[u8],
     from: &[u8],
     to: &[u8],
