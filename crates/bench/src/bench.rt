@@ -118,8 +118,7 @@ impl Bench {
         ensures { Tries (edit.put_script name text) result self.old self.new }
     {
         refuse_script(&self.scripts, &name, text.as_slice())?;
-        self.scripts.put(self.alloc, &name, text)?;
-        forget_readers(&mut self.messages, &name);
+        self.scripts.put(self.alloc, &mut self.messages, name, text)?;
         Ok(())
     }
 
@@ -151,8 +150,7 @@ impl Bench {
         ensures { Tries (edit.rename_script from.now to) result self.old self.new }
     {
         refuse_rename(&self.scripts, from, &to)?;
-        self.scripts.rename(self.alloc, from, &to)?;
-        forget_readers(&mut self.messages, &to);
+        self.scripts.rename(self.alloc, &mut self.messages, from, to)?;
         forget_readers(&mut self.messages, from);
         Ok(())
     }
