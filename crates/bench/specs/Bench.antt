@@ -1,10 +1,11 @@
 -- What a bench is.
 use Rattle.sieve_base.specs.Octet.{is_among}
-use Rattle.std.specs.Prelude.{◌≡◌, ℕ, suc, ◌<◌, List, ◌++◌, length, Option, None, if◌then◌else◌}
+use Rattle.std.specs.Prelude.{◌≡◌, ℕ, suc, ◌<◌, List, ◌++◌, length, Option, None, Result, Ok, OnOk, OnErr, if◌then◌else◌}
 use Rattle.sieve_run.specs.Meter.{runs_after}
 use Rattle.sieve_run.specs.Verdict.{Verdict}
-use Rattle.bench.specs.Content.{Content}
-use Rattle.bench.specs.Stale.{verdict_of}
+use Rattle.bench.specs.Content.{Answers, Content, Edit, Refuses, after}
+use Rattle.bench.specs.Stale.{stale_after, verdict_of}
+use Rattle.bench.specs.declared.fault.EditFault.{EditFault}
 
 -- what a bench holds, and the ids of the messages that the next report runs, in the list's order
 pub record BenchState : Type 0 where
@@ -14,6 +15,20 @@ pub record BenchState : Type 0 where
 -- the verdict on the message of an id that is not stale
 abbrev pub verdict_at : BenchState → List ℕ → Option Verdict
 verdict_at state id = if is_among id state.stale then None else verdict_of state.content id
+
+-- An edit that nothing refuses is made: the bench holds what the edit makes of its content, and those messages are stale that the edit touches,
+-- and those that were.
+abbrev pub Makes : Edit → BenchState → BenchState → Type 0
+Makes edit old new = (after old.content edit ≡ Ok new.content) × (new.stale ≡ stale_after old.content edit old.stale new.content)
+
+-- An edit that memory may be refused to is made, or it is said why not, and nothing has changed. Where the edit has a refusal, that is the answer,
+-- and no memory is asked for; where it has none, only memory may be refused.
+abbrev pub Tries : Edit → Result Unit EditFault → BenchState → BenchState → Type 0
+Tries edit outcome old new = OnOk outcome (Makes edit old new) × OnErr outcome (new ≡ old) × Refuses (after old.content edit) outcome
+
+-- An edit that takes no memory is made exactly where it has no refusal. Where it has one, that is the answer, and nothing has changed.
+abbrev pub TriesInPlace : Edit → Result Unit EditFault → BenchState → BenchState → Type 0
+TriesInPlace edit outcome old new = OnOk outcome (Makes edit old new) × OnErr outcome (new ≡ old) × Answers (after old.content edit) outcome
 
 -- Where memory is refused to a report, the first of the stale messages were run and are stale no more. The run on the next one was refused,
 -- and is counted too.

@@ -199,6 +199,11 @@ after content (clear_message_envelope id) = unless (absent_refusal content.messa
 after content (set_clock clock) = Ok (record content { envelope = record content.envelope { clock = Some clock } })
 after content clear_clock = Ok (record content { envelope = record content.envelope { clock = None } })
 
+-- what was found of a refusal: there is none, or it is this one
+abbrev pub Finds : Option EditFault → Result Unit EditFault → Type 0
+Finds refusal (Ok done) = refusal ≡ None
+Finds refusal (Err fault) = refusal ≡ Some fault
+
 -- an edit that takes no memory answers as it must
 abbrev pub Answers : Result Content EditFault → Result Unit EditFault → Type 0
 Answers (Ok content) (Ok done) = ⊤

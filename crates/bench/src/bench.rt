@@ -1,11 +1,11 @@
 //! The bench: its edits, its report and the verdicts that it keeps.
 ghost use Rattle.sieve_base.specs.Octet.{is_among};
-ghost use Rattle.std.specs.Prelude.{◌≡◌, ⊤, [], IfOk, OnOk, OnErr, IfErr, None, Ok, length};
+ghost use Rattle.std.specs.Prelude.{◌≡◌, ⊤, [], IfOk, OnOk, IfErr, length};
 ghost use Rattle.std.specs.Map as map;
 ghost use Rattle.std.specs.Option.{option_copied};
-ghost use Rattle.bench.specs.Bench.{RefusedAmong, verdict_at};
+ghost use Rattle.bench.specs.Bench.{Makes, RefusedAmong, Tries, TriesInPlace, verdict_at};
 ghost use Rattle.bench.specs.Edits.{AreDistinct};
-ghost use Rattle.bench.specs.Stale.{ids_where, stale_after};
+ghost use Rattle.bench.specs.Stale.{ids_where};
 ghost use Rattle.sieve_base.specs.Writers.{Wrote, WroteFront};
 ghost use Rattle.sieve_profile.specs.Profile.{empty_profile};
 ghost use Rattle.sieve_run.specs.Library.{found_at, library_of};
@@ -14,10 +14,10 @@ ghost use Rattle.sieve_run.specs.view.Found.{FoundAs};
 ghost use Rattle.bench.specs.Report.{report_text};
 ghost use Rattle.bench.specs.Test.{is_clean};
 ghost use Rattle.bench.specs.view.ReportFault.{MatchReportFault};
-ghost use Rattle.bench.specs.Content.{after, Answers, expected_refusal, message_refusal, new_content, Refuses, script_refusal, text_at};
+ghost use Rattle.bench.specs.Content.{new_content, text_at};
 ghost use Rattle.bench.specs.Content as edit;
 
-use crate::entry::Entry;
+use crate::entry::EntryBox;
 use crate::fault::{EditFault, ReportFault};
 use crate::marking::{forget_all, forget_readers};
 use crate::message::message_of;
@@ -46,7 +46,7 @@ pub struct Bench {
     main: Option<ScriptName>,
     pub(crate) envelope: Envelope,
     scripts: Scripts,
-    pub(crate) messages: IndexMap<Octets, Entry>,
+    pub(crate) messages: IndexMap<Octets, EntryBox>,
 }
 
 impl Model for Bench {
@@ -78,83 +78,6 @@ impl Bench {
         ensures { result ≡ self.now.content.profile }
     {
         self.scripts.profile()
-    }
-
-    /// Keeps a script's text at a name. The text needn't be copied.
-    pub fn keep_script(&mut self, name: &ScriptName, text: Octets) -> Result<(), EditFault>
-        ensures ok { OnOk result (after self.old.content (edit.put_script name.now text) ≡ Ok self.new.content) }
-        ensures stale { OnOk result (self.new.stale ≡ stale_after self.old.content (edit.put_script name.now text) self.old.stale self.new.content) }
-        ensures err { OnErr result (self.new ≡ self.old) }
-        ensures refused { Refuses (after self.old.content (edit.put_script name.now text)) result }
-    {
-        if let Some(fault) = refuse_script(&self.scripts, name, text.as_slice()) {
-            return Err(fault);
-        }
-        self.take_script(name, text)
-    }
-
-    /// Keeps a script's text at a name, where only memory may be refused.
-    fn take_script(&mut self, name: &ScriptName, text: Octets) -> Result<(), EditFault>
-        requires { script_refusal self.old.content.scripts name.now text ≡ None }
-        ensures ok { OnOk result (after self.old.content (edit.put_script name.now text) ≡ Ok self.new.content) }
-        ensures stale { OnOk result (self.new.stale ≡ stale_after self.old.content (edit.put_script name.now text) self.old.stale self.new.content) }
-        ensures err { OnErr result (self.new ≡ self.old) }
-        ensures refused { Refuses (after self.old.content (edit.put_script name.now text)) result }
-    {
-        self.scripts.put(self.alloc, name, text)?;
-        forget_readers(&mut self.messages, name);
-        Ok(())
-    }
-
-    /// Keeps a message's octets at an id, neither of which needs to be copied.
-    pub fn keep_message(&mut self, id: Octets, bytes: Octets) -> Result<(), EditFault>
-        ensures ok { OnOk result (after self.old.content (edit.put_message id bytes) ≡ Ok self.new.content) }
-        ensures stale { OnOk result (self.new.stale ≡ stale_after self.old.content (edit.put_message id bytes) self.old.stale self.new.content) }
-        ensures err { OnErr result (self.new ≡ self.old) }
-        ensures refused { Refuses (after self.old.content (edit.put_message id bytes)) result }
-    {
-        if let Some(fault) = refuse_message(&self.messages, &id, bytes.as_slice()) {
-            return Err(fault);
-        }
-        self.take_message(id, bytes)
-    }
-
-    /// Keeps a message's octets at an id, where only memory may be refused.
-    #[tactic(auto, using(crate::proofs::Entries::entries))]
-    fn take_message(&mut self, id: Octets, bytes: Octets) -> Result<(), EditFault>
-        requires { message_refusal self.old.content.messages id bytes ≡ None }
-        ensures ok { OnOk result (after self.old.content (edit.put_message id bytes) ≡ Ok self.new.content) }
-        ensures stale { OnOk result (self.new.stale ≡ stale_after self.old.content (edit.put_message id bytes) self.old.stale self.new.content) }
-        ensures err { OnErr result (self.new ≡ self.old) }
-        ensures refused { Refuses (after self.old.content (edit.put_message id bytes)) result }
-    {
-        let message = message_of(self.alloc, bytes)?;
-        put(&mut self.messages, id, message)?;
-        Ok(())
-    }
-
-    /// Expects a text of a message's verdict, which needn't be copied.
-    pub fn keep_expected(&mut self, id: &[u8], text: Octets) -> Result<(), EditFault>
-        ensures ok { OnOk result (after self.old.content (edit.set_expected id.now text) ≡ Ok self.new.content) }
-        ensures stale { OnOk result (self.new.stale ≡ stale_after self.old.content (edit.set_expected id.now text) self.old.stale self.new.content) }
-        ensures err { OnErr result (self.new ≡ self.old) }
-        ensures refused { Answers (after self.old.content (edit.set_expected id.now text)) result }
-    {
-        if let Some(fault) = refuse_expected(&self.messages, id, text.as_slice()) {
-            return Err(fault);
-        }
-        self.take_expected(id, text);
-        Ok(())
-    }
-
-    /// Expects a text of the verdict on a message that is there.
-    #[tactic(auto, using(crate::proofs::Entries::entries))]
-    fn take_expected(&mut self, id: &[u8], text: Octets)
-        requires { expected_refusal self.old.content.messages id.now text ≡ None }
-        ensures made { after self.old.content (edit.set_expected id.now text) ≡ Ok self.new.content }
-        ensures stale { self.new.stale ≡ stale_after self.old.content (edit.set_expected id.now text) self.old.stale self.new.content }
-    {
-        expect(&mut self.messages, SoughtId { octets: id }, Some(text));
     }
 
     /// A bench of the empty profile with no scripts, no messages, no main script, an empty envelope, the mailbox `INBOX`, no other
@@ -189,133 +112,96 @@ impl Bench {
         })
     }
 
-    /// Puts a script's text at a name, in place of the one there. A text with a fault is kept, and reported.
-    pub fn put_script(&mut self, name: &ScriptName, text: &[u8]) -> Result<(), EditFault>
-        ensures ok { OnOk result (after self.old.content (edit.put_script name.now text.now) ≡ Ok self.new.content) }
-        ensures stale { OnOk result (self.new.stale ≡ stale_after self.old.content (edit.put_script name.now text.now) self.old.stale self.new.content) }
-        ensures err { OnErr result (self.new ≡ self.old) }
-        ensures refused { Refuses (after self.old.content (edit.put_script name.now text.now)) result }
+    /// Puts a script's text at a name, in place of the one there. A text with a fault is kept, and
+    /// reported.
+    pub fn put_script(&mut self, name: ScriptName, text: Octets) -> Result<(), EditFault>
+        ensures { Tries (edit.put_script name text) result self.old self.new }
     {
-        if let Some(fault) = refuse_script(&self.scripts, name, text) {
-            return Err(fault);
-        }
-        let text = Octets::copied(self.alloc, text)?;
-        self.take_script(name, text)
+        refuse_script(&self.scripts, &name, text.as_slice())?;
+        self.scripts.put(self.alloc, &mut self.messages, name, text)?;
+        Ok(())
     }
 
-    /// Puts a message's octets at an id: a new id goes last, nothing is expected of its verdict, and it has no addresses of its own; a present one keeps
-    /// its place, the text that is expected, and its own addresses.
-    pub fn put_message(&mut self, id: &Octets, bytes: &[u8]) -> Result<(), EditFault>
-        ensures ok { OnOk result (after self.old.content (edit.put_message id.now bytes.now) ≡ Ok self.new.content) }
-        ensures stale { OnOk result (self.new.stale ≡ stale_after self.old.content (edit.put_message id.now bytes.now) self.old.stale self.new.content) }
-        ensures err { OnErr result (self.new ≡ self.old) }
-        ensures refused { Refuses (after self.old.content (edit.put_message id.now bytes.now)) result }
+    /// Puts a message's octets at an id: a new id goes last, nothing is expected of its verdict, and
+    /// it has no addresses of its own; a present one keeps its place, the text that is expected, and
+    /// its own addresses.
+    #[tactic(auto, using(crate::proofs::Entries::entries))]
+    pub fn put_message(&mut self, id: Octets, bytes: Octets) -> Result<(), EditFault>
+        ensures { Tries (edit.put_message id bytes) result self.old self.new }
     {
-        if let Some(fault) = refuse_message(&self.messages, id, bytes) {
-            return Err(fault);
-        }
-        let copy = Octets::copied(self.alloc, bytes)?;
-        let id = Octets::copied(self.alloc, id.as_slice())?;
-        self.take_message(id, copy)
+        refuse_message(&self.messages, &id, bytes.as_slice())?;
+        let message = message_of(self.alloc, bytes)?;
+        put(self.alloc, &mut self.messages, id, message)?;
+        Ok(())
     }
 
-    /// Makes a script main, whether or not it is there.
-    pub fn set_main(&mut self, name: &ScriptName) -> Result<(), EditFault>
-        ensures ok { OnOk result (after self.old.content (edit.set_main name.now) ≡ Ok self.new.content) }
-        ensures stale { OnOk result (self.new.stale ≡ stale_after self.old.content (edit.set_main name.now) self.old.stale self.new.content) }
-        ensures err { OnErr result (self.new ≡ self.old) }
-        ensures refused { Refuses (after self.old.content (edit.set_main name.now)) result }
+    /// Makes a script main, whether or not it is there. Takes no memory.
+    pub fn set_main(&mut self, name: ScriptName) -> Result<(), EditFault>
+        ensures { TriesInPlace (edit.set_main name) result self.old self.new }
     {
-        if let Some(fault) = refuse_main(name) {
-            return Err(fault);
-        }
-        let name = name.copy(self.alloc)?;
+        refuse_main(&name)?;
         self.main = Some(name);
         forget_all(&mut self.messages);
         Ok(())
     }
 
     /// Renames a script to a name that no script has. The main script's name stays as it is.
-    pub fn rename_script(&mut self, from: &ScriptName, to: &ScriptName) -> Result<(), EditFault>
-        ensures ok { OnOk result (after self.old.content (edit.rename_script from.now to.now) ≡ Ok self.new.content) }
-        ensures stale { OnOk result (self.new.stale ≡ stale_after self.old.content (edit.rename_script from.now to.now) self.old.stale self.new.content) }
-        ensures err { OnErr result (self.new ≡ self.old) }
-        ensures refused { Refuses (after self.old.content (edit.rename_script from.now to.now)) result }
+    pub fn rename_script(&mut self, from: &ScriptName, to: ScriptName) -> Result<(), EditFault>
+        ensures { Tries (edit.rename_script from.now to) result self.old self.new }
     {
-        if let Some(fault) = refuse_rename(&self.scripts, from, to) {
-            return Err(fault);
-        }
-        self.scripts.rename(self.alloc, from, to)?;
-        forget_readers(&mut self.messages, to);
+        refuse_rename(&self.scripts, from, &to)?;
+        self.scripts.rename(self.alloc, &mut self.messages, from, to)?;
         forget_readers(&mut self.messages, from);
         Ok(())
     }
 
     /// Removes a script. Takes no memory.
     pub fn remove_script(&mut self, name: &ScriptName) -> Result<(), EditFault>
-        ensures ok { OnOk result (after self.old.content (edit.remove_script name.now) ≡ Ok self.new.content) }
-        ensures stale { OnOk result (self.new.stale ≡ stale_after self.old.content (edit.remove_script name.now) self.old.stale self.new.content) }
-        ensures err { OnErr result (self.new ≡ self.old) }
-        ensures refused { Answers (after self.old.content (edit.remove_script name.now)) result }
+        ensures { TriesInPlace (edit.remove_script name.now) result self.old self.new }
     {
-        if let Some(fault) = refuse_remove_script(&self.scripts, name) {
-            return Err(fault);
-        }
+        refuse_remove_script(&self.scripts, name)?;
         self.scripts.remove(name);
         forget_readers(&mut self.messages, name);
         Ok(())
     }
 
-    /// Removes a message, what is expected of it, and its own addresses. The others stay in their order. Takes no memory.
+    /// Removes a message, what is expected of it, and its own addresses. The others stay in their
+    /// order. Takes no memory.
     #[tactic(auto, using(crate::proofs::Entries::entries))]
     pub fn remove_message(&mut self, id: &[u8]) -> Result<(), EditFault>
-        ensures ok { OnOk result (after self.old.content (edit.remove_message id.now) ≡ Ok self.new.content) }
-        ensures stale { OnOk result (self.new.stale ≡ stale_after self.old.content (edit.remove_message id.now) self.old.stale self.new.content) }
-        ensures err { OnErr result (self.new ≡ self.old) }
-        ensures refused { Answers (after self.old.content (edit.remove_message id.now)) result }
+        ensures { TriesInPlace (edit.remove_message id.now) result self.old self.new }
     {
-        if let Some(fault) = refuse_absent(&self.messages, id) {
-            return Err(fault);
-        }
+        refuse_absent(&self.messages, id)?;
         remove_sought(&mut self.messages, SoughtId { octets: id });
         Ok(())
     }
 
-    /// Expects a text of a message's verdict, in place of what was expected. Each report tells whether the verdict's lines are those of the text, as
-    /// `Outcome::agrees` does. Makes no message stale.
-    pub fn set_expected(&mut self, id: &[u8], text: &[u8]) -> Result<(), EditFault>
-        ensures ok { OnOk result (after self.old.content (edit.set_expected id.now text.now) ≡ Ok self.new.content) }
-        ensures stale { OnOk result (self.new.stale ≡ stale_after self.old.content (edit.set_expected id.now text.now) self.old.stale self.new.content) }
-        ensures err { OnErr result (self.new ≡ self.old) }
-        ensures refused { Refuses (after self.old.content (edit.set_expected id.now text.now)) result }
+    /// Expects a text of a message's verdict, in place of what was expected. Each report tells whether
+    /// the verdict's lines are those of the text, as `Outcome::agrees` does. Makes no message stale.
+    /// Takes no memory.
+    #[tactic(auto, using(crate::proofs::Entries::entries))]
+    pub fn set_expected(&mut self, id: &[u8], text: Octets) -> Result<(), EditFault>
+        ensures { TriesInPlace (edit.set_expected id.now text) result self.old self.new }
     {
-        if let Some(fault) = refuse_expected(&self.messages, id, text) {
-            return Err(fault);
-        }
-        let copy = Octets::copied(self.alloc, text)?;
-        self.take_expected(id, copy);
+        refuse_expected(&self.messages, id, text.as_slice())?;
+        expect(&mut self.messages, SoughtId { octets: id }, Some(text));
         Ok(())
     }
 
-    /// Expects no text of a message's verdict any more, also where none was expected. Makes no message stale. Takes no memory.
+    /// Expects no text of a message's verdict any more, also where none was expected. Makes no message
+    /// stale. Takes no memory.
     #[tactic(auto, using(crate::proofs::Entries::entries))]
     pub fn clear_expected(&mut self, id: &[u8]) -> Result<(), EditFault>
-        ensures ok { OnOk result (after self.old.content (edit.clear_expected id.now) ≡ Ok self.new.content) }
-        ensures stale { OnOk result (self.new.stale ≡ stale_after self.old.content (edit.clear_expected id.now) self.old.stale self.new.content) }
-        ensures err { OnErr result (self.new ≡ self.old) }
-        ensures refused { Answers (after self.old.content (edit.clear_expected id.now)) result }
+        ensures { TriesInPlace (edit.clear_expected id.now) result self.old self.new }
     {
-        if let Some(fault) = refuse_absent(&self.messages, id) {
-            return Err(fault);
-        }
+        refuse_absent(&self.messages, id)?;
         expect(&mut self.messages, SoughtId { octets: id }, None);
         Ok(())
     }
 
     /// Leaves no script main. Takes no memory.
     pub fn clear_main(&mut self)
-        ensures made { after self.old.content edit.clear_main ≡ Ok self.new.content }
-        ensures stale { self.new.stale ≡ stale_after self.old.content edit.clear_main self.old.stale self.new.content }
+        ensures { Makes edit.clear_main self.old self.new }
     {
         self.main = None;
         forget_all(&mut self.messages);
@@ -331,7 +217,7 @@ impl Bench {
         ensures listed { self.now.stale ≡ ids_where (λ message. is_among message.0 self.now.stale) self.now.content.messages }
     {
         match self.messages.get(id) {
-            Some(entry) => entry.kept.as_ref(),
+            Some(entry) => entry.kept(),
             None => None,
         }
     }

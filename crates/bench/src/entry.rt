@@ -1,5 +1,5 @@
 //! A message of a bench, with the verdict on it.
-ghost use Rattle.std.specs.Prelude.{◌≡◌, OnOk, OnErr, None, is_some};
+ghost use Rattle.std.specs.Prelude.{◌≡◌, IfOk, OnOk, OnErr, None, is_some};
 ghost use Rattle.std.specs.Option.{option_copied};
 ghost use Rattle.sieve_run.specs.Meter.{next_run};
 ghost use Rattle.sieve_run.specs.Run.{is_read};
@@ -11,6 +11,7 @@ use crate::site::Site;
 use sieve_base::{Octets, ScriptName};
 use sieve_run::{Addresses, Mail, Message, Meter, Outcome, run};
 use std::alloc::{AllocError, Global};
+use std::marker::Model;
 
 /// A message with the text that its verdict is expected to have, where there is one, with the addresses that it has of its own, where it has some,
 /// and with the verdict on it, unless it is stale.
@@ -20,6 +21,20 @@ pub(crate) struct Entry {
     pub(crate) expected: Option<Octets>,
     pub(crate) addresses: Option<Addresses>,
     pub(crate) kept: Option<Outcome>,
+}
+
+/// A message's entry where it lies: a list of entries holds a pointer to each, which is little to move.
+#[derive(Drop)]
+pub(crate) struct EntryBox {
+    entry: Box<Entry>,
+}
+
+impl Model for EntryBox {
+    ghost use Rattle.bench.specs.declared.entry.Entry.{Entry};
+
+    ghost Value = { Entry };
+
+    ghost view = { λ b. b.entry.value };
 }
 
 /// Whether a run looked a name up, present or missing.
@@ -39,44 +54,74 @@ fn is_unlike(outcome: &Outcome, mailbox: &[u8], expected: Option<&Octets>) -> bo
     }
 }
 
-impl Entry {
+impl EntryBox {
+    /// An entry in a place of its own.
+    pub(crate) fn new(alloc: Global, entry: Entry) -> Result<EntryBox, AllocError>
+        ensures { IfOk result (λ held. held ≡ entry) }
+    {
+        Ok(EntryBox {
+            entry: Box::new(alloc, entry)?,
+        })
+    }
+
+    /// The verdict, where it is kept.
+    pub(crate) fn kept(&self) -> Option<&Outcome>
+        ensures { option_copied result ≡ self.now.kept }
+    {
+        self.entry.kept.as_ref()
+    }
+
+    /// The text that is expected of the verdict, where there is one.
+    pub(crate) fn expected(&self) -> Option<&Octets>
+        ensures { option_copied result ≡ self.now.expected }
+    {
+        self.entry.expected.as_ref()
+    }
+
+    /// The addresses that the message has of its own, where it has some.
+    pub(crate) fn addresses(&self) -> Option<&Addresses>
+        ensures { option_copied result ≡ self.now.addresses }
+    {
+        self.entry.addresses.as_ref()
+    }
+
     /// Marks the message stale.
     pub(crate) fn forget(&mut self)
         ensures { self.new ≡ forgotten self.old }
     {
-        self.kept = None;
+        self.entry.kept = None;
     }
 
     /// Takes another message's place, of which is expected what was, and which keeps its own addresses. It is stale.
     pub(crate) fn renew(&mut self, message: Message)
         ensures { self.new ≡ renewed message self.old }
     {
-        self.message = message;
-        self.kept = None;
+        self.entry.message = message;
+        self.entry.kept = None;
     }
 
     /// Expects this text of the message's verdict, or none. What is kept stays.
     pub(crate) fn expect(&mut self, text: Option<Octets>)
         ensures { self.new ≡ expecting text self.old }
     {
-        self.expected = text;
+        self.entry.expected = text;
     }
 
     /// Gives the message these addresses of its own, or none. It is stale.
     pub(crate) fn readdress(&mut self, addresses: Option<Addresses>)
         ensures { self.new ≡ readdressed addresses self.old }
     {
-        self.addresses = addresses;
-        self.kept = None;
+        self.entry.addresses = addresses;
+        self.entry.kept = None;
     }
 
     /// Marks the message stale if its run looked the name up.
     pub(crate) fn forget_reader(&mut self, name: &ScriptName)
         ensures { self.new ≡ unread name.now self.old }
     {
-        if let Some(outcome) = &self.kept {
+        if let Some(outcome) = &self.entry.kept {
             if looked_up(outcome, name) {
-                self.kept = None;
+                self.entry.kept = None;
             }
         }
     }
@@ -94,14 +139,14 @@ impl Entry {
         ensures stale { OnErr result (self.old.kept ≡ None) }
         ensures ran { OnErr result (meter.new ≡ next_run meter.old) }
     {
-        if self.kept.is_none() {
+        if self.entry.kept.is_none() {
             let mail = Mail {
-                message: &self.message,
+                message: &self.entry.message,
                 envelope: site.envelope,
-                own: self.addresses.as_ref(),
+                own: self.entry.addresses.as_ref(),
             };
             let outcome = run(alloc, site.scripts, site.main, mail, meter)?;
-            self.kept = Some(outcome);
+            self.entry.kept = Some(outcome);
         }
         Ok(())
     }
@@ -110,7 +155,7 @@ impl Entry {
     pub(crate) fn has_error(&self) -> bool
         ensures { result ≡ has_error self.now.kept }
     {
-        match &self.kept {
+        match &self.entry.kept {
             Some(outcome) => outcome.error().is_some(),
             None => false,
         }
@@ -120,15 +165,15 @@ impl Entry {
     pub(crate) fn is_expecting(&self) -> bool
         ensures { result ≡ is_some self.now.expected }
     {
-        self.expected.is_some()
+        self.entry.expected.is_some()
     }
 
     /// Whether the verdict that is kept is not as it is expected to be.
     pub(crate) fn disagrees(&self, mailbox: &[u8]) -> bool
         ensures { result ≡ disagrees mailbox.now self.now.expected self.now.kept }
     {
-        match &self.kept {
-            Some(outcome) => is_unlike(outcome, mailbox, self.expected.as_ref()),
+        match &self.entry.kept {
+            Some(outcome) => is_unlike(outcome, mailbox, self.entry.expected.as_ref()),
             None => false,
         }
     }

@@ -7,15 +7,15 @@ ghost use lib.Pointwise.{pointwise};
 ghost use Rattle.bench.specs.Content.{changed};
 ghost use Rattle.bench.specs.view.Entry.{expecting, put_entry, readdressed, renewed};
 
-use crate::entry::Entry;
+use crate::entry::{Entry, EntryBox};
 use crate::sought::SoughtId;
 use indexmap::IndexMap;
 use sieve_base::Octets;
 use sieve_run::{Addresses, Message};
-use std::alloc::AllocError;
+use std::alloc::{AllocError, Global};
 
 /// Puts a message in the place of the one there.
-fn renew_at(messages: &mut IndexMap<Octets, Entry>, index: usize, message: Message)
+fn renew_at(messages: &mut IndexMap<Octets, EntryBox>, index: usize, message: Message)
     ensures entries { MatchOption (slice_get (values_of messages.old.entries) index) (messages.new.entries ≡ messages.old.entries)
         (λ entry. messages.new.entries ≡ set_value_at messages.old.entries index (renewed message entry)) }
 {
@@ -25,7 +25,7 @@ fn renew_at(messages: &mut IndexMap<Octets, Entry>, index: usize, message: Messa
 }
 
 /// Expects a text of the verdict on the message there, or none.
-fn expect_at(messages: &mut IndexMap<Octets, Entry>, index: usize, text: Option<Octets>)
+fn expect_at(messages: &mut IndexMap<Octets, EntryBox>, index: usize, text: Option<Octets>)
     ensures entries { MatchOption (slice_get (values_of messages.old.entries) index) (messages.new.entries ≡ messages.old.entries)
         (λ entry. messages.new.entries ≡ set_value_at messages.old.entries index (expecting text entry)) }
 {
@@ -35,7 +35,11 @@ fn expect_at(messages: &mut IndexMap<Octets, Entry>, index: usize, text: Option<
 }
 
 /// Gives the message there these addresses of its own, or none.
-fn readdress_at(messages: &mut IndexMap<Octets, Entry>, index: usize, addresses: Option<Addresses>)
+fn readdress_at(
+    messages: &mut IndexMap<Octets, EntryBox>,
+    index: usize,
+    addresses: Option<Addresses>,
+)
     ensures entries { MatchOption (slice_get (values_of messages.old.entries) index) (messages.new.entries ≡ messages.old.entries)
         (λ entry. messages.new.entries ≡ set_value_at messages.old.entries index (readdressed addresses entry)) }
 {
@@ -45,7 +49,7 @@ fn readdress_at(messages: &mut IndexMap<Octets, Entry>, index: usize, addresses:
 }
 
 /// Puts a message in the place of the one of its id. Takes no memory.
-fn renew(messages: &mut IndexMap<Octets, Entry>, id: &Octets, message: Message)
+fn renew(messages: &mut IndexMap<Octets, EntryBox>, id: &Octets, message: Message)
     ensures entries { messages.new.entries ≡ changed id.now (renewed message) messages.old.entries }
     ensures unique { IsUnique (pointwise nat_eq) messages.new }
 {
@@ -57,7 +61,8 @@ fn renew(messages: &mut IndexMap<Octets, Entry>, id: &Octets, message: Message)
 /// Puts a message at an id: in the place of the one there, which keeps what is expected of it and its own addresses, or last. An error changes
 /// nothing.
 pub(crate) fn put(
-    messages: &mut IndexMap<Octets, Entry>,
+    alloc: Global,
+    messages: &mut IndexMap<Octets, EntryBox>,
     id: Octets,
     message: Message,
 ) -> Result<(), AllocError>
@@ -75,7 +80,7 @@ pub(crate) fn put(
         addresses: None,
         kept: None,
     };
-    match messages.insert(id, entry) {
+    match messages.insert(id, EntryBox::new(alloc, entry)?) {
         Ok(_) => Ok(()),
         Err(_) => Err(AllocError),
     }
@@ -83,7 +88,7 @@ pub(crate) fn put(
 
 /// Expects a text of the verdict on the message of an id, or none. Takes no memory.
 pub(crate) fn expect(
-    messages: &mut IndexMap<Octets, Entry>,
+    messages: &mut IndexMap<Octets, EntryBox>,
     sought: SoughtId<'_>,
     text: Option<Octets>,
 )
@@ -97,7 +102,7 @@ pub(crate) fn expect(
 
 /// Gives the message of an id these addresses of its own, or none. It is stale. Takes no memory.
 pub(crate) fn readdress(
-    messages: &mut IndexMap<Octets, Entry>,
+    messages: &mut IndexMap<Octets, EntryBox>,
     sought: SoughtId<'_>,
     addresses: Option<Addresses>,
 )

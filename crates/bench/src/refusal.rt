@@ -3,7 +3,7 @@ ghost use Rattle.std.specs.Prelude.{◌≡◌};
 ghost use Rattle.bench.specs.Content as spec;
 ghost use Rattle.bench.specs.view.Entry.{messages_of};
 
-use crate::entry::Entry;
+use crate::entry::EntryBox;
 use crate::fault::EditFault;
 use crate::scripts::Scripts;
 use crate::sought::SoughtId;
@@ -22,76 +22,76 @@ pub(crate) fn is_long(name: &Octets) -> bool
 }
 
 /// Why a script isn't put, apart from memory.
-pub(crate) fn refuse_script(scripts: &Scripts, name: &ScriptName, text: &[u8]) -> Option<EditFault>
-    ensures { result ≡ spec.script_refusal scripts.now.scripts name.now text.now }
+pub(crate) fn refuse_script(scripts: &Scripts, name: &ScriptName, text: &[u8]) -> Result<(), EditFault>
+    ensures { spec.Finds (spec.script_refusal scripts.now.scripts name.now text.now) result }
 {
     if is_long(&name.name) || text.len() > MAX_TEXT {
-        return Some(EditFault::TooLarge);
+        return Err(EditFault::TooLarge);
     }
     if !scripts.contains(name) && scripts.len() >= MAX_SCRIPTS {
-        return Some(EditFault::Full);
+        return Err(EditFault::Full);
     }
-    None
+    Ok(())
 }
 
 /// Why a message isn't put, apart from memory.
 #[tactic(auto, using(crate::proofs::Entries::entries))]
 pub(crate) fn refuse_message(
-    messages: &IndexMap<Octets, Entry>,
+    messages: &IndexMap<Octets, EntryBox>,
     id: &Octets,
     bytes: &[u8],
-) -> Option<EditFault>
-    ensures { result ≡ spec.message_refusal (messages_of messages.now.entries) id.now bytes.now }
+) -> Result<(), EditFault>
+    ensures { spec.Finds (spec.message_refusal (messages_of messages.now.entries) id.now bytes.now) result }
 {
     if id.as_slice().len() > MAX_ID || bytes.len() > MAX_MESSAGE {
-        return Some(EditFault::TooLarge);
+        return Err(EditFault::TooLarge);
     }
     if !messages.contains_key(id) && messages.len() >= MAX_MESSAGES {
-        return Some(EditFault::Full);
+        return Err(EditFault::Full);
     }
-    None
+    Ok(())
 }
 
 /// Why a message isn't removed, or why what is expected of it or its own addresses aren't.
 #[tactic(auto, using(crate::proofs::Entries::entries))]
-pub(crate) fn refuse_absent(messages: &IndexMap<Octets, Entry>, id: &[u8]) -> Option<EditFault>
-    ensures { result ≡ spec.absent_refusal (messages_of messages.now.entries) id.now }
+pub(crate) fn refuse_absent(messages: &IndexMap<Octets, EntryBox>, id: &[u8]) -> Result<(), EditFault>
+    ensures { spec.Finds (spec.absent_refusal (messages_of messages.now.entries) id.now) result }
 {
     if id.len() > MAX_ID {
-        Some(EditFault::TooLarge)
+        Err(EditFault::TooLarge)
     } else if !messages.contains_key(SoughtId { octets: id }) {
-        Some(EditFault::NoSuchMessage)
+        Err(EditFault::NoSuchMessage)
     } else {
-        None
+        Ok(())
     }
 }
 
 /// Why a text isn't expected of a message, apart from memory.
 #[tactic(auto, using(crate::proofs::Entries::entries))]
 pub(crate) fn refuse_expected(
-    messages: &IndexMap<Octets, Entry>,
+    messages: &IndexMap<Octets, EntryBox>,
     id: &[u8],
     text: &[u8],
-) -> Option<EditFault>
-    ensures { result ≡ spec.expected_refusal (messages_of messages.now.entries) id.now text.now }
+) -> Result<(), EditFault>
+    ensures { spec.Finds (spec.expected_refusal (messages_of messages.now.entries) id.now text.now) result }
 {
     if id.len() > MAX_ID || text.len() > MAX_EXPECTED {
-        Some(EditFault::TooLarge)
+        Err(EditFault::TooLarge)
     } else if !messages.contains_key(SoughtId { octets: id }) {
-        Some(EditFault::NoSuchMessage)
+        Err(EditFault::NoSuchMessage)
     } else {
-        None
+        Ok(())
     }
 }
 
 /// Why a main script's name isn't taken, apart from memory.
-pub(crate) fn refuse_main(name: &ScriptName) -> Option<EditFault>
-    ensures { result ≡ spec.main_refusal name.now }
+pub(crate) fn refuse_main(name: &ScriptName) -> Result<(), EditFault>
+    ensures { spec.Finds (spec.main_refusal name.now) result }
 {
     if is_long(&name.name) {
-        Some(EditFault::TooLarge)
+        Err(EditFault::TooLarge)
     } else {
-        None
+        Ok(())
     }
 }
 
@@ -100,30 +100,30 @@ pub(crate) fn refuse_rename(
     scripts: &Scripts,
     from: &ScriptName,
     to: &ScriptName,
-) -> Option<EditFault>
-    ensures { result ≡ spec.rename_refusal scripts.now.scripts from.now to.now }
+) -> Result<(), EditFault>
+    ensures { spec.Finds (spec.rename_refusal scripts.now.scripts from.now to.now) result }
 {
     if is_long(&from.name) || is_long(&to.name) {
-        Some(EditFault::TooLarge)
+        Err(EditFault::TooLarge)
     } else if !scripts.contains(from) {
-        Some(EditFault::NoSuchScript)
+        Err(EditFault::NoSuchScript)
     } else if scripts.contains(to) {
-        Some(EditFault::NameTaken)
+        Err(EditFault::NameTaken)
     } else {
-        None
+        Ok(())
     }
 }
 
 /// Why a script isn't removed.
-pub(crate) fn refuse_remove_script(scripts: &Scripts, name: &ScriptName) -> Option<EditFault>
-    ensures { result ≡ spec.remove_script_refusal scripts.now.scripts name.now }
+pub(crate) fn refuse_remove_script(scripts: &Scripts, name: &ScriptName) -> Result<(), EditFault>
+    ensures { spec.Finds (spec.remove_script_refusal scripts.now.scripts name.now) result }
 {
     if is_long(&name.name) {
-        Some(EditFault::TooLarge)
+        Err(EditFault::TooLarge)
     } else if !scripts.contains(name) {
-        Some(EditFault::NoSuchScript)
+        Err(EditFault::NoSuchScript)
     } else {
-        None
+        Ok(())
     }
 }
 
@@ -137,51 +137,51 @@ fn are_long(from: &[u8], to: &[u8]) -> bool
 /// Why a message isn't given addresses of its own, apart from memory.
 #[tactic(auto, using(crate::proofs::Entries::entries))]
 pub(crate) fn refuse_addresses(
-    messages: &IndexMap<Octets, Entry>,
+    messages: &IndexMap<Octets, EntryBox>,
     id: &[u8],
     from: &[u8],
     to: &[u8],
-) -> Option<EditFault>
-    ensures { result ≡ spec.addresses_refusal (messages_of messages.now.entries) id.now from.now to.now }
+) -> Result<(), EditFault>
+    ensures { spec.Finds (spec.addresses_refusal (messages_of messages.now.entries) id.now from.now to.now) result }
 {
     if id.len() > MAX_ID || are_long(from, to) {
-        Some(EditFault::TooLarge)
+        Err(EditFault::TooLarge)
     } else if !messages.contains_key(SoughtId { octets: id }) {
-        Some(EditFault::NoSuchMessage)
+        Err(EditFault::NoSuchMessage)
     } else {
-        None
+        Ok(())
     }
 }
 
 /// Why an envelope isn't taken, apart from memory.
-pub(crate) fn refuse_envelope(from: &[u8], to: &[u8]) -> Option<EditFault>
-    ensures { result ≡ spec.envelope_refusal from.now to.now }
+pub(crate) fn refuse_envelope(from: &[u8], to: &[u8]) -> Result<(), EditFault>
+    ensures { spec.Finds (spec.envelope_refusal from.now to.now) result }
 {
     if are_long(from, to) {
-        Some(EditFault::TooLarge)
+        Err(EditFault::TooLarge)
     } else {
-        None
+        Ok(())
     }
 }
 
 /// Why a mailbox isn't taken, apart from memory.
-pub(crate) fn refuse_mailbox(mailbox: &[u8]) -> Option<EditFault>
-    ensures { result ≡ spec.mailbox_refusal mailbox.now }
+pub(crate) fn refuse_mailbox(mailbox: &[u8]) -> Result<(), EditFault>
+    ensures { spec.Finds (spec.mailbox_refusal mailbox.now) result }
 {
     if mailbox.len() > MAX_MAILBOX {
-        Some(EditFault::TooLarge)
+        Err(EditFault::TooLarge)
     } else {
-        None
+        Ok(())
     }
 }
 
 /// Why a list of mailboxes isn't taken, apart from memory.
-pub(crate) fn refuse_mailboxes(text: &[u8]) -> Option<EditFault>
-    ensures { result ≡ spec.mailboxes_refusal text.now }
+pub(crate) fn refuse_mailboxes(text: &[u8]) -> Result<(), EditFault>
+    ensures { spec.Finds (spec.mailboxes_refusal text.now) result }
 {
     if text.len() > MAX_MAILBOXES {
-        Some(EditFault::TooLarge)
+        Err(EditFault::TooLarge)
     } else {
-        None
+        Ok(())
     }
 }

@@ -13,7 +13,7 @@ ghost use Rattle.bench.specs.Test.{is_clean_with};
 ghost use Rattle.bench.specs.view.Entry.{KeepsDue, disagrees, judged_of, messages_of, stale_of};
 
 use crate::clock_line::write_clock_line;
-use crate::entry::Entry;
+use crate::entry::EntryBox;
 use crate::report_lines::{
     write_action_line, write_addresses, write_envelope, write_error_line, write_expectation,
     write_implicit_line, write_mailboxes, write_main, write_message, write_profile,
@@ -31,7 +31,7 @@ use std::alloc::{AllocError, Global};
 pub(crate) fn run_stale(
     alloc: Global,
     site: &Site<'_>,
-    messages: &mut IndexMap<Octets, Entry>,
+    messages: &mut IndexMap<Octets, EntryBox>,
     meter: &mut Meter,
 ) -> Result<(), AllocError>
     requires { KeepsDue (verdict_by (site_as site.now)) messages.old.entries }
@@ -134,12 +134,12 @@ fn write_verdict<W: Sink>(
 fn write_entry<W: Sink>(
     site: &Site<'_>,
     id: &Octets,
-    entry: &Entry,
+    entry: &EntryBox,
     writer: &mut W,
 ) -> Result<(), WriteFault>
     ensures { Writes W.contents W.fault_count result writer.old writer.new (flat_map (message_lines (site_as site.now)) (judged_of ((id.now, entry.now) ∷ []))) }
 {
-    match &entry.kept {
+    match entry.kept() {
         Some(outcome) => write_judged(site, id, entry, outcome, writer),
         None => Ok(()),
     }
@@ -149,7 +149,7 @@ fn write_entry<W: Sink>(
 fn write_judged<W: Sink>(
     site: &Site<'_>,
     id: &Octets,
-    entry: &Entry,
+    entry: &EntryBox,
     outcome: &Outcome,
     writer: &mut W,
 ) -> Result<(), WriteFault>
@@ -157,16 +157,16 @@ fn write_judged<W: Sink>(
         (record { id = id.now; addresses = entry.now.addresses; verdict = outcome.now; expected = entry.now.expected })) }
 {
     write_message(id, writer)?;
-    write_addresses(entry.addresses.as_ref(), writer)?;
+    write_addresses(entry.addresses(), writer)?;
     write_verdict(site.is_traced(), site.envelope, outcome, writer)?;
-    write_expectation(site.envelope, outcome, entry.expected.as_ref(), writer)
+    write_expectation(site.envelope, outcome, entry.expected(), writer)
 }
 
 /// Writes the lines of all messages whose verdicts are kept.
 #[tactic(auto, using(crate::proofs::Writing::writing))]
 fn write_kept<W: Sink>(
     site: &Site<'_>,
-    messages: &IndexMap<Octets, Entry>,
+    messages: &IndexMap<Octets, EntryBox>,
     writer: &mut W,
 ) -> Result<(), WriteFault>
     ensures { Writes W.contents W.fault_count result writer.old writer.new (flat_map (message_lines (site_as site.now)) (judged_of messages.now.entries)) }
@@ -178,7 +178,7 @@ fn write_kept<W: Sink>(
 }
 
 /// How many of the verdicts that are kept have an error.
-fn error_count(messages: &IndexMap<Octets, Entry>) -> usize
+fn error_count(messages: &IndexMap<Octets, EntryBox>) -> usize
     ensures { result ≡ error_count (judged_of messages.now.entries) }
 {
     messages
@@ -188,14 +188,14 @@ fn error_count(messages: &IndexMap<Octets, Entry>) -> usize
 }
 
 /// Whether a text is expected of some message's verdict.
-fn are_expecting(messages: &IndexMap<Octets, Entry>) -> bool
+fn are_expecting(messages: &IndexMap<Octets, EntryBox>) -> bool
     ensures { result ≡ list_any (λ e. is_some e.1.expected) messages.now.entries }
 {
     messages.iter().any(|(_, entry)| entry.is_expecting())
 }
 
 /// How many of the verdicts that are kept are not as they are expected to be.
-fn unlike_count(mailbox: &[u8], messages: &IndexMap<Octets, Entry>) -> usize
+fn unlike_count(mailbox: &[u8], messages: &IndexMap<Octets, EntryBox>) -> usize
     ensures { result ≡ count_by (λ e. disagrees mailbox.now e.1.expected e.1.kept) messages.now.entries }
 {
     messages
@@ -205,7 +205,7 @@ fn unlike_count(mailbox: &[u8], messages: &IndexMap<Octets, Entry>) -> usize
 }
 
 /// How many verdicts are not as expected, where a text is expected of some.
-fn unexpected_count(mailbox: &[u8], messages: &IndexMap<Octets, Entry>) -> Option<u64>
+fn unexpected_count(mailbox: &[u8], messages: &IndexMap<Octets, EntryBox>) -> Option<u64>
     requires { stale_of messages.now.entries ≡ [] }
     ensures { result ≡ unexpected_count mailbox.now (judged_of messages.now.entries) }
 {
@@ -217,7 +217,7 @@ fn unexpected_count(mailbox: &[u8], messages: &IndexMap<Octets, Entry>) -> Optio
 }
 
 /// Whether no script has a fault, and no verdict that is kept an error.
-pub(crate) fn is_clean(site: &Site<'_>, messages: &IndexMap<Octets, Entry>) -> bool
+pub(crate) fn is_clean(site: &Site<'_>, messages: &IndexMap<Octets, EntryBox>) -> bool
     ensures { result ≡ is_clean_with (site_as site.now) (judged_of messages.now.entries) }
 {
     site.scripts.are_sound() && error_count(messages) == 0
@@ -249,7 +249,7 @@ fn write_site<W: Sink>(site: &Site<'_>, writer: &mut W) -> Result<(), WriteFault
 /// Writes a report with the verdicts that are kept.
 pub(crate) fn write_report<W: Sink>(
     site: &Site<'_>,
-    messages: &IndexMap<Octets, Entry>,
+    messages: &IndexMap<Octets, EntryBox>,
     writer: &mut W,
 ) -> Result<(), WriteFault>
     requires { stale_of messages.now.entries ≡ [] }
@@ -263,7 +263,7 @@ pub(crate) fn write_report<W: Sink>(
 /// Writes the last line.
 fn write_totals<W: Sink>(
     envelope: &Envelope,
-    messages: &IndexMap<Octets, Entry>,
+    messages: &IndexMap<Octets, EntryBox>,
     writer: &mut W,
 ) -> Result<(), WriteFault>
     requires { stale_of messages.now.entries ≡ [] }

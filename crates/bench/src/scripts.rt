@@ -1,5 +1,5 @@
 //! The scripts of a bench.
-ghost use Rattle.std.specs.Prelude.{◌≡◌, ◌≤◌, [], IfOk, length};
+ghost use Rattle.std.specs.Prelude.{◌≡◌, ◌≤◌, [], IfOk, length, nat_eq};
 ghost use Rattle.std.specs.BTreeMap.{is_at};
 ghost use Rattle.std.specs.List.{list_all};
 ghost use Rattle.std.specs.Map.{lookup};
@@ -8,6 +8,9 @@ ghost use Rattle.sieve_check.specs.Judgement.{judgement_of};
 ghost use Rattle.sieve_base.specs.Name.{name_cmp};
 ghost use Rattle.bench.specs.Test.{is_sound};
 
+use crate::entry::EntryBox;
+use crate::marking::forget_readers;
+use indexmap::IndexMap;
 use sieve_base::{Octets, ScriptName};
 use sieve_profile::Profile;
 use sieve_run::{Found, Library, Script};
@@ -50,6 +53,9 @@ impl Scripts {
     ghost use Rattle.std.specs.Prelude.{OnOk, OnErr, is_some};
     ghost use Rattle.bench.specs.Content.{text_at, with_script, without_script, with_renamed};
     ghost use Rattle.bench.specs.view.Scripts.{AreOf, script_at, texts_of};
+    ghost use Rattle.bench.specs.view.Site.{ForgetsReaders};
+    ghost use Rattle.indexmap.specs.IndexMap.{IsUnique};
+    ghost use lib.Pointwise.{pointwise};
 
     /// No scripts, of a profile. Takes no memory.
     pub(crate) fn new(alloc: Global, profile: Profile) -> Scripts
@@ -97,14 +103,25 @@ impl Scripts {
         are_all_sound(&self.by_name)
     }
 
-    /// Keeps a script of the profile at a name, in place of the one there. An error changes nothing.
-    fn keep(&mut self, name: ScriptName, script: Script) -> Result<(), AllocError>
+    /// Keeps a script of the profile at a name, in place of the one there, and marks the messages stale
+    /// whose runs looked the name up. An error changes nothing.
+    fn keep(
+        &mut self,
+        messages: &mut IndexMap<Octets, EntryBox>,
+        name: ScriptName,
+        script: Script,
+    ) -> Result<(), AllocError>
         requires { script.profile ≡ self.old.profile }
-        ensures ok { OnOk result (self.new ≡ record self.old { scripts = with_script name script.text self.old.scripts }) }
+        ensures ok { OnOk result (self.new
+            ≡ record self.old { scripts = with_script name script.text self.old.scripts }) }
+        ensures forgotten { OnOk result (ForgetsReaders name messages.old.entries messages.new.entries) }
         ensures err { OnErr result (self.new ≡ self.old) }
+        ensures unmarked { OnErr result (messages.new.entries ≡ messages.old.entries) }
+        ensures unique { IsUnique (pointwise nat_eq) messages.new }
     {
-        let replaced = self.by_name.insert(name, script)?;
-        drop(replaced);
+        let entry = self.by_name.entry(name)?;
+        forget_readers(messages, entry.key());
+        entry.insert_entry(script);
         Ok(())
     }
 
@@ -118,38 +135,48 @@ impl Scripts {
         }
     }
 
-    /// Puts a text at a name, in place of the one there. An error changes nothing.
+    /// Puts a text at a name, in place of the one there, and marks the messages stale whose runs looked
+    /// the name up. An error changes nothing.
     pub(crate) fn put(
         &mut self,
         alloc: Global,
-        name: &ScriptName,
+        messages: &mut IndexMap<Octets, EntryBox>,
+        name: ScriptName,
         text: Octets,
     ) -> Result<(), AllocError>
         requires { length text ≤ text_limit }
-        ensures ok { OnOk result (self.new ≡ record self.old { scripts = with_script name.now text self.old.scripts }) }
+        ensures ok { OnOk result (self.new
+            ≡ record self.old { scripts = with_script name text self.old.scripts }) }
+        ensures forgotten { OnOk result (ForgetsReaders name messages.old.entries messages.new.entries) }
         ensures err { OnErr result (self.new ≡ self.old) }
+        ensures unmarked { OnErr result (messages.new.entries ≡ messages.old.entries) }
+        ensures unique { IsUnique (pointwise nat_eq) messages.new }
     {
         let script = Script::new(alloc, self.profile, text)?;
-        let name = name.copy(alloc)?;
-        self.keep(name, script)
+        self.keep(messages, name, script)
     }
 
-    /// Puts the text at one name at another, and then removes the first. An error changes nothing.
+    /// Puts the text at one name at another, marks the messages stale whose runs looked the other up,
+    /// and then removes the first. An error changes nothing.
     pub(crate) fn rename(
         &mut self,
         alloc: Global,
+        messages: &mut IndexMap<Octets, EntryBox>,
         from: &ScriptName,
-        to: &ScriptName,
+        to: ScriptName,
     ) -> Result<(), AllocError>
+        requires { is_some (text_at self.old.scripts from.now) ≡ true }
         ensures ok { OnOk result (self.new
-            ≡ record self.old { scripts = with_renamed from.now (text_at self.old.scripts from.now) to.now self.old.scripts }) }
+            ≡ record self.old { scripts = with_renamed from.now (text_at self.old.scripts from.now) to self.old.scripts }) }
+        ensures forgotten { OnOk result (ForgetsReaders to messages.old.entries messages.new.entries) }
         ensures err { OnErr result (self.new ≡ self.old) }
+        ensures unmarked { OnErr result (messages.new.entries ≡ messages.old.entries) }
+        ensures unique { IsUnique (pointwise nat_eq) messages.new }
     {
         let Some(script) = self.copied(alloc, from)? else {
-            return Ok(());
+            unreachable!("the script is there");
         };
-        let to = to.copy(alloc)?;
-        self.keep(to, script)?;
+        self.keep(messages, to, script)?;
         self.remove(from);
         Ok(())
     }

@@ -7,7 +7,7 @@ ghost use Rattle.std.specs.Cmp.Lexicographic.{bytes_decides, nat_list_eq_equiv};
 ghost use Rattle.std.specs.Hash as fed;
 ghost use lib.Pointwise.{pointwise};
 
-use crate::entry::Entry;
+use crate::entry::EntryBox;
 use indexmap::{Equivalent, IndexMap};
 use sieve_base::Octets;
 
@@ -30,7 +30,7 @@ impl Equivalent<Octets> for SoughtId<'_> {
 }
 
 /// Removes the message of an id. The others stay in their order. Takes no memory.
-pub(crate) fn remove_sought(messages: &mut IndexMap<Octets, Entry>, sought: SoughtId<'_>)
+pub(crate) fn remove_sought(messages: &mut IndexMap<Octets, EntryBox>, sought: SoughtId<'_>)
     ensures entries { messages.new.entries ≡ remove_entry (pointwise nat_eq sought.entry.octets.now) messages.old.entries }
     ensures unique { IsUnique (pointwise nat_eq) messages.new }
 {

@@ -2,7 +2,7 @@
 ghost use Rattle.std.specs.Prelude.{◌≡◌, [], ◌∷◌, ◌++◌, IfErr, IfOk, Ok, OnOk, length, map};
 ghost use Rattle.sieve_base.specs.Writers.{Wrote, WroteFront};
 ghost use Rattle.sieve_run.specs.Meter.{next_run};
-ghost use Rattle.bench.specs.Content.{put_message, set_envelope, set_mailbox, set_mailboxes, set_main};
+ghost use Rattle.bench.specs.Content.{after, put_message, set_envelope, set_mailbox, set_mailboxes, set_main};
 ghost use Rattle.bench.specs.Edits.{clock_edits};
 ghost use Rattle.bench.specs.Test.{TestEnds, TestRuns, after_all, edits_of, made_by, put_of};
 ghost use Rattle.bench.specs.view.Refused.{Refused};
@@ -12,7 +12,7 @@ use crate::bench::Bench;
 use crate::fault::{EditFault, ReportFault};
 use crate::test_end::TestEnd;
 use crate::test_job::{TestJob, TestScript};
-use sieve_base::Sink;
+use sieve_base::{Octets, Sink};
 use sieve_run::Meter;
 use std::alloc::Global;
 
@@ -21,9 +21,14 @@ fn set_delivery(bench: &mut Bench, job: &TestJob) -> Result<(), EditFault>
     ensures ok { OnOk result (after_all bench.old.content (set_envelope job.now.from job.now.to ∷ set_mailbox job.now.mailbox ∷ set_mailboxes job.now.mailboxes ∷ []) ≡ Ok bench.new.content) }
     ensures err { IfErr result (λ fault. Refused fault (after_all bench.old.content (set_envelope job.now.from job.now.to ∷ set_mailbox job.now.mailbox ∷ set_mailboxes job.now.mailboxes ∷ []))) }
 {
-    bench.set_envelope(job.from.as_slice(), job.to.as_slice())?;
-    bench.set_mailbox(job.mailbox.as_slice())?;
-    bench.set_mailboxes(job.mailboxes.as_slice())
+    let alloc = bench.allocator();
+    let from = Octets::copied(alloc, job.from.as_slice())?;
+    let to = Octets::copied(alloc, job.to.as_slice())?;
+    bench.set_envelope(from, to)?;
+    let mailbox = Octets::copied(alloc, job.mailbox.as_slice())?;
+    bench.set_mailbox(mailbox)?;
+    let mailboxes = Octets::copied(alloc, job.mailboxes.as_slice())?;
+    bench.set_mailboxes(mailboxes)
 }
 
 /// Sets the clock of a job, where it has one.
@@ -35,13 +40,24 @@ fn set_time(bench: &mut Bench, job: &TestJob)
     }
 }
 
+/// Puts a copy of a script of a job.
+fn put_copied(bench: &mut Bench, script: &TestScript) -> Result<(), EditFault>
+    ensures ok { OnOk result (after bench.old.content (put_of script.now) ≡ Ok bench.new.content) }
+    ensures err { IfErr result (λ fault. Refused fault (after bench.old.content (put_of script.now))) }
+{
+    let alloc = bench.allocator();
+    let name = script.name.copy(alloc)?;
+    let text = Octets::copied(alloc, script.text.as_slice())?;
+    bench.put_script(name, text)
+}
+
 /// Puts the scripts of a job, in their order.
 fn put_scripts(bench: &mut Bench, scripts: &[TestScript]) -> Result<(), EditFault>
     ensures ok { OnOk result (after_all bench.old.content (map put_of scripts.now) ≡ Ok bench.new.content) }
     ensures err { IfErr result (λ fault. Refused fault (after_all bench.old.content (map put_of scripts.now))) }
 {
     for script in scripts {
-        bench.put_script(&script.name, script.text.as_slice())?;
+        put_copied(bench, script)?;
     }
     Ok(())
 }
@@ -52,8 +68,12 @@ fn put_sample(bench: &mut Bench, job: &TestJob) -> Result<(), EditFault>
     ensures err { IfErr result (λ fault. Refused fault (after_all bench.old.content (set_main job.now.main ∷ put_message job.now.id job.now.message ∷ []))) }
     ensures stale { bench.old.content.messages ≡ [] → OnOk result (bench.new.stale ≡ job.now.id ∷ []) }
 {
-    bench.set_main(&job.main)?;
-    bench.put_message(&job.id, job.message.as_slice())
+    let alloc = bench.allocator();
+    let main = job.main.copy(alloc)?;
+    bench.set_main(main)?;
+    let id = Octets::copied(alloc, job.id.as_slice())?;
+    let message = Octets::copied(alloc, job.message.as_slice())?;
+    bench.put_message(id, message)
 }
 
 /// Makes the edits of a job on a bench.

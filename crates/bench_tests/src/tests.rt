@@ -86,6 +86,22 @@ fn personal(alloc: Global, name: &[u8]) -> Result<ScriptName, AllocError> {
     Ok(ScriptName::new(Place::Personal, Vec::from_slice(alloc, name)?))
 }
 
+/// Puts a personal script.
+fn put_script(alloc: Global, bench: &mut Bench, name: &[u8], text: &[u8]) -> Result<(), Fail> {
+    Ok(bench.put_script(personal(alloc, name)?, Octets::copied(alloc, text)?)?)
+}
+
+/// Puts a personal script, which is main then.
+fn put_main(alloc: Global, bench: &mut Bench, text: &[u8]) -> Result<(), Fail> {
+    put_script(alloc, bench, b"main", text)?;
+    Ok(bench.set_main(personal(alloc, b"main")?)?)
+}
+
+/// Sets the envelope's addresses.
+fn set_envelope(alloc: Global, bench: &mut Bench, from: &[u8], to: &[u8]) -> Result<(), Fail> {
+    Ok(bench.set_envelope(Octets::copied(alloc, from)?, Octets::copied(alloc, to)?)?)
+}
+
 /// The letter n, `count` times.
 fn many(alloc: Global, count: usize) -> Result<Octets, AllocError> {
     Ok(Octets::from_vec(vec![in alloc; b'n'; count]?))

@@ -17,11 +17,17 @@ pub(crate) fn bench_of(rt: &impl Host) -> io::Result<Bench> {
 }
 
 fn fill(rt: &impl Host, bench: &mut Bench) -> io::Result<()> {
-    let main = personal(rt, b"main")?;
-    prepared(bench.put_script(&main, b"discard;"))?;
-    prepared(bench.set_main(&main))?;
-    prepared(bench.put_message(&Octets::copied(rt.alloc(), ID)?, b""))?;
-    prepared(bench.set_expected(ID, b"discard\n"))
+    let text = Octets::copied(rt.alloc(), b"discard;")?;
+    prepared(bench.put_script(personal(rt, b"main")?, text))?;
+    prepared(bench.set_main(personal(rt, b"main")?))?;
+    put_empty(rt, bench, ID)?;
+    prepared(bench.set_expected(ID, Octets::copied(rt.alloc(), b"discard\n")?))
+}
+
+/// Puts a message of no octets.
+pub(crate) fn put_empty(rt: &impl Host, bench: &mut Bench, id: &[u8]) -> io::Result<()> {
+    let id = Octets::copied(rt.alloc(), id)?;
+    prepared(bench.put_message(id, Octets::from_vec(Vec::new(rt.alloc()))))
 }
 
 /// Makes each verdict.

@@ -50,19 +50,15 @@ fn edit(rt: &impl Host, word: &str, bench: &mut Bench) -> Edited {
     match word {
         "put_script" => put_script(rt, bench, b"main", KEEPS),
         "put_script/new" => put_script(rt, bench, b"other", FAULTY),
-        "keep_script" => keep_script(rt, bench),
         "put_message" => put_message(rt, bench, ID),
         "put_message/new" => put_message(rt, bench, b"new"),
-        "keep_message" => keep_message(rt, bench),
         "rename_script" => rename_script(rt, bench),
         "set_main" => set_main(rt, bench),
         "set_envelope" => set_envelope(rt, bench),
         "set_mailbox" => set_mailbox(rt, bench),
         "set_mailboxes" => set_mailboxes(rt, bench),
-        "keep_mailboxes" => keep_mailboxes(rt, bench),
         "set_message_envelope" => set_message_envelope(rt, bench),
         "set_expected" => set_expected(rt, bench),
-        "keep_expected" => keep_expected(rt, bench),
         "remove_script" => remove_script(rt, bench),
         "remove_message" => remove_message(rt, bench),
         "clear_main" => clear_main(rt, bench),
@@ -78,34 +74,18 @@ fn put_script(rt: &impl Host, bench: &mut Bench, name: &[u8], text: &[u8]) -> Ed
     requires { length name.now ≤ 1024 }
 {
     let name = personal(rt, name)?;
+    let text = Octets::copied(rt.alloc(), text)?;
     mark(rt);
-    let answer = bench.put_script(&name, text);
-    mark(rt);
-    Ok(answer)
-}
-
-fn keep_script(rt: &impl Host, bench: &mut Bench) -> Edited {
-    let name = personal(rt, b"main")?;
-    let text = Octets::copied(rt.alloc(), KEEPS)?;
-    mark(rt);
-    let answer = bench.keep_script(&name, text);
+    let answer = bench.put_script(name, text);
     mark(rt);
     Ok(answer)
 }
 
 fn put_message(rt: &impl Host, bench: &mut Bench, id: &[u8]) -> Edited {
     let id = Octets::copied(rt.alloc(), id)?;
-    mark(rt);
-    let answer = bench.put_message(&id, MAIL);
-    mark(rt);
-    Ok(answer)
-}
-
-fn keep_message(rt: &impl Host, bench: &mut Bench) -> Edited {
-    let id = Octets::copied(rt.alloc(), b"new")?;
     let octets = Octets::copied(rt.alloc(), MAIL)?;
     mark(rt);
-    let answer = bench.keep_message(id, octets);
+    let answer = bench.put_message(id, octets);
     mark(rt);
     Ok(answer)
 }
@@ -114,7 +94,7 @@ fn rename_script(rt: &impl Host, bench: &mut Bench) -> Edited {
     let main = personal(rt, b"main")?;
     let other = personal(rt, b"other")?;
     mark(rt);
-    let answer = bench.rename_script(&main, &other);
+    let answer = bench.rename_script(&main, other);
     mark(rt);
     Ok(answer)
 }
@@ -122,58 +102,49 @@ fn rename_script(rt: &impl Host, bench: &mut Bench) -> Edited {
 fn set_main(rt: &impl Host, bench: &mut Bench) -> Edited {
     let other = personal(rt, b"other")?;
     mark(rt);
-    let answer = bench.set_main(&other);
+    let answer = bench.set_main(other);
     mark(rt);
     Ok(answer)
 }
 
 fn set_envelope(rt: &impl Host, bench: &mut Bench) -> Edited {
+    let from = Octets::copied(rt.alloc(), b"a@b.example")?;
+    let to = Octets::copied(rt.alloc(), b"c@d.example")?;
     mark(rt);
-    let answer = bench.set_envelope(b"a@b.example", b"c@d.example");
+    let answer = bench.set_envelope(from, to);
     mark(rt);
     Ok(answer)
 }
 
 fn set_mailbox(rt: &impl Host, bench: &mut Bench) -> Edited {
+    let mailbox = Octets::copied(rt.alloc(), b"Box")?;
     mark(rt);
-    let answer = bench.set_mailbox(b"Box");
+    let answer = bench.set_mailbox(mailbox);
     mark(rt);
     Ok(answer)
 }
 
 fn set_mailboxes(rt: &impl Host, bench: &mut Bench) -> Edited {
-    mark(rt);
-    let answer = bench.set_mailboxes(BOXES);
-    mark(rt);
-    Ok(answer)
-}
-
-fn keep_mailboxes(rt: &impl Host, bench: &mut Bench) -> Edited {
     let text = Octets::copied(rt.alloc(), BOXES)?;
     mark(rt);
-    let answer = bench.keep_mailboxes(text);
+    let answer = bench.set_mailboxes(text);
     mark(rt);
     Ok(answer)
 }
 
 fn set_message_envelope(rt: &impl Host, bench: &mut Bench) -> Edited {
+    let from = Octets::copied(rt.alloc(), b"a@b.example")?;
+    let to = Octets::copied(rt.alloc(), b"c@d.example")?;
     mark(rt);
-    let answer = bench.set_message_envelope(ID, b"a@b.example", b"c@d.example");
+    let answer = bench.set_message_envelope(ID, from, to);
     mark(rt);
     Ok(answer)
 }
 
 fn set_expected(rt: &impl Host, bench: &mut Bench) -> Edited {
-    mark(rt);
-    let answer = bench.set_expected(ID, IMPLICIT);
-    mark(rt);
-    Ok(answer)
-}
-
-fn keep_expected(rt: &impl Host, bench: &mut Bench) -> Edited {
     let text = Octets::copied(rt.alloc(), IMPLICIT)?;
     mark(rt);
-    let answer = bench.keep_expected(ID, text);
+    let answer = bench.set_expected(ID, text);
     mark(rt);
     Ok(answer)
 }

@@ -1,6 +1,6 @@
 //! Benches, their reports and sessions, and what the program calls besides.
 
-use crate::benches::{ID, bench_of, make_verdicts, tell_report, tell_reported};
+use crate::benches::{ID, bench_of, make_verdicts, put_empty, tell_report, tell_reported};
 use crate::runs::tell_found;
 use crate::scripts::tell_end;
 use crate::telling::{Host, mark, personal, prepared, tell_outcome, tell_refused};
@@ -39,8 +39,8 @@ pub(crate) fn report_stale(rt: &impl Host) -> io::Result<()> {
 }
 
 fn put_two(rt: &impl Host, bench: &mut Bench) -> io::Result<()> {
-    prepared(bench.put_message(&Octets::copied(rt.alloc(), b"n")?, b""))?;
-    prepared(bench.put_message(&Octets::copied(rt.alloc(), b"o")?, b""))
+    put_empty(rt, bench, b"n")?;
+    put_empty(rt, bench, b"o")
 }
 
 fn report_twice(rt: &impl Host, bench: &mut Bench) -> io::Result<()> {

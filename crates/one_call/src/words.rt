@@ -14,9 +14,9 @@ const WORDS: &str =
     tokens parse parse/faulty check judge judge/faulty compile dump_text Checked Code write_quoted \
     parts_of_text Values::set Values::expanded_string Values \
     Shelf::add run/tests run/body run/variables run/flags run/includes run/error Shelf Outcome \
-    put_script put_script/new keep_script put_message put_message/new keep_message rename_script \
-    set_main set_envelope set_mailbox set_mailboxes keep_mailboxes set_message_envelope set_expected \
-    keep_expected remove_script remove_message clear_main clear_expected clear_message_envelope set_clock clear_clock \
+    put_script put_script/new put_message put_message/new rename_script \
+    set_main set_envelope set_mailbox set_mailboxes set_message_envelope set_expected \
+    remove_script remove_message clear_main clear_expected clear_message_envelope set_clock clear_clock \
     Bench::new report test_bench session command_of command_of/mistake \
     report/kept verdict code status_of";
 

@@ -9,7 +9,7 @@ use Rattle.bench.specs.declared.fault.ReportFault.TheVariants as faults
 use Rattle.bench.specs.view.ReportFault.{MatchReportFault}
 use Rattle.sievebench.specs.declared.task.Task.{Task}
 use Rattle.sievebench.specs.declared.task.Task.TheVariants as tasks
-use Rattle.sievebench.specs.view.Progress.{Tries}
+use Rattle.sievebench.specs.view.Progress.{Attempts}
 use Rattle.sievebench.specs.view.Task.{Tasks}
 use Rattle.sievebench.specs.Session.{Demand, Served, served, Moved, unmoved, moved}
 use Rattle.sievebench.proofs.Tried.{tried}
@@ -17,9 +17,9 @@ use Rattle.sievebench.proofs.Tried.{tried}
 same_moves : (old new : BenchState) (runs : ℕ) → new ≡ old → Moved (served old runs) (served new runs)
 same_moves old new runs same = subst (λ (b : BenchState). Moved (served old runs) (served b runs)) (sym same) unmoved
 
-pub edit_moves : (edit : Edit) (outcome : Result Unit EditFault) (old new : BenchState) (runs : ℕ) → Tries edit outcome old new → Moved (served old runs) (served new runs)
-edit_moves edit (Ok done) old new runs made = moved (served old runs) (served new runs) unmoved (inl (edit, new.content, made.0, (refl, made.1, refl)))
-edit_moves edit (Err fault) old new runs made = same_moves old new runs made.2
+pub edit_moves : (edit : Edit) (outcome : Result Unit EditFault) (old new : BenchState) (runs : ℕ) → Attempts edit outcome old new → Moved (served old runs) (served new runs)
+edit_moves edit (Ok done) old new runs made = moved (served old runs) (served new runs) unmoved (inl (edit, new.content, made.0.0, (refl, made.0.1, refl)))
+edit_moves edit (Err fault) old new runs made = same_moves old new runs made.1
 
 -- what is done before a task is given is an edit, or nothing
 pub tasks_move : (task : Task) (ask : Option Demand) (old new : BenchState) (runs : ℕ) → Tasks task ask old new → Moved (served old runs) (served new runs)

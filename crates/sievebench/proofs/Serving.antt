@@ -13,7 +13,7 @@ use Rattle.sievebench.specs.Session.{answer_to, asks, Ends, MatchFault, MatchSes
 use Rattle.bench.specs.Report.{report_text}
 use Rattle.bench.specs.Stale.{stale_after}
 use Rattle.sievebench.specs.view.Task.{edit_of, limit_of}
-use Rattle.sievebench.specs.view.Progress.{BreakFrom, Continues, CutFrom, EndsBy, Follows, GoesFrom, MatchProgress, MayBeRefused, StepFrom, EndFrom, Tries, reply_line}
+use Rattle.sievebench.specs.view.Progress.{BreakFrom, Continues, CutFrom, EndsBy, Follows, GoesFrom, MatchProgress, MayBeRefused, StepFrom, EndFrom, Attempts, reply_line}
 use Rattle.sievebench.specs.declared.server.Progress.{Progress}
 use Rattle.sievebench.proofs.Moving.{edit_moves, report_moves, stays}
 use Rattle.sievebench.specs.declared.server.Progress.TheVariants as ways
@@ -122,23 +122,23 @@ replies_ok edit takes content old new runs same stale =
     inl (refl, (sym same, stale ∙ ap (λ (c : Content). stale_after old.content edit old.stale c) (sym same), refl))
 
 -- what an edit answers is what its definition allows
-replies_of : (edit : Edit) (takes : Bool) (outcome : Result Unit EditFault) (meaning : Result Content EditFault) (old new : BenchState) (runs : ℕ) → OnOk outcome (meaning ≡ Ok new.content)
-    → OnOk outcome (new.stale ≡ stale_after old.content edit old.stale new.content) → OnErr outcome (new ≡ old) → IfErr outcome (λ fault. (meaning ≡ Err fault) ⊎ ((takes ≡ true) × (fault ≡ NoMemory)))
+replies_of : (edit : Edit) (takes : Bool) (outcome : Result Unit EditFault) (meaning : Result Content EditFault) (old new : BenchState) (runs : ℕ) → OnOk outcome ((meaning ≡ Ok new.content) × (new.stale ≡ stale_after old.content edit old.stale new.content)) → OnErr outcome (new ≡ old) → IfErr outcome (λ fault. (meaning ≡ Err fault) ⊎ ((takes ≡ true) × (fault ≡ NoMemory)))
     → Replies edit takes meaning (served old runs) (reply_line outcome) (served new runs)
-replies_of edit takes (Ok done) (Ok content) old new runs ok stale err refused =
+replies_of edit takes (Ok done) (Ok content) old new runs ok err refused =
+    let made = ok.0 in
     let same : content ≡ new.content = cc in
-    replies_ok edit takes content old new runs same stale
-replies_of edit takes (Ok done) (Err fault) old new runs ok stale err refused = absurd (search rules)
-replies_of edit takes (Err fault) (Ok content) old new runs ok stale err (inl is) = absurd (search rules)
-replies_of edit takes (Err fault) (Ok content) old new runs ok stale err (inr is) = inr (is.0, ap refusal_line is.1, ap (λ b. served b runs) err)
-replies_of edit takes (Err fault) (Err refusal) old new runs ok stale err (inl is) =
+    replies_ok edit takes content old new runs same ok.1
+replies_of edit takes (Ok done) (Err fault) old new runs ok err refused = let made = ok.0 in absurd cc
+replies_of edit takes (Err fault) (Ok content) old new runs ok err (inl is) = absurd (search rules)
+replies_of edit takes (Err fault) (Ok content) old new runs ok err (inr is) = inr (is.0, ap refusal_line is.1, ap (λ b. served b runs) err)
+replies_of edit takes (Err fault) (Err refusal) old new runs ok err (inl is) =
     let same : fault ≡ refusal = cc in
     (inl (ap refusal_line same), ap (λ b. served b runs) err)
-replies_of edit takes (Err fault) (Err refusal) old new runs ok stale err (inr is) = (inr (is.0, ap refusal_line is.1), ap (λ b. served b runs) err)
+replies_of edit takes (Err fault) (Err refusal) old new runs ok err (inr is) = (inr (is.0, ap refusal_line is.1), ap (λ b. served b runs) err)
 
-pub tried_replies : (edit : Edit) (outcome : Result Unit EditFault) (old new : BenchState) (runs : ℕ) → Tries edit outcome old new
+pub tried_replies : (edit : Edit) (outcome : Result Unit EditFault) (old new : BenchState) (runs : ℕ) → Attempts edit outcome old new
     → Replies edit (takes_memory edit) (after old.content edit) (served old runs) (reply_line outcome) (served new runs)
-tried_replies edit outcome old new runs made = replies_of edit (takes_memory edit) outcome (after old.content edit) old new runs made.0 made.1 made.2 made.3
+tried_replies edit outcome old new runs made = replies_of edit (takes_memory edit) outcome (after old.content edit) old new runs made.0 made.1 made.2
 
 -- memory may be refused to an edit that takes some
 pub no_memory_replies : (edit : Edit) (takes : Bool) (meaning : Result Content EditFault) (old : Served) → takes ≡ true → Replies edit takes meaning old (refusal_line NoMemory) old

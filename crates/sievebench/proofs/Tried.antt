@@ -5,7 +5,7 @@ use Rattle.bench.specs.Content.{Content, Edit, Answers, Refuses}
 use Rattle.bench.specs.declared.fault.EditFault.{EditFault}
 use Rattle.bench.specs.declared.fault.EditFault.TheVariants.{NoMemory}
 use Rattle.sievebench.specs.Session.{Demand, asks_question, asks_put, asks_edit, asks_report, edits, request_by}
-use Rattle.sievebench.specs.view.Progress.{Tries}
+use Rattle.sievebench.specs.view.Progress.{Attempts}
 use Rattle.sievebench.specs.view.Task.{IsTried}
 
 -- what a call of the bench refuses, where memory may be refused to it
@@ -23,7 +23,7 @@ by_answer takes (Err refusal) (Err fault) answers = inl (ap Err (sym answers))
 pub ruleset trying = (by_call, by_answer)
 
 -- the edit that was tried is what is asked for
-pub tried : (ask : Option Demand) (outcome : Result Unit EditFault) (old new : BenchState) → IsTried ask outcome old new → (edit : Edit) × (request_by ask ≡ (λ rest. edits edit rest)) × Tries edit outcome old new
+pub tried : (ask : Option Demand) (outcome : Result Unit EditFault) (old new : BenchState) → IsTried ask outcome old new → (edit : Edit) × (request_by ask ≡ (λ rest. edits edit rest)) × Attempts edit outcome old new
 tried None outcome old new is = absurd is
 tried (Some (asks_question question)) outcome old new is = absurd is
 tried (Some (asks_put count edit)) outcome old new is = absurd is

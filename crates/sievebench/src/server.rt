@@ -76,14 +76,14 @@ fn refuse_octets<W: Sink>(writer: &mut W) -> Progress
 /// Puts octets at a name or an id.
 #[tactic(auto, using(crate::proofs::Tried::trying))]
 fn keep(bench: &mut Bench, subject: Subject, octets: Vec<u8>) -> Result<(), EditFault>
-    ensures { progress.Tries (edit_of subject octets.items) result bench.old bench.new }
+    ensures { progress.Attempts (edit_of subject octets.items) result bench.old bench.new }
 {
     let octets = Octets::from_vec(octets);
     match subject {
-        Subject::Script(name) => bench.keep_script(&name, octets),
-        Subject::Message(id) => bench.keep_message(id, octets),
-        Subject::Expected(id) => bench.keep_expected(id.as_slice(), octets),
-        Subject::Mailboxes => bench.keep_mailboxes(octets),
+        Subject::Script(name) => bench.put_script(name, octets),
+        Subject::Message(id) => bench.put_message(id, octets),
+        Subject::Expected(id) => bench.set_expected(id.as_slice(), octets),
+        Subject::Mailboxes => bench.set_mailboxes(octets),
     }
 }
 

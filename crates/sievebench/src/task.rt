@@ -112,7 +112,7 @@ fn set_main(bench: &mut Bench, place: Place, name: &Word<'_>) -> Result<(), Edit
     ensures { IsTried (Some (demand_of (line.main place name.now))) result bench.old bench.new }
 {
     let name = copied_name(bench.allocator(), place, name)?;
-    bench.set_main(&name)
+    bench.set_main(name)
 }
 
 /// Leaves no script main.
@@ -137,7 +137,7 @@ fn rename_script(
 {
     let from = copied_name(bench.allocator(), place, name)?;
     let to = copied_name(bench.allocator(), new_place, new_name)?;
-    bench.rename_script(&from, &to)
+    bench.rename_script(&from, to)
 }
 
 /// Removes a script.
@@ -178,7 +178,7 @@ fn set_envelope(bench: &mut Bench, from: &Word<'_>, to: &Word<'_>) -> Result<(),
 {
     let from = from.copied(bench.allocator())?;
     let to = to.copied(bench.allocator())?;
-    bench.set_envelope(from.as_slice(), to.as_slice())
+    bench.set_envelope(from, to)
 }
 
 /// Sets the mailbox.
@@ -187,7 +187,7 @@ fn set_mailbox(bench: &mut Bench, mailbox: &Word<'_>) -> Result<(), EditFault>
     ensures { IsTried (Some (demand_of (line.mailbox mailbox.now))) result bench.old bench.new }
 {
     let mailbox = mailbox.copied(bench.allocator())?;
-    bench.set_mailbox(mailbox.as_slice())
+    bench.set_mailbox(mailbox)
 }
 
 /// Gives a message addresses of its own.
@@ -203,7 +203,7 @@ fn set_message_envelope(
     let id = id.copied(bench.allocator())?;
     let from = from.copied(bench.allocator())?;
     let to = to.copied(bench.allocator())?;
-    bench.set_message_envelope(id.as_slice(), from.as_slice(), to.as_slice())
+    bench.set_message_envelope(id.as_slice(), from, to)
 }
 
 /// Takes a message's own addresses from it. Takes no memory: an id that is too long for an array isn't one of the bench.

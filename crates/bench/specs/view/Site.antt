@@ -1,9 +1,13 @@
 -- What a bench holds that all messages are judged with.
-use Rattle.std.specs.Prelude.{ℕ, List, Option}
+use Rattle.std.specs.Prelude.{◌≡◌, ℕ, List, Option, map, false}
 use Rattle.std.specs.Option.{option_copied}
 use Rattle.sieve_base.specs.declared.name.ScriptName.{ScriptName}
 use Rattle.sieve_effects.specs.declared.envelope.Envelope.{Envelope}
-use Rattle.bench.specs.Report.{Site}
+use Rattle.sieve_base.specs.Name.{name_eq}
+use Rattle.bench.specs.Content.{text_at}
+use Rattle.bench.specs.Report.{Site, verdict_by}
+use Rattle.bench.specs.declared.entry.Entry.{Entry}
+use Rattle.bench.specs.view.Entry.{KeepsDue, messages_of, unread}
 use Rattle.bench.specs.declared.site.Site as sites
 use Rattle.bench.specs.view.Scripts.{ScriptsState}
 
@@ -16,3 +20,11 @@ site_as site = site_by (option_copied site.main) site.envelope.now site.scripts.
 -- the same with other scripts
 abbrev pub with_scripts : Site → List (ScriptName × List ℕ) → Site
 with_scripts site scripts = record site { scripts = scripts }
+
+-- Those messages are marked whose runs looked a name up. Each verdict that is kept stays due where the text at no other name changes.
+pub record ForgetsReaders (name : ScriptName) (old new : List (List ℕ × Entry)) : Type 0 where
+  pub entries : new ≡ map (λ e. (e.0, unread name e.1)) old
+  pub messages : messages_of new ≡ messages_of old
+  pub due : (site : Site) (scripts : List (ScriptName × List ℕ))
+      → ((other : ScriptName) → name_eq name other ≡ false → text_at site.scripts other ≡ text_at scripts other)
+      → KeepsDue (verdict_by site) old → KeepsDue (verdict_by (with_scripts site scripts)) new

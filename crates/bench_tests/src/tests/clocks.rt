@@ -1,7 +1,7 @@
 //! The clock.
 
 use super::meters::put_message;
-use super::{check_report, check_runs, personal};
+use super::{check_report, check_runs, put_main};
 use sievebench::{Bench, Clock, Extension, Profile, zone_named};
 use std::alloc::Global;
 use std::process::Abort;
@@ -9,9 +9,7 @@ use std::test::Fail;
 
 /// A message under a script that discards.
 fn begin(alloc: Global, bench: &mut Bench) -> Result<(), Fail> {
-    let main = personal(alloc, b"main")?;
-    bench.put_script(&main, b"discard;")?;
-    bench.set_main(&main)?;
+    put_main(alloc, bench, b"discard;")?;
     put_message(alloc, bench, b"m")
 }
 

@@ -2,10 +2,17 @@
 //!
 //! No contract can say that memory is there: these calls have it, and must not say otherwise.
 
-use super::{REPORT, check_report, personal};
+use super::{REPORT, check_report, personal, put_script, set_envelope};
 use sievebench::{Bench, Clock, Octets, ScriptName, Zone};
+use std::alloc::Global;
 use std::process::Abort;
 use std::test::Fail;
+
+/// Puts a message.
+fn put_octets(alloc: Global, bench: &mut Bench, id: &Octets, bytes: &[u8]) -> Result<(), Fail> {
+    let id = Octets::copied(alloc, id.as_slice())?;
+    Ok(bench.put_message(id, Octets::copied(alloc, bytes)?)?)
+}
 
 /// Scripts and messages are put, renamed and removed, with a report after each; and then settings are edited.
 fn edit_content(
@@ -15,8 +22,8 @@ fn edit_content(
     other: &ScriptName,
     id: &Octets,
 ) -> Result<(), Fail> {
-    bench.put_script(main, b"keep;")?;
-    bench.put_message(id, b"x")?;
+    put_script(rt.alloc(), bench, b"main", b"keep;")?;
+    put_octets(rt.alloc(), bench, id, b"x")?;
     check_report(
         rt,
         bench,
@@ -24,7 +31,7 @@ fn edit_content(
     )?;
     expect(rt, bench, id)?;
     bench.remove_message(id.as_slice())?;
-    bench.rename_script(main, other)?;
+    bench.rename_script(main, other.copy(rt.alloc())?)?;
     check_report(
         rt,
         bench,
@@ -37,7 +44,8 @@ fn edit_content(
 
 /// A text is expected of the message's verdict, and then none, with a report after each.
 fn expect(rt: &(impl AllocGlobal + Abort), bench: &mut Bench, id: &Octets) -> Result<(), Fail> {
-    bench.set_expected(id.as_slice(), b"implicit \"INBOX\"\r\n")?;
+    let text = Octets::copied(rt.alloc(), b"implicit \"INBOX\"\r\n")?;
+    bench.set_expected(id.as_slice(), text)?;
     check_report(
         rt,
         bench,
@@ -57,9 +65,9 @@ fn edit_settings(
     bench: &mut Bench,
     main: &ScriptName,
 ) -> Result<(), Fail> {
-    bench.set_main(main)?;
-    bench.set_envelope(b"a@b.example", b"c d")?;
-    bench.set_mailbox(b"Lists")?;
+    bench.set_main(main.copy(rt.alloc())?)?;
+    set_envelope(rt.alloc(), bench, b"a@b.example", b"c d")?;
+    bench.set_mailbox(Octets::copied(rt.alloc(), b"Lists")?)?;
     if let Some(clock) = Clock::new(0, Zone::UTC) {
         bench.set_clock(clock);
     }

@@ -13,11 +13,12 @@ fn check_names(
     wanted: &Result<(), EditFault>,
 ) -> Result<(), AllocError> {
     let id = many(rt.alloc(), count)?;
+    let main = personal(rt.alloc(), id.as_slice())?;
     let name = personal(rt.alloc(), id.as_slice())?;
     let at = ("a name", count as u64, 0);
-    holds(rt, at, bench.set_main(&name) == *wanted);
-    holds(rt, at, bench.put_script(&name, b"") == *wanted);
-    holds(rt, at, bench.put_message(&id, b"") == *wanted);
+    holds(rt, at, bench.set_main(main) == *wanted);
+    holds(rt, at, bench.put_script(name, many(rt.alloc(), 0)?) == *wanted);
+    holds(rt, at, bench.put_message(id, many(rt.alloc(), 0)?) == *wanted);
     Ok(())
 }
 
@@ -30,7 +31,7 @@ fn check_text(
 ) -> Result<(), AllocError> {
     let text = many(rt.alloc(), count)?;
     let main = personal(rt.alloc(), b"main")?;
-    let answer = bench.put_script(&main, text.as_slice());
+    let answer = bench.put_script(main, text);
     holds(rt, ("a text", count as u64, 0), answer == *wanted);
     Ok(())
 }
@@ -44,7 +45,7 @@ fn check_message(
 ) -> Result<(), AllocError> {
     let message = many(rt.alloc(), count)?;
     let mail = many(rt.alloc(), 1)?;
-    let answer = bench.put_message(&mail, message.as_slice());
+    let answer = bench.put_message(mail, message);
     holds(rt, ("a message", count as u64, 0), answer == *wanted);
     Ok(())
 }
@@ -58,8 +59,8 @@ fn check_expected(
 ) -> Result<(), AllocError> {
     let text = many(rt.alloc(), count)?;
     let mail = many(rt.alloc(), 1)?;
-    let put = bench.put_message(&mail, b"");
-    let answer = bench.set_expected(mail.as_slice(), text.as_slice());
+    let put = bench.put_message(mail, many(rt.alloc(), 0)?);
+    let answer = bench.set_expected(b"n", text);
     let at = ("an expected text", count as u64, 0);
     holds(rt, at, put == Ok(()));
     holds(rt, at, answer == *wanted);

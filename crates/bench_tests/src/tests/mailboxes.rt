@@ -1,7 +1,7 @@
 //! The list of mailboxes.
 
 use super::meters::put_message;
-use super::{check_report, check_runs, holds, many, personal};
+use super::{check_report, check_runs, holds, many, put_main, set_envelope};
 use sievebench::{Bench, EditFault, Extension, Octets, Profile};
 use std::alloc::{AllocError, Global};
 use std::process::Abort;
@@ -9,16 +9,20 @@ use std::test::Fail;
 
 /// A message under a script that discards where two mailboxes are there.
 fn begin(alloc: Global, bench: &mut Bench) -> Result<(), Fail> {
-    let main = personal(alloc, b"main")?;
-    bench.put_script(
-        &main,
+    put_main(
+        alloc,
+        bench,
         b"require \"mailbox\"; if mailboxexists [\"inbox\", \"Lists/a\"] { discard; }",
     )?;
-    bench.set_main(&main)?;
     put_message(alloc, bench, b"m")
 }
 
-/// A list is set, handed over, and set to what it is.
+/// Sets the list.
+fn set_list(alloc: Global, bench: &mut Bench, text: &[u8]) -> Result<(), Fail> {
+    Ok(bench.set_mailboxes(Octets::copied(alloc, text)?)?)
+}
+
+/// A list is set twice, and then to what it is.
 fn check_list(rt: &(impl AllocGlobal + Abort), bench: &mut Bench) -> Result<(), Fail> {
     check_runs(
         rt,
@@ -27,20 +31,20 @@ fn check_list(rt: &(impl AllocGlobal + Abort), bench: &mut Bench) -> Result<(), 
         b"main personal \"main\"\nenvelope \"\" \"\" mailbox \"INBOX\"\nwith mailbox\nmailboxes 0\nscript personal \"main\" ok\nmessage \"m\"\n  implicit \"INBOX\"\n  read personal \"main\"\ntotal 1 messages 0 errors\n",
     )?;
     // Empty lines are no names, one given twice counts twice, and the last line needs no end.
-    bench.set_mailboxes(b"Lists/a\r\n\n\r\nDrafts\nLists/a")?;
+    set_list(rt.alloc(), bench, b"Lists/a\r\n\n\r\nDrafts\nLists/a")?;
     check_runs(
         rt,
         bench,
         1,
         b"main personal \"main\"\nenvelope \"\" \"\" mailbox \"INBOX\"\nwith mailbox\nmailboxes 3\nscript personal \"main\" ok\nmessage \"m\"\n  discard\n  read personal \"main\"\ntotal 1 messages 0 errors\n",
     )?;
-    bench.set_mailbox(b"Drafts")?;
-    bench.set_envelope(b"", b"a@b.example")?;
-    bench.keep_mailboxes(Octets::copied(rt.alloc(), b"lists/a\n")?)?;
+    bench.set_mailbox(Octets::copied(rt.alloc(), b"Drafts")?)?;
+    set_envelope(rt.alloc(), bench, b"", b"a@b.example")?;
+    set_list(rt.alloc(), bench, b"lists/a\n")?;
     let kept =
         b"main personal \"main\"\nenvelope \"\" \"a@b.example\" mailbox \"Drafts\"\nwith mailbox\nmailboxes 1\nscript personal \"main\" ok\nmessage \"m\"\n  implicit \"Drafts\"\n  read personal \"main\"\ntotal 1 messages 0 errors\n";
     check_runs(rt, bench, 1, kept)?;
-    bench.set_mailboxes(b"lists/a\n")?;
+    set_list(rt.alloc(), bench, b"lists/a\n")?;
     check_runs(rt, bench, 1, kept)
 }
 
@@ -61,8 +65,7 @@ fn check_size(
 ) -> Result<(), AllocError> {
     let text = many(rt.alloc(), count)?;
     let at = ("a list of mailboxes", count as u64, 0);
-    holds(rt, at, bench.set_mailboxes(text.as_slice()) == *wanted);
-    holds(rt, at, bench.keep_mailboxes(text) == *wanted);
+    holds(rt, at, bench.set_mailboxes(text) == *wanted);
     Ok(())
 }
 

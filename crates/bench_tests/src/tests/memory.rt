@@ -1,21 +1,15 @@
 //! Calls that no clause keeps from saying that memory is refused: here there is enough.
 
 use super::meters::put_message;
-use super::{check_report, personal};
+use super::{check_report, put_script};
 use sievebench::Bench;
-use std::alloc::Global;
 use std::process::Abort;
 use std::test::Fail;
-
-/// Puts a script.
-fn put_main(alloc: Global, bench: &mut Bench) -> Result<(), Fail> {
-    Ok(bench.put_script(&personal(alloc, b"main")?, b"keep;")?)
-}
 
 #[test]
 fn put_script_always_out_of_memory(rt: HostRuntime) -> Result<(), Fail> {
     let mut bench = Bench::new(rt.alloc())?;
-    put_main(rt.alloc(), &mut bench)
+    put_script(rt.alloc(), &mut bench, b"main", b"keep;")
 }
 
 /// Puts a message, and compares the report.

@@ -1,7 +1,7 @@
 //! Messages that have addresses of their own, and which reports run them.
 
 use super::meters::put_message;
-use super::{check_runs, holds, many, personal};
+use super::{check_runs, holds, many, put_main, set_envelope};
 use sievebench::{Bench, EditFault, Octets};
 use std::alloc::{AllocError, Global};
 use std::process::Abort;
@@ -12,12 +12,22 @@ const MAIN: &[u8] = b"require \"envelope\"; if envelope \"to\" \"anna@x.example\
 
 /// Two messages under that script, on a bench with addresses.
 fn begin(alloc: Global, bench: &mut Bench) -> Result<(), Fail> {
-    let main = personal(alloc, b"main")?;
-    bench.put_script(&main, MAIN)?;
-    bench.set_main(&main)?;
-    bench.set_envelope(b"s@y.example", b"bob@x.example")?;
+    put_main(alloc, bench, MAIN)?;
+    set_envelope(alloc, bench, b"s@y.example", b"bob@x.example")?;
     put_message(alloc, bench, b"m1")?;
     put_message(alloc, bench, b"m2")
+}
+
+/// Gives a message addresses of its own.
+fn set_own(
+    alloc: Global,
+    bench: &mut Bench,
+    id: &[u8],
+    from: &[u8],
+    to: &[u8],
+) -> Result<(), Fail> {
+    let from = Octets::copied(alloc, from)?;
+    Ok(bench.set_message_envelope(id, from, Octets::copied(alloc, to)?)?)
 }
 
 /// One of two messages has addresses of its own, then the bench has others, and then that message is put again.
@@ -28,14 +38,14 @@ fn check_own(rt: &(impl AllocGlobal + Abort), bench: &mut Bench) -> Result<(), F
         2,
         b"main personal \"main\"\nenvelope \"s@y.example\" \"bob@x.example\" mailbox \"INBOX\"\nscript personal \"main\" ok\nmessage \"m1\"\n  implicit \"INBOX\"\n  read personal \"main\"\nmessage \"m2\"\n  implicit \"INBOX\"\n  read personal \"main\"\ntotal 2 messages 0 errors\n",
     )?;
-    bench.set_message_envelope(b"m1", b"a \"b\"@c", b"anna@x.example")?;
+    set_own(rt.alloc(), bench, b"m1", b"a \"b\"@c", b"anna@x.example")?;
     check_runs(
         rt,
         bench,
         1,
         b"main personal \"main\"\nenvelope \"s@y.example\" \"bob@x.example\" mailbox \"INBOX\"\nscript personal \"main\" ok\nmessage \"m1\"\n  envelope \"a \\\"b\\\"@c\" \"anna@x.example\"\n  discard\n  read personal \"main\"\nmessage \"m2\"\n  implicit \"INBOX\"\n  read personal \"main\"\ntotal 2 messages 0 errors\n",
     )?;
-    bench.set_envelope(b"", b"")?;
+    set_envelope(rt.alloc(), bench, b"", b"")?;
     put_message(rt.alloc(), bench, b"m1")?;
     check_runs(
         rt,
@@ -44,7 +54,7 @@ fn check_own(rt: &(impl AllocGlobal + Abort), bench: &mut Bench) -> Result<(), F
         b"main personal \"main\"\nenvelope \"\" \"\" mailbox \"INBOX\"\nscript personal \"main\" ok\nmessage \"m1\"\n  envelope \"a \\\"b\\\"@c\" \"anna@x.example\"\n  discard\n  read personal \"main\"\nmessage \"m2\"\n  implicit \"INBOX\"\n  read personal \"main\"\ntotal 2 messages 0 errors\n",
     )?;
     put_message(rt.alloc(), bench, b"m1")?;
-    bench.set_expected(b"m1", b"discard")?;
+    bench.set_expected(b"m1", Octets::copied(rt.alloc(), b"discard")?)?;
     check_runs(
         rt,
         bench,
@@ -60,8 +70,8 @@ const CLEARED: &[u8] =
 /// The other message has addresses of its own too, and then neither has: the one where they are cleared, the other where it is removed.
 fn check_cleared(rt: &(impl AllocGlobal + Abort), bench: &mut Bench) -> Result<(), Fail> {
     bench.clear_expected(b"m1")?;
-    bench.set_envelope(b"", b"anna@x.example")?;
-    bench.set_message_envelope(b"m2", b"", b"")?;
+    set_envelope(rt.alloc(), bench, b"", b"anna@x.example")?;
+    set_own(rt.alloc(), bench, b"m2", b"", b"")?;
     check_runs(
         rt,
         bench,
@@ -95,8 +105,8 @@ fn check_sizes(
     let id = many(rt.alloc(), id)?;
     let from = many(rt.alloc(), from)?;
     let to = many(rt.alloc(), to)?;
-    let answer = bench.set_message_envelope(id.as_slice(), from.as_slice(), to.as_slice());
     let octets = (from.as_slice().len() as u64, to.as_slice().len() as u64);
+    let answer = bench.set_message_envelope(id.as_slice(), from, to);
     holds(
         rt,
         ("addresses of a message", octets.0, octets.1),

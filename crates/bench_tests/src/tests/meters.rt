@@ -21,7 +21,8 @@ fn check_runs(
 
 /// Puts a message of no octets.
 pub(super) fn put_message(alloc: Global, bench: &mut Bench, id: &[u8]) -> Result<(), Fail> {
-    Ok(bench.put_message(&Octets::copied(alloc, id)?, b"")?)
+    let id = Octets::copied(alloc, id)?;
+    Ok(bench.put_message(id, Octets::from_vec(Vec::new(alloc)))?)
 }
 
 /// Reports twice on a bench of two messages, which no edit touches in between, and compares.

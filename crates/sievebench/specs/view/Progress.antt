@@ -3,9 +3,8 @@ use Rattle.std.specs.Prelude.{◌≡◌, ⊤, ℕ, ◌≤◌, ◌<◌, Bool, tru
 use Rattle.std.specs.Io.KnownBytes.{Appends}
 use Rattle.sieve_base.specs.Devices.{HasRisen}
 use Rattle.session_text.specs.view.Input.{Input}
-use Rattle.bench.specs.Bench.{BenchState}
+use Rattle.bench.specs.Bench.{BenchState, Makes}
 use Rattle.bench.specs.Content.{Edit, after}
-use Rattle.bench.specs.Stale.{stale_after}
 use Rattle.sievebench.specs.Session.{Request, Served, truncated, Step, Steps, Ends, Answered, MatchSessionEnd, MatchFault, AtLastEnd, profile_of, refusal_line, request_of, request_so_far, takes_memory}
 use Rattle.bench.specs.declared.fault.EditFault.{EditFault}
 use Rattle.bench.specs.declared.fault.EditFault.TheVariants.{NoMemory}
@@ -114,10 +113,10 @@ abbrev pub reply_line : Result Unit EditFault → List ℕ
 reply_line (Ok done) = codes "ok\n"
 reply_line (Err fault) = refusal_line fault
 
--- an edit is made, or it is said why not; memory may be refused where the edit takes some, also for its words
-abbrev pub Tries : Edit → Result Unit EditFault → BenchState → BenchState → Type 0
-Tries edit outcome old new =
-    OnOk outcome (after old.content edit ≡ Ok new.content)
-    × OnOk outcome (new.stale ≡ stale_after old.content edit old.stale new.content)
+-- A session attempts an edit: it is made, or it is said why not, and nothing has changed. Memory may be refused where the edit takes some,
+-- also for its words.
+abbrev pub Attempts : Edit → Result Unit EditFault → BenchState → BenchState → Type 0
+Attempts edit outcome old new =
+    OnOk outcome (Makes edit old new)
     × OnErr outcome (new ≡ old)
     × IfErr outcome (λ fault. (after old.content edit ≡ Err fault) ⊎ ((takes_memory edit ≡ true) × (fault ≡ NoMemory)))

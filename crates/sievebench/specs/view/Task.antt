@@ -5,7 +5,7 @@ use Rattle.bench.specs.Bench.{BenchState}
 use Rattle.bench.specs.Content.{Edit, put_script, put_message, set_expected, set_mailboxes}
 use Rattle.bench.specs.declared.fault.EditFault.{EditFault}
 use Rattle.sievebench.specs.Session.{Demand, asks_question, asks_put, asks_edit, asks_report, question_takes_memory, takes_memory}
-use Rattle.sievebench.specs.view.Progress.{Tries}
+use Rattle.sievebench.specs.view.Progress.{Attempts}
 use Rattle.sievebench.specs.declared.task.Subject.{Subject}
 use Rattle.sievebench.specs.declared.task.Subject.TheVariants as subjects
 use Rattle.sievebench.specs.declared.task.Task.{Task}
@@ -38,7 +38,7 @@ abbrev pub IsTried : Option Demand → Result Unit EditFault → BenchState → 
 IsTried None outcome old new = ⊥
 IsTried (Some (asks_question question)) outcome old new = ⊥
 IsTried (Some (asks_put count edit)) outcome old new = ⊥
-IsTried (Some (asks_edit edit)) outcome old new = Tries edit outcome old new
+IsTried (Some (asks_edit edit)) outcome old new = Attempts edit outcome old new
 IsTried (Some asks_report) outcome old new = ⊥
 
 -- the task is to do what a line asks for, and nothing is done of it yet; or it is the edit that was tried

@@ -1,10 +1,15 @@
+use Rattle.bench.specs.Content.{put_over}
+use Rattle.bench.specs.view.Entry.{sample_in}
+use Rattle.bench.proofs.Marks.{due-put, stale-put}
 use Rattle.bench.proofs.bench.Bench.put_message.Goals as goal
 
-pub returns-clause-ok : goal.returns-clause-ok
-returns-clause-ok c = rw (c.in_ok-copy.ensures, c.in_ok-id.ensures, c.as_slice.ensures) at c.take_message.ensures.ok
+pub invariant_of-self : goal.invariant_of-self
+invariant_of-self c = (rw c.in_err-put.ensures.err c.self.invariant.0, c.put.ensures.unique)
 
-pub returns-clause-refused : goal.returns-clause-refused
-returns-clause-refused c = rw (c.in_ok-copy.ensures, c.in_ok-id.ensures, c.as_slice.ensures) at c.take_message.ensures.refused
+pub invariant_of-self-2 : goal.invariant_of-self-2
+invariant_of-self-2 c =
+    (rw c.in_ok-put.ensures.ok (due-put _ c.args.id (put_over c.in_ok-message.message (sample_in c.self.inside.messages.entries c.args.id)) c.self.inside.messages.entries c.self.invariant.0), c.put.ensures.unique)
 
 pub returns-clause-stale : goal.returns-clause-stale
-returns-clause-stale c = rw (c.in_ok-id.ensures, c.as_slice.ensures) at c.take_message.ensures.stale
+returns-clause-stale c =
+    rw (← c.self.view_is, c.in_ok-put.ensures.ok) (stale-put c.args.id (put_over c.in_ok-message.message (sample_in c.self.inside.messages.entries c.args.id)) c.self.inside.messages.entries c.self.invariant.1)

@@ -1,7 +1,21 @@
+use Rattle.std.proofs.Common.{sym}
+use Rattle.bench.specs.Content.{with_script}
+use Rattle.bench.specs.Report.{verdict_by}
+use Rattle.bench.specs.view.Site.{site_by}
+use Rattle.bench.proofs.Marks.{stale-marked}
+use Rattle.bench.proofs.Names.{text-with_script}
 use Rattle.bench.proofs.bench.Bench.put_script.Goals as goal
 
-pub returns-clause-ok : goal.returns-clause-ok
-returns-clause-ok c = rw c.in_ok-text.ensures at c.take_script.ensures.ok
+pub invariant_of-self-2 : goal.invariant_of-self-2
+invariant_of-self-2 c =
+    let scripts = c.self.inside.scripts.scripts in (
+      rw c.in_ok-put.ensures.ok
+          (c.forget_readers.ensures.due (site_by c.self.inside.main c.self.inside.envelope c.self.inside.scripts) (with_script c.args.name.now c.args.text scripts)
+          (λ other apart. sym (text-with_script c.args.name.now c.args.text other scripts apart)) c.self.invariant.0),
+      c.forget_readers.ensures.unique,
+    )
 
-pub returns-clause-refused : goal.returns-clause-refused
-returns-clause-refused c = rw c.in_ok-text.ensures at c.take_script.ensures.refused
+pub returns-clause-stale : goal.returns-clause-stale
+returns-clause-stale c =
+    rw (← c.self.view_is, c.forget_readers.ensures.entries)
+    (stale-marked (verdict_by (site_by c.self.inside.main c.self.inside.envelope c.self.inside.scripts)) c.args.name.now c.self.inside.messages.entries c.self.invariant.0 c.self.invariant.1)

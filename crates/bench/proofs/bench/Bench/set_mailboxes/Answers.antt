@@ -1,5 +1,5 @@
 use Rattle.bench.proofs.Marks.{due-all_marked, stale-all_marked}
-use Rattle.bench.proofs.bench.Bench.take_mailboxes.Goals as goal
+use Rattle.bench.proofs.bench.Bench.set_mailboxes.Goals as goal
 
 pub invariant_of-self : goal.invariant_of-self
 invariant_of-self c = (rw c.forget_all.ensures.entries (due-all_marked _ c.self.inside.messages.entries), c.forget_all.ensures.unique)

@@ -1,6 +1,6 @@
 use Rattle.std.proofs.Common.{Some, refl}
 use Rattle.bench.proofs.Marks.{due-expecting, stale-expecting}
-use Rattle.bench.proofs.bench.Bench.take_expected.Goals as goal
+use Rattle.bench.proofs.bench.Bench.set_expected.Goals as goal
 
 pub invariant_of-self : goal.invariant_of-self
 invariant_of-self c = (rw c.expect.ensures.entries (due-expecting _ (λ sample expected. refl) c.args.id.now (Some c.args.text) c.self.inside.messages.entries c.self.invariant.0), c.expect.ensures.unique)
