@@ -22,7 +22,11 @@ pub(crate) fn is_long(name: &Octets) -> bool
 }
 
 /// Why a script isn't put, apart from memory.
-pub(crate) fn refuse_script(scripts: &Scripts, name: &ScriptName, text: &[u8]) -> Result<(), EditFault>
+pub(crate) fn refuse_script(
+    scripts: &Scripts,
+    name: &ScriptName,
+    text: &[u8],
+) -> Result<(), EditFault>
     ensures { spec.Finds (spec.script_refusal scripts.now.scripts name.now text.now) result }
 {
     if is_long(&name.name) || text.len() > MAX_TEXT {
@@ -54,7 +58,10 @@ pub(crate) fn refuse_message(
 
 /// Why a message isn't removed, or why what is expected of it or its own addresses aren't.
 #[tactic(auto, using(crate::proofs::Entries::entries))]
-pub(crate) fn refuse_absent(messages: &IndexMap<Octets, EntryBox>, id: &[u8]) -> Result<(), EditFault>
+pub(crate) fn refuse_absent(
+    messages: &IndexMap<Octets, EntryBox>,
+    id: &[u8],
+) -> Result<(), EditFault>
     ensures { spec.Finds (spec.absent_refusal (messages_of messages.now.entries) id.now) result }
 {
     if id.len() > MAX_ID {
