@@ -1,4 +1,4 @@
-use Rattle.std.proofs.Common.{◌∙◌, ap, map, sym}
+use Rattle.std.proofs.Common.{map}
 use Rattle.sieve_effects.specs.view.Delivery.{delivery_as}
 use Rattle.sieve_effects.specs.view.Ops.{source_op_as}
 use Rattle.sieve_effects.specs.view.State.{state_of}

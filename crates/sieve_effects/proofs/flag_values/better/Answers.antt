@@ -1,4 +1,4 @@
-use Rattle.std.proofs.Common.{◌≡◌, ◌<◌, ℕ, None, Some, List, Option, length, take, min, sym, ap, ◌∙◌, arith}
+use Rattle.std.proofs.Common.{◌≡◌, ℕ, Some, List, length, take, min, sym, ap, ◌∙◌, arith}
 use Rattle.sieve_effects.specs.Matching.{first_some, match_of}
 use Rattle.sieve_effects.proofs.Keyed.{best_stays, better_found, none_so_far, take_min}
 use Rattle.sieve_effects.proofs.Searching.{get_map}

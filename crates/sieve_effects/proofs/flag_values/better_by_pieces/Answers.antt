@@ -15,7 +15,11 @@ loop-piece-init c rest =
     ap (λ (keys : List (List ℕ)). best_of c.args.matcher.now.comparison c.args.flags.now c.args.so_far (keys ++ rest)) (keys_of_filled c.args.key.now (sym c.is_empty.ensures ∙ c.if-is_empty.false))
 
 pub loop-piece-preserved : goal.loop-piece-preserved
-loop-piece-preserved c = ?
+loop-piece-preserved c rest =
+    let best = best_of c.args.matcher.now.comparison c.args.flags.now c.loop-piece.best in
+    c.in_ok-best.ensures (filled_pieces c.in-Some.behind.now ++ rest) ∙ ap (λ (keys : List (List ℕ)). best (keys ++ rest)) (sym c.in-Some.ensures.some) ∙ c.loop-piece.invariant rest
 
 pub returns : goal.returns
-returns c = ?
+returns c rest =
+    let best = best_of c.args.matcher.now.comparison c.args.flags.now c.loop-piece.best in
+    ap (λ (keys : List (List ℕ)). best (keys ++ rest)) (sym c.in_default.ensures.none) ∙ c.loop-piece.invariant rest
