@@ -17,4 +17,5 @@ pub mod Keywords
 pub mod Numerals
 pub mod Ordered
 pub mod Relations
+pub mod Rooms
 mod FlagRows

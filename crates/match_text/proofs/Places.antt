@@ -20,7 +20,7 @@ at-slice : (xs : List ℕ) (i j k : ℕ) → k < j - i → slice_index (slice_ra
 at-slice xs i j k below = get_or-take (j - i) (drop i xs) k 0 below ∙ get_or-drop i xs k 0
 
 -- the slice that is the same as the key is as long as the key
-part_len : (fold : ℕ → ℕ) (value key : List ℕ) (p : IsPart fold value key) → p.start + length key ≡ p.end
+pub part_len : (fold : ℕ → ℕ) (value key : List ℕ) (p : IsPart fold value key) → p.start + length key ≡ p.end
 part_len fold value key p =
     let len = length-slice value p.start p.end p.ordered p.within in
     let same = p.same.equal_lengths in

@@ -86,10 +86,14 @@ flag_text (flag ∷ flags) = flag ++ flat_map (λ next. octet_of " " ∷ next) f
 
 -- FLAGS TO LOOK FOR (RFC 5232, section 4)
 
+-- the pieces of a text that have octets
+abbrev pub filled_pieces : List ℕ → List (List ℕ)
+filled_pieces text = filter is_filled (pieces text)
+
 -- What a key of a test stands for: its pieces, whether they are flags or not. The empty key stands for itself.
 unfoldable pub flag_keys : List ℕ → List (List ℕ)
 flag_keys [] = [] ∷ []
-flag_keys (b ∷ rest) = filter is_filled (pieces (b ∷ rest))
+flag_keys (b ∷ rest) = filled_pieces (b ∷ rest)
 
 unfoldable pub flag_keys_of_texts : List (List ℕ) → List (List ℕ)
 flag_keys_of_texts keys = flat_map flag_keys keys

@@ -2,5 +2,6 @@ pub mod Comparator
 pub mod Flags
 pub mod Order
 pub mod Relation
+pub mod Room
 pub mod Wildcard
 pub mod view

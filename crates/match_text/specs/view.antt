@@ -2,4 +2,5 @@
 pub mod Digits
 pub mod Hashing
 pub mod Pieces
+pub mod Room
 pub mod Segment

@@ -10,12 +10,14 @@ ghost use Rattle.match_text.specs.Comparator.{IsPart, Same, ascii_casemap, is_pa
 ghost use Rattle.match_text.specs.Flags.{AreDistinct, distinct, flag_list, flag_union, flags_in, flags_of_texts, flags_without, is_flag};
 ghost use Rattle.match_text.specs.Order.{are_equal, first_digits, number_of, order_of};
 ghost use Rattle.match_text.specs.Relation.{is_word_of, relation_named, relation_word, stands_in};
-ghost use Rattle.match_text.specs.Wildcard.{Fits, IsLeastFit, TakeInTurn, least_fit, taken};
+ghost use Rattle.match_text.specs.Room.{may_match};
+ghost use Rattle.match_text.specs.Wildcard.{Fits, IsLeastFit, TakeInTurn, least_fit, matched, taken};
 ghost use Rattle.match_text.specs.declared.comparators.Collation.{Collation};
 ghost use Rattle.match_text.specs.declared.comparators.Collation.TheVariants.{Casemap, Numeric, Octet};
 ghost use Rattle.match_text.specs.declared.pattern.Item.{Item};
 ghost use Rattle.match_text.specs.declared.relation.Relation.{Relation};
 ghost use Rattle.match_text.specs.declared.relation.Relation.TheVariants.{Eq, Ge, Gt, Le, Lt, Ne};
+ghost use Rattle.match_text.specs.declared.room.KeyKind.TheVariants.{Part, Pattern, Whole};
 
 /// Whether two texts are the same, and whether one is part of the other, is told exactly (`:is` and `:contains` of RFC 5228,
 /// section 2.7.1). No octets at all are part of every value, the empty one too.
@@ -129,4 +131,12 @@ pub fn texts_are_changed_in_turn()
 pub fn flags_are_taken_out_in_turn()
     ensures none { (flags : List (List ℕ)) → flags_without flags [] ≡ flags }
     ensures more { (flags others : List (List ℕ)) (flag : List ℕ) → flags_without flags (flag ∷ others) ≡ flags_without (flags_without flags (flag ∷ [])) others }
+{}
+
+/// A value that matches a key has the octets that the key needs (RFC 5228, section 2.7.1): under `:is` as many as the key has, under
+/// `:contains` no fewer, and under `:matches` one for each item of the pattern that takes one.
+pub fn keys_need_octets()
+    ensures is { (fold : ℕ → ℕ) (value key : List ℕ) → same fold value key ≡ true → may_match Whole (length value) key ≡ true }
+    ensures contains { (fold : ℕ → ℕ) (value key : List ℕ) → is_part fold value key ≡ true → may_match Part (length value) key ≡ true }
+    ensures matches { (fold : ℕ → ℕ) (value key : List ℕ) → IsSome (matched fold value key) → may_match Pattern (length value) key ≡ true }
 {}

@@ -1,7 +1,7 @@
 //! Flags to look for (RFC 5232, section 4).
 ghost use Rattle.sieve_base.specs.Octet.{is_filled};
-ghost use Rattle.std.specs.Prelude.{◌≡◌, ◌++◌, ◌∷◌, [], IfOk, OnOk, filter};
-ghost use Rattle.match_text.specs.Flags.{flag_keys, flag_keys_of_texts};
+ghost use Rattle.std.specs.Prelude.{◌≡◌, ◌++◌, ◌∷◌, ◌<◌, [], IfNone, IfOk, IfSome, OnOk, filter, length};
+ghost use Rattle.match_text.specs.Flags.{filled_pieces, flag_keys, flag_keys_of_texts, pieces};
 ghost use Rattle.sieve_base.specs.view.Texts.{octets_of_each};
 
 use crate::flag_spelling::next_piece;
@@ -31,6 +31,43 @@ pub fn flag_keys_of_texts<'a>(
         push_keys(&mut found, key.as_slice())?;
     }
     Ok(found)
+}
+
+/// The first piece of a key of a test that has octets, and what stands behind it: what a key that isn't empty stands for, one after
+/// another (RFC 5232, section 4). Takes no memory.
+pub fn next_key(key: &[u8]) -> Option<(&[u8], &[u8])>
+    ensures some { IfSome result (λ found. filled_pieces key.now ≡ found.0.now ∷ filled_pieces found.1.now) }
+    ensures shorter { IfSome result (λ found. length found.1.now < length key.now) }
+    ensures none { IfNone result (filled_pieces key.now ≡ []) }
+{
+    let mut rest = key;
+    'pieces: loop {
+        let (piece, behind) = next_piece(rest);
+        match behind {
+            Some(behind) => {
+                if piece.is_empty() {
+                    rest = behind;
+                } else {
+                    return Some((piece, behind));
+                }
+            }
+            None => return last_key(piece),
+        }
+    }
+}
+
+// The piece that a text without a space is, if it has octets, and nothing behind it.
+fn last_key(piece: &[u8]) -> Option<(&[u8], &[u8])>
+    requires { pieces piece.now ≡ piece.now ∷ [] }
+    ensures some { IfSome result (λ found. filled_pieces piece.now ≡ found.0.now ∷ filled_pieces found.1.now) }
+    ensures shorter { IfSome result (λ found. length found.1.now < length piece.now) }
+    ensures none { IfNone result (filled_pieces piece.now ≡ []) }
+{
+    if piece.is_empty() {
+        None
+    } else {
+        Some((piece, &[]))
+    }
 }
 
 // Adds what a key stands for.

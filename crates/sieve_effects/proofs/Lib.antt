@@ -2,7 +2,9 @@ pub mod InTheWay
 pub mod Copying
 pub mod Holding
 pub mod Joining
+pub mod Keyed
 pub mod Known
+pub mod NameFronts
 mod Counted
 mod Named
 mod NamesInTurn

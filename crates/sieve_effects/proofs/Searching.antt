@@ -19,7 +19,7 @@ use Rattle.sieve_effects.specs.Delivery.{Delivery, envelope_of}
 use Rattle.match_text.specs.Flags.{flag_keys_of_texts, flag_list}
 use Rattle.sieve_effects.specs.State.{RunState}
 use Rattle.sieve_effects.specs.Matching.{compared_of, envelope_named, envelope_text, first_match, first_some, match_found, match_of, pairs_with, address_parts, decoded_named, parts_named, parts_of_envelope, parts_of_value, values_named, values_of, keys_from, keys_of}
-use Rattle.sieve_effects.specs.view.FieldTests.{cuts_keys, field_found, field_source, name_found, part_found, path_found, path_name_found, value_found}
+use Rattle.sieve_effects.specs.view.FieldTests.{cut_key, cuts_keys, field_found, field_source, name_found, part_found, path_found, path_name_found, value_found}
 
 -- a function of what is made of an element in two steps
 pub get-mapped-twice : {W X Y Z : Type 0} (g : W → X) (h : X → Y) (k : Y → Z) (ws : List W) (i : ℕ) (y : Y) → slice_get (map h (map g ws)) i ≡ Some y → slice_get (map (λ w. k (h (g w))) ws) i ≡ Some (k y)
@@ -142,7 +142,7 @@ answers_so answer x y same is = subst (λ b. IfOk answer (λ found. found ≡ b)
 
 -- IN TURN
 
-or_in_turn : {Y : Type 0} (a b c : Option Y) → option_or (option_or a b) c ≡ option_or a (option_or b c)
+pub or_in_turn : {Y : Type 0} (a b c : Option Y) → option_or (option_or a b) c ≡ option_or a (option_or b c)
 or_in_turn None b c = refl
 or_in_turn (Some y) b c = refl
 
@@ -154,15 +154,15 @@ pub first_flat : {X Y Z : Type 0} (f : Y → Option Z) (g : X → List Y) (xs : 
 first_flat f g [] = refl
 first_flat f g (x ∷ xs) = first_append f (g x) (flat_map g xs) ∙ ap (option_or (first_some f (g x))) (first_flat f g xs)
 
-first_map : {X Y Z : Type 0} (f : Y → Option Z) (g : X → Y) (xs : List X) → first_some f (map g xs) ≡ first_some (λ x. f (g x)) xs
+pub first_map : {X Y Z : Type 0} (f : Y → Option Z) (g : X → Y) (xs : List X) → first_some f (map g xs) ≡ first_some (λ x. f (g x)) xs
 first_map f g [] = refl
 first_map f g (x ∷ xs) = ap (option_or (f (g x))) (first_map f g xs)
 
-first_same : {X Y : Type 0} (f g : X → Option Y) → ((x : X) → f x ≡ g x) → (xs : List X) → first_some f xs ≡ first_some g xs
+pub first_same : {X Y : Type 0} (f g : X → Option Y) → ((x : X) → f x ≡ g x) → (xs : List X) → first_some f xs ≡ first_some g xs
 first_same f g same [] = refl
 first_same f g same (x ∷ xs) = ap (λ o. option_or o (first_some f xs)) (same x) ∙ ap (option_or (g x)) (first_same f g same xs)
 
-or_none : {Y : Type 0} (o : Option Y) → option_or o None ≡ o
+pub or_none : {Y : Type 0} (o : Option Y) → option_or o None ≡ o
 or_none None = refl
 or_none (Some y) = refl
 
@@ -241,23 +241,24 @@ module _ (comparison : Comparison) (delivery : Delivery) (state : RunState) wher
       ap (λ ks. first_some (λ value. first_match comparison (pairs_with ks value)) (compared_of comparison.match_type delivery state source)) is
       ∙ sym (first_flat (λ pair. match_of comparison pair.value pair.key) (pairs_with (keys_of state source keys)) (compared_of comparison.match_type delivery state source))
 
--- the keys of a test are the pieces of their texts where its source cuts keys at spaces, and else the whole texts
-pub cut_keys : (source : ValueSource) (texts : List (List ℕ)) → cuts_keys source ≡ true → flag_keys_of_texts texts ≡ keys_from source texts
-cut_keys (header_values names) texts cut = absurd (not_both cut)
-cut_keys (address_values part names) texts cut = absurd (not_both cut)
-cut_keys (envelope_values part names) texts cut = absurd (not_both cut)
-cut_keys (string_values strings) texts cut = absurd (not_both cut)
-cut_keys (flag_values variables) texts cut = refl
-cut_keys (date_values zone field part) texts cut = absurd (not_both cut)
-cut_keys (clock_values zone part) texts cut = absurd (not_both cut)
-cut_keys (body_values transform) texts cut = absurd (not_both cut)
+each_alone : (texts : List (List ℕ)) → flat_map (cut_key false) texts ≡ texts
+each_alone [] = refl
+each_alone (text ∷ texts) = ap (λ l. text ∷ l) (each_alone texts)
 
-pub whole_keys : (source : ValueSource) (texts : List (List ℕ)) → cuts_keys source ≡ false → texts ≡ keys_from source texts
-whole_keys (header_values names) texts whole = refl
-whole_keys (address_values part names) texts whole = refl
-whole_keys (envelope_values part names) texts whole = refl
-whole_keys (string_values strings) texts whole = refl
-whole_keys (flag_values variables) texts whole = absurd (not_both (sym whole))
-whole_keys (date_values zone field part) texts whole = refl
-whole_keys (clock_values zone part) texts whole = refl
-whole_keys (body_values transform) texts whole = refl
+each_cut : (texts : List (List ℕ)) → flat_map (cut_key true) texts ≡ flag_keys_of_texts texts
+unfolding flag_keys_of_texts
+each_cut texts = refl
+
+-- the keys of a test are the pieces of their texts where its source cuts keys at spaces, and else the whole texts
+pub cut_as_source : (source : ValueSource) (texts : List (List ℕ)) (cut : Bool) → cut ≡ cuts_keys source → flat_map (cut_key cut) texts ≡ keys_from source texts
+cut_as_source source texts cut is = ap (λ b. flat_map (cut_key b) texts) is ∙ by source
+  where
+    by : (s : ValueSource) → flat_map (cut_key (cuts_keys s)) texts ≡ keys_from s texts
+    by (header_values names) = each_alone texts
+    by (address_values part names) = each_alone texts
+    by (envelope_values part names) = each_alone texts
+    by (string_values strings) = each_alone texts
+    by (flag_values variables) = each_cut texts
+    by (date_values zone field part) = each_alone texts
+    by (clock_values zone part) = each_alone texts
+    by (body_values transform) = each_alone texts

@@ -5,6 +5,7 @@ pub mod Delivery
 pub mod FieldNames
 pub mod FieldReads
 pub mod FieldTests
+pub mod FlagTests
 pub mod Flow
 pub mod Ops
 pub mod State

@@ -172,7 +172,7 @@ fn is_mailbox(name: &[u8]) -> bool
     !name.is_empty() && name.len() <= MAX_MAILBOX && has_no_control(name)
 }
 
-/// The mailbox that a string names, where it is one.
+/// The mailbox that a string names, where it is one. Of a string that is longer than a name may be no more is put together than tells so.
 fn mailbox_named(
     delivery: &Delivery<'_>,
     values: &Values,
@@ -180,7 +180,7 @@ fn mailbox_named(
 ) -> Result<Option<Octets>, AllocError>
     ensures { IfOk result (λ name. name ≡ mailbox_named values.now mailbox.now) }
 {
-    let name = values.expanded_string(delivery.alloc, mailbox)?;
+    let name = values.expanded_front(delivery.alloc, mailbox, MAX_MAILBOX + 1)?;
     if is_mailbox(name.as_slice()) {
         Ok(Some(Octets::copied(delivery.alloc, name.as_slice())?))
     } else {
@@ -310,8 +310,8 @@ fn value_of(
 ) -> Result<Octets, AllocError>
     ensures { IfOk result (λ octets. octets ≡ modified modifiers (text_value values.now value.now)) }
 {
-    let text = values.expanded_string(delivery.alloc, value)?;
-    Ok(Octets::from_vec(modifiers.modified(delivery.alloc, text.as_slice())?))
+    let octets = values.modified_string(delivery.alloc, modifiers, value)?;
+    Ok(Octets::from_vec(octets))
 }
 
 /// Gives a variable a value, where there is room for it (RFC 5229, sections 4 and 6).

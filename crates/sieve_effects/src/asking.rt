@@ -1,12 +1,11 @@
 //! What tests ask of a delivery, and what they find (RFC 5228, sections 2.7 and 5).
-ghost use Rattle.std.specs.Prelude.{◌≡◌, IfOk, decimal, is_some, length, map, nat_lt};
+ghost use Rattle.std.specs.Prelude.{◌≡◌, IfOk, decimal, is_some, length, nat_lt};
 ghost use Rattle.sieve_reading.specs.Reading.{compares, exists_ask};
-ghost use Rattle.sieve_effects.specs.Matching.{behind_test, compared_of, counted_of, first_match, first_some, match_found, pairs_with, sets_matched, truth_of, values_of, with_found_in};
+ghost use Rattle.sieve_effects.specs.Matching.{behind_test, compared_of, counted_of, first_some, match_found, sets_matched, truth_of, values_of, with_found_in};
 ghost use Rattle.sieve_effects.specs.view.Delivery.{delivery_as};
-ghost use Rattle.sieve_effects.specs.view.FieldTests.{cuts_keys, found_with, key_texts};
+ghost use Rattle.sieve_effects.specs.view.FieldTests.{cuts_keys, found_with};
 ghost use Rattle.sieve_effects.specs.view.Ops.{source_op_as};
 ghost use Rattle.sieve_effects.specs.view.State.{state_of};
-ghost use Rattle.sieve_variables.specs.Value.{text_value};
 
 use crate::body_values::find_in_body;
 use crate::counting::count_in_source;
@@ -16,14 +15,13 @@ use crate::field_names::FieldNames;
 use crate::field_reads::FieldReads;
 use crate::field_values::{find_in_named, has_fields};
 use crate::flag_values::find_in_held;
-use crate::matcher::{Keys, MatchValues, Matcher, keep_found};
+use crate::matcher::{MatchValues, Matcher, keep_found};
 use crate::ops::SourceOp;
 use crate::path_values::find_in_paths;
 use crate::state::State;
 use crate::string_values::find_in_strings;
 use crate::strings::Strings;
 use itoa::Buffer;
-use match_text::flag_keys_of_texts;
 use sieve_reading::{Comparison, MatchType};
 use std::alloc::AllocError;
 
@@ -81,24 +79,22 @@ fn find_by_count(
     matcher.first_match(delivery.alloc, digits.as_bytes())
 }
 
-/// What the first gives that matches one of these keys: of the values of a source, or their number under `:count`.
+/// What the first gives that matches some key: of the values of a source, or their number under `:count`.
 fn find_keyed(
     delivery: &Delivery<'_>,
     fields: &mut FieldReads<'_>,
     state: &State,
     source: &SourceOp<'_>,
-    comparison: Comparison,
-    keys: Keys<'_>,
+    matcher: &Matcher<'_>,
 ) -> Result<Option<MatchValues>, AllocError>
     requires { fields.old ≡ (delivery_as delivery.now).arrival }
     ensures arrival { fields.new ≡ fields.old }
-    ensures found { IfOk result (λ found. found ≡ first_some (λ value. first_match comparison (pairs_with (key_texts keys.entry) value)) (compared_of comparison.match_type (delivery_as delivery.now) (state_of state.now) (source_op_as source.now))) }
+    ensures found { IfOk result (λ found. found ≡ first_some (found_with matcher.now) (compared_of matcher.now.comparison.match_type (delivery_as delivery.now) (state_of state.now) (source_op_as source.now))) }
 {
-    let matcher = Matcher { comparison, keys };
-    match comparison.match_type {
-        MatchType::Count(_) => find_by_count(delivery, fields, state, source, &matcher),
+    match matcher.comparison.match_type {
+        MatchType::Count(_) => find_by_count(delivery, fields, state, source, matcher),
         MatchType::Is | MatchType::Contains | MatchType::Matches | MatchType::Value(_) => {
-            find_in_source(delivery, fields, state, source, &matcher)
+            find_in_source(delivery, fields, state, source, matcher)
         }
     }
 }
@@ -119,41 +115,6 @@ fn cuts_keys(source: &SourceOp<'_>) -> bool
     }
 }
 
-/// Whether each of these strings is borrowed where it is expanded.
-fn are_borrowed(strings: &Strings<'_>) -> bool {
-    for i in 0..strings.len() {
-        if strings.get(i).len() != 1 {
-            return false;
-        }
-    }
-    true
-}
-
-/// What the first gives that matches one of these keys: of the values of a source, or their number under `:count`. Keys that have to be made are made first, since each value is
-/// compared with each.
-fn find_whole(
-    delivery: &Delivery<'_>,
-    fields: &mut FieldReads<'_>,
-    state: &State,
-    source: &SourceOp<'_>,
-    comparison: Comparison,
-    keys: &Strings<'_>,
-) -> Result<Option<MatchValues>, AllocError>
-    requires { fields.old ≡ (delivery_as delivery.now).arrival }
-    ensures arrival { fields.new ≡ fields.old }
-    ensures found { IfOk result (λ found. found ≡ first_some (λ value. first_match comparison (pairs_with (map (text_value (state_of state.now).values) keys.now) value)) (compared_of comparison.match_type (delivery_as delivery.now) (state_of state.now) (source_op_as source.now))) }
-{
-    let values = &state.values;
-    if are_borrowed(keys) {
-        let strings = keys;
-        let whole = Keys::Strings { values, strings };
-        return find_keyed(delivery, fields, state, source, comparison, whole);
-    }
-    let texts = keys.expanded(delivery.alloc, values)?;
-    let whole = Keys::Texts(&texts);
-    find_keyed(delivery, fields, state, source, comparison, whole)
-}
-
 /// What a test finds that compares values with keys.
 fn find_match(
     delivery: &Delivery<'_>,
@@ -167,13 +128,13 @@ fn find_match(
     ensures arrival { fields.new ≡ fields.old }
     ensures found { IfOk result (λ found. found ≡ match_found (delivery_as delivery.now) (state_of state.now) (source_op_as source.now) comparison keys.now) }
 {
-    if !cuts_keys(source) {
-        return find_whole(delivery, fields, state, source, comparison, keys);
-    }
-    let texts = keys.expanded(delivery.alloc, &state.values)?;
-    let cut = flag_keys_of_texts(delivery.alloc, &texts)?;
-    let keys = Keys::Texts(&cut);
-    find_keyed(delivery, fields, state, source, comparison, keys)
+    let matcher = Matcher {
+        comparison,
+        values: &state.values,
+        keys,
+        are_cut: cuts_keys(source),
+    };
+    find_keyed(delivery, fields, state, source, &matcher)
 }
 
 /// Whether what a test finds sets match variables, which that of a body doesn't (RFC 5173, section 6).

@@ -1,26 +1,27 @@
 //! How a test compares a value with keys (RFC 5228, section 2.7.1).
-ghost use Rattle.std.specs.Prelude.{◌≡◌, [], IfOk, None, Some, is_some, map, if◌then◌else◌};
+ghost use Rattle.std.specs.Prelude.{◌≡◌, ◌<◌, ℕ, List, [], IfOk, IfSome, None, Some, false, is_some, length, map, slice_get, if◌then◌else◌};
+ghost use Rattle.match_text.specs.Flags.{flag_keys};
 ghost use Rattle.match_text.specs.Order.{order_of};
 ghost use Rattle.match_text.specs.Relation.{stands_in};
+ghost use Rattle.match_text.specs.Room.{may_match};
 ghost use Rattle.match_text.specs.Wildcard.{matched};
 ghost use Rattle.sieve_effects.specs.Matching.{match_of, with_found};
-ghost use Rattle.sieve_base.specs.view.Texts.{octets_of_each};
 ghost use Rattle.sieve_effects.specs.Matching.{first_match, pairs_with};
-ghost use Rattle.sieve_effects.specs.view.FieldTests.{found_with};
+ghost use Rattle.sieve_effects.specs.view.FieldTests.{found_with, key_found};
 ghost use Rattle.sieve_effects.specs.view.State.{state_of};
 ghost use Rattle.sieve_variables.specs.Value.{text_value};
 
 use crate::state::State;
 use crate::strings::Strings;
+use match_text::laws::keys_need_octets;
 use match_text::{
-    AsciiCasemap, Captures, Collation, Comparator, Octet, Relation, contains, contains_in, equals,
-    matches, stands,
+    AsciiCasemap, Captures, Collation, Comparator, KeyKind, Octet, Relation, Room, contains,
+    contains_in, equals, matches, next_key, stands,
 };
 use sieve_base::Octets;
 use sieve_reading::{Comparison, MatchType};
-use sieve_variables::Values;
+use sieve_variables::{Part, Values};
 use std::alloc::{AllocError, Global};
-use std::borrow::CowSlice;
 use std::marker::Model;
 
 /// What a value that matches a key gives to `${0}`, `${1}` and so on (RFC 5229, section 3.2): under `:matches` the value and what each
@@ -121,28 +122,30 @@ fn wildcard_match<C: Comparator>(
     }
 }
 
-/// The keys of a test.
-#[derive(Clone, Copy)]
-pub(crate) enum Keys<'a> {
-    /// Strings, each of which is expanded when its turn comes.
-    Strings {
-        values: &'a Values,
-        strings: &'a Strings<'a>,
-    },
-    /// Texts.
-    Texts(&'a [CowSlice<'a, u8>]),
-}
-
-/// How a test compares a value with keys, and these.
+/// How a test compares a value with keys, and these: strings, each of which is made where it is compared.
 #[derive(Clone, Copy)]
 pub(crate) struct Matcher<'a> {
     pub(crate) comparison: Comparison,
-    pub(crate) keys: Keys<'a>,
+    pub(crate) values: &'a Values,
+    pub(crate) keys: &'a Strings<'a>,
+    /// Whether the keys are cut at spaces (RFC 5232, section 4).
+    pub(crate) are_cut: bool,
+}
+
+/// Whether a value of so many octets can match the key that a string gives. Takes no memory.
+fn may_match(values: &Values, kind: KeyKind, size: usize, parts: &[Part]) -> bool
+    ensures { result ≡ may_match kind size (text_value values.now parts.now) }
+{
+    let mut room = Room::new(kind, size);
+    for part in parts {
+        room = room.behind(values.part(part));
+    }
+    room.is_enough()
 }
 
 impl Matcher<'_> {
     /// What a value gives that matches a key.
-    fn match_of(
+    pub(crate) fn match_of(
         &self,
         alloc: Global,
         value: &[u8],
@@ -174,41 +177,92 @@ impl Matcher<'_> {
         }
     }
 
-    /// What a value gives by the first of these texts that it matches.
-    fn first_of_texts(
+    /// What a key is to a value that matches it, where that tells how many octets the value has.
+    fn key_kind(&self) -> Option<KeyKind>
+        ensures { IfSome result (λ kind. (value key : List ℕ) → may_match kind (length value) key ≡ false → match_of self.now.comparison value key ≡ None) }
+    {
+        keys_need_octets();
+        match (self.comparison.match_type, self.comparison.collation) {
+            (MatchType::Is, Collation::Octet) => Some(KeyKind::Whole),
+            (MatchType::Is, Collation::Casemap) => Some(KeyKind::Whole),
+            (MatchType::Is, Collation::Numeric) => None,
+            (MatchType::Contains, _) => Some(KeyKind::Part),
+            (MatchType::Matches, _) => Some(KeyKind::Pattern),
+            (MatchType::Value(_), _) => None,
+            (MatchType::Count(_), _) => None,
+        }
+    }
+
+    /// Whether a value has to be compared with the key that a string gives. One of a single part costs nothing to make.
+    fn can_match(&self, value: &[u8], parts: &[Part]) -> bool
+        ensures { result ≡ false → match_of self.now.comparison value.now (text_value self.now.values.now parts.now) ≡ None }
+    {
+        if parts.len() < 2 {
+            return true;
+        }
+        match self.key_kind() {
+            Some(kind) => may_match(self.values, kind, value.len(), parts),
+            None => true,
+        }
+    }
+
+    /// What a value gives that matches the key of string `i`, which isn't cut. It is made only where the value can match it.
+    fn match_whole(
         &self,
         alloc: Global,
-        texts: &[CowSlice<'_, u8>],
         value: &[u8],
+        i: usize,
+        buffer: &mut Vec<u8>,
     ) -> Result<Option<MatchValues>, AllocError>
-        ensures { IfOk result (λ found. found ≡ first_match self.now.comparison (pairs_with (octets_of_each texts.now) value.now)) }
+        requires { i < length self.now.keys.now }
+        ensures { IfOk result (λ found. slice_get (map (λ key. match_of self.now.comparison value.now (text_value self.now.values.now key)) self.now.keys.now) i ≡ Some found) }
     {
-        for key in texts {
-            if let Some(found) = self.match_of(alloc, value, key.as_slice())? {
+        let parts = self.keys.get(i);
+        if !self.can_match(value, parts) {
+            return Ok(None);
+        }
+        let key = self.values.expanded_in(parts, buffer)?;
+        self.match_of(alloc, value, key)
+    }
+
+    /// What a value gives that matches a piece of a key.
+    fn match_pieces(
+        &self,
+        alloc: Global,
+        value: &[u8],
+        key: &[u8],
+    ) -> Result<Option<MatchValues>, AllocError>
+        ensures { IfOk result (λ found. found ≡ first_match self.now.comparison (pairs_with (flag_keys key.now) value.now)) }
+    {
+        if key.is_empty() {
+            return self.match_of(alloc, value, key);
+        }
+        let mut left = key;
+        while let Some((piece, behind)) = next_key(left) {
+            if let Some(found) = self.match_of(alloc, value, piece)? {
                 return Ok(Some(found));
             }
+            left = behind;
         }
         Ok(None)
     }
 
-    /// What a value gives by the first of these strings that it matches.
-    fn first_of_strings(
+    /// What a value gives that matches the key of string `i`, or a piece of it where keys are cut.
+    fn match_at(
         &self,
         alloc: Global,
-        values: &Values,
-        strings: &Strings<'_>,
         value: &[u8],
+        i: usize,
+        buffer: &mut Vec<u8>,
     ) -> Result<Option<MatchValues>, AllocError>
-        ensures { IfOk result (λ found. found ≡ first_match self.now.comparison (pairs_with (map (text_value values.now) strings.now) value.now)) }
+        requires { i < length self.now.keys.now }
+        ensures { IfOk result (λ found. slice_get (map (key_found self.now value.now) self.now.keys.now) i ≡ Some found) }
     {
-        let mut buffer = Vec::new(alloc);
-        for i in 0..strings.len() {
-            let key = strings.text_in(i, values, &mut buffer)?;
-            if let Some(found) = self.match_of(alloc, value, key)? {
-                return Ok(Some(found));
-            }
+        if !self.are_cut {
+            return self.match_whole(alloc, value, i, buffer);
         }
-        Ok(None)
+        let key = self.values.expanded_in(self.keys.get(i), buffer)?;
+        self.match_pieces(alloc, value, key)
     }
 
     /// What a value gives by the first key that it matches.
@@ -219,11 +273,12 @@ impl Matcher<'_> {
     ) -> Result<Option<MatchValues>, AllocError>
         ensures { IfOk result (λ found. found ≡ found_with self.now value.now) }
     {
-        match self.keys {
-            Keys::Strings { values, strings } => {
-                self.first_of_strings(alloc, values, strings, value)
+        let mut buffer = Vec::new(alloc);
+        for i in 0..self.keys.len() {
+            if let Some(found) = self.match_at(alloc, value, i, &mut buffer)? {
+                return Ok(Some(found));
             }
-            Keys::Texts(texts) => self.first_of_texts(alloc, texts, value),
         }
+        Ok(None)
     }
 }

@@ -1,4 +1,5 @@
 pub mod Cut
+pub mod Fronts
 pub mod Held
 pub mod Modified
 pub mod NameSet

@@ -1,10 +1,13 @@
 //! What strings stand for while a script runs (RFC 5229, section 3).
-ghost use Rattle.std.specs.Prelude.{◌≡◌, [], length, IfOk, IsOk, IsOkAnd, OnOk};
+ghost use Rattle.std.specs.Prelude.{◌≡◌, [], length, take, IfOk, IsOk, IsOkAnd, OnOk};
 ghost use Rattle.std.specs.Cow.{IsBorrowedSlice, cow_slice_items};
+ghost use Rattle.sieve_variables.specs.Modifier.{modified};
 ghost use Rattle.sieve_variables.specs.Value.{text_value};
 
+use crate::modifier::{Modifiers, front};
 use crate::part::Part;
 use crate::values::Values;
+use sieve_base::limits::MAX_VALUE;
 use std::alloc::{AllocError, Global};
 use std::borrow::CowSlice;
 
@@ -76,5 +79,61 @@ impl Values {
         }
         self.join(parts, buffer)?;
         Ok(buffer.as_slice())
+    }
+
+    /// The first octets that the parts of a string stand for, at most so many, put together.
+    fn joined_front(
+        &self,
+        alloc: Global,
+        parts: &[Part],
+        limit: usize,
+    ) -> Result<Vec<u8>, AllocError>
+        ensures { IfOk result (λ octets. octets.items ≡ take limit (text_value self.now parts.now)) }
+    {
+        let mut front_octets = Vec::new(alloc);
+        for part in parts {
+            let left = limit - front_octets.len();
+            front_octets.extend_from_slice(front(self.part(part), left))?;
+        }
+        Ok(front_octets)
+    }
+
+    /// The first octets that a string stands for, at most so many. Those of one part are borrowed. Neither they nor those of no part
+    /// take memory, and those of several parts take it for these octets alone.
+    pub fn expanded_front<'a>(
+        &'a self,
+        alloc: Global,
+        parts: &'a [Part],
+        limit: usize,
+    ) -> Result<CowSlice<'a, u8>, AllocError>
+        ensures octets { IfOk result (λ octets. cow_slice_items octets ≡ take limit (text_value self.now parts.now)) }
+        ensures one_part { length parts.now ≡ 1 → IsOkAnd result IsBorrowedSlice }
+        ensures no_part { parts.now ≡ [] → IsOk result }
+    {
+        match parts {
+            [] => Ok(CowSlice::Borrowed(&[])),
+            [part] => Ok(CowSlice::Borrowed(front(self.part(part), limit))),
+            _ => Ok(CowSlice::Owned(self.joined_front(alloc, parts, limit)?)),
+        }
+    }
+
+    /// What becomes of the octets that a string stands for where they are set with these modifiers (RFC 5229, section 4.1), as
+    /// [`Modifiers::modified`] says. Without `:length` only the first 4,096 of them are put together, since the others are cut (section
+    /// 6).
+    #[tactic(auto, using(crate::proofs::Fronts::modified_front))]
+    pub fn modified_string(
+        &self,
+        alloc: Global,
+        modifiers: Modifiers,
+        parts: &[Part],
+    ) -> Result<Vec<u8>, AllocError>
+        ensures { IfOk result (λ octets. octets.items ≡ modified modifiers (text_value self.now parts.now)) }
+    {
+        if modifiers.length {
+            let whole = self.expanded_string(alloc, parts)?;
+            return modifiers.modified(alloc, whole.as_slice());
+        }
+        let text = self.expanded_front(alloc, parts, MAX_VALUE)?;
+        modifiers.modified(alloc, text.as_slice())
     }
 }

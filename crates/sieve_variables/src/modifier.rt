@@ -132,12 +132,12 @@ fn digits(alloc: Global, number: usize) -> Result<Vec<u8>, AllocError>
     Ok(octets)
 }
 
-/// A value without what is too long in it (RFC 5229, section 6).
-fn front(value: &[u8]) -> &[u8]
-    ensures { result.now ≡ take value_limit value.now }
+/// The first octets of a value, at most so many.
+pub(crate) fn front(value: &[u8], limit: usize) -> &[u8]
+    ensures { result.now ≡ take limit value.now }
 {
-    if value.len() > MAX_VALUE {
-        &value[..MAX_VALUE]
+    if value.len() > limit {
+        &value[..limit]
     } else {
         value
     }
@@ -176,7 +176,7 @@ impl Modifiers {
         if self.length {
             return digits(alloc, self.character_count(value));
         }
-        let cased = self.cased(alloc, front(value))?;
+        let cased = self.cased(alloc, front(value, MAX_VALUE))?;
         if !self.quote_wildcard {
             return Ok(cased);
         }

@@ -11,6 +11,7 @@ mod mails;
 mod messages;
 mod orders;
 mod print;
+mod rooms;
 mod scripts;
 mod sequences;
 mod spellings;

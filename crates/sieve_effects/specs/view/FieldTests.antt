@@ -1,6 +1,8 @@
 -- What tests find in one value, one field, one name and one entity.
-use Rattle.std.specs.Prelude.{ℕ, Bool, true, false, List, map, Option, None, Some, if◌then◌else◌}
+use Rattle.std.specs.Prelude.{ℕ, Bool, true, false, List, [], ◌∷◌, map, Option, None, Some, if◌then◌else◌}
+use Rattle.std.specs.List.{flat_map}
 use Rattle.std.specs.Option.{option_and_then}
+use Rattle.match_text.specs.Flags.{flag_keys}
 use Rattle.encoded_words.specs.Scan.{decoded_of}
 use Rattle.sieve_profile.specs.Profile.{Profile}
 use Rattle.message_text.specs.Addresses.{AddrSpec, addresses_of, part_of_address, part_of_path}
@@ -11,22 +13,26 @@ use Rattle.mime_text.specs.Values.{texts_if_named}
 use Rattle.sieve_reading.specs.Reading.{ValueSource, address_values, body_values, clock_values, date_values, envelope_values, flag_values, header_values, string_values}
 use Rattle.sieve_variables.specs.Part.{Part}
 use Rattle.sieve_variables.specs.Value.{text_value}
-use Rattle.sieve_base.specs.view.Texts.{octets_of_each}
 use Rattle.sieve_table.specs.Address.{is_address_field}
 use Rattle.sieve_effects.specs.Matching.{envelope_text, first_match, first_some, pairs_with}
 use Rattle.sieve_effects.specs.declared.matcher.Matcher.{Matcher}
-use Rattle.sieve_effects.specs.declared.matcher.Keys.{Keys}
-use Rattle.sieve_effects.specs.declared.matcher.Keys.TheVariants.{Strings, Texts}
 use Rattle.sieve_effects.specs.declared.envelope.Envelope.{Envelope}
 
--- the keys that a value is compared with
-abbrev pub key_texts : Keys → List (List ℕ)
-key_texts (Strings values strings) = map (text_value values.now) strings.now
-key_texts (Texts texts) = octets_of_each texts.now
+-- what a key stands for: itself, or its pieces where keys are cut at spaces
+abbrev pub cut_key : (cut : Bool) → List ℕ → List (List ℕ)
+cut_key true text = flag_keys text
+cut_key false text = text ∷ []
 
--- what the first key gives that a value matches
+-- the keys that a value is compared with
+abbrev pub key_texts : Matcher → List (List ℕ)
+key_texts matcher = flat_map (cut_key matcher.are_cut) (map (text_value matcher.values.now) matcher.keys.now)
+
+-- what a key gives that a value matches, and what the first key gives
+abbrev pub key_found : Matcher → List ℕ → List Part → Option (List (List ℕ))
+key_found matcher value key = first_match matcher.comparison (pairs_with (cut_key matcher.are_cut (text_value matcher.values.now key)) value)
+
 abbrev pub found_with : Matcher → List ℕ → Option (List (List ℕ))
-found_with matcher value = first_match matcher.comparison (pairs_with (key_texts matcher.keys) value)
+found_with matcher value = first_match matcher.comparison (pairs_with (key_texts matcher) value)
 
 -- where values are taken from: the values of fields, or a part of the addresses in them
 abbrev pub field_source : Option AddressPart → List (List Part) → ValueSource

@@ -1,14 +1,15 @@
-use Rattle.std.proofs.Common.{Some, sym, ap, ◌∙◌}
-use Rattle.sieve_effects.specs.view.FieldTests.{found_with}
-use Rattle.sieve_effects.proofs.Searching.{first_after, first_at, get_map}
+use Rattle.std.proofs.Common.{◌∙◌, ap, arith, sym}
+use Rattle.sieve_variables.specs.Value.{text_value}
+use Rattle.sieve_effects.specs.view.FieldTests.{cut_key}
+use Rattle.sieve_effects.specs.view.FlagTests.{best_of}
+use Rattle.sieve_effects.proofs.Keyed.{best_at_end, no_more_keys}
 use Rattle.sieve_effects.proofs.flag_values.find_in_each.Goals as goal
 
-pub returns-in-Some : goal.returns-in-Some
-returns-in-Some c =
-    let find = found_with c.args.matcher.now in
-    first_at find c.args.flags.now c.loop-i.i _ _ c.loop-i.invariant (get_map find c.args.flags.now c.loop-i.i c.get.result.now c.get.ensures ∙ ap Some (sym c.in_ok-values.ensures ∙ c.in-Some.is))
-
-pub loop-i-preserved : goal.loop-i-preserved
-loop-i-preserved c =
-    let find = found_with c.args.matcher.now in
-    first_after find c.args.flags.now c.loop-i.i _ c.loop-i.invariant (get_map find c.args.flags.now c.loop-i.i c.get.result.now c.get.ensures ∙ ap Some (sym c.in_ok-values.ensures ∙ c.in_default.is))
+pub returns : goal.returns
+returns c =
+    let matcher = c.args.matcher.now in
+    let best = c.loop-i.best in
+    sym (best_at_end matcher.comparison c.args.flags.now best)
+    ∙ ap (best_of matcher.comparison c.args.flags.now best)
+    (no_more_keys (cut_key matcher.are_cut) (text_value matcher.values.now) matcher.keys.now c.loop-i.i (omega (arith, c.loop-i-test.false, c.len-i-end.ensures)))
+    ∙ c.loop-i.invariant
