@@ -216,7 +216,8 @@ impl Bench {
         // No two messages have one id.
         ensures ids { AreDistinct (map.keys_of self.now.content.messages) }
         // The stale messages are some of those that are there, in the list's order; so each is listed once.
-        ensures listed { self.now.stale ≡ ids_where (λ message. is_among message.0 self.now.stale) self.now.content.messages }
+        ensures listed { self.now.stale
+            ≡ ids_where (λ message. is_among message.0 self.now.stale) self.now.content.messages }
     {
         match self.messages.get(id) {
             Some(entry) => entry.kept(),
@@ -228,10 +229,12 @@ impl Bench {
     /// nothing, and the verdicts that were made are kept; one whose writer fails has written a front of the report, and all verdicts are
     /// kept. The scripts, the messages and the settings stay as they are. Takes no memory where no message is stale.
     pub fn report<W: Sink>(&mut self, meter: &mut Meter, writer: &mut W) -> Result<(), ReportFault>
-        ensures ok { OnOk result (Wrote W.contents W.fault_count writer.old writer.new (report_text self.old.content)) }
+        ensures ok { OnOk result
+            (Wrote W.contents W.fault_count writer.old writer.new (report_text self.old.content)) }
         // Nothing is written where memory is refused, and a front of the report where the writer fails.
         ensures err { IfErr result (λ fault. MatchReportFault fault (writer.new ≡ writer.old)
-            (WroteFront W.contents W.fault_count writer.old writer.new (report_text self.old.content))) }
+            (WroteFront W.contents W.fault_count writer.old writer.new
+            (report_text self.old.content))) }
         ensures content { self.new.content ≡ self.old.content }
         // Each stale message was run once, and none is stale; where memory was refused the first ones were run.
         ensures stale { OnOk result (self.new.stale ≡ []) }
@@ -239,7 +242,8 @@ impl Bench {
         ensures at_fault { IfErr result (λ fault. MatchReportFault fault
             (RefusedAmong self.old.stale self.new.stale meter.old meter.new)
             ((self.new.stale ≡ []) × (meter.new ≡ runs_after (length self.old.stale) meter.old))) }
-        ensures no_memory { self.old.stale ≡ [] → IfErr result (λ fault. MatchReportFault fault ⊥ ⊤) }
+        ensures no_memory { self.old.stale ≡ []
+            → IfErr result (λ fault. MatchReportFault fault ⊥ ⊤) }
     {
         let site = Site {
             main: self.main.as_ref(),
@@ -270,7 +274,8 @@ impl Bench {
 
     /// The code of a script, as an `include` of that name finds it: a name of more than 1,024 octets has none.
     pub fn code(&self, name: &ScriptName) -> Found<'_>
-        ensures { FoundAs result (found_at (library_of self.now.content.profile (text_at self.now.content.scripts)) name.now) }
+        ensures { FoundAs result (found_at
+            (library_of self.now.content.profile (text_at self.now.content.scripts)) name.now) }
     {
         find(&self.scripts, name)
     }

@@ -35,7 +35,8 @@ pub(crate) fn write_clock_line<W: Sink>(
     clock: &Option<Clock>,
     writer: &mut W,
 ) -> Result<(), WriteFault>
-    ensures { Writes W.contents W.fault_count result writer.old writer.new (clock_line profile clock.now) }
+    ensures { Writes W.contents W.fault_count result writer.old writer.new
+        (clock_line profile clock.now) }
 {
     if profile.has(Extension::Date) {
         write_clock(clock, writer)

@@ -17,7 +17,8 @@ use std::alloc::{AllocError, Global};
 
 /// Writes the lines of code, one operation a line. Where the writer fails, a front of them is written.
 pub fn write_code<W: Sink>(code: &Code, writer: &mut W) -> Result<(), WriteFault>
-    ensures { Writes W.contents W.fault_count result writer.old writer.new (code_text (ops_of code.now)) }
+    ensures { Writes W.contents W.fault_count result writer.old writer.new
+        (code_text (ops_of code.now)) }
 {
     for i in 0..code.len() {
         code.dump_line(i, writer)?;
@@ -32,7 +33,8 @@ fn write_judged<W: Sink>(
     writer: &mut W,
 ) -> Result<(), WriteFault>
     requires { length script.now.text ≤ text_limit }
-    ensures { Writes W.contents W.fault_count result writer.old writer.new (dump_text_of script.now.profile name.now script.now.text) }
+    ensures { Writes W.contents W.fault_count result writer.old writer.new
+        (dump_text_of script.now.profile name.now script.now.text) }
 {
     match script.found() {
         Found::Present(code) => write_code(code, writer),
@@ -70,7 +72,8 @@ pub fn dump_text<W: Sink>(
     text: &[u8],
     writer: &mut W,
 ) -> TestEnd
-    ensures { DumpEnds result profile name.now text.now (Wrote W.contents W.fault_count writer.old writer.new)
+    ensures { DumpEnds result profile name.now text.now
+        (Wrote W.contents W.fault_count writer.old writer.new)
         (WroteFront W.contents W.fault_count writer.old writer.new) (writer.new ≡ writer.old) }
 {
     if name.name.as_slice().len() > MAX_NAME || text.len() > MAX_TEXT {

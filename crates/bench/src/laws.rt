@@ -17,44 +17,64 @@ ghost use Rattle.bench.specs.declared.fault.EditFault as faults;
 /// A refused edit leaves a content as it was, and those behind it are made of that. Where none is refused, each is made of what the one
 /// before it made.
 pub fn refused_edits_leave_the_content()
-    ensures refused { (content : Content) (edit : Edit) (edits : List Edit) (fault : faults.EditFault) → after content edit ≡ Err fault → content_after content (edit ∷ edits) ≡ content_after content edits }
-    ensures made { (content : Content) (edits : List Edit) (new : Content) → after_all content edits ≡ Ok new → content_after content edits ≡ new }
+    ensures refused { (content : Content) (edit : Edit) (edits : List Edit)
+        (fault : faults.EditFault) → after content edit ≡ Err fault
+        → content_after content (edit ∷ edits) ≡ content_after content edits }
+    ensures made { (content : Content) (edits : List Edit) (new : Content)
+        → after_all content edits ≡ Ok new → content_after content edits ≡ new }
 {}
 
 /// Scripts stay in the order of their names, and no two messages come to have one id: a new bench is so, each edit that isn't
 /// refused keeps it so, and so do edits in turn, whichever of them are refused.
 pub fn edits_keep_the_order()
     ensures first { (profile : Profile) → IsInOrder (new_content profile) }
-    ensures each { (content : Content) (edit : Edit) (new : Content) → IsInOrder content → after content edit ≡ Ok new → IsInOrder new }
-    ensures turns { (content : Content) (edits : List Edit) → IsInOrder content → IsInOrder (content_after content edits) }
+    ensures each { (content : Content) (edit : Edit) (new : Content) → IsInOrder content
+        → after content edit ≡ Ok new → IsInOrder new }
+    ensures turns { (content : Content) (edits : List Edit) → IsInOrder content
+        → IsInOrder (content_after content edits) }
 {}
 
 /// Whatever edits are made of a new bench, all that it holds is within the limits.
 pub fn edits_keep_the_limits()
-    ensures { (profile : Profile) (edits : List Edit) → IsWithinLimits (content_after (new_content profile) edits) }
+    ensures { (profile : Profile) (edits : List Edit)
+        → IsWithinLimits (content_after (new_content profile) edits) }
 {}
 
 /// Edits never change a bench's profile, whichever of them are refused.
 pub fn an_edit_keeps_the_profile()
-    ensures each { (content : Content) (edit : Edit) (new : Content) → after content edit ≡ Ok new → new.profile ≡ content.profile }
-    ensures turns { (content : Content) (edits : List Edit) → (content_after content edits).profile ≡ content.profile }
+    ensures each { (content : Content) (edit : Edit) (new : Content) → after content edit ≡ Ok new
+        → new.profile ≡ content.profile }
+    ensures turns { (content : Content) (edits : List Edit)
+        → (content_after content edits).profile ≡ content.profile }
 {}
 
 /// A content is all that edits leave: put into a new bench of its profile, what a bench holds is made anew, and so is its report. None of the
 /// edits that do so is refused.
 pub fn a_content_is_made_anew()
-    ensures made { (profile : Profile) (edits : List Edit) → after_all (new_content profile) (rebuild (content_after (new_content profile) edits)) ≡ Ok (content_after (new_content profile) edits) }
-    ensures content { (profile : Profile) (edits : List Edit) → content_after (new_content profile) (rebuild (content_after (new_content profile) edits)) ≡ content_after (new_content profile) edits }
-    ensures report { (profile : Profile) (edits : List Edit) → report_text (content_after (new_content profile) (rebuild (content_after (new_content profile) edits))) ≡ report_text (content_after (new_content profile) edits) }
+    ensures made { (profile : Profile) (edits : List Edit)
+        → after_all (new_content profile) (rebuild (content_after (new_content profile) edits))
+        ≡ Ok (content_after (new_content profile) edits) }
+    ensures content { (profile : Profile) (edits : List Edit)
+        → content_after (new_content profile) (rebuild (content_after (new_content profile) edits))
+        ≡ content_after (new_content profile) edits }
+    ensures report { (profile : Profile) (edits : List Edit) → report_text
+        (content_after (new_content profile) (rebuild (content_after (new_content profile) edits)))
+        ≡ report_text (content_after (new_content profile) edits) }
 {}
 
 /// No other message is judged otherwise where one is given addresses of its own, or is left none.
 pub fn own_addresses_are_one_messages()
-    ensures given { (content : Content) (id from to other : List ℕ) (new : Content) → after content (set_message_envelope id from to) ≡ Ok new → pointwise nat_eq id other ≡ false → verdict_of new other ≡ verdict_of content other }
-    ensures cleared { (content : Content) (id other : List ℕ) (new : Content) → after content (clear_message_envelope id) ≡ Ok new → pointwise nat_eq id other ≡ false → verdict_of new other ≡ verdict_of content other }
+    ensures given { (content : Content) (id from to other : List ℕ) (new : Content)
+        → after content (set_message_envelope id from to) ≡ Ok new
+        → pointwise nat_eq id other ≡ false → verdict_of new other ≡ verdict_of content other }
+    ensures cleared { (content : Content) (id other : List ℕ) (new : Content)
+        → after content (clear_message_envelope id) ≡ Ok new → pointwise nat_eq id other ≡ false
+        → verdict_of new other ≡ verdict_of content other }
 {}
 
 /// Where it isn't asked for by `lines`, a report has of a verdict the lines that are expected of it, and those of the names that it looked up.
 pub fn origins_are_told_where_they_are_asked_for()
-    ensures { (profile : Profile) (mailbox : List ℕ) (verdict : Verdict) → has profile Lines ≡ false → verdict_text profile mailbox verdict ≡ flat_map indented (verdict_lines mailbox verdict ++ read_lines verdict) }
+    ensures { (profile : Profile) (mailbox : List ℕ) (verdict : Verdict) → has profile Lines ≡ false
+        → verdict_text profile mailbox verdict
+        ≡ flat_map indented (verdict_lines mailbox verdict ++ read_lines verdict) }
 {}

@@ -16,8 +16,9 @@ use std::alloc::{AllocError, Global};
 
 /// Puts a message in the place of the one there.
 fn renew_at(messages: &mut IndexMap<Octets, EntryBox>, index: usize, message: Message)
-    ensures entries { MatchOption (slice_get (values_of messages.old.entries) index) (messages.new.entries ≡ messages.old.entries)
-        (λ entry. messages.new.entries ≡ set_value_at messages.old.entries index (renewed message entry)) }
+    ensures entries { MatchOption (slice_get (values_of messages.old.entries) index)
+        (messages.new.entries ≡ messages.old.entries) (λ entry. messages.new.entries
+        ≡ set_value_at messages.old.entries index (renewed message entry)) }
 {
     if let Some(entry) = messages.get_index_mut(index) {
         entry.renew(message);
@@ -26,8 +27,9 @@ fn renew_at(messages: &mut IndexMap<Octets, EntryBox>, index: usize, message: Me
 
 /// Expects a text of the verdict on the message there, or none.
 fn expect_at(messages: &mut IndexMap<Octets, EntryBox>, index: usize, text: Option<Octets>)
-    ensures entries { MatchOption (slice_get (values_of messages.old.entries) index) (messages.new.entries ≡ messages.old.entries)
-        (λ entry. messages.new.entries ≡ set_value_at messages.old.entries index (expecting text entry)) }
+    ensures entries { MatchOption (slice_get (values_of messages.old.entries) index)
+        (messages.new.entries ≡ messages.old.entries) (λ entry. messages.new.entries
+        ≡ set_value_at messages.old.entries index (expecting text entry)) }
 {
     if let Some(entry) = messages.get_index_mut(index) {
         entry.expect(text);
@@ -40,8 +42,9 @@ fn readdress_at(
     index: usize,
     addresses: Option<Addresses>,
 )
-    ensures entries { MatchOption (slice_get (values_of messages.old.entries) index) (messages.new.entries ≡ messages.old.entries)
-        (λ entry. messages.new.entries ≡ set_value_at messages.old.entries index (readdressed addresses entry)) }
+    ensures entries { MatchOption (slice_get (values_of messages.old.entries) index)
+        (messages.new.entries ≡ messages.old.entries) (λ entry. messages.new.entries
+        ≡ set_value_at messages.old.entries index (readdressed addresses entry)) }
 {
     if let Some(entry) = messages.get_index_mut(index) {
         entry.readdress(addresses);
@@ -92,7 +95,8 @@ pub(crate) fn expect(
     sought: SoughtId<'_>,
     text: Option<Octets>,
 )
-    ensures entries { messages.new.entries ≡ changed sought.entry.octets.now (expecting text) messages.old.entries }
+    ensures entries { messages.new.entries
+        ≡ changed sought.entry.octets.now (expecting text) messages.old.entries }
     ensures unique { IsUnique (pointwise nat_eq) messages.new }
 {
     if let Some(index) = messages.get_index_of(sought) {
@@ -106,7 +110,8 @@ pub(crate) fn readdress(
     sought: SoughtId<'_>,
     addresses: Option<Addresses>,
 )
-    ensures entries { messages.new.entries ≡ changed sought.entry.octets.now (readdressed addresses) messages.old.entries }
+    ensures entries { messages.new.entries
+        ≡ changed sought.entry.octets.now (readdressed addresses) messages.old.entries }
     ensures unique { IsUnique (pointwise nat_eq) messages.new }
 {
     if let Some(index) = messages.get_index_of(sought) {

@@ -45,7 +45,8 @@ pub(crate) fn refuse_message(
     id: &Octets,
     bytes: &[u8],
 ) -> Result<(), EditFault>
-    ensures { spec.Finds (spec.message_refusal (messages_of messages.now.entries) id.now bytes.now) result }
+    ensures { spec.Finds
+        (spec.message_refusal (messages_of messages.now.entries) id.now bytes.now) result }
 {
     if id.as_slice().len() > MAX_ID || bytes.len() > MAX_MESSAGE {
         return Err(EditFault::TooLarge);
@@ -80,7 +81,8 @@ pub(crate) fn refuse_expected(
     id: &[u8],
     text: &[u8],
 ) -> Result<(), EditFault>
-    ensures { spec.Finds (spec.expected_refusal (messages_of messages.now.entries) id.now text.now) result }
+    ensures { spec.Finds
+        (spec.expected_refusal (messages_of messages.now.entries) id.now text.now) result }
 {
     if id.len() > MAX_ID || text.len() > MAX_EXPECTED {
         Err(EditFault::TooLarge)
@@ -149,7 +151,8 @@ pub(crate) fn refuse_addresses(
     from: &[u8],
     to: &[u8],
 ) -> Result<(), EditFault>
-    ensures { spec.Finds (spec.addresses_refusal (messages_of messages.now.entries) id.now from.now to.now) result }
+    ensures { spec.Finds
+        (spec.addresses_refusal (messages_of messages.now.entries) id.now from.now to.now) result }
 {
     if id.len() > MAX_ID || are_long(from, to) {
         Err(EditFault::TooLarge)

@@ -39,8 +39,10 @@ pub(crate) fn run_stale(
     ensures due { KeepsDue (verdict_by (site_as site.now)) messages.new.entries }
     ensures unique { IsUnique (pointwise nat_eq) messages.new }
     ensures stale { OnOk result (stale_of messages.new.entries ≡ []) }
-    ensures runs { OnOk result (meter.new ≡ runs_after (length (stale_of messages.old.entries)) meter.old) }
-    ensures refused { OnErr result (RefusedAmong (stale_of messages.old.entries) (stale_of messages.new.entries) meter.old meter.new) }
+    ensures runs { OnOk result
+        (meter.new ≡ runs_after (length (stale_of messages.old.entries)) meter.old) }
+    ensures refused { OnErr result (RefusedAmong (stale_of messages.old.entries)
+        (stale_of messages.new.entries) meter.old meter.new) }
 {
     let count = messages.len();
     for index in 0..count {
@@ -54,7 +56,8 @@ pub(crate) fn run_stale(
 /// Writes the lines of the actions.
 #[tactic(auto, using(crate::proofs::Writing::writing))]
 fn write_actions<W: Sink>(outcome: &Outcome, writer: &mut W) -> Result<(), WriteFault>
-    ensures { Writes W.contents W.fault_count result writer.old writer.new (flat_map action_text outcome.now.actions) }
+    ensures { Writes W.contents W.fault_count result writer.old writer.new
+        (flat_map action_text outcome.now.actions) }
 {
     let actions = outcome.actions();
     for action in actions {
@@ -69,7 +72,8 @@ fn write_traced_actions<W: Sink>(
     origins: &[Origin],
     writer: &mut W,
 ) -> Result<(), WriteFault>
-    ensures { Writes W.contents W.fault_count result writer.old writer.new (flat_map traced_text (zip actions.now origins.now)) }
+    ensures { Writes W.contents W.fault_count result writer.old writer.new
+        (flat_map traced_text (zip actions.now origins.now)) }
 {
     for (action, origin) in actions.iter().zip(origins) {
         write_traced_line(action, origin, writer)?;
@@ -83,7 +87,8 @@ fn write_told_actions<W: Sink>(
     outcome: &Outcome,
     writer: &mut W,
 ) -> Result<(), WriteFault>
-    ensures { Writes W.contents W.fault_count result writer.old writer.new (action_texts traced outcome.now) }
+    ensures { Writes W.contents W.fault_count result writer.old writer.new
+        (action_texts traced outcome.now) }
 {
     if traced {
         write_traced_actions(outcome.actions(), outcome.origins(), writer)
@@ -95,7 +100,8 @@ fn write_told_actions<W: Sink>(
 /// Writes the lines of the looked-up names.
 #[tactic(auto, using(crate::proofs::Writing::writing))]
 fn write_reads<W: Sink>(outcome: &Outcome, writer: &mut W) -> Result<(), WriteFault>
-    ensures { Writes W.contents W.fault_count result writer.old writer.new (flat_map read_text outcome.now.reads) }
+    ensures { Writes W.contents W.fault_count result writer.old writer.new
+        (flat_map read_text outcome.now.reads) }
 {
     let reads = outcome.reads();
     for (name, is_present) in reads {
@@ -107,7 +113,8 @@ fn write_reads<W: Sink>(outcome: &Outcome, writer: &mut W) -> Result<(), WriteFa
 /// Writes the lines of scripts.
 #[tactic(auto, using(crate::proofs::Writing::writing))]
 fn write_scripts<W: Sink>(scripts: &Scripts, writer: &mut W) -> Result<(), WriteFault>
-    ensures { Writes W.contents W.fault_count result writer.old writer.new (flat_map (script_line scripts.now.profile) scripts.now.scripts) }
+    ensures { Writes W.contents W.fault_count result writer.old writer.new
+        (flat_map (script_line scripts.now.profile) scripts.now.scripts) }
 {
     for (name, script) in scripts.by_name() {
         write_script(name, script, writer)?;
@@ -122,7 +129,8 @@ fn write_verdict<W: Sink>(
     outcome: &Outcome,
     writer: &mut W,
 ) -> Result<(), WriteFault>
-    ensures { Writes W.contents W.fault_count result writer.old writer.new (verdict_texts traced envelope.now.mailbox outcome.now) }
+    ensures { Writes W.contents W.fault_count result writer.old writer.new
+        (verdict_texts traced envelope.now.mailbox outcome.now) }
 {
     write_told_actions(traced, outcome, writer)?;
     write_implicit_line(envelope, outcome, writer)?;
@@ -137,7 +145,8 @@ fn write_entry<W: Sink>(
     entry: &EntryBox,
     writer: &mut W,
 ) -> Result<(), WriteFault>
-    ensures { Writes W.contents W.fault_count result writer.old writer.new (flat_map (message_lines (site_as site.now)) (judged_of ((id.now, entry.now) ∷ []))) }
+    ensures { Writes W.contents W.fault_count result writer.old writer.new
+        (flat_map (message_lines (site_as site.now)) (judged_of ((id.now, entry.now) ∷ []))) }
 {
     match entry.kept() {
         Some(outcome) => write_judged(site, id, entry, outcome, writer),
@@ -153,8 +162,13 @@ fn write_judged<W: Sink>(
     outcome: &Outcome,
     writer: &mut W,
 ) -> Result<(), WriteFault>
-    ensures { Writes W.contents W.fault_count result writer.old writer.new (message_lines (site_as site.now)
-        (record { id = id.now; addresses = entry.now.addresses; verdict = outcome.now; expected = entry.now.expected })) }
+    ensures { Writes W.contents W.fault_count result writer.old writer.new
+        (message_lines (site_as site.now) (record {
+          id = id.now;
+          addresses = entry.now.addresses;
+          verdict = outcome.now;
+          expected = entry.now.expected;
+        })) }
 {
     write_message(id, writer)?;
     write_addresses(entry.addresses(), writer)?;
@@ -169,7 +183,8 @@ fn write_kept<W: Sink>(
     messages: &IndexMap<Octets, EntryBox>,
     writer: &mut W,
 ) -> Result<(), WriteFault>
-    ensures { Writes W.contents W.fault_count result writer.old writer.new (flat_map (message_lines (site_as site.now)) (judged_of messages.now.entries)) }
+    ensures { Writes W.contents W.fault_count result writer.old writer.new
+        (flat_map (message_lines (site_as site.now)) (judged_of messages.now.entries)) }
 {
     for (id, entry) in messages {
         write_entry(site, id, entry, writer)?;
@@ -196,7 +211,8 @@ fn are_expecting(messages: &IndexMap<Octets, EntryBox>) -> bool
 
 /// How many of the verdicts that are kept are not as they are expected to be.
 fn unlike_count(mailbox: &[u8], messages: &IndexMap<Octets, EntryBox>) -> usize
-    ensures { result ≡ count_by (λ e. disagrees mailbox.now e.1.expected e.1.kept) messages.now.entries }
+    ensures { result
+        ≡ count_by (λ e. disagrees mailbox.now e.1.expected e.1.kept) messages.now.entries }
 {
     messages
         .iter()
@@ -229,7 +245,8 @@ fn write_profile_lines<W: Sink>(
     envelope: &Envelope,
     writer: &mut W,
 ) -> Result<(), WriteFault>
-    ensures { Writes W.contents W.fault_count result writer.old writer.new (profile_lines profile envelope.now) }
+    ensures { Writes W.contents W.fault_count result writer.old writer.new
+        (profile_lines profile envelope.now) }
 {
     write_profile(profile, writer)?;
     write_clock_line(profile, &envelope.clock, writer)?;
@@ -238,7 +255,8 @@ fn write_profile_lines<W: Sink>(
 
 /// Writes the lines in front of the messages.
 fn write_site<W: Sink>(site: &Site<'_>, writer: &mut W) -> Result<(), WriteFault>
-    ensures { Writes W.contents W.fault_count result writer.old writer.new (site_lines (site_as site.now)) }
+    ensures { Writes W.contents W.fault_count result writer.old writer.new
+        (site_lines (site_as site.now)) }
 {
     write_main(site.main, writer)?;
     write_envelope(site.envelope, writer)?;
@@ -253,7 +271,8 @@ pub(crate) fn write_report<W: Sink>(
     writer: &mut W,
 ) -> Result<(), WriteFault>
     requires { stale_of messages.now.entries ≡ [] }
-    ensures { Writes W.contents W.fault_count result writer.old writer.new (report_with (site_as site.now) (judged_of messages.now.entries)) }
+    ensures { Writes W.contents W.fault_count result writer.old writer.new
+        (report_with (site_as site.now) (judged_of messages.now.entries)) }
 {
     write_site(site, writer)?;
     write_kept(site, messages, writer)?;
@@ -267,7 +286,9 @@ fn write_totals<W: Sink>(
     writer: &mut W,
 ) -> Result<(), WriteFault>
     requires { stale_of messages.now.entries ≡ [] }
-    ensures { Writes W.contents W.fault_count result writer.old writer.new (total_line (length (judged_of messages.now.entries)) (error_count (judged_of messages.now.entries)) (unexpected_count envelope.now.mailbox (judged_of messages.now.entries))) }
+    ensures { Writes W.contents W.fault_count result writer.old writer.new (total_line
+        (length (judged_of messages.now.entries)) (error_count (judged_of messages.now.entries))
+        (unexpected_count envelope.now.mailbox (judged_of messages.now.entries))) }
 {
     let unexpected = unexpected_count(envelope.mailbox.as_slice(), messages);
     write_total(

@@ -22,7 +22,8 @@ pub(crate) fn write_main<W: Sink>(
     main: Option<&ScriptName>,
     writer: &mut W,
 ) -> Result<(), WriteFault>
-    ensures { Writes W.contents W.fault_count result writer.old writer.new (main_line (option_copied main.entry)) }
+    ensures { Writes W.contents W.fault_count result writer.old writer.new
+        (main_line (option_copied main.entry)) }
 {
     match main {
         None => write_pieces(&[Piece::Raw(b"main none\n")], writer),
@@ -35,7 +36,8 @@ pub(crate) fn write_main<W: Sink>(
 
 /// Writes the line of the envelope.
 pub(crate) fn write_envelope<W: Sink>(envelope: &Envelope, writer: &mut W) -> Result<(), WriteFault>
-    ensures { Writes W.contents W.fault_count result writer.old writer.new (envelope_line envelope.now) }
+    ensures { Writes W.contents W.fault_count result writer.old writer.new
+        (envelope_line envelope.now) }
 {
     write_pieces(
         &[
@@ -64,7 +66,8 @@ fn write_extension<W: Sink>(
     extension: Extension,
     writer: &mut W,
 ) -> Result<(), WriteFault>
-    ensures { Writes W.contents W.fault_count result writer.old writer.new (flat_map extension_text (filter (has profile) (extension ∷ []))) }
+    ensures { Writes W.contents W.fault_count result writer.old writer.new
+        (flat_map extension_text (filter (has profile) (extension ∷ []))) }
 {
     if profile.has(extension) {
         write_pieces(&[Piece::Raw(b" "), Piece::Raw(extension.name())], writer)
@@ -80,7 +83,8 @@ fn write_extensions<W: Sink>(
     extensions: &[Extension],
     writer: &mut W,
 ) -> Result<(), WriteFault>
-    ensures { Writes W.contents W.fault_count result writer.old writer.new (flat_map extension_text (filter (has profile) extensions.now)) }
+    ensures { Writes W.contents W.fault_count result writer.old writer.new
+        (flat_map extension_text (filter (has profile) extensions.now)) }
 {
     for extension in extensions {
         write_extension(profile, *extension, writer)?;
@@ -90,7 +94,8 @@ fn write_extensions<W: Sink>(
 
 /// Writes the line of a profile's names.
 fn write_names<W: Sink>(profile: Profile, writer: &mut W) -> Result<(), WriteFault>
-    ensures { Writes W.contents W.fault_count result writer.old writer.new (codes "with" ++ (flat_map extension_text (filter (has profile) extensions) ++ codes "\n")) }
+    ensures { Writes W.contents W.fault_count result writer.old writer.new (codes "with"
+        ++ (flat_map extension_text (filter (has profile) extensions) ++ codes "\n")) }
 {
     write_out(b"with", writer)?;
     write_extensions(profile, &EXTENSIONS, writer)?;
@@ -114,7 +119,8 @@ pub(crate) fn write_mailboxes<W: Sink>(
     mailboxes: &[u8],
     writer: &mut W,
 ) -> Result<(), WriteFault>
-    ensures { Writes W.contents W.fault_count result writer.old writer.new (mailboxes_line profile mailboxes.now) }
+    ensures { Writes W.contents W.fault_count result writer.old writer.new
+        (mailboxes_line profile mailboxes.now) }
 {
     if profile.has(Extension::Mailbox) {
         write_pieces(
@@ -136,7 +142,8 @@ pub(crate) fn write_script<W: Sink>(
     script: &Script,
     writer: &mut W,
 ) -> Result<(), WriteFault>
-    ensures { Writes W.contents W.fault_count result writer.old writer.new (script_line script.now.profile (name.now, script.now.text)) }
+    ensures { Writes W.contents W.fault_count result writer.old writer.new
+        (script_line script.now.profile (name.now, script.now.text)) }
 {
     match script.fault() {
         None => write_pieces(
@@ -179,7 +186,8 @@ pub(crate) fn write_message<W: Sink>(id: &Octets, writer: &mut W) -> Result<(), 
 
 /// Writes the line of the addresses that a message has of its own.
 fn write_own_addresses<W: Sink>(addresses: &Addresses, writer: &mut W) -> Result<(), WriteFault>
-    ensures { Writes W.contents W.fault_count result writer.old writer.new (indented (addresses_line addresses.now)) }
+    ensures { Writes W.contents W.fault_count result writer.old writer.new
+        (indented (addresses_line addresses.now)) }
 {
     write_pieces(
         &[
@@ -198,7 +206,8 @@ pub(crate) fn write_addresses<W: Sink>(
     addresses: Option<&Addresses>,
     writer: &mut W,
 ) -> Result<(), WriteFault>
-    ensures { Writes W.contents W.fault_count result writer.old writer.new (addresses_text (option_copied addresses.entry)) }
+    ensures { Writes W.contents W.fault_count result writer.old writer.new
+        (addresses_text (option_copied addresses.entry)) }
 {
     match addresses {
         Some(addresses) => write_own_addresses(addresses, writer),
@@ -217,7 +226,8 @@ fn write_indent<W: Sink>(writer: &mut W) -> Result<(), WriteFault>
 /// Writes the line of an action.
 #[tactic(auto, using(crate::proofs::Writing::lines))]
 pub(crate) fn write_action_line<W: Sink>(action: &Action, writer: &mut W) -> Result<(), WriteFault>
-    ensures { Writes W.contents W.fault_count result writer.old writer.new (action_text action.now) }
+    ensures { Writes W.contents W.fault_count result writer.old writer.new
+        (action_text action.now) }
 {
     write_indent(writer)?;
     write_action(action, writer)?;
@@ -227,7 +237,8 @@ pub(crate) fn write_action_line<W: Sink>(action: &Action, writer: &mut W) -> Res
 /// Writes the line of where an action comes from.
 #[tactic(auto, using(crate::proofs::Writing::lines))]
 fn write_origin_line<W: Sink>(origin: &Origin, writer: &mut W) -> Result<(), WriteFault>
-    ensures { Writes W.contents W.fault_count result writer.old writer.new (indented (origin_line origin.now)) }
+    ensures { Writes W.contents W.fault_count result writer.old writer.new
+        (indented (origin_line origin.now)) }
 {
     write_indent(writer)?;
     write_origin(origin, writer)?;
@@ -241,7 +252,8 @@ pub(crate) fn write_traced_line<W: Sink>(
     origin: &Origin,
     writer: &mut W,
 ) -> Result<(), WriteFault>
-    ensures { Writes W.contents W.fault_count result writer.old writer.new (traced_text (action.now, origin.now)) }
+    ensures { Writes W.contents W.fault_count result writer.old writer.new
+        (traced_text (action.now, origin.now)) }
 {
     write_action_line(action, writer)?;
     write_origin_line(origin, writer)
@@ -254,7 +266,8 @@ fn write_kept_line<W: Sink>(
     flags: &FlagList,
     writer: &mut W,
 ) -> Result<(), WriteFault>
-    ensures { Writes W.contents W.fault_count result writer.old writer.new (indented (implicit_line mailbox.now flags.now)) }
+    ensures { Writes W.contents W.fault_count result writer.old writer.new
+        (indented (implicit_line mailbox.now flags.now)) }
 {
     write_indent(writer)?;
     write_implicit(mailbox, flags, writer)?;
@@ -267,7 +280,8 @@ pub(crate) fn write_implicit_line<W: Sink>(
     outcome: &Outcome,
     writer: &mut W,
 ) -> Result<(), WriteFault>
-    ensures { Writes W.contents W.fault_count result writer.old writer.new (implicit_text envelope.now.mailbox outcome.now.implicit) }
+    ensures { Writes W.contents W.fault_count result writer.old writer.new
+        (implicit_text envelope.now.mailbox outcome.now.implicit) }
 {
     match outcome.implicit() {
         Some(flags) => write_kept_line(envelope.mailbox.as_slice(), flags, writer),
@@ -278,7 +292,8 @@ pub(crate) fn write_implicit_line<W: Sink>(
 /// Writes the line of an error.
 #[tactic(auto, using(crate::proofs::Writing::lines))]
 fn write_failed_line<W: Sink>(error: &RunError, writer: &mut W) -> Result<(), WriteFault>
-    ensures { Writes W.contents W.fault_count result writer.old writer.new (indented (error_line error.now)) }
+    ensures { Writes W.contents W.fault_count result writer.old writer.new
+        (indented (error_line error.now)) }
 {
     write_indent(writer)?;
     write_error(error, writer)?;
@@ -287,7 +302,8 @@ fn write_failed_line<W: Sink>(error: &RunError, writer: &mut W) -> Result<(), Wr
 
 /// Writes the line of the error, where there is one.
 pub(crate) fn write_error_line<W: Sink>(outcome: &Outcome, writer: &mut W) -> Result<(), WriteFault>
-    ensures { Writes W.contents W.fault_count result writer.old writer.new (error_text outcome.now.error) }
+    ensures { Writes W.contents W.fault_count result writer.old writer.new
+        (error_text outcome.now.error) }
 {
     match outcome.error() {
         Some(error) => write_failed_line(error, writer),
@@ -302,7 +318,8 @@ pub(crate) fn write_read_line<W: Sink>(
     is_present: bool,
     writer: &mut W,
 ) -> Result<(), WriteFault>
-    ensures { Writes W.contents W.fault_count result writer.old writer.new (read_text (name.now, is_present)) }
+    ensures { Writes W.contents W.fault_count result writer.old writer.new
+        (read_text (name.now, is_present)) }
 {
     write_indent(writer)?;
     write_read(name, is_present, writer)?;
@@ -312,7 +329,8 @@ pub(crate) fn write_read_line<W: Sink>(
 /// Writes whether a verdict is as it is expected to be.
 #[tactic(auto, unfolding(crate::specs::Report::indent))]
 fn write_agreement<W: Sink>(agrees: bool, writer: &mut W) -> Result<(), WriteFault>
-    ensures { Writes W.contents W.fault_count result writer.old writer.new (indented (expectation_line agrees)) }
+    ensures { Writes W.contents W.fault_count result writer.old writer.new
+        (indented (expectation_line agrees)) }
 {
     if agrees {
         write_out(b"  expected\n", writer)
@@ -328,7 +346,8 @@ pub(crate) fn write_expectation<W: Sink>(
     expected: Option<&Octets>,
     writer: &mut W,
 ) -> Result<(), WriteFault>
-    ensures { Writes W.contents W.fault_count result writer.old writer.new (expectation_text envelope.now.mailbox outcome.now (option_copied expected.entry)) }
+    ensures { Writes W.contents W.fault_count result writer.old writer.new
+        (expectation_text envelope.now.mailbox outcome.now (option_copied expected.entry)) }
 {
     match expected {
         Some(text) => {
@@ -348,7 +367,8 @@ pub(crate) fn write_total<W: Sink>(
     unexpected: Option<u64>,
     writer: &mut W,
 ) -> Result<(), WriteFault>
-    ensures { Writes W.contents W.fault_count result writer.old writer.new (total_line messages errors unexpected) }
+    ensures { Writes W.contents W.fault_count result writer.old writer.new
+        (total_line messages errors unexpected) }
 {
     match unexpected {
         None => write_pieces(

@@ -44,7 +44,8 @@ fn is_sound(script: &Script) -> bool
 
 /// Whether none of these scripts has a fault.
 fn are_all_sound(scripts: &BTreeMap<ScriptName, Script>) -> bool
-    ensures { result ≡ list_all (λ e. is_sound (judgement_of e.1.profile e.1.text)) scripts.now.entries }
+    ensures { result
+        ≡ list_all (λ e. is_sound (judgement_of e.1.profile e.1.text)) scripts.now.entries }
 {
     scripts.iter().all(|(_, script)| is_sound(script))
 }
@@ -98,7 +99,8 @@ impl Scripts {
 
     /// Whether no script has a fault.
     pub(crate) fn are_sound(&self) -> bool
-        ensures { result ≡ list_all (λ e. is_sound (judgement_of self.now.profile e.1)) self.now.scripts }
+        ensures { result
+            ≡ list_all (λ e. is_sound (judgement_of self.now.profile e.1)) self.now.scripts }
     {
         are_all_sound(&self.by_name)
     }
@@ -114,7 +116,8 @@ impl Scripts {
         requires { script.profile ≡ self.old.profile }
         ensures ok { OnOk result (self.new
             ≡ record self.old { scripts = with_script name script.text self.old.scripts }) }
-        ensures forgotten { OnOk result (ForgetsReaders name messages.old.entries messages.new.entries) }
+        ensures forgotten { OnOk result
+            (ForgetsReaders name messages.old.entries messages.new.entries) }
         ensures err { OnErr result (self.new ≡ self.old) }
         ensures unmarked { OnErr result (messages.new.entries ≡ messages.old.entries) }
         ensures unique { IsUnique (pointwise nat_eq) messages.new }
@@ -147,7 +150,8 @@ impl Scripts {
         requires { length text ≤ text_limit }
         ensures ok { OnOk result (self.new
             ≡ record self.old { scripts = with_script name text self.old.scripts }) }
-        ensures forgotten { OnOk result (ForgetsReaders name messages.old.entries messages.new.entries) }
+        ensures forgotten { OnOk result
+            (ForgetsReaders name messages.old.entries messages.new.entries) }
         ensures err { OnErr result (self.new ≡ self.old) }
         ensures unmarked { OnErr result (messages.new.entries ≡ messages.old.entries) }
         ensures unique { IsUnique (pointwise nat_eq) messages.new }
@@ -166,9 +170,12 @@ impl Scripts {
         to: ScriptName,
     ) -> Result<(), AllocError>
         requires { is_some (text_at self.old.scripts from.now) ≡ true }
-        ensures ok { OnOk result (self.new
-            ≡ record self.old { scripts = with_renamed from.now (text_at self.old.scripts from.now) to self.old.scripts }) }
-        ensures forgotten { OnOk result (ForgetsReaders to messages.old.entries messages.new.entries) }
+        ensures ok { OnOk result (self.new ≡ record self.old {
+          scripts = with_renamed from.now
+              (text_at self.old.scripts from.now) to self.old.scripts;
+        }) }
+        ensures forgotten { OnOk result
+            (ForgetsReaders to messages.old.entries messages.new.entries) }
         ensures err { OnErr result (self.new ≡ self.old) }
         ensures unmarked { OnErr result (messages.new.entries ≡ messages.old.entries) }
         ensures unique { IsUnique (pointwise nat_eq) messages.new }
@@ -183,7 +190,8 @@ impl Scripts {
 
     /// Removes the script of a name, if there is one.
     pub(crate) fn remove(&mut self, name: &ScriptName)
-        ensures { self.new ≡ record self.old { scripts = without_script name.now self.old.scripts } }
+        ensures { self.new
+            ≡ record self.old { scripts = without_script name.now self.old.scripts } }
     {
         let removed = self.by_name.remove(name);
         drop(removed);

@@ -31,7 +31,8 @@ impl Equivalent<Octets> for SoughtId<'_> {
 
 /// Removes the message of an id. The others stay in their order. Takes no memory.
 pub(crate) fn remove_sought(messages: &mut IndexMap<Octets, EntryBox>, sought: SoughtId<'_>)
-    ensures entries { messages.new.entries ≡ remove_entry (pointwise nat_eq sought.entry.octets.now) messages.old.entries }
+    ensures entries { messages.new.entries
+        ≡ remove_entry (pointwise nat_eq sought.entry.octets.now) messages.old.entries }
     ensures unique { IsUnique (pointwise nat_eq) messages.new }
 {
     messages.shift_remove(sought);

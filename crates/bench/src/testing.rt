@@ -18,8 +18,12 @@ use std::alloc::Global;
 
 /// Makes the settings of a job: the addresses, then the mailbox, then the list of mailboxes.
 fn set_delivery(bench: &mut Bench, job: &TestJob) -> Result<(), EditFault>
-    ensures ok { OnOk result (after_all bench.old.content (set_envelope job.now.from job.now.to ∷ set_mailbox job.now.mailbox ∷ set_mailboxes job.now.mailboxes ∷ []) ≡ Ok bench.new.content) }
-    ensures err { IfErr result (λ fault. Refused fault (after_all bench.old.content (set_envelope job.now.from job.now.to ∷ set_mailbox job.now.mailbox ∷ set_mailboxes job.now.mailboxes ∷ []))) }
+    ensures ok { OnOk result (after_all bench.old.content (set_envelope job.now.from job.now.to
+        ∷ set_mailbox job.now.mailbox ∷ set_mailboxes job.now.mailboxes ∷ [])
+        ≡ Ok bench.new.content) }
+    ensures err { IfErr result
+        (λ fault. Refused fault (after_all bench.old.content (set_envelope job.now.from job.now.to
+        ∷ set_mailbox job.now.mailbox ∷ set_mailboxes job.now.mailboxes ∷ []))) }
 {
     let alloc = bench.allocator();
     let from = Octets::copied(alloc, job.from.as_slice())?;
@@ -43,7 +47,8 @@ fn set_time(bench: &mut Bench, job: &TestJob)
 /// Puts a copy of a script of a job.
 fn put_copied(bench: &mut Bench, script: &TestScript) -> Result<(), EditFault>
     ensures ok { OnOk result (after bench.old.content (put_of script.now) ≡ Ok bench.new.content) }
-    ensures err { IfErr result (λ fault. Refused fault (after bench.old.content (put_of script.now))) }
+    ensures err { IfErr result
+        (λ fault. Refused fault (after bench.old.content (put_of script.now))) }
 {
     let alloc = bench.allocator();
     let name = script.name.copy(alloc)?;
@@ -53,8 +58,10 @@ fn put_copied(bench: &mut Bench, script: &TestScript) -> Result<(), EditFault>
 
 /// Puts the scripts of a job, in their order.
 fn put_scripts(bench: &mut Bench, scripts: &[TestScript]) -> Result<(), EditFault>
-    ensures ok { OnOk result (after_all bench.old.content (map put_of scripts.now) ≡ Ok bench.new.content) }
-    ensures err { IfErr result (λ fault. Refused fault (after_all bench.old.content (map put_of scripts.now))) }
+    ensures ok { OnOk result
+        (after_all bench.old.content (map put_of scripts.now) ≡ Ok bench.new.content) }
+    ensures err { IfErr result
+        (λ fault. Refused fault (after_all bench.old.content (map put_of scripts.now))) }
 {
     for script in scripts {
         put_copied(bench, script)?;
@@ -64,9 +71,12 @@ fn put_scripts(bench: &mut Bench, scripts: &[TestScript]) -> Result<(), EditFaul
 
 /// Names the script of a job that is run, then puts its message.
 fn put_sample(bench: &mut Bench, job: &TestJob) -> Result<(), EditFault>
-    ensures ok { OnOk result (after_all bench.old.content (set_main job.now.main ∷ put_message job.now.id job.now.message ∷ []) ≡ Ok bench.new.content) }
-    ensures err { IfErr result (λ fault. Refused fault (after_all bench.old.content (set_main job.now.main ∷ put_message job.now.id job.now.message ∷ []))) }
-    ensures stale { bench.old.content.messages ≡ [] → OnOk result (bench.new.stale ≡ job.now.id ∷ []) }
+    ensures ok { OnOk result (after_all bench.old.content (set_main job.now.main
+        ∷ put_message job.now.id job.now.message ∷ []) ≡ Ok bench.new.content) }
+    ensures err { IfErr result (λ fault. Refused fault (after_all bench.old.content
+        (set_main job.now.main ∷ put_message job.now.id job.now.message ∷ []))) }
+    ensures stale { bench.old.content.messages ≡ []
+        → OnOk result (bench.new.stale ≡ job.now.id ∷ []) }
 {
     let alloc = bench.allocator();
     let main = job.main.copy(alloc)?;
@@ -78,9 +88,12 @@ fn put_sample(bench: &mut Bench, job: &TestJob) -> Result<(), EditFault>
 
 /// Makes the edits of a job on a bench.
 fn make_edits(bench: &mut Bench, job: &TestJob) -> Result<(), EditFault>
-    ensures ok { OnOk result (after_all bench.old.content (edits_of job.now) ≡ Ok bench.new.content) }
-    ensures err { IfErr result (λ fault. Refused fault (after_all bench.old.content (edits_of job.now))) }
-    ensures stale { bench.old.content.messages ≡ [] → OnOk result (bench.new.stale ≡ job.now.id ∷ []) }
+    ensures ok { OnOk result
+        (after_all bench.old.content (edits_of job.now) ≡ Ok bench.new.content) }
+    ensures err { IfErr result
+        (λ fault. Refused fault (after_all bench.old.content (edits_of job.now))) }
+    ensures stale { bench.old.content.messages ≡ []
+        → OnOk result (bench.new.stale ≡ job.now.id ∷ []) }
 {
     set_delivery(bench, job)?;
     set_time(bench, job);
@@ -103,7 +116,8 @@ fn bench_of(alloc: Global, job: &TestJob) -> Result<Bench, EditFault>
 /// Writes the report of a bench, and says how that ends.
 fn report_end<W: Sink>(bench: &mut Bench, meter: &mut Meter, writer: &mut W) -> TestEnd
     requires { length bench.old.stale ≡ 1 }
-    ensures ends { ReportEnds result bench.old.content (Wrote W.contents W.fault_count writer.old writer.new)
+    ensures ends { ReportEnds result bench.old.content
+        (Wrote W.contents W.fault_count writer.old writer.new)
         (WroteFront W.contents W.fault_count writer.old writer.new) (writer.new ≡ writer.old) }
     ensures runs { meter.new ≡ next_run meter.old }
 {

@@ -210,14 +210,16 @@ fn top_command<'a>(alloc: Global) -> Result<Command<'a>, AllocError>
 
 // The program with `session`.
 fn with_session<'a>(alloc: Global, names: &'a str) -> Result<Command<'a>, AllocError>
-    ensures { IfOk result (λ command. app_of command ≡ with_subcommand spec.top_app spec.session_shape) }
+    ensures { IfOk result
+        (λ command. app_of command ≡ with_subcommand spec.top_app spec.session_shape) }
 {
     top_command(alloc)?.subcommand(session_command(alloc, names)?)
 }
 
 // The program with `session` and `dump`.
 fn with_dump<'a>(alloc: Global, names: &'a str) -> Result<Command<'a>, AllocError>
-    ensures { IfOk result (λ command. app_of command ≡ with_subcommand (with_subcommand spec.top_app spec.session_shape) spec.dump_shape) }
+    ensures { IfOk result (λ command. app_of command
+        ≡ with_subcommand (with_subcommand spec.top_app spec.session_shape) spec.dump_shape) }
 {
     with_session(alloc, names)?.subcommand(dump_command(alloc, names)?)
 }

@@ -274,18 +274,21 @@ pub fn command_of<'a, S: AsStr>(alloc: Global, words: &'a [S]) -> Result<Command
     // The job is the one that the words name.
     ensures ok { IfOk result (λ line. named_job (map S.text words.entry.now) ≡ Some line.job) }
     // The profile is the one that they say.
-    ensures profile { IfOk result (λ line. said_profile (map S.text words.entry.now) ≡ Ok (profile_as line.profile)) }
+    ensures profile { IfOk result
+        (λ line. said_profile (map S.text words.entry.now) ≡ Ok (profile_as line.profile)) }
     // It has each name that the job needs.
     ensures allowed { IfOk result (λ line. allows (profile_as line.profile) line.job ≡ true) }
     // The clock is the one that the job says.
     ensures clock { IfOk result (λ line. clock_said line.job ≡ Ok line.clock) }
     // Words that name a job which says no bad clock, and say a profile which has each name that the job needs, are refused only for want of memory.
-    ensures named { (asked : Job) (profile : Profile) (clock : Option clocks.Clock) → named_job (map S.text words.entry.now) ≡ Some asked
-        → said_profile (map S.text words.entry.now) ≡ Ok profile → allows profile asked ≡ true → clock_said asked ≡ Ok clock
-        → IsOkUnless result UsageFault.NoMemory }
+    ensures named { (asked : Job) (profile : Profile) (clock : Option clocks.Clock)
+        → named_job (map S.text words.entry.now) ≡ Some asked
+        → said_profile (map S.text words.entry.now) ≡ Ok profile → allows profile asked ≡ true
+        → clock_said asked ≡ Ok clock → IsOkUnless result UsageFault.NoMemory }
     // Any other refusal is for a mistake in the words, for a name by which nothing is known, for one that is lacking, or for the word of a clock that
     // isn't one, or it is the help that they ask for.
-    ensures refused { IfErr result (IsRefusalFor (fault_of the_app (map S.text words.entry.now)) (said_profile (map S.text words.entry.now)) (named_job (map S.text words.entry.now))) }
+    ensures refused { IfErr result (IsRefusalFor (fault_of the_app (map S.text words.entry.now))
+        (said_profile (map S.text words.entry.now)) (named_job (map S.text words.entry.now))) }
 {
     let names = names_help(alloc)?;
     let matches = match program(alloc, names.as_str())?.try_get_matches_from(&*words) {

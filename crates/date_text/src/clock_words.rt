@@ -11,7 +11,8 @@ use crate::zone_words::zone_named;
 // The seconds with a digit more, which aren't past the year 9999.
 fn with_digit(seconds: u64, octet: u8) -> Option<u64>
     requires { seconds ≤ last_second }
-    ensures is { result ≡ up_to last_second (option_map (λ d. 10 * seconds + d) (digit_number octet)) }
+    ensures is { result
+        ≡ up_to last_second (option_map (λ d. 10 * seconds + d) (digit_number octet)) }
     ensures small { IfSome result (λ n. n ≤ last_second) }
 {
     let digit = digit_number(octet)?;

@@ -14,9 +14,12 @@ ghost use Rattle.date_text.specs.declared.part.DatePart.TheVariants.{Std11};
 pub fn days_and_dates_go_into_each_other()
     ensures within { (date : CivilDate) → IsInCalendar date → is_in_years (day_number date) ≡ true }
     ensures back { (date : CivilDate) → IsInCalendar date → date_at (day_number date) ≡ date }
-    ensures one { (a b : CivilDate) → IsInCalendar a → IsInCalendar b → day_number a ≡ day_number b → a ≡ b }
-    ensures next { (date : CivilDate) → IsInCalendar date → day_number (next_date date) ≡ day_number date +ℤ pos 1 }
-    ensures each { (day : ℤ) → is_in_years day ≡ true → IsInCalendar (date_at day) × (day_number (date_at day) ≡ day) }
+    ensures one { (a b : CivilDate) → IsInCalendar a → IsInCalendar b → day_number a ≡ day_number b
+        → a ≡ b }
+    ensures next { (date : CivilDate) → IsInCalendar date
+        → day_number (next_date date) ≡ day_number date +ℤ pos 1 }
+    ensures each { (day : ℤ) → is_in_years day ≡ true
+        → IsInCalendar (date_at day) × (day_number (date_at day) ≡ day) }
     ensures first { day_number (record { year = 1970; month = 1; day = 1 }) ≡ pos 0 }
 {}
 
@@ -30,9 +33,14 @@ pub fn weekdays_go_round()
 /// The clocks of a zone are shifted by its minutes, and the day and the minute that they show, taken as that zone's, are the
 /// moment again, written in that zone.
 pub fn a_zone_and_back_changes_nothing()
-    ensures shifted { (moment : Moment) (zone : Zone) → (day_in moment zone *ℤ pos 1440 +ℤ pos (minute_in moment zone) ≡ minutes_in moment zone) × (minute_in moment zone < 1440) }
-    ensures back { (moment : Moment) (zone : Zone) → moment_at (day_in moment zone) (minute_in moment zone) moment.second zone ≡ record { minutes = moment.minutes; second = moment.second; zone = zone } }
-    ensures forth { (day : ℤ) (minute second : ℕ) (zone : Zone) → minute < 1440 → (day_in (moment_at day minute second zone) zone ≡ day) × (minute_in (moment_at day minute second zone) zone ≡ minute) }
+    ensures shifted { (moment : Moment) (zone : Zone) → (day_in moment zone *ℤ pos 1440 +ℤ pos
+        (minute_in moment zone) ≡ minutes_in moment zone) × (minute_in moment zone < 1440) }
+    ensures back { (moment : Moment) (zone : Zone)
+        → moment_at (day_in moment zone) (minute_in moment zone) moment.second zone
+        ≡ record { minutes = moment.minutes; second = moment.second; zone = zone } }
+    ensures forth { (day : ℤ) (minute second : ℕ) (zone : Zone) → minute < 1440
+        → (day_in (moment_at day minute second zone) zone ≡ day)
+        × (minute_in (moment_at day minute second zone) zone ≡ minute) }
 {}
 
 /// Each zone is named by its text.
@@ -50,5 +58,8 @@ pub fn parts_are_found()
 /// What `std11` shows of a moment, in any zone in which its year is 1900 or later, is read as that moment, its second and that
 /// zone.
 pub fn what_is_shown_is_read()
-    ensures { (moment : Moment) (zone : Zone) (text : List ℕ) → moment.second ≤ 60 → zone.minutes ≤ 5999 → 1900 ≤ (date_at (day_in moment zone)).year → shown moment zone Std11 ≡ Some text → date_in text ≡ Some (record { minutes = moment.minutes; second = moment.second; zone = zone }) }
+    ensures { (moment : Moment) (zone : Zone) (text : List ℕ) → moment.second ≤ 60
+        → zone.minutes ≤ 5999 → 1900 ≤ (date_at (day_in moment zone)).year
+        → shown moment zone Std11 ≡ Some text → date_in text
+        ≡ Some (record { minutes = moment.minutes; second = moment.second; zone = zone }) }
 {}

@@ -38,8 +38,11 @@ impl LocalTime {
 
     /// A moment in a zone, or nothing where its date there lies before the year 0 or past 9999.
     pub(crate) fn new(moment: &Moment, zone: Zone) -> Option<LocalTime>
-        ensures none { MatchOption result (is_in_years (day_in (moment_as moment.now) (zone_as zone)) ≡ false) (λ _. is_in_years (day_in (moment_as moment.now) (zone_as zone)) ≡ true) }
-        ensures is { IfSome result (λ time. local_as time ≡ local (moment_as moment.now) (zone_as zone)) }
+        ensures none { MatchOption result
+            (is_in_years (day_in (moment_as moment.now) (zone_as zone)) ≡ false)
+            (λ _. is_in_years (day_in (moment_as moment.now) (zone_as zone)) ≡ true) }
+        ensures is { IfSome result
+            (λ time. local_as time ≡ local (moment_as moment.now) (zone_as zone)) }
     {
         let minutes = moment.minutes_in(&zone);
         let Some(date) = date_at(day_of_minutes(minutes)) else {

@@ -47,7 +47,8 @@ fn push_date(text: &mut Vec<u8>, time: &LocalTime) -> Result<(), AllocError>
 
 // Adds the time of day: 12:00:00.
 fn push_time(text: &mut Vec<u8>, time: &LocalTime) -> Result<(), AllocError>
-    ensures { OnOk result (text.new.items ≡ text.old.items ++ time_text time.now.minute time.now.second) }
+    ensures { OnOk result
+        (text.new.items ≡ text.old.items ++ time_text time.now.minute time.now.second) }
 {
     push_pair(text, (time.minute / 60) as u8)?;
     text.push(b':')?;
@@ -59,7 +60,8 @@ fn push_time(text: &mut Vec<u8>, time: &LocalTime) -> Result<(), AllocError>
 
 // Adds the weekday and the date: Sun, 05 Jul 2026.
 fn push_day(text: &mut Vec<u8>, time: &LocalTime) -> Result<(), AllocError>
-    ensures { OnOk result (text.new.items ≡ text.old.items ++ day_text time.now.weekday (local_as time.now).date) }
+    ensures { OnOk result
+        (text.new.items ≡ text.old.items ++ day_text time.now.weekday (local_as time.now).date) }
 {
     text.extend_from_slice(weekday_name(time.weekday))?;
     text.extend_from_slice(b", ")?;
@@ -73,7 +75,8 @@ fn push_day(text: &mut Vec<u8>, time: &LocalTime) -> Result<(), AllocError>
 
 // Adds the modified Julian day.
 fn push_julian(text: &mut Vec<u8>, time: &LocalTime) -> Result<(), AllocError>
-    ensures { OnOk result (text.new.items ≡ text.old.items ++ part_text Julian (local_as time.now)) }
+    ensures { OnOk result
+        (text.new.items ≡ text.old.items ++ part_text Julian (local_as time.now)) }
 {
     let mut buffer = Buffer::new();
     text.extend_from_slice(buffer.format(time.number + 40587).as_bytes())?;
@@ -82,7 +85,8 @@ fn push_julian(text: &mut Vec<u8>, time: &LocalTime) -> Result<(), AllocError>
 
 // Adds date, time and zone: 2026-07-05T12:00:00+02:00.
 fn push_iso8601(text: &mut Vec<u8>, time: &LocalTime) -> Result<(), AllocError>
-    ensures { OnOk result (text.new.items ≡ text.old.items ++ part_text Iso8601 (local_as time.now)) }
+    ensures { OnOk result
+        (text.new.items ≡ text.old.items ++ part_text Iso8601 (local_as time.now)) }
 {
     push_date(text, time)?;
     text.push(b'T')?;
@@ -134,7 +138,8 @@ pub fn shown(
     zone: Zone,
     part: DatePart,
 ) -> Result<Option<Vec<u8>>, AllocError>
-    ensures { IfOk result (λ text. option_map (λ found. found.items) text ≡ shown (moment_as moment.now) (zone_as zone) part) }
+    ensures { IfOk result (λ text. option_map (λ found. found.items) text
+        ≡ shown (moment_as moment.now) (zone_as zone) part) }
 {
     let Some(time) = LocalTime::new(moment, zone) else {
         return Ok(None);

@@ -55,10 +55,14 @@ fn is_word_at(spot: Spot, octet: u8) -> bool
 // What stands after the first octet of a text, if it is no octet of a word, and where that stands.
 fn after_blank(spot: Spot, text: &[u8]) -> Option<(Spot, &[u8])>
     requires { depth_of spot < 2 ^ 63 }
-    ensures words { IfSome result (λ found. words_from found.0 found.1.now ≡ words_from spot text.now) }
-    ensures closed { IfSome result (λ found. is_closed found.0 found.1.now ≡ is_closed spot text.now) }
-    ensures shorter { IfSome result (λ found. (length found.1.now < length text.now) × (depth_of found.0 + length found.1.now ≤ depth_of spot + length text.now)) }
-    ensures none { is_closed spot text.now ≡ true → MatchOption result ((spot ≡ Outside) × (begins_word text.now ≡ true)) (λ _. ⊤) }
+    ensures words { IfSome result
+        (λ found. words_from found.0 found.1.now ≡ words_from spot text.now) }
+    ensures closed { IfSome result
+        (λ found. is_closed found.0 found.1.now ≡ is_closed spot text.now) }
+    ensures shorter { IfSome result (λ found. (length found.1.now < length text.now)
+        × (depth_of found.0 + length found.1.now ≤ depth_of spot + length text.now)) }
+    ensures none { is_closed spot text.now ≡ true
+        → MatchOption result ((spot ≡ Outside) × (begins_word text.now ≡ true)) (λ _. ⊤) }
 {
     let [octet, rest @ ..] = text else {
         return None;
@@ -88,7 +92,8 @@ fn without_blanks(text: &[u8]) -> &[u8]
 /// The first word of a text whose comments are closed, and what stands after it, or nothing where it has no words.
 pub(crate) fn next_word(text: &[u8]) -> Option<(&[u8], &[u8])>
     requires { closes text.now ≡ true }
-    ensures is { MatchOption result (words_in text.now ≡ []) (λ found. words_in text.now ≡ found.0.now ∷ words_in found.1.now) }
+    ensures is { MatchOption result (words_in text.now ≡ [])
+        (λ found. words_in text.now ≡ found.0.now ∷ words_in found.1.now) }
     ensures closed { IfSome result (λ found. closes found.1.now ≡ true) }
 {
     let text = without_blanks(text);

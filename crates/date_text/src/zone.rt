@@ -87,7 +87,8 @@ impl Zone {
 
     /// Adds the zone to a text, with a `:` between hours and minutes (RFC 3339, section 5.6: time-numoffset).
     pub(crate) fn push_with_colon_to(&self, text: &mut Vec<u8>) -> Result<(), AllocError>
-        ensures { OnOk result (text.new.items ≡ text.old.items ++ zone_text_with_colon (zone_as self.now)) }
+        ensures { OnOk result
+            (text.new.items ≡ text.old.items ++ zone_text_with_colon (zone_as self.now)) }
     {
         text.push(self.sign())?;
         push_pair(text, (self.minutes / 60) as u8)?;

@@ -59,7 +59,8 @@ fn all_replaced(alloc: Global, text: &[u8]) -> Result<Option<Vec<u8>>, AllocErro
 /// the text has encoded characters; else the result is borrowed.
 pub fn replaced(alloc: Global, text: &[u8]) -> Result<Option<CowSlice<'_, u8>>, AllocError>
     ensures is { IfOk result (λ found. octets_shown found ≡ characters_replaced text.now) }
-    ensures borrowed { has_sequence text.now ≡ false → IfOk result (λ found. IfSome found IsBorrowedSlice) }
+    ensures borrowed { has_sequence text.now ≡ false
+        → IfOk result (λ found. IfSome found IsBorrowedSlice) }
     ensures none { has_sequence text.now ≡ false → IsOk result }
 {
     if !has_sequence(text) {

@@ -46,7 +46,8 @@ fn digit_count(octets: &[u8]) -> usize
 
 /// The first run of digits with what stands before it, and what stands after it.
 pub(crate) fn next_item(octets: &[u8]) -> Option<(EncodedItem<'_>, &[u8])>
-    ensures is { MatchOption result (inside_of octets.now ≡ last_alone octets.now) (λ found. inside_of octets.now ≡ item_before (item_of found.0) (inside_of found.1.now)) }
+    ensures is { MatchOption result (inside_of octets.now ≡ last_alone octets.now)
+        (λ found. inside_of octets.now ≡ item_before (item_of found.0) (inside_of found.1.now)) }
     ensures some { IfSome result (λ found. 0 < length found.0.digits.now) }
     ensures digits { IfSome result (λ found. list_all is_hex_digit found.0.digits.now ≡ true) }
     ensures shorter { IfSome result (λ found. length found.1.now < length octets.now) }
@@ -62,7 +63,8 @@ pub(crate) fn next_item(octets: &[u8]) -> Option<(EncodedItem<'_>, &[u8])>
 // What stands after the blank with which octets begin.
 #[tactic(auto, unfolding(crate::specs::Sequence::are_blanks))]
 fn after_blank(octets: &[u8]) -> Option<&[u8]>
-    ensures is { MatchOption result (are_blanks octets.now ≡ nat_eq (length octets.now) 0) (λ rest. are_blanks octets.now ≡ are_blanks rest.now) }
+    ensures is { MatchOption result (are_blanks octets.now ≡ nat_eq (length octets.now) 0)
+        (λ rest. are_blanks octets.now ≡ are_blanks rest.now) }
     ensures shorter { IfSome result (λ rest. length rest.now < length octets.now) }
 {
     match octets {

@@ -117,7 +117,8 @@ fn after_word<'a>(word: &'a [u8], behind: &'a [u8]) -> Option<EncodedSequence<'a
 #[tactic(auto, unfolding(crate::specs::Scan::sequence_at))]
 pub(crate) fn sequence_at(text: &[u8]) -> Option<EncodedSequence<'_>>
     ensures is { option_map sequence_of result ≡ sequence_at text.now }
-    ensures within { IfSome result (λ found. length found.word.now + length found.inside.now + 4 ≤ length text.now) }
+    ensures within { IfSome result
+        (λ found. length found.word.now + length found.inside.now + 4 ≤ length text.now) }
 {
     let [b'$', b'{', rest @ ..] = text else {
         return None;

@@ -39,7 +39,8 @@ fn character(digits: &[u8]) -> Option<char>
 
 // Adds the octet of one digit or of two, and tells whether there is one.
 fn push_octet(octets: &mut Vec<u8>, digits: &[u8]) -> Result<bool, AllocError>
-    ensures { IfOk result (λ pushed. if_right pushed octets.new.items ≡ grown octets.old.items (octets_of_digits true digits.now)) }
+    ensures { IfOk result (λ pushed. if_right pushed octets.new.items
+        ≡ grown octets.old.items (octets_of_digits true digits.now)) }
 {
     let Some(octet) = pair_octet(digits) else {
         return Ok(false);
@@ -50,7 +51,8 @@ fn push_octet(octets: &mut Vec<u8>, digits: &[u8]) -> Result<bool, AllocError>
 
 // Adds the character whose number the digits are, in UTF-8, and tells whether there is one.
 fn push_character(octets: &mut Vec<u8>, digits: &[u8]) -> Result<bool, AllocError>
-    ensures { IfOk result (λ pushed. if_right pushed octets.new.items ≡ grown octets.old.items (octets_of_digits false digits.now)) }
+    ensures { IfOk result (λ pushed. if_right pushed octets.new.items
+        ≡ grown octets.old.items (octets_of_digits false digits.now)) }
 {
     let Some(character) = character(digits) else {
         return Ok(false);
@@ -62,7 +64,8 @@ fn push_character(octets: &mut Vec<u8>, digits: &[u8]) -> Result<bool, AllocErro
 
 // Adds what digits stand for, and tells whether they stand for something.
 fn push_digits(octets: &mut Vec<u8>, hex: bool, digits: &[u8]) -> Result<bool, AllocError>
-    ensures { IfOk result (λ pushed. if_right pushed octets.new.items ≡ grown octets.old.items (octets_of_digits hex digits.now)) }
+    ensures { IfOk result (λ pushed. if_right pushed octets.new.items
+        ≡ grown octets.old.items (octets_of_digits hex digits.now)) }
 {
     if hex {
         push_octet(octets, digits)
@@ -76,7 +79,8 @@ pub(crate) fn push_sequence(
     octets: &mut Vec<u8>,
     sequence: &EncodedSequence<'_>,
 ) -> Result<bool, AllocError>
-    ensures { IfOk result (λ pushed. if_right pushed octets.new.items ≡ grown octets.old.items (octets_of_sequence (sequence_of sequence.now))) }
+    ensures { IfOk result (λ pushed. if_right pushed octets.new.items
+        ≡ grown octets.old.items (octets_of_sequence (sequence_of sequence.now))) }
 {
     let hex = is_hex(sequence.word);
     let mut left = sequence.inside;

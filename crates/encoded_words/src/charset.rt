@@ -195,7 +195,8 @@ pub(crate) fn meaning(
     profile: Profile,
     word: &EncodedWord<'_>,
 ) -> Result<Option<Vec<u8>>, AllocError>
-    ensures is { IfOk result (λ octets. octets_of octets ≡ meaning (profile_as profile) (word_of word.now)) }
+    ensures is { IfOk result
+        (λ octets. octets_of octets ≡ meaning (profile_as profile) (word_of word.now)) }
     ensures unknown { charset_named (profile_as profile) word.now.charset.now ≡ None → IsOk result }
 {
     let Some(charset) = charset_named(profile, word.charset) else {
@@ -226,7 +227,8 @@ pub fn text_in<'o>(
     charset: &[u8],
     octets: CowSlice<'o, u8>,
 ) -> Result<CowSlice<'o, u8>, AllocError>
-    ensures { IfOk result (λ text. cow_slice_items text ≡ text_in (profile_as profile) charset.now (cow_slice_items octets.entry)) }
+    ensures { IfOk result (λ text. cow_slice_items text
+        ≡ text_in (profile_as profile) charset.now (cow_slice_items octets.entry)) }
 {
     match charset_named(profile, charset) {
         Some(Charset::Latin1) => Ok(CowSlice::Owned(latin(alloc, octets.as_slice())?)),

@@ -32,7 +32,8 @@ fn push_word(
     gap: &[u8],
     meant: &[u8],
 ) -> Result<(), AllocError>
-    ensures { OnOk result (octets.new.items ≡ octets.old.items ++ (kept behind_word gap.now ++ meant.now)) }
+    ensures { OnOk result
+        (octets.new.items ≡ octets.old.items ++ (kept behind_word gap.now ++ meant.now)) }
 {
     if !(behind_word && are_blank(gap)) {
         octets.extend_from_slice(gap)?;
@@ -43,15 +44,18 @@ fn push_word(
 // How many octets stand in front of the first `=`. No word begins among them.
 fn before_sign(value: &[u8]) -> usize
     ensures within { result ≤ length value.now }
-    ensures alone { (profile : profiles.Profile) → map octet (take result value.now) ++ pieces_of profile (drop result value.now) ≡ pieces_of profile value.now }
-    ensures unknown { (profile : profiles.Profile) → has_known profile value.now ≡ false → has_known profile (drop result value.now) ≡ false }
+    ensures alone { (profile : profiles.Profile) → map octet (take result value.now)
+        ++ pieces_of profile (drop result value.now) ≡ pieces_of profile value.now }
+    ensures unknown { (profile : profiles.Profile) → has_known profile value.now ≡ false
+        → has_known profile (drop result value.now) ≡ false }
 {
     memchr(b'=', value).unwrap_or(value.len())
 }
 
 // A value with its encoded words replaced, if it has one that can be decoded.
 fn replaced(alloc: Global, profile: Profile, value: &[u8]) -> Result<Option<Vec<u8>>, AllocError>
-    ensures is { IfOk result (λ found. octets_of found ≡ replaced_of (profile_as profile) value.now) }
+    ensures is { IfOk result
+        (λ found. octets_of found ≡ replaced_of (profile_as profile) value.now) }
     // A value in which no word of a known charset is written takes no memory, so want of it is never answered.
     ensures unknown { has_known (profile_as profile) value.now ≡ false → IsOk result }
 {
@@ -86,8 +90,10 @@ fn replaced(alloc: Global, profile: Profile, value: &[u8]) -> Result<Option<Vec<
 // A value with its encoded words replaced. It is borrowed exactly where none was.
 #[tactic(auto, using(crate::proofs::Steps::unchanged, crate::proofs::Steps::none_replaced, crate::proofs::Steps::some_replaced))]
 fn decoded(alloc: Global, profile: Profile, value: &[u8]) -> Result<CowSlice<'_, u8>, AllocError>
-    ensures octets { IfOk result (λ octets. cow_slice_items octets ≡ decoded_of (profile_as profile) value.now) }
-    ensures borrowed { has_word (profile_as profile) value.now ≡ false → IfOk result IsBorrowedSlice }
+    ensures octets { IfOk result
+        (λ octets. cow_slice_items octets ≡ decoded_of (profile_as profile) value.now) }
+    ensures borrowed { has_word (profile_as profile) value.now ≡ false
+        → IfOk result IsBorrowedSlice }
     ensures owned { has_word (profile_as profile) value.now ≡ true → IfOk result IsOwnedSlice }
     ensures unknown { has_known (profile_as profile) value.now ≡ false → IsOk result }
 {
@@ -111,11 +117,15 @@ pub fn decoded_value(
     profile: Profile,
     value: CowSlice<'_, u8>,
 ) -> Result<CowSlice<'_, u8>, AllocError>
-    ensures octets { IfOk result (λ octets. cow_slice_items octets ≡ decoded_of (profile_as profile) (cow_slice_items value.entry)) }
-    ensures borrowed { has_word (profile_as profile) (cow_slice_items value.entry) ≡ false → IsBorrowedSlice value.entry → IfOk result IsBorrowedSlice }
-    ensures replaced { has_word (profile_as profile) (cow_slice_items value.entry) ≡ true → IfOk result IsOwnedSlice }
+    ensures octets { IfOk result (λ octets. cow_slice_items octets
+        ≡ decoded_of (profile_as profile) (cow_slice_items value.entry)) }
+    ensures borrowed { has_word (profile_as profile) (cow_slice_items value.entry) ≡ false
+        → IsBorrowedSlice value.entry → IfOk result IsBorrowedSlice }
+    ensures replaced { has_word (profile_as profile) (cow_slice_items value.entry) ≡ true
+        → IfOk result IsOwnedSlice }
     ensures owned { IsOwnedSlice value.entry → IfOk result IsOwnedSlice }
-    ensures unknown { has_known (profile_as profile) (cow_slice_items value.entry) ≡ false → IsOk result }
+    ensures unknown { has_known (profile_as profile) (cow_slice_items value.entry) ≡ false
+        → IsOk result }
 {
     match value {
         CowSlice::Borrowed(octets) => decoded(alloc, profile, octets),

@@ -70,7 +70,8 @@ fn cut_run(octets: &[u8]) -> (&[u8], &[u8])
 #[tactic(auto, unfolding(crate::specs::Scan::word_at))]
 pub(crate) fn word_at(octets: &[u8]) -> Option<EncodedWord<'_>>
     ensures is { option_map word_of result ≡ word_at octets.now }
-    ensures within { IfSome result (λ word. length word.charset.now + length word.text.now + 7 ≤ length octets.now) }
+    ensures within { IfSome result
+        (λ word. length word.charset.now + length word.text.now + 7 ≤ length octets.now) }
 {
     let [b'=', b'?', rest @ ..] = octets else {
         return None;

@@ -93,7 +93,8 @@ pub fn next_flag(text: &[u8]) -> Option<(&[u8], &[u8])>
 // The flag that a text without a space is, if it is one, and nothing behind it.
 fn last_flag(piece: &[u8]) -> Option<(&[u8], &[u8])>
     requires { pieces piece.now ≡ piece.now ∷ [] }
-    ensures some { IfSome result (λ found. flags_in piece.now ≡ found.0.now ∷ flags_in found.1.now) }
+    ensures some { IfSome result
+        (λ found. flags_in piece.now ≡ found.0.now ∷ flags_in found.1.now) }
     ensures shorter { IfSome result (λ found. length found.1.now < length piece.now) }
     ensures none { IfNone result (flags_in piece.now ≡ []) }
 {

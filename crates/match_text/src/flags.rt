@@ -213,7 +213,8 @@ impl FlagList {
         requires known { All (λ flag. has_flag self.old flag ≡ true) (take known flags.now) }
         ensures union { OnOk result (self.new ≡ flag_union self.old flags.now) }
         ensures there { OnOk result (All (λ flag. has_flag self.new flag ≡ true) flags.now) }
-        ensures err { OnErr result (SomeIndex flags.now (λ i. (known ≤ i) × (self.new ≡ flag_union self.old (take i flags.now)))) }
+        ensures err { OnErr result (SomeIndex flags.now
+            (λ i. (known ≤ i) × (self.new ≡ flag_union self.old (take i flags.now)))) }
         ensures held { All (λ flag. has_flag self.old flag ≡ true) flags.now → IsOk result }
     {
         let known = self.first_missing(flags, known);
@@ -231,7 +232,8 @@ impl FlagList {
         ensures behind { known ≤ result }
         ensures within { result ≤ length flags.now }
         ensures there { All (λ flag. has_flag self.now flag ≡ true) (take result flags.now) }
-        ensures all { All (λ flag. has_flag self.now flag ≡ true) flags.now → result ≡ length flags.now }
+        ensures all { All (λ flag. has_flag self.now flag ≡ true) flags.now
+            → result ≡ length flags.now }
     {
         for place in known..flags.len() {
             let sought = SoughtFlag {
@@ -248,8 +250,10 @@ impl FlagList {
     /// have been added. Takes no memory where all are there.
     pub fn add_text(&mut self, alloc: Global, text: &[u8]) -> Result<(), AllocError>
         ensures union { OnOk result (self.new ≡ flag_union self.old (flags_in text.now)) }
-        ensures err { OnErr result (SomeIndex (flags_in text.now) (λ i. self.new ≡ flag_union self.old (take i (flags_in text.now)))) }
-        ensures held { All (λ flag. has_flag self.old flag ≡ true) (flags_in text.now) → IsOk result }
+        ensures err { OnErr result (SomeIndex (flags_in text.now)
+            (λ i. self.new ≡ flag_union self.old (take i (flags_in text.now)))) }
+        ensures held { All (λ flag. has_flag self.old flag ≡ true) (flags_in text.now)
+            → IsOk result }
     {
         let added = insert_text(alloc, &mut self.flags, text);
         // The set tells here that no two of them are the same.
@@ -312,7 +316,8 @@ fn insert(alloc: Global, flags: &mut IndexSet<Flag>, flag: &[u8]) -> Result<(), 
 // Adds each of some flags that isn't there yet.
 fn insert_each(alloc: Global, flags: &mut IndexSet<Flag>, list: &[Flag]) -> Result<(), AllocError>
     ensures ok { OnOk result (flags.new.keys ≡ flag_union flags.old.keys list.now) }
-    ensures err { OnErr result (SomeIndex list.now (λ i. flags.new.keys ≡ flag_union flags.old.keys (take i list.now))) }
+    ensures err { OnErr result
+        (SomeIndex list.now (λ i. flags.new.keys ≡ flag_union flags.old.keys (take i list.now))) }
     ensures none { list.now ≡ [] → IsOk result }
 {
     for flag in list {
@@ -336,8 +341,10 @@ fn insert_missing(alloc: Global, flags: &mut IndexSet<Flag>, flag: &[u8]) -> Res
 // Adds each flag of a text that isn't there yet.
 fn insert_text(alloc: Global, flags: &mut IndexSet<Flag>, text: &[u8]) -> Result<(), AllocError>
     ensures ok { OnOk result (flags.new.keys ≡ flag_union flags.old.keys (flags_in text.now)) }
-    ensures err { OnErr result (SomeIndex (flags_in text.now) (λ i. flags.new.keys ≡ flag_union flags.old.keys (take i (flags_in text.now)))) }
-    ensures there { All (λ flag. has_flag flags.old.keys flag ≡ true) (flags_in text.now) → IsOk result }
+    ensures err { OnErr result (SomeIndex (flags_in text.now)
+        (λ i. flags.new.keys ≡ flag_union flags.old.keys (take i (flags_in text.now)))) }
+    ensures there { All (λ flag. has_flag flags.old.keys flag ≡ true) (flags_in text.now)
+        → IsOk result }
 {
     let mut rest = text;
     while let Some((flag, behind)) = next_flag(rest) {
@@ -399,7 +406,8 @@ fn insert_other(
     flag: &Flag,
     others: &IndexSet<Flag>,
 ) -> Result<(), AllocError>
-    ensures { OnOk result (flags.new.keys ≡ flag_union flags.old.keys (flags_without (flag.now ∷ []) others.now.keys)) }
+    ensures { OnOk result (flags.new.keys
+        ≡ flag_union flags.old.keys (flags_without (flag.now ∷ []) others.now.keys)) }
 {
     if others.contains(flag) {
         Ok(())

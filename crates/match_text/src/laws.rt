@@ -23,7 +23,8 @@ ghost use Rattle.match_text.specs.declared.room.KeyKind.TheVariants.{Part, Patte
 /// section 2.7.1). No octets at all are part of every value, the empty one too.
 pub fn sameness_is_decided()
     ensures same { (fold : ℕ → ℕ) (a b : List ℕ) → (same fold a b ≡ true) ↔ Same fold a b }
-    ensures part { (fold : ℕ → ℕ) (value key : List ℕ) → (is_part fold value key ≡ true) ↔ IsPart fold value key }
+    ensures part { (fold : ℕ → ℕ) (value key : List ℕ)
+        → (is_part fold value key ≡ true) ↔ IsPart fold value key }
     ensures empty { (fold : ℕ → ℕ) (value : List ℕ) → is_part fold value [] ≡ true }
 {}
 
@@ -31,16 +32,23 @@ pub fn sameness_is_decided()
 /// most the other are equal in it, and at most is transitive.
 pub fn texts_are_in_a_total_order()
     ensures total { (collation : Collation) → IsTotalOrder (order_of collation) }
-    ensures either { (collation : Collation) (a b : List ℕ) → (stands_in Le (order_of collation a b) ≡ true) ⊎ (stands_in Le (order_of collation b a) ≡ true) }
-    ensures both { (collation : Collation) (a b : List ℕ) → stands_in Le (order_of collation a b) ≡ true → stands_in Le (order_of collation b a) ≡ true → stands_in Eq (order_of collation a b) ≡ true }
-    ensures transitive { (collation : Collation) (a b c : List ℕ) → stands_in Le (order_of collation a b) ≡ true → stands_in Le (order_of collation b c) ≡ true → stands_in Le (order_of collation a c) ≡ true }
+    ensures either { (collation : Collation) (a b : List ℕ) → (stands_in Le (order_of collation a b)
+        ≡ true) ⊎ (stands_in Le (order_of collation b a) ≡ true) }
+    ensures both { (collation : Collation) (a b : List ℕ) → stands_in Le (order_of collation a b)
+        ≡ true → stands_in Le (order_of collation b a) ≡ true
+        → stands_in Eq (order_of collation a b) ≡ true }
+    ensures transitive { (collation : Collation) (a b c : List ℕ)
+        → stands_in Le (order_of collation a b) ≡ true → stands_in Le (order_of collation b c)
+        ≡ true → stands_in Le (order_of collation a c) ≡ true }
 {}
 
 /// Equal in the order of a comparator is an equivalence, and is what `:is` calls equal (RFC 4790, section 4.2.2). Under `i;octet` and
 /// `i;ascii-casemap` it is that the octets are equal after folding.
 pub fn equality_goes_by_the_order()
-    ensures equivalence { (collation : Collation) → IsEquivalence (λ a b. stands_in Eq (order_of collation a b)) }
-    ensures equal { (collation : Collation) (a b : List ℕ) → are_equal collation a b ≡ stands_in Eq (order_of collation a b) }
+    ensures equivalence { (collation : Collation)
+        → IsEquivalence (λ a b. stands_in Eq (order_of collation a b)) }
+    ensures equal { (collation : Collation) (a b : List ℕ)
+        → are_equal collation a b ≡ stands_in Eq (order_of collation a b) }
     ensures octet { (a b : List ℕ) → (order_of Octet a b ≡ Equal) ↔ Same octet a b }
     ensures casemap { (a b : List ℕ) → (order_of Casemap a b ≡ Equal) ↔ Same ascii_casemap a b }
 {}
@@ -52,19 +60,24 @@ pub fn relations_go_by_the_order()
     ensures ne { (order : orderings.Ordering) → stands_in Ne order ≡ not (stands_in Eq order) }
     ensures ge { (order : orderings.Ordering) → stands_in Ge order ≡ not (stands_in Lt order) }
     ensures le { (order : orderings.Ordering) → stands_in Le order ≡ not (stands_in Gt order) }
-    ensures equal { (order : orderings.Ordering) → stands_in Le order ≡ (stands_in Lt order || stands_in Eq order) }
-    ensures turned { (collation : Collation) (a b : List ℕ) → stands_in Gt (order_of collation a b) ≡ stands_in Lt (order_of collation b a) }
+    ensures equal { (order : orderings.Ordering)
+        → stands_in Le order ≡ (stands_in Lt order || stands_in Eq order) }
+    ensures turned { (collation : Collation) (a b : List ℕ)
+        → stands_in Gt (order_of collation a b) ≡ stands_in Lt (order_of collation b a) }
     ensures greater { stands_in Gt Greater ≡ true }
     ensures less { stands_in Gt Less ≡ false }
     ensures same { stands_in Gt Equal ≡ false }
-    ensures equal_alone { (order : orderings.Ordering) → (stands_in Eq order ≡ true) ↔ (order ≡ Equal) }
+    ensures equal_alone { (order : orderings.Ordering)
+        → (stands_in Eq order ≡ true) ↔ (order ≡ Equal) }
 {}
 
 /// Each relation is found by its word. A relation is what a word finds exactly where the word is that of the relation, in any case of
 /// letters (RFC 5231, section 4).
 pub fn relations_have_their_words()
-    ensures found { (relation : Relation) → relation_named (relation_word relation) ≡ Some relation }
-    ensures word { (relation : Relation) (word : List ℕ) → (relation_named word ≡ Some relation) ↔ (is_word_of relation word ≡ true) }
+    ensures found { (relation : Relation)
+        → relation_named (relation_word relation) ≡ Some relation }
+    ensures word { (relation : Relation) (word : List ℕ)
+        → (relation_named word ≡ Some relation) ↔ (is_word_of relation word ≡ true) }
 {}
 
 /// What stands after the first digits of a text doesn't change its number, nor do zeros before a number. A text is infinite, which is
@@ -72,31 +85,40 @@ pub fn relations_have_their_words()
 /// stands for that number, whatever comes after it that doesn't begin with a digit.
 pub fn numbers_are_those_of_their_digits()
     ensures digits { (text : List ℕ) → number_of (first_digits text) ≡ number_of text }
-    ensures zeros { (text : List ℕ) → IsSome (number_of text) → number_of (octet_of "0" ∷ text) ≡ number_of text }
+    ensures zeros { (text : List ℕ) → IsSome (number_of text)
+        → number_of (octet_of "0" ∷ text) ≡ number_of text }
     ensures infinite { (text : List ℕ) → (number_of text ≡ None) ↔ (first_digits text ≡ []) }
-    ensures decimal { (n : ℕ) (rest : List ℕ) → n < 10 ^ 64 → first_digits rest ≡ [] → number_of (decimal n ++ rest) ≡ Some n }
+    ensures decimal { (n : ℕ) (rest : List ℕ) → n < 10 ^ 64 → first_digits rest ≡ []
+        → number_of (decimal n ++ rest) ≡ Some n }
 {}
 
 /// Under `i;ascii-numeric` two texts are in the order of their numbers (RFC 4790, section 9.1). What is infinite is greater than each
 /// number, and all that is infinite is equal.
 pub fn numbers_are_ordered_by_what_they_are()
-    ensures infinite { (a b : List ℕ) (n : ℕ) → number_of a ≡ None → number_of b ≡ Some n → order_of Numeric a b ≡ Greater }
-    ensures finite { (a b : List ℕ) (m n : ℕ) → number_of a ≡ Some m → number_of b ≡ Some n → order_of Numeric a b ≡ nat_cmp m n }
-    ensures both { (a b : List ℕ) → number_of a ≡ None → number_of b ≡ None → order_of Numeric a b ≡ Equal }
+    ensures infinite { (a b : List ℕ) (n : ℕ) → number_of a ≡ None → number_of b ≡ Some n
+        → order_of Numeric a b ≡ Greater }
+    ensures finite { (a b : List ℕ) (m n : ℕ) → number_of a ≡ Some m → number_of b ≡ Some n
+        → order_of Numeric a b ≡ nat_cmp m n }
+    ensures both { (a b : List ℕ) → number_of a ≡ None → number_of b ≡ None
+        → order_of Numeric a b ≡ Equal }
 {}
 
 /// The least fit of a pattern's items is the fit that is least in dictionary order, and is absent exactly where no fit exists
 /// (RFC 5229, section 3.2).
 pub fn the_least_fit_is_least()
-    ensures least { (fold : ℕ → ℕ) (items : List Item) (value lengths : List ℕ) → (least_fit fold items value ≡ Some lengths) ↔ IsLeastFit fold items value lengths }
-    ensures none { (fold : ℕ → ℕ) (items : List Item) (value : List ℕ) → (least_fit fold items value ≡ None) ↔ ((lengths : List ℕ) → ¬ Fits fold items value lengths) }
+    ensures least { (fold : ℕ → ℕ) (items : List Item) (value lengths : List ℕ)
+        → (least_fit fold items value ≡ Some lengths) ↔ IsLeastFit fold items value lengths }
+    ensures none { (fold : ℕ → ℕ) (items : List Item) (value : List ℕ) → (least_fit fold items value
+        ≡ None) ↔ ((lengths : List ℕ) → ¬ Fits fold items value lengths) }
 {}
 
 /// Under a fit the slices that are taken stand in the value in turn, with the octets of the pattern between them, and have the
 /// lengths of the fit (RFC 5229, section 3.2).
 pub fn captures_are_slices()
-    ensures slices { (fold : ℕ → ℕ) (items : List Item) (value lengths : List ℕ) → Fits fold items value lengths → TakeInTurn fold items value (taken items lengths value) }
-    ensures lengths { (fold : ℕ → ℕ) (items : List Item) (value lengths : List ℕ) → Fits fold items value lengths → map length (taken items lengths value) ≡ lengths }
+    ensures slices { (fold : ℕ → ℕ) (items : List Item) (value lengths : List ℕ)
+        → Fits fold items value lengths → TakeInTurn fold items value (taken items lengths value) }
+    ensures lengths { (fold : ℕ → ℕ) (items : List Item) (value lengths : List ℕ)
+        → Fits fold items value lengths → map length (taken items lengths value) ≡ lengths }
 {}
 
 /// The flags of texts have no two the same (RFC 5232, section 2). Nor has the union of two lists where the first has none,
@@ -122,21 +144,29 @@ pub fn distinct_flags_stay()
 /// To add the flags of some texts, or to take them out, is to do that with the flags of each text in turn (RFC 5232, sections 3.2 and 3.3).
 pub fn texts_are_changed_in_turn()
     ensures none_added { (flags : List (List ℕ)) → flag_union flags (flags_of_texts []) ≡ flags }
-    ensures added { (flags : List (List ℕ)) (text : List ℕ) (texts : List (List ℕ)) → flag_union flags (flags_of_texts (text ∷ texts)) ≡ flag_union (flag_union flags (flags_in text)) (flags_of_texts texts) }
+    ensures added { (flags : List (List ℕ)) (text : List ℕ) (texts : List (List ℕ))
+        → flag_union flags (flags_of_texts (text ∷ texts))
+        ≡ flag_union (flag_union flags (flags_in text)) (flags_of_texts texts) }
     ensures none_taken { (flags : List (List ℕ)) → flags_without flags (flags_of_texts []) ≡ flags }
-    ensures taken { (flags : List (List ℕ)) (text : List ℕ) (texts : List (List ℕ)) → flags_without flags (flags_of_texts (text ∷ texts)) ≡ flags_without (flags_without flags (flags_in text)) (flags_of_texts texts) }
+    ensures taken { (flags : List (List ℕ)) (text : List ℕ) (texts : List (List ℕ))
+        → flags_without flags (flags_of_texts (text ∷ texts))
+        ≡ flags_without (flags_without flags (flags_in text)) (flags_of_texts texts) }
 {}
 
 /// To take flags out is to take each of them out in turn (RFC 5232, section 3.3).
 pub fn flags_are_taken_out_in_turn()
     ensures none { (flags : List (List ℕ)) → flags_without flags [] ≡ flags }
-    ensures more { (flags others : List (List ℕ)) (flag : List ℕ) → flags_without flags (flag ∷ others) ≡ flags_without (flags_without flags (flag ∷ [])) others }
+    ensures more { (flags others : List (List ℕ)) (flag : List ℕ) → flags_without flags
+        (flag ∷ others) ≡ flags_without (flags_without flags (flag ∷ [])) others }
 {}
 
 /// A value that matches a key has the octets that the key needs (RFC 5228, section 2.7.1): under `:is` as many as the key has, under
 /// `:contains` no fewer, and under `:matches` one for each item of the pattern that takes one.
 pub fn keys_need_octets()
-    ensures is { (fold : ℕ → ℕ) (value key : List ℕ) → same fold value key ≡ true → may_match Whole (length value) key ≡ true }
-    ensures contains { (fold : ℕ → ℕ) (value key : List ℕ) → is_part fold value key ≡ true → may_match Part (length value) key ≡ true }
-    ensures matches { (fold : ℕ → ℕ) (value key : List ℕ) → IsSome (matched fold value key) → may_match Pattern (length value) key ≡ true }
+    ensures is { (fold : ℕ → ℕ) (value key : List ℕ) → same fold value key ≡ true
+        → may_match Whole (length value) key ≡ true }
+    ensures contains { (fold : ℕ → ℕ) (value key : List ℕ) → is_part fold value key ≡ true
+        → may_match Part (length value) key ≡ true }
+    ensures matches { (fold : ℕ → ℕ) (value key : List ℕ) → IsSome (matched fold value key)
+        → may_match Pattern (length value) key ≡ true }
 {}

@@ -23,7 +23,8 @@ pub(crate) fn folded_items<C: Comparator>(
     alloc: Global,
     pattern: &[u8],
 ) -> Result<Vec<Item>, AllocError>
-    ensures { IfOk result (λ items. items.items ≡ map (folded_item C.folded) (items_of pattern.now)) }
+    ensures { IfOk result
+        (λ items. items.items ≡ map (folded_item C.folded) (items_of pattern.now)) }
 {
     let mut items = Vec::with_capacity(alloc, pattern.len())?;
     let mut is_protected = false;

@@ -38,9 +38,9 @@ impl Room {
         }
     }
 
-    /// What is left behind the next octets of a key. Takes no memory; its time is linear in the octets of a pattern, as far as
+    /// What is left after the next octets of a key. Takes no memory; its time is linear in the octets of a pattern, as far as
     /// there is room for them, and under the other match types the same for any number.
-    pub fn behind(self, octets: &[u8]) -> Room
+    pub fn after(self, octets: &[u8]) -> Room
         ensures { (rest : List ℕ) → has_room result rest ≡ has_room self (octets.now ++ rest) }
     {
         let Some(left) = self.left else {
@@ -52,7 +52,7 @@ impl Room {
                 ..self
             },
             KeyKind::Pattern => {
-                let (left, is_protected) = behind_items(left, self.is_protected, octets);
+                let (left, is_protected) = after_items(left, self.is_protected, octets);
                 Room {
                     left,
                     is_protected,
@@ -84,9 +84,10 @@ fn takes_octet(is_protected: bool, octet: u8) -> bool
     is_protected || (octet != b'*' && octet != b'\\')
 }
 
-/// How many of these octets are left behind some of a pattern, and whether the last of those protects the next.
-fn behind_items(size: usize, was_protected: bool, octets: &[u8]) -> (Option<usize>, bool)
-    ensures { (rest : List ℕ) → is_room Pattern result.1 result.0 rest ≡ is_room Pattern was_protected (Some size) (octets.now ++ rest) }
+/// How many of these octets are left after some of a pattern, and whether the last of those protects the next.
+fn after_items(size: usize, was_protected: bool, octets: &[u8]) -> (Option<usize>, bool)
+    ensures { (rest : List ℕ) → is_room Pattern result.1 result.0 rest
+        ≡ is_room Pattern was_protected (Some size) (octets.now ++ rest) }
 {
     let mut left = size;
     let mut is_protected = was_protected;

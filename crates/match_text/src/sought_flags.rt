@@ -24,7 +24,8 @@ pub fn flag_keys_of_texts<'a>(
     alloc: Global,
     keys: &'a [CowSlice<'a, u8>],
 ) -> Result<Vec<CowSlice<'a, u8>>, AllocError>
-    ensures { IfOk result (λ found. octets_of_each found.items ≡ flag_keys_of_texts (octets_of_each keys.now)) }
+    ensures { IfOk result
+        (λ found. octets_of_each found.items ≡ flag_keys_of_texts (octets_of_each keys.now)) }
 {
     let mut found = Vec::new(alloc);
     for key in keys {
@@ -36,7 +37,8 @@ pub fn flag_keys_of_texts<'a>(
 /// The first piece of a key of a test that has octets, and what stands behind it: what a key that isn't empty stands for, one after
 /// another (RFC 5232, section 4). Takes no memory.
 pub fn next_key(key: &[u8]) -> Option<(&[u8], &[u8])>
-    ensures some { IfSome result (λ found. filled_pieces key.now ≡ found.0.now ∷ filled_pieces found.1.now) }
+    ensures some { IfSome result
+        (λ found. filled_pieces key.now ≡ found.0.now ∷ filled_pieces found.1.now) }
     ensures shorter { IfSome result (λ found. length found.1.now < length key.now) }
     ensures none { IfNone result (filled_pieces key.now ≡ []) }
 {
@@ -59,7 +61,8 @@ pub fn next_key(key: &[u8]) -> Option<(&[u8], &[u8])>
 // The piece that a text without a space is, if it has octets, and nothing behind it.
 fn last_key(piece: &[u8]) -> Option<(&[u8], &[u8])>
     requires { pieces piece.now ≡ piece.now ∷ [] }
-    ensures some { IfSome result (λ found. filled_pieces piece.now ≡ found.0.now ∷ filled_pieces found.1.now) }
+    ensures some { IfSome result
+        (λ found. filled_pieces piece.now ≡ found.0.now ∷ filled_pieces found.1.now) }
     ensures shorter { IfSome result (λ found. length found.1.now < length piece.now) }
     ensures none { IfNone result (filled_pieces piece.now ≡ []) }
 {
@@ -73,7 +76,8 @@ fn last_key(piece: &[u8]) -> Option<(&[u8], &[u8])>
 // Adds what a key stands for.
 #[tactic(auto, unfolding(crate::specs::Flags::flag_keys))]
 fn push_keys<'a>(found: &mut Vec<CowSlice<'a, u8>>, key: &'a [u8]) -> Result<(), AllocError>
-    ensures { OnOk result (octets_of_each found.new.items ≡ octets_of_each found.old.items ++ flag_keys key.now) }
+    ensures { OnOk result
+        (octets_of_each found.new.items ≡ octets_of_each found.old.items ++ flag_keys key.now) }
 {
     if key.is_empty() {
         found.push(CowSlice::Borrowed(key))?;

@@ -123,10 +123,12 @@ fn take_star<'t, 'v>(
 ) -> Result<(&'t [u8], &'v [u8]), AllocError>
     requires within { place + length segment.now ≤ length text.now }
     requires as_long { length text.now ≡ length value.now }
-    ensures taken { IfOk result (λ _. texts_of texts.new.items
-        ≡ texts_of texts.old.items ++ take place value.now ∷ questions segment.now (drop place value.now)) }
-    ensures text { IfOk result (λ left. left.0.now ≡ drop (length segment.now) (drop place text.now)) }
-    ensures value { IfOk result (λ left. left.1.now ≡ drop (length segment.now) (drop place value.now)) }
+    ensures taken { IfOk result (λ _. texts_of texts.new.items ≡ texts_of texts.old.items
+        ++ take place value.now ∷ questions segment.now (drop place value.now)) }
+    ensures text { IfOk result
+        (λ left. left.0.now ≡ drop (length segment.now) (drop place text.now)) }
+    ensures value { IfOk result
+        (λ left. left.1.now ≡ drop (length segment.now) (drop place value.now)) }
 {
     let (taken, value_left) = value.split_at(place);
     let (_, text_left) = text.split_at(place);
@@ -144,7 +146,8 @@ fn take_segment<'t, 'v>(
 ) -> Result<(&'t [u8], &'v [u8]), AllocError>
     requires within { length segment.now ≤ length text.now }
     requires as_long { length text.now ≡ length value.now }
-    ensures taken { IfOk result (λ _. texts_of texts.new.items ≡ texts_of texts.old.items ++ questions segment.now value.now) }
+    ensures taken { IfOk result (λ _. texts_of texts.new.items
+        ≡ texts_of texts.old.items ++ questions segment.now value.now) }
     ensures text { IfOk result (λ left. left.0.now ≡ drop (length segment.now) text.now) }
     ensures value { IfOk result (λ left. left.1.now ≡ drop (length segment.now) value.now) }
 {
@@ -160,7 +163,8 @@ fn push_questions<'v>(
     value: &'v [u8],
 ) -> Result<&'v [u8], AllocError>
     requires { length segment.now ≤ length value.now }
-    ensures taken { IfOk result (λ _. texts_of texts.new.items ≡ texts_of texts.old.items ++ questions segment.now value.now) }
+    ensures taken { IfOk result (λ _. texts_of texts.new.items
+        ≡ texts_of texts.old.items ++ questions segment.now value.now) }
     ensures behind { IfOk result (λ behind. behind.now ≡ drop (length segment.now) value.now) }
 {
     let mut rest = value;

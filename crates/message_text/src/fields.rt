@@ -120,7 +120,8 @@ fn push_span(
         ++ field_here (slice_range octets.now start line.end) (lines (drop line.next octets.now))) }
     ensures each { OnOk result (All (IsSpan octets.now) spans.old.items
         → All (IsSpan octets.now) spans.new.items) }
-    ensures no_field { field_here (slice_range octets.now start line.end) (lines (drop line.next octets.now)) ≡ [] → IsOk result }
+    ensures no_field { field_here (slice_range octets.now start line.end)
+        (lines (drop line.next octets.now)) ≡ [] → IsOk result }
 {
     if let Some(span) = span_of(octets, start, line) {
         spans.push(span)?;

@@ -14,7 +14,8 @@ pub fn parts_join_to_the_address()
 /// local part. No `+` stands in a user, and an address without a local part has neither (RFC 5233, section 4).
 #[tactic(auto, using(crate::proofs::SubaddressLemmas::parts_joined))]
 pub fn user_and_detail_join_to_the_local_part()
-    ensures { (address : AddrSpec) → SubpartsJoin address.local_part (part_of_address part.User address) (part_of_address part.Detail address) }
+    ensures { (address : AddrSpec) → SubpartsJoin address.local_part
+        (part_of_address part.User address) (part_of_address part.Detail address) }
 {}
 
 /// The marks keep the octets of a value.

@@ -36,7 +36,8 @@ pub(crate) fn line_at(text: &[u8], start: usize) -> LineSpan
 /// The first line of a text, without its line feed and a carriage return directly before that, and what follows the line; none where the
 /// text is empty. Takes no memory.
 pub fn next_line(text: &[u8]) -> Option<(&[u8], &[u8])>
-    ensures lines { MatchOption result (text.now ≡ []) (λ cut. lines text.now ≡ cut.0.now ∷ lines cut.1.now) }
+    ensures lines { MatchOption result (text.now ≡ [])
+        (λ cut. lines text.now ≡ cut.0.now ∷ lines cut.1.now) }
     ensures shorter { IfSome result (λ cut. length cut.1.now < length text.now) }
 {
     if text.is_empty() {

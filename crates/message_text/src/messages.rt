@@ -60,7 +60,8 @@ impl Message {
         ensures too_large { IsErrAnd result (λ refused. refused.0 ≡ MessageFault.TooLarge)
             ↔ (message_limit < length bytes.items) }
         ensures given_back { IfErr result (λ refused. refused.1.items ≡ bytes.items) }
-        ensures no_field { length bytes.items ≤ message_limit → spec.fields_of bytes.items ≡ [] → IsOk result }
+        ensures no_field { length bytes.items ≤ message_limit → spec.fields_of bytes.items ≡ []
+            → IsOk result }
     {
         if bytes.len() > MAX_MESSAGE {
             return Err((MessageFault::TooLarge, bytes));
@@ -111,7 +112,8 @@ impl Message {
     pub fn next_named(&self, name: &FieldName<'_>, start: usize) -> Option<usize>
         ensures some { IfSome result (spec.IsNextNamed (spec.fields_of self.now) name.now start) }
         ensures none { IfNone result ((k : ℕ) → start ≤ k → k < length (spec.fields_of self.now)
-            → slice_get (map (spec.is_field_named name.now) (spec.fields_of self.now)) k ≡ Some false) }
+            → slice_get (map (spec.is_field_named name.now) (spec.fields_of self.now)) k
+            ≡ Some false) }
         // A search can go on behind the place.
         ensures countable { IfSome result (λ i. i < 2 ^ 64 - 1) }
     {
@@ -150,12 +152,15 @@ impl Message {
         i: usize,
     ) -> Result<CowSlice<'_, u8>, AllocError>
         requires { i < length (spec.fields_of self.now) }
-        ensures octets { IfOk result (λ value. slice_get (spec.decoded_values_of (profile_as profile) self.now) i
-            ≡ Some (cow_slice_items value)) }
-        ensures unchanged { spec.IsUnfolded self.now i → spec.IsUnreplaced (profile_as profile) self.now i → IfOk result IsBorrowedSlice }
+        ensures octets { IfOk result (λ value. slice_get (spec.decoded_values_of
+            (profile_as profile) self.now) i ≡ Some (cow_slice_items value)) }
+        ensures unchanged { spec.IsUnfolded self.now i
+            → spec.IsUnreplaced (profile_as profile) self.now i → IfOk result IsBorrowedSlice }
         ensures folded { spec.IsFolded self.now i → IfOk result IsOwnedSlice }
-        ensures replaced { spec.IsReplaced (profile_as profile) self.now i → IfOk result IsOwnedSlice }
-        ensures unknown { spec.IsUnfolded self.now i → spec.IsUnknown (profile_as profile) self.now i → IsOk result }
+        ensures replaced { spec.IsReplaced (profile_as profile) self.now i
+            → IfOk result IsOwnedSlice }
+        ensures unknown { spec.IsUnfolded self.now i
+            → spec.IsUnknown (profile_as profile) self.now i → IsOk result }
     {
         let value = self.value(alloc, i)?;
         decoded_value(alloc, profile, value)

@@ -62,7 +62,8 @@ fn push_three(octets: &mut Vec<u8>, a: u8, b: u8, c: u8, d: u8) -> Result<(), Al
     requires b_bits { b < 64 }
     requires c_bits { c < 64 }
     requires d_bits { d < 64 }
-    ensures { OnOk result (octets.new.items ≡ octets.old.items ++ first_octet a b ∷ second_octet b c ∷ third_octet c d ∷ []) }
+    ensures { OnOk result (octets.new.items
+        ≡ octets.old.items ++ first_octet a b ∷ second_octet b c ∷ third_octet c d ∷ []) }
 {
     let three = [first_octet(a, b), second_octet(b, c), third_octet(c, d)];
     octets.extend_from_slice(&three)

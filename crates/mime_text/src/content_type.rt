@@ -258,7 +258,8 @@ impl NamedParameters {
     // With a further parameter, which counts where none of its name was there.
     #[tactic(auto, unfolding(crate::specs::ContentType::parameter_named))]
     fn with(self, name: &[u8], value: Vec<u8>) -> NamedParameters
-        ensures { named_as result ≡ over (named_as self) (spec.named_of ((name.now, value.items) ∷ [])) }
+        ensures { named_as result
+            ≡ over (named_as self) (spec.named_of ((name.now, value.items) ∷ [])) }
     {
         let NamedParameters { boundary, charset } = self;
         if b"boundary".eq_ignore_ascii_case(name) {
@@ -286,7 +287,8 @@ fn is_blank(piece: &[Mark]) -> bool
 
 // Pieces without a last one that is white space alone.
 fn without_blank_end<'p, 'm>(pieces: &'p [&'m [Mark]]) -> &'p [&'m [Mark]]
-    ensures { map (λ piece. piece.now) result.now ≡ spec.without_blank_end (map (λ piece. piece.now) pieces.now) }
+    ensures { map (λ piece. piece.now) result.now
+        ≡ spec.without_blank_end (map (λ piece. piece.now) pieces.now) }
 {
     match pieces {
         [front @ .., last] => { if is_blank(last) { front } else { pieces } }
@@ -296,7 +298,8 @@ fn without_blank_end<'p, 'm>(pieces: &'p [&'m [Mark]]) -> &'p [&'m [Mark]]
 
 // The parameters of pieces, if each is one.
 fn named_of(alloc: Global, pieces: &[&[Mark]]) -> Result<Option<NamedParameters>, AllocError>
-    ensures { IfOk result (λ named. option_map named_as named ≡ option_map spec.named_of (spec.parameters_of (map (λ piece. piece.now) pieces.now))) }
+    ensures { IfOk result (λ named. option_map named_as named
+        ≡ option_map spec.named_of (spec.parameters_of (map (λ piece. piece.now) pieces.now))) }
 {
     let mut named = NamedParameters {
         boundary: None,
@@ -315,7 +318,8 @@ fn named_of(alloc: Global, pieces: &[&[Mark]]) -> Result<Option<NamedParameters>
 
 // The parameters of pieces, of which the last may be white space alone, if they are parameters.
 fn named_in(alloc: Global, pieces: &[&[Mark]]) -> Result<Option<NamedParameters>, AllocError>
-    ensures { IfOk result (λ named. option_map named_as named ≡ spec.named_in (map (λ piece. piece.now) pieces.now)) }
+    ensures { IfOk result
+        (λ named. option_map named_as named ≡ spec.named_in (map (λ piece. piece.now) pieces.now)) }
 {
     named_of(alloc, without_blank_end(pieces))
 }
@@ -339,7 +343,8 @@ fn with_type(
 
 // The type of pieces, if they are a type and parameters.
 fn content_type_of(alloc: Global, pieces: &[&[Mark]]) -> Result<Option<ContentType>, AllocError>
-    ensures { IfOk result (λ type. type_as type ≡ spec.content_type_of (map (λ piece. piece.now) pieces.now)) }
+    ensures { IfOk result
+        (λ type. type_as type ≡ spec.content_type_of (map (λ piece. piece.now) pieces.now)) }
 {
     let [first, rest @ ..] = pieces else {
         return Ok(None);

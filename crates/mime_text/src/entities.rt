@@ -110,7 +110,8 @@ fn value_named<'m>(
     header: &'m Message,
     name: &[u8],
 ) -> Result<Option<CowSlice<'m, u8>>, AllocError>
-    ensures { IfOk result (λ value. option_map cow_slice_items value ≡ spec.first_value (filter (is_field_named name.now) (fields_of header.now))) }
+    ensures { IfOk result (λ value. option_map cow_slice_items value
+        ≡ spec.first_value (filter (is_field_named name.now) (fields_of header.now))) }
 {
     match header.next_named(&FieldName::new(name), 0) {
         Some(i) => {
@@ -147,7 +148,8 @@ fn default_type(in_digest: bool) -> EntityType
 
 // The type of an entity with that header, whatever its encoding is.
 fn type_of(alloc: Global, in_digest: bool, header: &Message) -> Result<EntityType, AllocError>
-    ensures { IfOk result (λ stated. stated_as stated ≡ spec.type_by in_digest (spec.first_value (filter (is_field_named (codes "Content-Type")) (fields_of header.now)))) }
+    ensures { IfOk result (λ stated. stated_as stated ≡ spec.type_by in_digest (spec.first_value
+        (filter (is_field_named (codes "Content-Type")) (fields_of header.now)))) }
 {
     match value_named(alloc, header, b"Content-Type")? {
         Some(value) => stated_in(alloc, value.as_slice()),
@@ -157,7 +159,8 @@ fn type_of(alloc: Global, in_digest: bool, header: &Message) -> Result<EntityTyp
 
 // The encoding that a header says, if it is known.
 fn encoding_of(alloc: Global, header: &Message) -> Result<Option<TransferEncoding>, AllocError>
-    ensures { IfOk result (λ encoding. encoding ≡ spec.encoding_by (spec.first_value (filter (is_field_named (codes "Content-Transfer-Encoding")) (fields_of header.now)))) }
+    ensures { IfOk result (λ encoding. encoding ≡ spec.encoding_by (spec.first_value
+        (filter (is_field_named (codes "Content-Transfer-Encoding")) (fields_of header.now)))) }
 {
     match value_named(alloc, header, b"Content-Transfer-Encoding")? {
         Some(value) => encoding_in(alloc, value.as_slice()),
@@ -228,7 +231,8 @@ impl ContentType {
 
     // Its boundary, if it has one.
     fn boundary(&self) -> Option<&[u8]>
-        ensures { option_map (λ boundary. boundary.now) result ≡ spec.boundary_of (content_type_as self.now) }
+        ensures { option_map (λ boundary. boundary.now) result
+            ≡ spec.boundary_of (content_type_as self.now) }
     {
         match &self.boundary {
             Some(boundary) => if_short(boundary),
@@ -282,7 +286,8 @@ fn cut_inner<'m>(
     boundary: &[u8],
     content: &'m [u8],
 ) -> Result<Inner<'m>, AllocError>
-    ensures { IfOk result (λ inner. (encoding : TransferEncoding) → IsInner (spec.multipart is_digest (Some boundary.now)) encoding content.now inner) }
+    ensures { IfOk result (λ inner. (encoding : TransferEncoding)
+        → IsInner (spec.multipart is_digest (Some boundary.now)) encoding content.now inner) }
 {
     let pieces = pieces_of(alloc, boundary, content)?;
     Ok(Inner {
@@ -302,7 +307,9 @@ fn parts_inner<'m>(
     boundary: Option<&[u8]>,
     content: &'m [u8],
 ) -> Result<Inner<'m>, AllocError>
-    ensures { IfOk result (λ inner. (encoding : TransferEncoding) → IsInner (spec.multipart is_digest (option_map (λ boundary. boundary.now) boundary.entry)) encoding content.now inner) }
+    ensures { IfOk result
+        (λ inner. (encoding : TransferEncoding) → IsInner (spec.multipart is_digest
+        (option_map (λ boundary. boundary.now) boundary.entry)) encoding content.now inner) }
 {
     match boundary {
         Some(boundary) => cut_inner(alloc, is_digest, boundary, content),
@@ -356,7 +363,8 @@ fn entity_of<'m>(
 ) -> Result<(Entity<'m>, bool, Vec<&'m [u8]>), AllocError>
     ensures { IfOk result (λ found. (entity_as found.0 ≡ spec.entity_of in_digest text.now)
         × ((found.1 ≡ spec.is_digest_of (spec.shape_of (spec.type_of in_digest text.now)))
-        × (map (λ text. text.now) found.2.items ≡ spec.inner_texts (spec.shape_of (spec.type_of in_digest text.now)) (spec.content_of text.now)))) }
+        × (map (λ text. text.now) found.2.items ≡ spec.inner_texts
+        (spec.shape_of (spec.type_of in_digest text.now)) (spec.content_of text.now)))) }
 {
     let head = head_of(alloc, in_digest, text)?;
     let inner = inner_of(alloc, head.stated.shape(), head.encoding, head.content)?;
@@ -375,7 +383,8 @@ fn push_entities<'m>(
     text: &'m [u8],
     found: &mut Vec<Entity<'m>>,
 ) -> Result<(), AllocError>
-    ensures { OnOk result (map entity_as found.new.items ≡ map entity_as found.old.items ++ spec.entities_in depth in_digest text.now) }
+    ensures { OnOk result (map entity_as found.new.items
+        ≡ map entity_as found.old.items ++ spec.entities_in depth in_digest text.now) }
 {
     if depth == 0 {
         return Ok(());

@@ -7,7 +7,8 @@ use sieve_base::without_return;
 
 /// The first line of a text, with its end, and what follows it; none where the text is empty.
 pub(crate) fn next_line(text: &[u8]) -> Option<(&[u8], &[u8])>
-    ensures lines { MatchOption result (text.now ≡ []) (λ cut. ended_lines text.now ≡ cut.0.now ∷ ended_lines cut.1.now) }
+    ensures lines { MatchOption result (text.now ≡ [])
+        (λ cut. ended_lines text.now ≡ cut.0.now ∷ ended_lines cut.1.now) }
     ensures joined { IfSome result (λ cut. text.now ≡ cut.0.now ++ cut.1.now) }
     ensures shorter { IfSome result (λ cut. length cut.1.now < length text.now) }
 {

@@ -62,7 +62,8 @@ fn are_blank(octets: &[u8]) -> bool
 impl Boundary {
     // The lines of a boundary.
     fn new(alloc: Global, boundary: &[u8]) -> Result<Boundary, AllocError>
-        ensures { IfOk result (λ made. IsBoundary boundary.now made.delimiter.items made.closing.items) }
+        ensures { IfOk result
+            (λ made. IsBoundary boundary.now made.delimiter.items made.closing.items) }
     {
         let delimiter = joined(alloc, b"--", boundary)?;
         let closing = joined(alloc, &delimiter, b"--")?;
@@ -114,9 +115,11 @@ fn text_before<'t>(text: &'t [u8], rest: &[u8]) -> &'t [u8]
 impl Boundary {
     // The first stretch of a text.
     fn next_stretch<'t>(&self, text: &'t [u8]) -> Stretch<'t>
-        ensures text { (boundary : List ℕ) → IsBoundary boundary self.now.delimiter.items self.now.closing.items
+        ensures text { (boundary : List ℕ)
+            → IsBoundary boundary self.now.delimiter.items self.now.closing.items
             → result.text.now ≡ prologue_text (content_cut boundary text.now) }
-        ensures stop { (boundary : List ℕ) → IsBoundary boundary self.now.delimiter.items self.now.closing.items
+        ensures stop { (boundary : List ℕ)
+            → IsBoundary boundary self.now.delimiter.items self.now.closing.items
             → StopsAt boundary (content_cut boundary text.now) result.stop }
         ensures shorter { left_after result.stop < 1 + length text.now }
     {
@@ -162,8 +165,10 @@ fn parts_from<'t>(
     boundary: &Boundary,
     first: Stop<'t>,
 ) -> Result<(Vec<&'t [u8]>, Option<&'t [u8]>), AllocError>
-    ensures { IfOk result (λ found. (name : List ℕ) → IsBoundary name boundary.now.delimiter.items boundary.now.closing.items
-        → (map (λ part. part.now) found.0.items ≡ parts_at name first.entry) × (option_map (λ epilogue. epilogue.now) found.1 ≡ epilogue_at name first.entry)) }
+    ensures { IfOk result (λ found. (name : List ℕ)
+        → IsBoundary name boundary.now.delimiter.items boundary.now.closing.items
+        → (map (λ part. part.now) found.0.items ≡ parts_at name first.entry)
+        × (option_map (λ epilogue. epilogue.now) found.1 ≡ epilogue_at name first.entry)) }
 {
     let mut parts = Vec::new(alloc);
     let mut stop = first;

@@ -26,7 +26,8 @@ fn is_at_end(text: &[u8]) -> bool
 
 // Adds blanks, where no end follows them.
 fn push_blanks(kept: &mut Vec<u8>, blanks: &[u8], rest: &[u8]) -> Result<(), AllocError>
-    ensures { OnOk result (kept.new.items ≡ kept.old.items ++ (if is_at_end rest.now then [] else blanks.now)) }
+    ensures { OnOk result
+        (kept.new.items ≡ kept.old.items ++ (if is_at_end rest.now then [] else blanks.now)) }
 {
     if is_at_end(rest) {
         return Ok(());
@@ -38,7 +39,8 @@ fn push_blanks(kept: &mut Vec<u8>, blanks: &[u8], rest: &[u8]) -> Result<(), All
 // Adds the blanks that stand in front, where no end follows them, or the first octet where it is none. Answers what follows.
 fn push_stretch<'t>(kept: &mut Vec<u8>, text: &'t [u8]) -> Result<&'t [u8], AllocError>
     requires { 0 < length text.now }
-    ensures kept { IfOk result (λ rest. kept.new.items ++ without_padding rest.now ≡ kept.old.items ++ without_padding text.now) }
+    ensures kept { IfOk result (λ rest. kept.new.items ++ without_padding rest.now
+        ≡ kept.old.items ++ without_padding text.now) }
     ensures shorter { IfOk result (λ rest. length rest.now < length text.now) }
 {
     let (blanks, rest) = text.split_at(blank_len(text));
@@ -64,7 +66,9 @@ fn without_padding(alloc: Global, text: &[u8]) -> Result<Vec<u8>, AllocError>
 
 // The octet of the escape whose two digits stand in front, and what follows them.
 fn escape_at(text: &[u8]) -> Option<(u8, &[u8])>
-    ensures { MatchOption result (escape_at text.now ≡ None) (λ found. (2 ≤ length text.now) × (found.1.now ≡ drop 2 text.now) × (hex_octet (slice_index text.now 0) (slice_index text.now 1) ≡ Some found.0)) }
+    ensures { MatchOption result (escape_at text.now ≡ None)
+        (λ found. (2 ≤ length text.now) × (found.1.now ≡ drop 2 text.now)
+        × (hex_octet (slice_index text.now 0) (slice_index text.now 1) ≡ Some found.0)) }
 {
     let [high, low, rest @ ..] = text else {
         return None;
@@ -74,7 +78,8 @@ fn escape_at(text: &[u8]) -> Option<(u8, &[u8])>
 
 // The octet that the first piece stands for, if it stands for one, and what follows the piece.
 fn next_piece(first: u8, text: &[u8]) -> (Option<u8>, &[u8])
-    ensures is { octets_of_pieces (pieces_of (first ∷ text.now)) ≡ option_to_list result.0 ++ octets_of_pieces (pieces_of result.1.now) }
+    ensures is { octets_of_pieces (pieces_of (first ∷ text.now))
+        ≡ option_to_list result.0 ++ octets_of_pieces (pieces_of result.1.now) }
     ensures within { length result.1.now ≤ length text.now }
 {
     if first != b'=' {

@@ -21,7 +21,8 @@ fn text_by<'o>(
     charset: Option<&[u8]>,
     octets: CowSlice<'o, u8>,
 ) -> Result<CowSlice<'o, u8>, AllocError>
-    ensures { IfOk result (λ text. cow_slice_items text ≡ text_by (profile_as profile) (option_map (λ charset. charset.now) charset.entry) (cow_slice_items octets.entry)) }
+    ensures { IfOk result (λ text. cow_slice_items text ≡ text_by (profile_as profile)
+        (option_map (λ charset. charset.now) charset.entry) (cow_slice_items octets.entry)) }
 {
     match charset {
         Some(charset) => text_in(alloc, profile, charset, octets),
@@ -32,7 +33,8 @@ fn text_by<'o>(
 impl ContentType {
     // Its charset, which a text alone has.
     fn charset(&self) -> Option<&[u8]>
-        ensures { option_map (λ charset. charset.now) result ≡ charset_of_type (content_type_as self.now) }
+        ensures { option_map (λ charset. charset.now) result
+            ≡ charset_of_type (content_type_as self.now) }
     {
         if !self.is_main(b"text") {
             return None;
@@ -66,7 +68,8 @@ impl Entity<'_> {
         profile: Profile,
         octets: CowSlice<'o, u8>,
     ) -> Result<CowSlice<'o, u8>, AllocError>
-        ensures { IfOk result (λ text. cow_slice_items text ≡ text_by (profile_as profile) (charset_of (entity_as self.now).type) (cow_slice_items octets.entry)) }
+        ensures { IfOk result (λ text. cow_slice_items text ≡ text_by (profile_as profile)
+            (charset_of (entity_as self.now).type) (cow_slice_items octets.entry)) }
     {
         text_by(alloc, profile, self.stated.charset(), octets)
     }

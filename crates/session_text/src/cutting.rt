@@ -74,7 +74,8 @@ fn word_len(line: &[u8]) -> usize
 
 /// The first word of a line, and what is behind it.
 pub(crate) fn next_word(line: &[u8]) -> Option<(&[u8], &[u8])>
-    ensures { MatchOption result (line_words line.now ≡ []) (λ cut. line_words line.now ≡ cut.0.now ∷ line_words cut.1.now) }
+    ensures { MatchOption result (line_words line.now ≡ [])
+        (λ cut. line_words line.now ≡ cut.0.now ∷ line_words cut.1.now) }
 {
     let (_, line) = line.split_at(leading_spaces(line));
     if line.is_empty() {

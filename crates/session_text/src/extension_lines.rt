@@ -11,7 +11,8 @@ use date_text::{Clock, clock_named};
 
 /// What `message-envelope ID FROM TO` asks for, behind its first word.
 fn message_envelope_command(line: &[u8]) -> Option<SessionCommand<'_>>
-    ensures { option_map command_as result ≡ spec.message_envelope_command (spec.line_words line.now) }
+    ensures { option_map command_as result
+        ≡ spec.message_envelope_command (spec.line_words line.now) }
 {
     let (id, line) = next_word(line)?;
     let (from, line) = next_word(line)?;
@@ -36,7 +37,8 @@ fn last_clock(line: &[u8]) -> Option<Clock>
 
 /// What a line of the clock asks for.
 fn clock_command<'a>(word: &[u8], line: &'a [u8]) -> Option<SessionCommand<'a>>
-    ensures { option_map command_as result ≡ spec.clock_command word.now (spec.line_words line.now) }
+    ensures { option_map command_as result
+        ≡ spec.clock_command word.now (spec.line_words line.now) }
 {
     if is_text(word, b"clock") {
         let clock = last_clock(line)?;
@@ -54,7 +56,8 @@ fn clock_command<'a>(word: &[u8], line: &'a [u8]) -> Option<SessionCommand<'a>>
 
 /// What a line that needs a name of the profile asks for.
 pub(crate) fn extension_command<'a>(word: &[u8], line: &'a [u8]) -> Option<SessionCommand<'a>>
-    ensures { option_map command_as result ≡ spec.extension_command word.now (spec.line_words line.now) }
+    ensures { option_map command_as result
+        ≡ spec.extension_command word.now (spec.line_words line.now) }
 {
     if is_text(word, b"mailboxes") {
         let count = last_count(line)?;

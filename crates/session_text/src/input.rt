@@ -61,8 +61,8 @@ fn places(alloc: Global) -> Result<Vec<u8>, AllocError>
 fn read_behind<R: Source>(buffer: &mut [u8], from: usize, reader: &mut R) -> io::Result<usize>
     requires { from < length buffer.old }
     ensures front { take from buffer.new ≡ take from buffer.old }
-    ensures read { MatchResult result
-        (λ count. (from + count ≤ length buffer.new) × Consumes (R.remaining reader.old) (R.remaining reader.new) (take count (drop from buffer.new))
+    ensures read { MatchResult result (λ count. (from + count ≤ length buffer.new) × Consumes
+        (R.remaining reader.old) (R.remaining reader.new) (take count (drop from buffer.new))
         × (count ≡ 0 → IsAtEnd (R.remaining reader.new)))
         (λ _. Keeps (R.remaining reader.old) (R.remaining reader.new)) }
     ensures faults { R.fault_count reader.old ≤ R.fault_count reader.new }
@@ -83,9 +83,9 @@ fn refill<R: Source>(
     requires within { end ≤ length buffer.old }
     requires room { end - start < length buffer.old }
     ensures front { take (end - start) buffer.new ≡ slice_range buffer.old start end }
-    ensures read { MatchResult result
-        (λ count. (end - start + count ≤ length buffer.new) × Consumes (R.remaining reader.old) (R.remaining reader.new) (take count (drop (end - start) buffer.new))
-        × (count ≡ 0 → IsAtEnd (R.remaining reader.new)))
+    ensures read { MatchResult result (λ count. (end - start + count ≤ length buffer.new)
+        × Consumes (R.remaining reader.old) (R.remaining reader.new) (take count
+        (drop (end - start) buffer.new)) × (count ≡ 0 → IsAtEnd (R.remaining reader.new)))
         (λ _. Keeps (R.remaining reader.old) (R.remaining reader.new)) }
     ensures faults { R.fault_count reader.old ≤ R.fault_count reader.new }
     ensures failed { OnErr result (HasRisen (R.fault_count reader.old) (R.fault_count reader.new)) }
@@ -104,7 +104,8 @@ impl Input {
     /// Nothing is read yet, and `turns` reads may be made. A buffer of 65,536 octets is allocated, which never grows.
     /// An error is want of memory.
     pub fn new(alloc: Global, turns: u64) -> Result<Input, AllocError>
-        ensures { IfOk result (λ input. input ≡ record { pending = []; turns = turns; ended = false }) }
+        ensures { IfOk result
+            (λ input. input ≡ record { pending = []; turns = turns; ended = false }) }
     {
         Ok(Input {
             buffer: places(alloc)?,
@@ -136,18 +137,23 @@ impl Input {
     fn read_once<R: Source>(&mut self, reader: &mut R) -> io::Result<usize>
         requires room { length self.old.pending < capacity }
         requires turn { 0 < self.old.turns }
-        ensures keeps { Keeps (unused self.old (R.remaining reader.old)) (unused self.new (R.remaining reader.new)) }
+        ensures keeps { Keeps (unused self.old (R.remaining reader.old))
+            (unused self.new (R.remaining reader.new)) }
         ensures turns { self.new.turns + 1 ≡ self.old.turns }
         ensures ended { self.new.ended ≡ self.old.ended }
         ensures within { length self.new.pending ≤ capacity }
-        ensures read { MatchResult result
-            (λ count. (length self.new.pending ≡ length self.old.pending + count) × (count ≡ 0 → (self.new.pending ≡ self.old.pending) × IsAtEnd (R.remaining reader.new)))
-            (λ _. (self.new.pending ≡ self.old.pending) × HasRisen (R.fault_count reader.old) (R.fault_count reader.new)) }
+        ensures read { MatchResult result (λ count. (length self.new.pending
+            ≡ length self.old.pending + count) × (count ≡ 0 → (self.new.pending ≡ self.old.pending)
+            × IsAtEnd (R.remaining reader.new))) (λ _. (self.new.pending ≡ self.old.pending)
+            × HasRisen (R.fault_count reader.old) (R.fault_count reader.new)) }
         ensures faults { R.fault_count reader.old ≤ R.fault_count reader.new }
-        ensures calls { CallsMade self.old.turns self.new.turns (R.call_count reader.old) (R.call_count reader.new) }
+        ensures calls { CallsMade self.old.turns self.new.turns (R.call_count reader.old)
+            (R.call_count reader.new) }
         ensures gave { MatchResult result
-            (λ count. 0 < count → TurnsGave self.old.turns self.new.turns (R.remaining reader.old) (R.remaining reader.new) (R.fault_count reader.old) (R.fault_count reader.new))
-            (λ _. TurnsGave self.old.turns self.new.turns (R.remaining reader.old) (R.remaining reader.new) (R.fault_count reader.old) (R.fault_count reader.new)) }
+            (λ count. 0 < count → TurnsGave self.old.turns self.new.turns (R.remaining reader.old)
+            (R.remaining reader.new) (R.fault_count reader.old) (R.fault_count reader.new))
+            (λ _. TurnsGave self.old.turns self.new.turns (R.remaining reader.old)
+            (R.remaining reader.new) (R.fault_count reader.old) (R.fault_count reader.new)) }
     {
         let used = self.end - self.start;
         let read = refill(&mut self.buffer, self.start, self.end, reader);
@@ -171,15 +177,19 @@ impl Input {
         requires room { length self.old.pending < capacity }
         requires known { Knows self.old (R.remaining reader.old) }
         ensures known { Knows self.new (R.remaining reader.new) }
-        ensures keeps { Keeps (unused self.old (R.remaining reader.old)) (unused self.new (R.remaining reader.new)) }
+        ensures keeps { Keeps (unused self.old (R.remaining reader.old))
+            (unused self.new (R.remaining reader.new)) }
         ensures fuel { fuel self.new ≤ fuel self.old }
-        ensures reads { Reads R.remaining R.fault_count R.call_count self.old self.new reader.old reader.new }
-        ensures past_end { self.old.ended ≡ true → (self.new ≡ self.old) × (reader.new ≡ reader.old) }
-        ensures filled { MatchFilled result
-            ((fuel self.new < fuel self.old) × (0 < length self.new.pending))
-            ((self.new.pending ≡ self.old.pending) × (self.new.ended ≡ true) × IsAtEnd (R.remaining reader.new))
-            ((self.new.pending ≡ self.old.pending) × (self.new.ended ≡ false) × HasRisen (R.fault_count reader.old) (R.fault_count reader.new))
-            ((self.new.pending ≡ self.old.pending) × (self.new.ended ≡ false) × (self.new.turns ≡ 0)) }
+        ensures reads { Reads R.remaining R.fault_count R.call_count self.old self.new reader.old
+            reader.new }
+        ensures past_end { self.old.ended ≡ true
+            → (self.new ≡ self.old) × (reader.new ≡ reader.old) }
+        ensures filled { MatchFilled result ((fuel self.new < fuel self.old)
+            × (0 < length self.new.pending)) ((self.new.pending ≡ self.old.pending)
+            × (self.new.ended ≡ true) × IsAtEnd (R.remaining reader.new))
+            ((self.new.pending ≡ self.old.pending) × (self.new.ended ≡ false)
+            × HasRisen (R.fault_count reader.old) (R.fault_count reader.new)) ((self.new.pending
+            ≡ self.old.pending) × (self.new.ended ≡ false) × (self.new.turns ≡ 0)) }
     {
         if self.ended {
             return Filled::Ended;
@@ -210,15 +220,18 @@ impl Input {
     pub(crate) fn refresh<R: Source>(&mut self, reader: &mut R) -> Filled
         requires known { Knows self.old (R.remaining reader.old) }
         ensures known { Knows self.new (R.remaining reader.new) }
-        ensures keeps { Keeps (unused self.old (R.remaining reader.old)) (unused self.new (R.remaining reader.new)) }
+        ensures keeps { Keeps (unused self.old (R.remaining reader.old))
+            (unused self.new (R.remaining reader.new)) }
         ensures fuel { fuel self.new ≤ fuel self.old }
-        ensures reads { Reads R.remaining R.fault_count R.call_count self.old self.new reader.old reader.new }
-        ensures still { 0 < length self.old.pending → (self.new ≡ self.old) × (reader.new ≡ reader.old) }
-        ensures past_end { self.old.ended ≡ true → (self.new ≡ self.old) × (reader.new ≡ reader.old) }
-        ensures filled { MatchFilled result
-            (0 < length self.new.pending)
-            ((self.new.pending ≡ []) × IsAtEnd (R.remaining reader.new))
-            ((self.new.pending ≡ []) × (self.new.ended ≡ false) × HasRisen (R.fault_count reader.old) (R.fault_count reader.new))
+        ensures reads { Reads R.remaining R.fault_count R.call_count self.old self.new reader.old
+            reader.new }
+        ensures still { 0 < length self.old.pending
+            → (self.new ≡ self.old) × (reader.new ≡ reader.old) }
+        ensures past_end { self.old.ended ≡ true
+            → (self.new ≡ self.old) × (reader.new ≡ reader.old) }
+        ensures filled { MatchFilled result (0 < length self.new.pending) ((self.new.pending ≡ [])
+            × IsAtEnd (R.remaining reader.new)) ((self.new.pending ≡ []) × (self.new.ended ≡ false)
+            × HasRisen (R.fault_count reader.old) (R.fault_count reader.new))
             ((self.new.pending ≡ []) × (self.new.ended ≡ false) × (self.new.turns ≡ 0)) }
     {
         if self.pending().is_empty() {

@@ -9,26 +9,34 @@ ghost use Rattle.sieve_base.specs.Octet.{is_printable};
 
 /// The quoted form of octets, as reports print it, is a word that stands for these octets.
 pub fn a_quoted_word_stands_for_its_octets()
-    ensures { (octets : List ℕ) → All (λ octet. octet < 256) octets → word_value (quoted octets) ≡ Some octets }
+    ensures { (octets : List ℕ) → All (λ octet. octet < 256) octets
+        → word_value (quoted octets) ≡ Some octets }
 {}
 
 /// The words of a line that is made of words, bare or in the quoted form that reports print, with one space or more between each two and any in front and behind, are these words.
 pub fn words_stand_between_spaces()
-    ensures joined { (words : List (List ℕ)) → All IsWord words → line_words (joined words) ≡ words }
-    ensures spaced { (words : List (List ℕ)) (line : List ℕ) → IsLineOf words line → line_words line ≡ words }
+    ensures joined { (words : List (List ℕ)) → All IsWord words
+        → line_words (joined words) ≡ words }
+    ensures spaced { (words : List (List ℕ)) (line : List ℕ) → IsLineOf words line
+        → line_words line ≡ words }
 {}
 
 /// A line of the quoted forms of values has no octet that a session refuses, and its words give back each value.
 pub fn a_line_gives_back_its_values()
-    ensures plain { (values : List (List ℕ)) → All (All (λ octet. octet < 256)) values → list_all is_printable (joined (map quoted values)) ≡ true }
-    ensures values { (values : List (List ℕ)) → All (All (λ octet. octet < 256)) values → map word_value (line_words (joined (map quoted values))) ≡ map Some values }
+    ensures plain { (values : List (List ℕ)) → All (All (λ octet. octet < 256)) values
+        → list_all is_printable (joined (map quoted values)) ≡ true }
+    ensures values { (values : List (List ℕ)) → All (All (λ octet. octet < 256)) values
+        → map word_value (line_words (joined (map quoted values))) ≡ map Some values }
 {}
 
 /// No line asks for what needs a name that the profile lacks. What needs none is asked for under each profile alike.
 pub fn what_needs_a_name_is_there_by_it()
-    ensures named { (profile : Profile) (line : List ℕ) → IfSome (command_of_line profile line) (λ command. IfSome (extension_of command) (λ name. has profile name ≡ true)) }
-    ensures nameless { (profile other : Profile) (line : List ℕ) (command : SessionCommand) → extension_of command ≡ None
-        → command_of_line profile line ≡ Some command → command_of_line other line ≡ Some command }
+    ensures named { (profile : Profile) (line : List ℕ) → IfSome (command_of_line profile line)
+        (λ command. IfSome (extension_of command) (λ name. has profile name ≡ true)) }
+    ensures nameless { (profile other : Profile) (line : List ℕ) (command : SessionCommand)
+        → extension_of command ≡ None → command_of_line profile line ≡ Some command
+        → command_of_line other line ≡ Some command }
     ensures empty { (profile : Profile) (line : List ℕ) (command : SessionCommand)
-        → command_of_line empty_profile line ≡ Some command → command_of_line profile line ≡ Some command }
+        → command_of_line empty_profile line ≡ Some command
+        → command_of_line profile line ≡ Some command }
 {}

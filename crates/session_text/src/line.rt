@@ -12,9 +12,10 @@ use sieve_base::limits::MAX_LINE;
 
 /// Where the first LF is.
 fn find_lf(octets: &[u8]) -> Option<usize>
-    ensures { MatchOption result (cut_line octets.now ≡ None)
-        (λ at. (at < length octets.now) × (cut_line octets.now ≡ Some (take at octets.now, drop (at + 1) octets.now))
-        × ((more : List ℕ) → cut_line (take (at + 1) octets.now ++ more) ≡ Some (take at octets.now, more))) }
+    ensures { MatchOption result (cut_line octets.now ≡ None) (λ at. (at < length octets.now)
+        × (cut_line octets.now ≡ Some (take at octets.now, drop (at + 1) octets.now))
+        × ((more : List ℕ)
+        → cut_line (take (at + 1) octets.now ++ more) ≡ Some (take at octets.now, more))) }
 {
     for (i, octet) in octets.iter().enumerate() {
         if *octet == b'\n' {
@@ -59,8 +60,10 @@ impl Line {
     /// The line that ends at an LF, the first one.
     fn before(pending: &[u8], at: usize) -> Line
         requires within { at < length pending.now }
-        requires first { cut_line pending.now ≡ Some (take at pending.now, drop (at + 1) pending.now) }
-        requires alone { (more : List ℕ) → cut_line (take (at + 1) pending.now ++ more) ≡ Some (take at pending.now, more) }
+        requires first { cut_line pending.now
+            ≡ Some (take at pending.now, drop (at + 1) pending.now) }
+        requires alone { (more : List ℕ)
+            → cut_line (take (at + 1) pending.now ++ more) ≡ Some (take at pending.now, more) }
         ensures line { (left : List ℕ) → IsLine result pending.now left }
         ensures ended { IsEnded result pending.now }
         ensures within { IsWithin result pending.now }
@@ -112,16 +115,20 @@ impl Line {
     pub fn next<R: Source>(input: &mut Input, reader: &mut R) -> Line
         requires known { Knows input.old (R.remaining reader.old) }
         ensures known { Knows input.new (R.remaining reader.new) }
-        ensures keeps { Keeps (unused input.old (R.remaining reader.old)) (unused input.new (R.remaining reader.new)) }
+        ensures keeps { Keeps (unused input.old (R.remaining reader.old))
+            (unused input.new (R.remaining reader.new)) }
         ensures fuel { fuel input.new ≤ fuel input.old }
         ensures line { IfSome (R.remaining reader.new) (IsLine result input.new.pending) }
         ensures ended { input.new.ended ≡ false → IsEnded result input.new.pending }
         ensures within { IsWithin result input.new.pending }
-        ensures reads { Reads R.remaining R.fault_count R.call_count input.old input.new reader.old reader.new }
-        ensures still { (IsCutOff input.old.pending → ⊥) → (input.new ≡ input.old) × (reader.new ≡ reader.old) }
-        ensures past_end { input.old.ended ≡ true → (input.new ≡ input.old) × (reader.new ≡ reader.old) }
-        ensures end { MatchEnd result (IsAtEnd (R.remaining reader.new))
-            ((input.new.ended ≡ false) × HasRisen (R.fault_count reader.old) (R.fault_count reader.new))
+        ensures reads { Reads R.remaining R.fault_count R.call_count input.old input.new reader.old
+            reader.new }
+        ensures still { (IsCutOff input.old.pending → ⊥)
+            → (input.new ≡ input.old) × (reader.new ≡ reader.old) }
+        ensures past_end { input.old.ended ≡ true
+            → (input.new ≡ input.old) × (reader.new ≡ reader.old) }
+        ensures end { MatchEnd result (IsAtEnd (R.remaining reader.new)) ((input.new.ended ≡ false)
+            × HasRisen (R.fault_count reader.old) (R.fault_count reader.new))
             ((input.new.ended ≡ false) × (input.new.turns ≡ 0)) }
     {
         loop {

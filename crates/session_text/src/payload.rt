@@ -61,14 +61,20 @@ pub fn take_octets<R: Source>(
     ensures known { Knows input.new (R.remaining reader.new) }
     ensures fuel { fuel input.new ≤ fuel input.old }
     ensures taken { MatchTaken result
-        (λ kept. Takes count (unused input.old (R.remaining reader.old)) (unused input.new (R.remaining reader.new)) (option_map octets_kept kept))
+        (λ kept. Takes count (unused input.old (R.remaining reader.old))
+        (unused input.new (R.remaining reader.new)) (option_map octets_kept kept))
         (FallsShort count (unused input.old (R.remaining reader.old)) (R.remaining reader.new))
-        (BreaksOff count (unused input.old (R.remaining reader.old)) (R.remaining reader.new) × (input.new.ended ≡ false) × HasRisen (R.fault_count reader.old) (R.fault_count reader.new))
-        (BreaksOff count (unused input.old (R.remaining reader.old)) (R.remaining reader.new) × (input.new.ended ≡ false) × (input.new.turns ≡ 0)) }
+        (BreaksOff count (unused input.old (R.remaining reader.old)) (R.remaining reader.new)
+        × (input.new.ended ≡ false) × HasRisen (R.fault_count reader.old)
+        (R.fault_count reader.new)) (BreaksOff count (unused input.old (R.remaining reader.old))
+        (R.remaining reader.new) × (input.new.ended ≡ false) × (input.new.turns ≡ 0)) }
     ensures unkept { keep ≡ false → MatchTaken result (λ kept. kept ≡ None) ⊤ ⊤ ⊤ }
-    ensures reads { Reads R.remaining R.fault_count R.call_count input.old input.new reader.old reader.new }
-    ensures still { count ≤ length input.old.pending → (input.new.turns ≡ input.old.turns) × (input.new.ended ≡ input.old.ended) × (reader.new ≡ reader.old) }
-    ensures past_end { input.old.ended ≡ true → (input.new.turns ≡ input.old.turns) × (input.new.ended ≡ true) × (reader.new ≡ reader.old) }
+    ensures reads { Reads R.remaining R.fault_count R.call_count input.old input.new reader.old
+        reader.new }
+    ensures still { count ≤ length input.old.pending → (input.new.turns ≡ input.old.turns)
+        × (input.new.ended ≡ input.old.ended) × (reader.new ≡ reader.old) }
+    ensures past_end { input.old.ended ≡ true → (input.new.turns ≡ input.old.turns)
+        × (input.new.ended ≡ true) × (reader.new ≡ reader.old) }
 {
     let mut kept = room_for(alloc, count, keep);
     let mut left = count;

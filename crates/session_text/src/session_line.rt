@@ -265,7 +265,8 @@ fn dump_command(line: &[u8]) -> Option<SessionCommand<'_>>
 
 /// What a line that says what is expected of a message asks for.
 fn expecting_command<'a>(word: &[u8], line: &'a [u8]) -> Option<SessionCommand<'a>>
-    ensures { option_map command_as result ≡ spec.expecting_command word.now (spec.line_words line.now) }
+    ensures { option_map command_as result
+        ≡ spec.expecting_command word.now (spec.line_words line.now) }
 {
     if is_text(word, b"expect") {
         expect_command(line)
@@ -279,7 +280,8 @@ fn expecting_command<'a>(word: &[u8], line: &'a [u8]) -> Option<SessionCommand<'
 
 /// What a line that prints what there is at a place and a name asks for.
 fn print_command<'a>(word: &[u8], line: &'a [u8]) -> Option<SessionCommand<'a>>
-    ensures { option_map command_as result ≡ spec.print_command word.now (spec.line_words line.now) }
+    ensures { option_map command_as result
+        ≡ spec.print_command word.now (spec.line_words line.now) }
 {
     if is_text(word, b"dump") {
         dump_command(line)
@@ -303,7 +305,8 @@ fn name_command<'a>(word: &[u8], line: &'a [u8]) -> Option<SessionCommand<'a>>
 
 /// What a line with one word behind its first asks for.
 fn value_command<'a>(word: &[u8], line: &'a [u8]) -> Option<SessionCommand<'a>>
-    ensures { option_map command_as result ≡ spec.value_command word.now (spec.line_words line.now) }
+    ensures { option_map command_as result
+        ≡ spec.value_command word.now (spec.line_words line.now) }
 {
     if is_text(word, b"drop-message") {
         let id = last_value(line)?;

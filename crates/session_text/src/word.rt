@@ -39,9 +39,8 @@ pub(crate) enum Next<'a> {
 /// What is behind a backslash and an `x`.
 #[tactic(auto, unfolding(crate::specs::SessionLine::hex_octets))]
 fn next_hex(rest: &[u8]) -> Next<'_>
-    ensures { MatchNext result ⊥
-        (λ octet left. (hex_octets rest.now ≡ behind octet (quoted_value left)) × (length left < length rest.now))
-        (hex_octets rest.now ≡ None) }
+    ensures { MatchNext result ⊥ (λ octet left. (hex_octets rest.now ≡ behind octet
+        (quoted_value left)) × (length left < length rest.now)) (hex_octets rest.now ≡ None) }
 {
     let [high, low, rest @ ..] = rest else {
         return Next::Wrong;
@@ -55,9 +54,8 @@ fn next_hex(rest: &[u8]) -> Next<'_>
 /// What is behind a backslash.
 #[tactic(auto, unfolding(crate::specs::SessionLine::escaped_value))]
 fn next_escaped(rest: &[u8]) -> Next<'_>
-    ensures { MatchNext result ⊥
-        (λ octet left. (escaped_value rest.now ≡ behind octet (quoted_value left)) × (length left < length rest.now))
-        (escaped_value rest.now ≡ None) }
+    ensures { MatchNext result ⊥ (λ octet left. (escaped_value rest.now ≡ behind octet
+        (quoted_value left)) × (length left < length rest.now)) (escaped_value rest.now ≡ None) }
 {
     let [octet, rest @ ..] = rest else {
         return Next::Wrong;
@@ -76,8 +74,8 @@ fn next_escaped(rest: &[u8]) -> Next<'_>
 #[tactic(auto, unfolding(crate::specs::SessionLine::quoted_value))]
 fn next_octet(rest: &[u8]) -> Next<'_>
     ensures { MatchNext result (quoted_value rest.now ≡ Some [])
-        (λ octet left. (quoted_value rest.now ≡ behind octet (quoted_value left)) × (length left < length rest.now))
-        (quoted_value rest.now ≡ None) }
+        (λ octet left. (quoted_value rest.now ≡ behind octet (quoted_value left))
+        × (length left < length rest.now)) (quoted_value rest.now ≡ None) }
 {
     let [octet, rest @ ..] = rest else {
         return Next::Wrong;

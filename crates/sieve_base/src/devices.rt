@@ -34,7 +34,8 @@ pub trait Source: Faults {
         requires { 0 < length buf.old }
         ensures bound { ReadsAtMost result buf.new }
         ensures bytes { ReadConsumes (remaining self.old) (remaining self.new) result buf.new }
-        ensures faults { CountsReadFault (Self.fault_count self.old) (Self.fault_count self.new) result }
+        ensures faults { CountsReadFault (Self.fault_count self.old)
+            (Self.fault_count self.new) result }
         ensures calls { call_count self.new ≡ next_count (call_count self.old) };
 }
 
@@ -49,7 +50,8 @@ pub trait Sink: Faults {
         requires { 0 < length bytes.now }
         ensures bound { WritesAtMost result bytes.now }
         ensures bytes { WriteAppends (contents self.old) (contents self.new) result bytes.now }
-        ensures faults { CountsWriteFault (Self.fault_count self.old) (Self.fault_count self.new) result };
+        ensures faults { CountsWriteFault (Self.fault_count self.old)
+            (Self.fault_count self.new) result };
 }
 
 /// A reader or a writer of std, with its faults and its reads counted.

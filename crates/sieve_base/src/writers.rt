@@ -38,8 +38,10 @@ fn write_front<W: Sink>(bytes: &[u8], writer: &mut W) -> Result<usize, WriteFaul
     requires { 0 < length bytes.now }
     ensures some { IfOk result (λ n. 0 < n) }
     ensures within { IfOk result (λ n. n ≤ length bytes.now) }
-    ensures ok { IfOk result (λ n. Wrote W.contents W.fault_count writer.old writer.new (take n bytes.now)) }
-    ensures err { OnErr result (WroteFront W.contents W.fault_count writer.old writer.new bytes.now) }
+    ensures ok { IfOk result
+        (λ n. Wrote W.contents W.fault_count writer.old writer.new (take n bytes.now)) }
+    ensures err { OnErr result
+        (WroteFront W.contents W.fault_count writer.old writer.new bytes.now) }
 {
     let mut retries = MAX_RETRIES;
     'tries: loop {
@@ -128,7 +130,8 @@ fn write_spelled_front<W: Sink>(bytes: &[u8], writer: &mut W) -> Result<usize, W
 // Writes the spelling of each octet.
 #[tactic(auto, using(crate::proofs::Writing::writing))]
 fn write_spelled<W: Sink>(bytes: &[u8], writer: &mut W) -> Result<(), WriteFault>
-    ensures { Writes W.contents W.fault_count result writer.old writer.new (flat_map octet_spelling bytes.now) }
+    ensures { Writes W.contents W.fault_count result writer.old writer.new
+        (flat_map octet_spelling bytes.now) }
 {
     let mut rest = bytes;
     while !rest.is_empty() {
@@ -175,7 +178,8 @@ fn write_piece<W: Sink>(piece: &Piece<'_>, writer: &mut W) -> Result<(), WriteFa
 /// Writes the pieces in order.
 #[tactic(auto, using(crate::proofs::Writing::writing_items))]
 pub fn write_pieces<W: Sink>(pieces: &[Piece<'_>], writer: &mut W) -> Result<(), WriteFault>
-    ensures { Writes W.contents W.fault_count result writer.old writer.new (pieces_text pieces.now) }
+    ensures { Writes W.contents W.fault_count result writer.old writer.new
+        (pieces_text pieces.now) }
 {
     for piece in pieces {
         write_piece(piece, writer)?;

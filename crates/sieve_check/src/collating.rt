@@ -64,7 +64,8 @@ fn text_lacks(
     role: Option<Role>,
     text: &Text,
 ) -> Result<bool, AllocError>
-    ensures { IfOk result (λ lacks. lacks ≡ spec.text_lacks (profile_as profile) (required_as required) role (text_of text.now)) }
+    ensures { IfOk result (λ lacks. lacks
+        ≡ spec.text_lacks (profile_as profile) (required_as required) role (text_of text.now)) }
 {
     match said(alloc, required, role, text.octets())? {
         Some(name) => {
@@ -83,7 +84,8 @@ fn texts_lack(
     role: Option<Role>,
     texts: &[Text],
 ) -> Result<bool, AllocError>
-    ensures { IfOk result (λ lack. lack ≡ list_any (spec.text_lacks (profile_as profile) (required_as required) role) (map text_of texts.now)) }
+    ensures { IfOk result (λ lack. lack ≡ list_any (spec.text_lacks (profile_as profile)
+        (required_as required) role) (map text_of texts.now)) }
 {
     for text in texts {
         if text_lacks(alloc, profile, required, role, text)? {
@@ -101,7 +103,8 @@ fn argument_lacks(
     role: Option<Role>,
     argument: &Argument,
 ) -> Result<bool, AllocError>
-    ensures { IfOk result (λ lacks. lacks ≡ spec.argument_lacks (profile_as profile) (required_as required) role (argument_of argument.now)) }
+    ensures { IfOk result (λ lacks. lacks ≡ spec.argument_lacks (profile_as profile)
+        (required_as required) role (argument_of argument.now)) }
 {
     match argument {
         Argument::Strings { items, .. } => {
@@ -124,7 +127,8 @@ pub(crate) fn arguments_lack(
     labels: &[Label],
     args: &[Argument],
 ) -> Result<bool, AllocError>
-    ensures { IfOk result (λ lack. lack ≡ spec.arguments_lack (profile_as profile) (required_as required) labels.now (map argument_of args.now)) }
+    ensures { IfOk result (λ lack. lack ≡ spec.arguments_lack (profile_as profile)
+        (required_as required) labels.now (map argument_of args.now)) }
 {
     let mut labels_left = labels;
     for argument in args {

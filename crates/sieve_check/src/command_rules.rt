@@ -53,7 +53,9 @@ fn check_kind(
     kind: CommandKind,
     command: &Command,
 ) -> Result<Vec<Label>, CheckFault>
-    ensures labels { IfOk result (λ labels. labels.items ≡ known_labels (context_as context.entry).profile (command_row kind) (map seen.argument_of (out-Command command.now).args.items)) }
+    ensures labels { IfOk result
+        (λ labels. labels.items ≡ known_labels (context_as context.entry).profile (command_row kind)
+        (map seen.argument_of (out-Command command.now).args.items)) }
     ensures found { Finds (kind_found (context_as context.entry) kind command.now) result }
 {
     let line = command.line as u64;
@@ -94,8 +96,11 @@ fn check_command_head(
     command: &Command,
 ) -> Result<Head, CheckFault>
     ensures found { FindsIn (command_head (context_as context.entry) command.now) result }
-    ensures kind { IfOk result (λ head. spec.known_command (context_as context.entry).profile (out-Command command.now).name ≡ Some head.kind) }
-    ensures labels { IfOk result (λ head. head.labels.items ≡ known_labels (context_as context.entry).profile (command_row head.kind) (map seen.argument_of (out-Command command.now).args.items)) }
+    ensures kind { IfOk result (λ head. spec.known_command (context_as context.entry).profile
+        (out-Command command.now).name ≡ Some head.kind) }
+    ensures labels { IfOk result
+        (λ head. head.labels.items ≡ known_labels (context_as context.entry).profile
+        (command_row head.kind) (map seen.argument_of (out-Command command.now).args.items)) }
 {
     match kind_of(context.spot.profile, command) {
         None => Err(CheckFault::Breach {
@@ -118,8 +123,10 @@ fn cut_and_name(
     labels: &[Label],
     args: &mut Vec<Argument>,
 ) -> Result<(), AllocError>
-    ensures cut { OnOk result (map argument_of args.new.items ≡ parted_said (at_spot spot scope.old) labels.now (map seen.argument_of args.old.items)) }
-    ensures goes { OnOk result (scope.new ≡ naming_said (required_as spot.required) scope.old labels.now (map seen.argument_of args.old.items)) }
+    ensures cut { OnOk result (map argument_of args.new.items
+        ≡ parted_said (at_spot spot scope.old) labels.now (map seen.argument_of args.old.items)) }
+    ensures goes { OnOk result (scope.new ≡ naming_said
+        (required_as spot.required) scope.old labels.now (map seen.argument_of args.old.items)) }
 {
     say_arguments(alloc, spot.required, labels, &mut *args)?;
     scope.assign_arguments(alloc, labels, args)?;
@@ -141,11 +148,16 @@ fn check_front(
     args: &mut Vec<Argument>,
     tests: &mut Tests,
 ) -> Result<Spot, CheckFault>
-    requires { head.labels.items ≡ known_labels (profile_as spot.profile) (command_row head.kind) (map seen.argument_of args.old.items) }
-    ensures found { FindsIn (tests_elements (at_spot spot scope.old) (seen.tests_of tests.old)) result }
-    ensures goes { IfOk result (λ next. at_spot next scope.new ≡ behind_kind (at_spot spot scope.old) (Some head.kind) (map seen.argument_of args.old.items)) }
-    ensures args { OnOk result (map argument_of args.new.items ≡ parted_said (at_spot spot scope.old) head.labels.items (map seen.argument_of args.old.items)) }
-    ensures tests { OnOk result (tests_of tests.new ≡ parted_tests (at_spot spot scope.old) (seen.tests_of tests.old)) }
+    requires { head.labels.items ≡ known_labels (profile_as spot.profile) (command_row head.kind)
+        (map seen.argument_of args.old.items) }
+    ensures found { FindsIn
+        (tests_elements (at_spot spot scope.old) (seen.tests_of tests.old)) result }
+    ensures goes { IfOk result (λ next. at_spot next scope.new ≡ behind_kind
+        (at_spot spot scope.old) (Some head.kind) (map seen.argument_of args.old.items)) }
+    ensures args { OnOk result (map argument_of args.new.items ≡ parted_said
+        (at_spot spot scope.old) head.labels.items (map seen.argument_of args.old.items)) }
+    ensures tests { OnOk result
+        (tests_of tests.new ≡ parted_tests (at_spot spot scope.old) (seen.tests_of tests.old)) }
 {
     let context = Context {
         spot,
@@ -166,9 +178,12 @@ fn check_command(
     scope: &mut Scope,
     command: &mut Command,
 ) -> Result<Spot, CheckFault>
-    ensures found { FindsIn (node_elements (at_spot spot scope.old) (seen.node_of command.old)) result }
-    ensures goes { IfOk result (λ next. at_spot next scope.new ≡ behind (at_spot spot scope.old) (seen.node_of command.old)) }
-    ensures cut { OnOk result (node_of command.new ≡ parted_node (at_spot spot scope.old) (seen.node_of command.old)) }
+    ensures found { FindsIn
+        (node_elements (at_spot spot scope.old) (seen.node_of command.old)) result }
+    ensures goes { IfOk result (λ next. at_spot next scope.new
+        ≡ behind (at_spot spot scope.old) (seen.node_of command.old)) }
+    ensures cut { OnOk result
+        (node_of command.new ≡ parted_node (at_spot spot scope.old) (seen.node_of command.old)) }
 {
     let context = Context {
         spot,
@@ -202,9 +217,12 @@ pub(crate) fn check_commands(
     scope: &mut Scope,
     commands: &mut Vec<Command>,
 ) -> Result<(), CheckFault>
-    ensures found { FindsIn (nodes_elements (at_spot start scope.old) (nodes (map seen.node_of commands.old.items))) result }
-    ensures goes { OnOk result (scope.new ≡ (behind_nodes (at_spot start scope.old) (nodes (map seen.node_of commands.old.items))).scope) }
-    ensures cut { OnOk result (map node_of commands.new.items ≡ items (parted_nodes (at_spot start scope.old) (nodes (map seen.node_of commands.old.items)))) }
+    ensures found { FindsIn (nodes_elements (at_spot start scope.old)
+        (nodes (map seen.node_of commands.old.items))) result }
+    ensures goes { OnOk result (scope.new ≡ (behind_nodes (at_spot start scope.old)
+        (nodes (map seen.node_of commands.old.items))).scope) }
+    ensures cut { OnOk result (map node_of commands.new.items ≡ items
+        (parted_nodes (at_spot start scope.old) (nodes (map seen.node_of commands.old.items)))) }
 {
     let mut spot = start;
     for i in 0..commands.len() {

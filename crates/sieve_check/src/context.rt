@@ -20,7 +20,8 @@ use sieve_table::{Capability, CommandKind, Required, Role, Tag, is_expanded, sam
 
 /// What is required with what strings name.
 fn requiring_texts(required: Required, texts: &[Text]) -> Required
-    ensures { required_as result ≡ spec.requiring_texts (required_as required) (map text_of texts.now) }
+    ensures { required_as result
+        ≡ spec.requiring_texts (required_as required) (map text_of texts.now) }
 {
     let mut required = required;
     for text in texts {
@@ -31,7 +32,8 @@ fn requiring_texts(required: Required, texts: &[Text]) -> Required
 
 /// What is required with what the strings of an argument name.
 fn requiring_argument(required: Required, argument: &Argument) -> Required
-    ensures { required_as result ≡ spec.requiring_argument (required_as required) (argument_of argument.now) }
+    ensures { required_as result
+        ≡ spec.requiring_argument (required_as required) (argument_of argument.now) }
 {
     match argument {
         Argument::Strings { items, .. } => requiring_texts(required, items),
@@ -42,7 +44,8 @@ fn requiring_argument(required: Required, argument: &Argument) -> Required
 
 /// What is required with what the strings of arguments name.
 fn requiring_arguments(required: Required, args: &[Argument]) -> Required
-    ensures { required_as result ≡ spec.requiring_arguments (required_as required) (map argument_of args.now) }
+    ensures { required_as result
+        ≡ spec.requiring_arguments (required_as required) (map argument_of args.now) }
 {
     let mut required = required;
     for argument in args {
@@ -171,7 +174,8 @@ impl Spot {
 
     /// What is required behind a command of this kind with these arguments.
     fn required_behind(self, kind: CommandKind, args: &[Argument]) -> Required
-        ensures { (scope : ScopeState) → required_as result ≡ spec.required_behind (at_spot self scope) kind (map argument_of args.now) }
+        ensures { (scope : ScopeState) → required_as result
+            ≡ spec.required_behind (at_spot self scope) kind (map argument_of args.now) }
     {
         if self.leads && is_require(kind) {
             requiring_arguments(self.required, args)
@@ -182,7 +186,10 @@ impl Spot {
 
     /// Behind a command of this kind with these arguments.
     pub(crate) fn behind_kind(self, kind: CommandKind, args: &[Argument]) -> Spot
-        ensures { (scope : ScopeState) → at_spot result (spec.naming_said (required_as self.required) scope (known_labels (profile_as self.profile) (command_row kind) (map argument_of args.now)) (map argument_of args.now)) ≡ spec.behind_kind (at_spot self scope) (Some kind) (map argument_of args.now) }
+        ensures { (scope : ScopeState) → at_spot result (spec.naming_said
+            (required_as self.required) scope (known_labels (profile_as self.profile)
+            (command_row kind) (map argument_of args.now)) (map argument_of args.now))
+            ≡ spec.behind_kind (at_spot self scope) (Some kind) (map argument_of args.now) }
     {
         Spot {
             profile: self.profile,

@@ -36,7 +36,8 @@ fn literal_parts(string: Parts) -> Parts
 
 /// The variable that a string names.
 fn variable_parts(alloc: Global, declared: &Names, name: &[u8]) -> Result<Parts, AllocError>
-    ensures { IfOk result (λ parts. parts ≡ variable_part (scoped declared.now (variable_named name.now)) ∷ []) }
+    ensures { IfOk result
+        (λ parts. parts ≡ variable_part (scoped declared.now (variable_named name.now)) ∷ []) }
 {
     let variable = Variable::named(alloc, name)?.scoped(declared);
     Ok(Parts::one(Part::variable(variable)))
@@ -44,7 +45,8 @@ fn variable_parts(alloc: Global, declared: &Names, name: &[u8]) -> Result<Parts,
 
 /// The octets and references in a string.
 fn reference_parts(alloc: Global, declared: &Names, string: Parts) -> Result<Parts, AllocError>
-    ensures { IfOk result (λ parts. parts ≡ map (scoped_part declared.now) (parts_of_text (seen.octets_of string))) }
+    ensures { IfOk result
+        (λ parts. parts ≡ map (scoped_part declared.now) (parts_of_text (seen.octets_of string))) }
 {
     let octets = octets_in(string.as_slice());
     if references_in(octets).any {
@@ -65,7 +67,8 @@ fn parts_in(
     role: Option<Role>,
     string: Parts,
 ) -> Result<Parts, AllocError>
-    ensures { IfOk result (λ parts. parts ≡ spec.parts_in (context_as context.entry) role (seen.octets_of string)) }
+    ensures { IfOk result
+        (λ parts. parts ≡ spec.parts_in (context_as context.entry) role (seen.octets_of string)) }
 {
     if names_variable(role) {
         return variable_parts(
@@ -88,7 +91,8 @@ fn cut_text(
     role: Option<Role>,
     text: &mut Text,
 ) -> Result<(), AllocError>
-    ensures { OnOk result (text_of text.new ≡ spec.parted_text (context_as context.entry) role (seen.text_of text.old)) }
+    ensures { OnOk result (text_of text.new
+        ≡ spec.parted_text (context_as context.entry) role (seen.text_of text.old)) }
 {
     let string = mem::replace(&mut text.string, Parts::none());
     text.string = parts_in(alloc, context, role, string)?;
@@ -102,7 +106,8 @@ fn cut_texts(
     role: Option<Role>,
     texts: &mut Vec<Text>,
 ) -> Result<(), AllocError>
-    ensures { OnOk result (map text_of texts.new.items ≡ map (spec.parted_text (context_as context.entry) role) (map seen.text_of texts.old.items)) }
+    ensures { OnOk result (map text_of texts.new.items ≡ map
+        (spec.parted_text (context_as context.entry) role) (map seen.text_of texts.old.items)) }
 {
     for i in 0..texts.len() {
         cut_text(alloc, context, role, &mut texts[i])?;
@@ -117,7 +122,8 @@ fn cut_argument(
     role: Option<Role>,
     argument: &mut Argument,
 ) -> Result<(), AllocError>
-    ensures { OnOk result (argument_of argument.new ≡ spec.parted_argument (context_as context.entry) role (seen.argument_of argument.old)) }
+    ensures { OnOk result (argument_of argument.new
+        ≡ spec.parted_argument (context_as context.entry) role (seen.argument_of argument.old)) }
 {
     match argument {
         Argument::Strings { items, .. } => cut_texts(alloc, context, role, items),
@@ -133,7 +139,8 @@ pub(crate) fn say_and_cut(
     labels: &[Label],
     args: &mut Vec<Argument>,
 ) -> Result<(), AllocError>
-    ensures { OnOk result (map argument_of args.new.items ≡ spec.parted_said (context_as context.entry) labels.now (map seen.argument_of args.old.items)) }
+    ensures { OnOk result (map argument_of args.new.items ≡ spec.parted_said
+        (context_as context.entry) labels.now (map seen.argument_of args.old.items)) }
 {
     say_arguments(alloc, context.spot.required, labels, &mut *args)?;
     cut_arguments(alloc, context, labels, args)
@@ -146,7 +153,8 @@ pub(crate) fn cut_arguments(
     labels: &[Label],
     args: &mut Vec<Argument>,
 ) -> Result<(), AllocError>
-    ensures { OnOk result (map argument_of args.new.items ≡ spec.parted_labelled (context_as context.entry) labels.now (map seen.argument_of args.old.items)) }
+    ensures { OnOk result (map argument_of args.new.items ≡ spec.parted_labelled
+        (context_as context.entry) labels.now (map seen.argument_of args.old.items)) }
 {
     let mut labels_left = labels;
     for i in 0..args.len() {

@@ -58,7 +58,8 @@ pub enum JudgeFault {
 #[tactic(auto, unfolding(crate::specs::Judgement::judgement_of))]
 pub fn judge(alloc: Global, profile: Profile, text: &[u8]) -> Result<Judged, JudgeFault>
     ensures large { IsErrOf result JudgeFault.TooLarge ↔ text_limit < length text.now }
-    ensures judged { IfOk result (λ judged. judged_as judged ≡ judgement_of (profile_as profile) text.now) }
+    ensures judged { IfOk result
+        (λ judged. judged_as judged ≡ judgement_of (profile_as profile) text.now) }
 {
     let script = match parse(alloc, text) {
         Ok(script) => script,

@@ -45,9 +45,14 @@ ghost use Rattle.sieve_variables.specs.Variable.{scoped, variable_named};
 /// each with the rules that it breaks in the order of their numbers, which is the one written here. So the first breach is the least.
 #[tactic(auto, using(crate::proofs::Least::least))]
 pub fn first_breach_is_least()
-    ensures rules { all_rules ≡ RequirePlace ∷ UnknownCapability ∷ UnknownCommand ∷ NotRequired ∷ ElsePlace ∷ BadTag ∷ BadArguments ∷ UnknownComparator ∷ BadVariableName ∷ GlobalAfterSet ∷ BadNamespace ∷ MatchIndex ∷ NumberTooLarge ∷ BadEnvelopePart ∷ NotAddressHeader ∷ TooManyVariables ∷ BadCharacter ∷ BadRelation ∷ UnfitComparator ∷ BadDatePart ∷ [] }
-    ensures order { (profile : Profile) (tree : List Node) → breaches_of profile tree ≡ flat_map breaches_at (elements_of profile tree) }
-    ensures least { (profile : Profile) (tree : List Node) (breach : Breach) → first_breach profile tree ≡ Some breach → IsLeastBreach profile tree breach }
+    ensures rules { all_rules ≡ RequirePlace ∷ UnknownCapability ∷ UnknownCommand ∷ NotRequired
+        ∷ ElsePlace ∷ BadTag ∷ BadArguments ∷ UnknownComparator ∷ BadVariableName ∷ GlobalAfterSet
+        ∷ BadNamespace ∷ MatchIndex ∷ NumberTooLarge ∷ BadEnvelopePart ∷ NotAddressHeader
+        ∷ TooManyVariables ∷ BadCharacter ∷ BadRelation ∷ UnfitComparator ∷ BadDatePart ∷ [] }
+    ensures order { (profile : Profile) (tree : List Node)
+        → breaches_of profile tree ≡ flat_map breaches_at (elements_of profile tree) }
+    ensures least { (profile : Profile) (tree : List Node) (breach : Breach)
+        → first_breach profile tree ≡ Some breach → IsLeastBreach profile tree breach }
 {}
 
 /// How a string is cut into parts goes by its role. One whose references stand for values has the parts that its one cut makes (RFC
@@ -55,15 +60,23 @@ pub fn first_breach_is_least()
 /// name of a variable is that variable alone (RFC 5229, section 4; RFC 5232, sections 3 and 4); and any other stands for
 /// itself.
 pub fn parts_go_by_the_role()
-    ensures expanded { (context : Context) (role : Option Role) (octets : List ℕ) → takes_references context.required role ≡ true → (pieces : List TextPiece) × Cuts pieces octets × (parts_in context role octets ≡ map (scoped_part context.scope.declared) (grouped pieces)) }
-    ensures name { (context : Context) (role : Option Role) (octets : List ℕ) → names_variable role ≡ true → parts_in context role octets ≡ variable_part (scoped context.scope.declared (variable_named octets)) ∷ [] }
-    ensures plain { (context : Context) (role : Option Role) (octets : List ℕ) → names_variable role ≡ false → takes_references context.required role ≡ false → parts_in context role octets ≡ literal octets ∷ [] }
+    ensures expanded { (context : Context) (role : Option Role) (octets : List ℕ)
+        → takes_references context.required role ≡ true
+        → (pieces : List TextPiece) × Cuts pieces octets × (parts_in context role octets
+        ≡ map (scoped_part context.scope.declared) (grouped pieces)) }
+    ensures name { (context : Context) (role : Option Role) (octets : List ℕ)
+        → names_variable role ≡ true → parts_in context role octets
+        ≡ variable_part (scoped context.scope.declared (variable_named octets)) ∷ [] }
+    ensures plain { (context : Context) (role : Option Role) (octets : List ℕ)
+        → names_variable role ≡ false → takes_references context.required role ≡ false
+        → parts_in context role octets ≡ literal octets ∷ [] }
 {}
 
 /// Cutting strings into parts changes nothing else of a tree (RFC 5229, section 3): the checked tree has the names, lines, tags, numbers,
 /// tests and blocks of the text's tree, and in each argument as many strings, on the same lines, in brackets or not.
 pub fn parting_changes_strings_alone()
-    ensures { (profile : Profile) (tree : List Node) → map bare_node (parted profile tree) ≡ map bare_node tree }
+    ensures { (profile : Profile) (tree : List Node)
+        → map bare_node (parted profile tree) ≡ map bare_node tree }
 {}
 
 /// After the `require` commands at the top of a script, what is required where a command, a test or a string is judged is all that these
@@ -78,8 +91,12 @@ pub fn what_is_required_is_named_at_the_top()
 /// text, and before each command, test and string of a script, wherever it stands: there those variables are set that are by the commands
 /// before its own.
 pub fn what_is_written_to_be_set_is_set()
-    ensures behind { (profile : Profile) (commands : Nodes) → (behind_nodes (script_start profile) commands).scope.assigned ≡ set_by (mentions_in (nodes_elements (script_start profile) commands)) }
-    ensures before { (profile : Profile) (tree : List Node) (place : ℕ) (element : Element) → slice_get (elements_of profile tree) place ≡ Some element → HasSetBefore (take place (elements_of profile tree)) element }
+    ensures behind { (profile : Profile) (commands : Nodes)
+        → (behind_nodes (script_start profile) commands).scope.assigned
+        ≡ set_by (mentions_in (nodes_elements (script_start profile) commands)) }
+    ensures before { (profile : Profile) (tree : List Node) (place : ℕ) (element : Element)
+        → slice_get (elements_of profile tree) place ≡ Some element
+        → HasSetBefore (take place (elements_of profile tree)) element }
 {}
 
 /// The abstract script of a readable tree has each command's choice, stop, return or act once, in the order of the text. So nothing of
@@ -92,18 +109,22 @@ pub fn a_readable_script_does_all()
 /// Where a script has no first breach, none of its elements breaks a rule.
 #[tactic(auto, using(crate::proofs::Unbroken::unbroken))]
 pub fn without_a_breach_no_rule_is_broken()
-    ensures { (profile : Profile) (tree : List Node) → first_breach profile tree ≡ None → All (λ e. (rule : Rule) → breaks e rule ≡ false) (elements_of profile tree) }
+    ensures { (profile : Profile) (tree : List Node) → first_breach profile tree ≡ None
+        → All (λ e. (rule : Rule) → breaks e rule ≡ false) (elements_of profile tree) }
 {}
 
 /// A script without a breach has no command, test, tag or comparator that isn't known by the profile, be it known by another or by none, and no leading
 /// `require` names what may not be required. So by the empty profile it has only what each bench knows.
 pub fn what_is_not_known_is_in_no_script()
-    ensures { (profile : Profile) (tree : List Node) → breaches_of profile tree ≡ [] → All (λ e. lacks profile e ≡ false) (elements_of profile tree) }
+    ensures { (profile : Profile) (tree : List Node) → breaches_of profile tree ≡ []
+        → All (λ e. lacks profile e ≡ false) (elements_of profile tree) }
 {}
 
 /// A text without a fault has none with `unused` either, and is the same tree then, so its code is the same.
 pub fn unused_changes_no_sound_script()
-    ensures { (profile : Profile) (text : List ℕ) (tree : List checked.Node) → judgement_of profile text ≡ sound tree → judgement_of (with_extension profile Unused) text ≡ sound tree }
+    ensures { (profile : Profile) (text : List ℕ) (tree : List checked.Node)
+        → judgement_of profile text ≡ sound tree
+        → judgement_of (with_extension profile Unused) text ≡ sound tree }
 {}
 
 /// Each argument that the reading of a command or a test asks for is in its row: one there is of the role, and it is written as it is read; it
@@ -113,9 +134,16 @@ pub fn unused_changes_no_sound_script()
 /// which a script without a breach gives one.
 pub fn rows_give_what_readings_ask_for()
     ensures tests { (kind : TestKind) → gives_all (test_row kind) (asked_by_test kind) ≡ true }
-    ensures commands { (kind : CommandKind) → gives_all (command_row kind) (asked_by_command kind) ≡ true }
-    ensures tests_alone { (kind : TestKind) (labels others : List Label) (args arguments : List checked.Argument) → tags_of labels ≡ tags_of others → AreAlike (asked_by_test kind) labels others args arguments → test_reading_by kind labels args ≡ test_reading_by kind others arguments }
-    ensures commands_alone { (kind : CommandKind) (labels others : List Label) (args arguments : List checked.Argument) → tags_of labels ≡ tags_of others → AreAlike (asked_by_command kind) labels others args arguments → command_reading_by kind labels args ≡ command_reading_by kind others arguments }
+    ensures commands { (kind : CommandKind)
+        → gives_all (command_row kind) (asked_by_command kind) ≡ true }
+    ensures tests_alone { (kind : TestKind) (labels others : List Label)
+        (args arguments : List checked.Argument) → tags_of labels ≡ tags_of others
+        → AreAlike (asked_by_test kind) labels others args arguments
+        → test_reading_by kind labels args ≡ test_reading_by kind others arguments }
+    ensures commands_alone { (kind : CommandKind) (labels others : List Label)
+        (args arguments : List checked.Argument) → tags_of labels ≡ tags_of others
+        → AreAlike (asked_by_command kind) labels others args arguments
+        → command_reading_by kind labels args ≡ command_reading_by kind others arguments }
     ensures bounds { (test_row Size).tags ≡ Over ∷ Under ∷ [] }
     ensures bound { (test_row Size).one_of ≡ Some Bound }
 {}
@@ -124,11 +152,14 @@ pub fn rows_give_what_readings_ask_for()
 /// says, and it stands where it may. So a faultless script is readable, and does all that its commands say.
 #[tactic(auto, using(crate::proofs::Readable::readable))]
 pub fn faultless_scripts_are_readable()
-    ensures { (profile : Profile) (tree : List Node) → breaches_of profile tree ≡ [] → IsReadable (parted profile tree) }
+    ensures { (profile : Profile) (tree : List Node) → breaches_of profile tree ≡ []
+        → IsReadable (parted profile tree) }
 {}
 
 /// The elements of a tree that writes a text are, one by one and in order, the text's identifiers, strings and numbers. These
 /// aren't empty, they stand apart and in order in the text, and the lines of the elements never fall.
 pub fn elements_are_in_text_order()
-    ensures { (profile : Profile) (tree : List Node) (text : List ℕ) (tokens : List Token) → Spells tokens text → WritesSymbols test_depth block_room tree (symbols_of text tokens) → IsInTextOrder profile tree text tokens }
+    ensures { (profile : Profile) (tree : List Node) (text : List ℕ) (tokens : List Token)
+        → Spells tokens text → WritesSymbols test_depth block_room tree (symbols_of text tokens)
+        → IsInTextOrder profile tree text tokens }
 {}

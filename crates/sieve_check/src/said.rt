@@ -36,7 +36,8 @@ pub(crate) fn said(
     role: Option<Role>,
     octets: &[u8],
 ) -> Result<Option<CowSlice<'_, u8>>, AllocError>
-    ensures { IfOk result (λ found. octets_shown found ≡ spec.said (required_as required) role octets.now) }
+    ensures { IfOk result
+        (λ found. octets_shown found ≡ spec.said (required_as required) role octets.now) }
 {
     if takes_sequences(required, role) {
         replaced(alloc, octets)
@@ -52,7 +53,8 @@ fn said_string(
     role: Option<Role>,
     string: Parts,
 ) -> Result<Parts, AllocError>
-    ensures { IfOk result (λ parts. octets_of parts ≡ spec.said_or (octets_of string) (spec.said (required_as required) role (octets_of string))) }
+    ensures { IfOk result (λ parts. octets_of parts ≡ spec.said_or (octets_of string)
+        (spec.said (required_as required) role (octets_of string))) }
 {
     if !takes_sequences(required, role) {
         return Ok(string);
@@ -73,7 +75,8 @@ fn say_text(
     role: Option<Role>,
     text: &mut Text,
 ) -> Result<(), AllocError>
-    ensures { OnOk result (text_of text.new ≡ spec.said_text (required_as required) role (text_of text.old)) }
+    ensures { OnOk result
+        (text_of text.new ≡ spec.said_text (required_as required) role (text_of text.old)) }
 {
     let string = mem::replace(&mut text.string, Parts::none());
     text.string = said_string(alloc, required, role, string)?;
@@ -87,7 +90,8 @@ fn say_texts(
     role: Option<Role>,
     texts: &mut Vec<Text>,
 ) -> Result<(), AllocError>
-    ensures { OnOk result (map text_of texts.new.items ≡ map (spec.said_text (required_as required) role) (map text_of texts.old.items)) }
+    ensures { OnOk result (map text_of texts.new.items
+        ≡ map (spec.said_text (required_as required) role) (map text_of texts.old.items)) }
 {
     for i in 0..texts.len() {
         say_text(alloc, required, role, &mut texts[i])?;
@@ -102,7 +106,8 @@ fn say_argument(
     role: Option<Role>,
     argument: &mut Argument,
 ) -> Result<(), AllocError>
-    ensures { OnOk result (argument_of argument.new ≡ spec.said_argument (required_as required) role (argument_of argument.old)) }
+    ensures { OnOk result (argument_of argument.new
+        ≡ spec.said_argument (required_as required) role (argument_of argument.old)) }
 {
     match argument {
         Argument::Strings { items, .. } => say_texts(alloc, required, role, items),
@@ -118,7 +123,8 @@ pub(crate) fn say_arguments(
     labels: &[Label],
     args: &mut Vec<Argument>,
 ) -> Result<(), AllocError>
-    ensures { OnOk result (map argument_of args.new.items ≡ spec.said_arguments (required_as required) labels.now (map argument_of args.old.items)) }
+    ensures { OnOk result (map argument_of args.new.items
+        ≡ spec.said_arguments (required_as required) labels.now (map argument_of args.old.items)) }
 {
     let mut labels_left = labels;
     for i in 0..args.len() {

@@ -51,7 +51,8 @@ fn declare(alloc: Global, declared: &mut Names, name: &[u8]) -> Result<(), Alloc
 
 /// Declares those that strings name.
 fn declare_texts(alloc: Global, declared: &mut Names, texts: &[Text]) -> Result<(), AllocError>
-    ensures { OnOk result (declared.new ≡ spec.declaring_texts declared.old (map text_of texts.now)) }
+    ensures { OnOk result
+        (declared.new ≡ spec.declaring_texts declared.old (map text_of texts.now)) }
 {
     for text in texts {
         declare(alloc, &mut *declared, text.octets())?;
@@ -66,7 +67,8 @@ fn declare_argument(
     role: Option<Role>,
     argument: &Argument,
 ) -> Result<(), AllocError>
-    ensures { OnOk result (declared.new ≡ spec.declaring_argument declared.old role (argument_of argument.now)) }
+    ensures { OnOk result
+        (declared.new ≡ spec.declaring_argument declared.old role (argument_of argument.now)) }
 {
     match argument {
         Argument::Strings { items, .. } => {
@@ -88,7 +90,8 @@ fn declare_arguments(
     labels: &[Label],
     args: &[Argument],
 ) -> Result<(), AllocError>
-    ensures { OnOk result (declared.new ≡ spec.declaring_arguments declared.old labels.now (map argument_of args.now)) }
+    ensures { OnOk result (declared.new
+        ≡ spec.declaring_arguments declared.old labels.now (map argument_of args.now)) }
 {
     let mut labels_left = labels;
     for argument in args {
@@ -169,7 +172,8 @@ impl Scope {
         role: Option<Role>,
         argument: &Argument,
     ) -> Result<(), AllocError>
-        ensures { OnOk result (self.new ≡ spec.assigning_argument self.old role (argument_of argument.now)) }
+        ensures { OnOk result
+            (self.new ≡ spec.assigning_argument self.old role (argument_of argument.now)) }
     {
         match argument {
             Argument::Strings { items, .. } => {
@@ -191,7 +195,8 @@ impl Scope {
         labels: &[Label],
         args: &[Argument],
     ) -> Result<(), AllocError>
-        ensures { OnOk result (self.new ≡ spec.assigning_arguments self.old labels.now (map argument_of args.now)) }
+        ensures { OnOk result
+            (self.new ≡ spec.assigning_arguments self.old labels.now (map argument_of args.now)) }
     {
         let mut labels_left = labels;
         for argument in args {
@@ -215,7 +220,8 @@ impl Scope {
         labels: &[Label],
         args: &[Argument],
     ) -> Result<(), AllocError>
-        ensures { OnOk result (self.new ≡ spec.with_declared self.old labels.now (map argument_of args.now)) }
+        ensures { OnOk result
+            (self.new ≡ spec.with_declared self.old labels.now (map argument_of args.now)) }
     {
         declare_arguments(alloc, &mut self.declared, labels, args)
     }

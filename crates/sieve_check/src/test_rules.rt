@@ -37,7 +37,9 @@ fn check_test_head(
     test: &Test,
 ) -> Result<Vec<Label>, CheckFault>
     ensures found { FindsIn (test_head (context_as context.entry) test.now) result }
-    ensures labels { IfOk result (λ labels. labels.items ≡ test_labels (context_as context.entry).profile (spec.known_test (context_as context.entry).profile (out-Test test.now).name) (map seen.argument_of (out-Test test.now).args.items)) }
+    ensures labels { IfOk result (λ labels. labels.items ≡ test_labels
+        (context_as context.entry).profile (spec.known_test (context_as context.entry).profile
+        (out-Test test.now).name) (map seen.argument_of (out-Test test.now).args.items)) }
 {
     let line = test.line as u64;
     match kind_of(context.spot.profile, test) {
@@ -64,8 +66,10 @@ fn check_test_head(
 #[cycle(check_tests)]
 #[tactic(auto, using(crate::proofs::Walk::test_steps))]
 fn check_test(alloc: Global, context: Context<'_>, test: &mut Test) -> Result<(), CheckFault>
-    ensures found { FindsIn (test_elements (context_as context.entry) (seen.test_of test.old)) result }
-    ensures cut { OnOk result (test_of test.new ≡ parted_test (context_as context.entry) (seen.test_of test.old)) }
+    ensures found { FindsIn
+        (test_elements (context_as context.entry) (seen.test_of test.old)) result }
+    ensures cut { OnOk result
+        (test_of test.new ≡ parted_test (context_as context.entry) (seen.test_of test.old)) }
 {
     let labels = check_test_head(alloc, context, &*test)?;
     say_and_cut(alloc, context, &labels, &mut test.args)?;
@@ -82,8 +86,10 @@ pub(crate) fn check_tests(
     context: Context<'_>,
     tests: Tests,
 ) -> Result<Tests, CheckFault>
-    ensures found { FindsIn (tests_elements (context_as context.entry) (seen.tests_of tests)) result }
-    ensures cut { IfOk result (λ cut. tests_of cut ≡ parted_tests (context_as context.entry) (seen.tests_of tests)) }
+    ensures found { FindsIn
+        (tests_elements (context_as context.entry) (seen.tests_of tests)) result }
+    ensures cut { IfOk result
+        (λ cut. tests_of cut ≡ parted_tests (context_as context.entry) (seen.tests_of tests)) }
 {
     match tests {
         Tests::None => Ok(Tests::None),
@@ -107,8 +113,10 @@ fn check_test_list(
     context: Context<'_>,
     list: &mut Vec<Test>,
 ) -> Result<(), CheckFault>
-    ensures found { FindsIn (test_list_elements (context_as context.entry) (tests (map seen.test_of list.old.items))) result }
-    ensures cut { OnOk result (map test_of list.new.items ≡ map (parted_test (context_as context.entry)) (map seen.test_of list.old.items)) }
+    ensures found { FindsIn (test_list_elements (context_as context.entry)
+        (tests (map seen.test_of list.old.items))) result }
+    ensures cut { OnOk result (map test_of list.new.items
+        ≡ map (parted_test (context_as context.entry)) (map seen.test_of list.old.items)) }
 {
     for i in 0..list.len() {
         check_test(alloc, context, &mut list[i])?;

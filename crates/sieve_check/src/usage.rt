@@ -53,7 +53,8 @@ fn has_lacking(required: Required, needs: &[Capability]) -> bool
 
 /// Whether some argument needs what isn't required.
 fn has_needy(required: Required, labels: &[Label]) -> bool
-    ensures { result ≡ list_any (λ label. spec.lacks_needed (required_as required) (spec.needed_by label)) labels.now }
+    ensures { result ≡ list_any
+        (λ label. spec.lacks_needed (required_as required) (spec.needed_by label)) labels.now }
 {
     labels.iter().any(|label| lacks_needed(required, *label))
 }
@@ -236,7 +237,8 @@ pub(crate) fn has_bad_arguments(
     tests: &Tests,
     ends_by_block: bool,
 ) -> bool
-    ensures { result ≡ spec.are_bad filled (row_as row.now) labels.now (tests_of tests.now) ends_by_block }
+    ensures { result
+        ≡ spec.are_bad filled (row_as row.now) labels.now (tests_of tests.now) ends_by_block }
 {
     if !filled || !tests_fit(row.tests, tests) || row.has_block != ends_by_block {
         return true;

@@ -41,8 +41,8 @@ impl From<AllocError> for CheckFault {
 /// Checks a script by what a bench of a profile knows: the least breach of a rule, or, where there is none, the checked script, which is
 /// the same tree with its strings cut into parts.
 pub fn check(alloc: Global, profile: Profile, script: ParsedScript) -> Result<Checked, CheckFault>
-    ensures { MatchResult result
-        (λ checked. (breaches_of (profile_as profile) (nodes_of script) ≡ []) × (tree_of checked ≡ parted (profile_as profile) (nodes_of script)))
+    ensures { MatchResult result (λ checked. (breaches_of (profile_as profile) (nodes_of script)
+        ≡ []) × (tree_of checked ≡ parted (profile_as profile) (nodes_of script)))
         (IsFirst (breaches_of (profile_as profile) (nodes_of script))) }
 {
     let mut commands = script.into_commands();

@@ -184,7 +184,8 @@ impl Code {
 
     /// What a `date` test takes its value from, by its place.
     fn date(&self, place: u32) -> SourceOp<'_>
-        ensures { source_op_as result ≡ date_in (pool_of self.now) (date_packed_in (pool_of self.now) place) }
+        ensures { source_op_as result
+            ≡ date_in (pool_of self.now) (date_packed_in (pool_of self.now) place) }
     {
         let packed = self.packed_date(place);
         SourceOp::Date {
@@ -196,7 +197,8 @@ impl Code {
 
     /// What a `currentdate` test takes its value from, by its place.
     fn current_date(&self, place: u32) -> SourceOp<'_>
-        ensures { source_op_as result ≡ clock_in (pool_of self.now) (date_packed_in (pool_of self.now) place) }
+        ensures { source_op_as result
+            ≡ clock_in (pool_of self.now) (date_packed_in (pool_of self.now) place) }
     {
         let packed = self.packed_date(place);
         SourceOp::CurrentDate {
@@ -329,7 +331,8 @@ impl Code {
     /// Writes the line of the operation at a place: the place, `: `, the operation, LF. Takes no memory.
     pub fn dump_line<W: Sink>(&self, i: usize, writer: &mut W) -> Result<(), WriteFault>
         requires { i < length (ops_of self.now) }
-        ensures { Writes W.contents W.fault_count result writer.old writer.new (line_at (ops_of self.now) i) }
+        ensures { Writes W.contents W.fault_count result writer.old writer.new
+            (line_at (ops_of self.now) i) }
     {
         write_line(i, self, self.op(i), writer)
     }

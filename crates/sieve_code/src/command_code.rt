@@ -50,7 +50,8 @@ fn drop_branches(front: TailFront, tail: &mut Tail) -> TailFront
 fn put_alone(op: Op, front: TailFront, tail: &mut Tail) -> Result<TailFront, AllocError>
     requires { is_plain op ≡ true }
     ensures within { IfOk result (λ new. new.behind ≤ length tail.new) }
-    ensures value { IfOk result (λ new. branches_as new tail.new ≡ no_branch (plain_as op ∷ last front.behind tail.old)) }
+    ensures value { IfOk result
+        (λ new. branches_as new tail.new ≡ no_branch (plain_as op ∷ last front.behind tail.old)) }
 {
     tail.keep_last(front.behind);
     tail.put(op)?;
@@ -65,7 +66,8 @@ fn put_act(
     tail: &mut Tail,
 ) -> Result<TailFront, AllocError>
     ensures within { IfOk result (λ new. new.behind ≤ length tail.new) }
-    ensures value { IfOk result (λ new. branches_as new tail.new ≡ no_branch (act_op (leaf_as leaf) line ∷ last front.behind tail.old)) }
+    ensures value { IfOk result (λ new. branches_as new tail.new
+        ≡ no_branch (act_op (leaf_as leaf) line ∷ last front.behind tail.old)) }
 {
     tail.keep_last(front.behind);
     tail.put_act(leaf, line)?;
@@ -87,7 +89,8 @@ fn put_past(front: TailFront, tail: &mut Tail) -> Result<(), AllocError>
 
 /// What a command of that name and with these arguments is, where there is one of that name. Each command of a checked script is one.
 fn reading_of(alloc: Global, name: &CommandName, args: Vec<Argument>) -> Option<CommandReading>
-    ensures { option_map command_reading_as result ≡ some_command_reading (command_named name.now) (map argument_of args.items) }
+    ensures { option_map command_reading_as result
+        ≡ some_command_reading (command_named name.now) (map argument_of args.items) }
 {
     match name.kind() {
         Some(kind) => Some(read_command(alloc, kind, args)),
@@ -102,7 +105,8 @@ pub(crate) fn put_commands(
     commands: Vec<Command>,
     tail: &mut Tail,
 ) -> Result<(), AllocError>
-    ensures { OnOk result (tail.new ≡ (nodes_before (nodes (map node_of commands.items)) tail.old).behind_branches) }
+    ensures { OnOk result
+        (tail.new ≡ (nodes_before (nodes (map node_of commands.items)) tail.old).behind_branches) }
 {
     let mut commands = commands;
     let mut front = without_branch(tail);
@@ -124,7 +128,8 @@ fn put_command(
 ) -> Result<TailFront, AllocError>
     requires { front.behind ≤ length tail.old }
     ensures within { IfOk result (λ new. new.behind ≤ length tail.new) }
-    ensures value { IfOk result (λ new. branches_as new tail.new ≡ node_before (node_of command) (branches_as front tail.old)) }
+    ensures value { IfOk result (λ new. branches_as new tail.new
+        ≡ node_before (node_of command) (branches_as front tail.old)) }
 {
     let Command {
         name,
@@ -175,7 +180,8 @@ fn put_branch(
     tail: &mut Tail,
 ) -> Result<(), AllocError>
     requires { front.behind ≤ length tail.old }
-    ensures { OnOk result (tail.new ≡ branch_before (first_before (tests_of tests)) (block_before (block (nodes (map node_of commands.items)))) (branches_as front tail.old)) }
+    ensures { OnOk result (tail.new ≡ branch_before (first_before (tests_of tests))
+        (block_before (block (nodes (map node_of commands.items)))) (branches_as front tail.old)) }
 {
     let next = tail.len();
     put_past(front, tail)?;

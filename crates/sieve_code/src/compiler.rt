@@ -16,7 +16,8 @@ use std::alloc::{AllocError, Global};
 /// answered as want of memory; no text that is read has them.
 pub fn compile(alloc: Global, checked: Checked) -> Result<Code, AllocError>
     ensures code { IfOk result (λ code. Compiles (tree_of checked) (ops_of code)) }
-    ensures answers { IfOk result (λ code. (answers : List Bool) → gone (code_walk (ops_of code) (length (ops_of code))) answers ≡ gone (tree_walk (tree_of checked)) answers) }
+    ensures answers { IfOk result (λ code. (answers : List Bool) → gone (code_walk (ops_of code)
+        (length (ops_of code))) answers ≡ gone (tree_walk (tree_of checked)) answers) }
 {
     let mut tail = Tail::new(alloc);
     put_commands(alloc, checked.into_commands(), &mut tail)?;

@@ -27,7 +27,8 @@ fn write_matching<W: Sink>(
     keys: u32,
     writer: &mut W,
 ) -> Result<(), WriteFault>
-    ensures { Writes W.contents W.fault_count result writer.old writer.new (operation_text (op_of code.now (Compares test values keys))) }
+    ensures { Writes W.contents W.fault_count result writer.old writer.new
+        (operation_text (op_of code.now (Compares test values keys))) }
 {
     let test = code.test(test);
     let source = code.source(test.source, values);
@@ -37,7 +38,8 @@ fn write_matching<W: Sink>(
 /// Writes a test that asks for mailboxes.
 #[tactic(auto, unfolding(crate::specs::Dump::operation_text, crate::specs::Dump::ask_text))]
 fn write_mailboxes<W: Sink>(code: &Code, names: u32, writer: &mut W) -> Result<(), WriteFault>
-    ensures { Writes W.contents W.fault_count result writer.old writer.new (operation_text (op_of code.now (MailboxExists names))) }
+    ensures { Writes W.contents W.fault_count result writer.old writer.new
+        (operation_text (op_of code.now (MailboxExists names))) }
 {
     write_list(b"mailboxexists ", &code.list(names), writer)
 }
@@ -49,7 +51,8 @@ fn write_jump<W: Sink>(
     left: usize,
     writer: &mut W,
 ) -> Result<(), WriteFault>
-    ensures { Writes W.contents W.fault_count result writer.old writer.new (word.now ++ decimal (jump_place_of code.now left)) }
+    ensures { Writes W.contents W.fault_count result writer.old writer.new
+        (word.now ++ decimal (jump_place_of code.now left)) }
 {
     write_number(word, code.jump_place(left) as u64, writer)
 }
@@ -62,7 +65,8 @@ fn write_keeping<W: Sink>(
     line: u32,
     writer: &mut W,
 ) -> Result<(), WriteFault>
-    ensures { Writes W.contents W.fault_count result writer.old writer.new (operation_text (op_of code.now (Keep line settings))) }
+    ensures { Writes W.contents W.fault_count result writer.old writer.new
+        (operation_text (op_of code.now (Keep line settings))) }
 {
     write_worded_settings(b"keep", &code.settings(settings), writer)?;
     write_line_number(line, writer)
@@ -77,7 +81,8 @@ fn write_filing<W: Sink>(
     line: u32,
     writer: &mut W,
 ) -> Result<(), WriteFault>
-    ensures { Writes W.contents W.fault_count result writer.old writer.new (operation_text (op_of code.now (Fileinto line mailbox settings))) }
+    ensures { Writes W.contents W.fault_count result writer.old writer.new
+        (operation_text (op_of code.now (Fileinto line mailbox settings))) }
 {
     write_fileinto(code.string(mailbox), &code.settings(settings), writer)?;
     write_line_number(line, writer)
@@ -92,7 +97,8 @@ fn write_sending<W: Sink>(
     line: u32,
     writer: &mut W,
 ) -> Result<(), WriteFault>
-    ensures { Writes W.contents W.fault_count result writer.old writer.new (operation_text (op_of code.now (Redirect line address settings))) }
+    ensures { Writes W.contents W.fault_count result writer.old writer.new
+        (operation_text (op_of code.now (Redirect line address settings))) }
 {
     write_redirect(code.string(address), &code.settings(settings), writer)?;
     write_line_number(line, writer)
@@ -101,7 +107,8 @@ fn write_sending<W: Sink>(
 /// Writes a `discard` and its line.
 #[tactic(auto, using(sieve_base::proofs::Writing::writing), unfolding(crate::specs::Dump::leaf_text))]
 fn write_discard<W: Sink>(line: u32, writer: &mut W) -> Result<(), WriteFault>
-    ensures { Writes W.contents W.fault_count result writer.old writer.new (leaf_text discard_leaf ++ at_line line) }
+    ensures { Writes W.contents W.fault_count result writer.old writer.new
+        (leaf_text discard_leaf ++ at_line line) }
 {
     write_out(b"discard", writer)?;
     write_line_number(line, writer)
@@ -116,7 +123,8 @@ fn write_setting<W: Sink>(
     line: u32,
     writer: &mut W,
 ) -> Result<(), WriteFault>
-    ensures { Writes W.contents W.fault_count result writer.old writer.new (operation_text (op_of code.now (Set line target value))) }
+    ensures { Writes W.contents W.fault_count result writer.old writer.new
+        (operation_text (op_of code.now (Set line target value))) }
 {
     let Some(target) = code.target(target) else {
         // No code has such an operation.
@@ -137,7 +145,8 @@ fn write_changing<W: Sink>(
     line: u32,
     writer: &mut W,
 ) -> Result<(), WriteFault>
-    ensures { Writes W.contents W.fault_count result writer.old writer.new (operation_text (op_of code.now (Flags change line variable flags))) }
+    ensures { Writes W.contents W.fault_count result writer.old writer.new
+        (operation_text (op_of code.now (Flags change line variable flags))) }
 {
     write_flags(change, code.variable(variable), &code.list(flags), writer)?;
     write_line_number(line, writer)
@@ -150,7 +159,8 @@ fn write_including<W: Sink>(
     inclusion: Inclusion,
     writer: &mut W,
 ) -> Result<(), WriteFault>
-    ensures { Writes W.contents W.fault_count result writer.old writer.new (operation_text (op_of code.now (Include inclusion))) }
+    ensures { Writes W.contents W.fault_count result writer.old writer.new
+        (operation_text (op_of code.now (Include inclusion))) }
 {
     let Inclusion {
         place,
@@ -171,7 +181,8 @@ fn write_answering<W: Sink>(
     line: u32,
     writer: &mut W,
 ) -> Result<(), WriteFault>
-    ensures { Writes W.contents W.fault_count result writer.old writer.new (operation_text (op_of code.now (Vacation line vacation))) }
+    ensures { Writes W.contents W.fault_count result writer.old writer.new
+        (operation_text (op_of code.now (Vacation line vacation))) }
 {
     write_vacation(&code.vacation(vacation), writer)?;
     write_line_number(line, writer)
@@ -186,7 +197,8 @@ fn write_rejecting<W: Sink>(
     line: u32,
     writer: &mut W,
 ) -> Result<(), WriteFault>
-    ensures { Writes W.contents W.fault_count result writer.old writer.new (operation_text (op_of code.now (Reject how line reason))) }
+    ensures { Writes W.contents W.fault_count result writer.old writer.new
+        (operation_text (op_of code.now (Reject how line reason))) }
 {
     write_reject(how, code.string(reason), writer)?;
     write_line_number(line, writer)
@@ -195,7 +207,8 @@ fn write_rejecting<W: Sink>(
 /// Writes an operation.
 #[tactic(auto, using(sieve_base::proofs::Writing::writing), unfolding(crate::specs::Dump::operation_text, crate::specs::Dump::ask_text, crate::specs::Dump::leaf_text))]
 fn write_op<W: Sink>(code: &Code, op: Op, writer: &mut W) -> Result<(), WriteFault>
-    ensures { Writes W.contents W.fault_count result writer.old writer.new (operation_text (op_of code.now op)) }
+    ensures { Writes W.contents W.fault_count result writer.old writer.new
+        (operation_text (op_of code.now op)) }
 {
     match op {
         Op::True => write_out(b"true", writer),
@@ -243,7 +256,8 @@ fn write_op<W: Sink>(code: &Code, op: Op, writer: &mut W) -> Result<(), WriteFau
 
 /// Writes a place.
 fn write_place<W: Sink>(place: usize, writer: &mut W) -> Result<(), WriteFault>
-    ensures { Writes W.contents W.fault_count result writer.old writer.new (decimal place ++ codes ": ") }
+    ensures { Writes W.contents W.fault_count result writer.old writer.new
+        (decimal place ++ codes ": ") }
 {
     write_pieces(&[Piece::Number(place as u64), Piece::Raw(b": ")], writer)
 }
@@ -256,7 +270,8 @@ pub(crate) fn write_line<W: Sink>(
     op: Op,
     writer: &mut W,
 ) -> Result<(), WriteFault>
-    ensures { Writes W.contents W.fault_count result writer.old writer.new (line_text place (op_of code.now op)) }
+    ensures { Writes W.contents W.fault_count result writer.old writer.new
+        (line_text place (op_of code.now op)) }
 {
     write_place(place, writer)?;
     write_op(code, op, writer)?;

@@ -18,7 +18,8 @@ pub(crate) fn write_worded<W: Sink>(
     string: &[Part],
     writer: &mut W,
 ) -> Result<(), WriteFault>
-    ensures { Writes W.contents W.fault_count result writer.old writer.new (spec.worded_text word.now string.now) }
+    ensures { Writes W.contents W.fault_count result writer.old writer.new
+        (spec.worded_text word.now string.now) }
 {
     write_string(word, string, writer)
 }
@@ -26,7 +27,8 @@ pub(crate) fn write_worded<W: Sink>(
 /// Writes the flags of what is stored: those that are named, or that these are the internal ones.
 #[tactic(auto, unfolding(crate::specs::Dump::stored_flags))]
 fn write_stored_flags<W: Sink>(settings: &SettingsOp<'_>, writer: &mut W) -> Result<(), WriteFault>
-    ensures { Writes W.contents W.fault_count result writer.old writer.new (spec.stored_flags (settings_op_as settings.now).flags) }
+    ensures { Writes W.contents W.fault_count result writer.old writer.new
+        (spec.stored_flags (settings_op_as settings.now).flags) }
 {
     match &settings.flags {
         Some(flags) => write_list(b" flags ", flags, writer),
@@ -44,7 +46,8 @@ pub(crate) fn given_word<'a>(is_given: bool, word: &'a [u8]) -> &'a [u8]
 /// Writes that an action is a copy, where it is one.
 #[tactic(auto, unfolding(crate::specs::Dump::copy_word))]
 fn write_copy<W: Sink>(settings: &SettingsOp<'_>, writer: &mut W) -> Result<(), WriteFault>
-    ensures { Writes W.contents W.fault_count result writer.old writer.new (spec.copy_word (settings_op_as settings.now).copy) }
+    ensures { Writes W.contents W.fault_count result writer.old writer.new
+        (spec.copy_word (settings_op_as settings.now).copy) }
 {
     write_out(given_word(settings.copy, b" copy"), writer)
 }
@@ -52,7 +55,8 @@ fn write_copy<W: Sink>(settings: &SettingsOp<'_>, writer: &mut W) -> Result<(), 
 /// Writes that a mailbox is made which isn't there, where a command says so.
 #[tactic(auto, unfolding(crate::specs::Dump::create_word))]
 fn write_create<W: Sink>(settings: &SettingsOp<'_>, writer: &mut W) -> Result<(), WriteFault>
-    ensures { Writes W.contents W.fault_count result writer.old writer.new (spec.create_word (settings_op_as settings.now).create) }
+    ensures { Writes W.contents W.fault_count result writer.old writer.new
+        (spec.create_word (settings_op_as settings.now).create) }
 {
     write_out(given_word(settings.create, b" create"), writer)
 }
@@ -64,7 +68,8 @@ pub(crate) fn write_given_string<W: Sink>(
     string: Option<&[Part]>,
     writer: &mut W,
 ) -> Result<(), WriteFault>
-    ensures { Writes W.contents W.fault_count result writer.old writer.new (spec.given_string_text word.now (option_copied string.entry)) }
+    ensures { Writes W.contents W.fault_count result writer.old writer.new
+        (spec.given_string_text word.now (option_copied string.entry)) }
 {
     match string {
         Some(string) => write_string(word, string, writer),
@@ -75,7 +80,8 @@ pub(crate) fn write_given_string<W: Sink>(
 /// Writes what a command says of the mailbox that it stores into.
 #[tactic(auto, using(sieve_base::proofs::Writing::writing), unfolding(crate::specs::Dump::filing_words))]
 fn write_filing_words<W: Sink>(settings: &SettingsOp<'_>, writer: &mut W) -> Result<(), WriteFault>
-    ensures { Writes W.contents W.fault_count result writer.old writer.new (spec.filing_words (settings_op_as settings.now)) }
+    ensures { Writes W.contents W.fault_count result writer.old writer.new
+        (spec.filing_words (settings_op_as settings.now)) }
 {
     write_create(settings, writer)?;
     write_given_string(b" special-use ", settings.special_use, writer)
@@ -84,7 +90,8 @@ fn write_filing_words<W: Sink>(settings: &SettingsOp<'_>, writer: &mut W) -> Res
 /// Writes what a command says of the store, beside its flags.
 #[tactic(auto, using(sieve_base::proofs::Writing::writing), unfolding(crate::specs::Dump::store_words))]
 fn write_store_words<W: Sink>(settings: &SettingsOp<'_>, writer: &mut W) -> Result<(), WriteFault>
-    ensures { Writes W.contents W.fault_count result writer.old writer.new (spec.store_words (settings_op_as settings.now)) }
+    ensures { Writes W.contents W.fault_count result writer.old writer.new
+        (spec.store_words (settings_op_as settings.now)) }
 {
     write_filing_words(settings, writer)?;
     write_copy(settings, writer)
@@ -93,7 +100,8 @@ fn write_store_words<W: Sink>(settings: &SettingsOp<'_>, writer: &mut W) -> Resu
 /// Writes what a command that stores says beside.
 #[tactic(auto, using(sieve_base::proofs::Writing::writing), unfolding(crate::specs::Dump::stored_text))]
 fn write_stored<W: Sink>(settings: &SettingsOp<'_>, writer: &mut W) -> Result<(), WriteFault>
-    ensures { Writes W.contents W.fault_count result writer.old writer.new (spec.stored_text (settings_op_as settings.now)) }
+    ensures { Writes W.contents W.fault_count result writer.old writer.new
+        (spec.stored_text (settings_op_as settings.now)) }
 {
     write_stored_flags(settings, writer)?;
     write_store_words(settings, writer)
@@ -106,7 +114,8 @@ pub(crate) fn write_worded_settings<W: Sink>(
     settings: &SettingsOp<'_>,
     writer: &mut W,
 ) -> Result<(), WriteFault>
-    ensures { Writes W.contents W.fault_count result writer.old writer.new (spec.worded_settings word.now (settings_op_as settings.now)) }
+    ensures { Writes W.contents W.fault_count result writer.old writer.new
+        (spec.worded_settings word.now (settings_op_as settings.now)) }
 {
     write_out(word, writer)?;
     write_stored(settings, writer)
@@ -119,7 +128,8 @@ pub(crate) fn write_redirect<W: Sink>(
     settings: &SettingsOp<'_>,
     writer: &mut W,
 ) -> Result<(), WriteFault>
-    ensures { Writes W.contents W.fault_count result writer.old writer.new (spec.worded_text (codes "redirect ") address.now ++ spec.copy_word (settings_op_as settings.now).copy) }
+    ensures { Writes W.contents W.fault_count result writer.old writer.new (spec.worded_text
+        (codes "redirect ") address.now ++ spec.copy_word (settings_op_as settings.now).copy) }
 {
     write_worded(b"redirect ", address, writer)?;
     write_copy(settings, writer)
@@ -132,7 +142,8 @@ pub(crate) fn write_fileinto<W: Sink>(
     settings: &SettingsOp<'_>,
     writer: &mut W,
 ) -> Result<(), WriteFault>
-    ensures { Writes W.contents W.fault_count result writer.old writer.new (spec.worded_text (codes "fileinto ") mailbox.now ++ spec.stored_text (settings_op_as settings.now)) }
+    ensures { Writes W.contents W.fault_count result writer.old writer.new (spec.worded_text
+        (codes "fileinto ") mailbox.now ++ spec.stored_text (settings_op_as settings.now)) }
 {
     write_worded(b"fileinto ", mailbox, writer)?;
     write_stored(settings, writer)
@@ -167,7 +178,8 @@ fn write_variable<'x, W: Sink>(
     variable: &'x Variable,
     writer: &mut W,
 ) -> Result<(), WriteFault>
-    ensures { Writes W.contents W.fault_count result writer.old writer.new (spec.worded_variable word.now variable.now) }
+    ensures { Writes W.contents W.fault_count result writer.old writer.new
+        (spec.worded_variable word.now variable.now) }
 {
     let variable = variable.as_ref();
     write_pieces(
@@ -183,7 +195,8 @@ fn write_variable<'x, W: Sink>(
 
 /// Writes the modifiers of a `set`.
 fn write_modifiers<W: Sink>(modifiers: Modifiers, writer: &mut W) -> Result<(), WriteFault>
-    ensures { Writes W.contents W.fault_count result writer.old writer.new (spec.modifier_words modifiers) }
+    ensures { Writes W.contents W.fault_count result writer.old writer.new
+        (spec.modifier_words modifiers) }
 {
     write_pieces(
         &[
@@ -204,7 +217,8 @@ fn write_set_words<W: Sink>(
     modifiers: Modifiers,
     writer: &mut W,
 ) -> Result<(), WriteFault>
-    ensures { Writes W.contents W.fault_count result writer.old writer.new (spec.set_words variable.now modifiers) }
+    ensures { Writes W.contents W.fault_count result writer.old writer.new
+        (spec.set_words variable.now modifiers) }
 {
     write_variable(b"set ", variable, writer)?;
     write_modifiers(modifiers, writer)
@@ -218,7 +232,8 @@ pub(crate) fn write_set<W: Sink>(
     value: &[Part],
     writer: &mut W,
 ) -> Result<(), WriteFault>
-    ensures { Writes W.contents W.fault_count result writer.old writer.new (spec.worded_text (spec.set_words variable.now modifiers) value.now) }
+    ensures { Writes W.contents W.fault_count result writer.old writer.new
+        (spec.worded_text (spec.set_words variable.now modifiers) value.now) }
 {
     write_set_words(variable, modifiers, writer)?;
     write_string(b"", value, writer)
@@ -242,7 +257,8 @@ fn write_changing_words<W: Sink>(
     variable: Option<&Variable>,
     writer: &mut W,
 ) -> Result<(), WriteFault>
-    ensures { Writes W.contents W.fault_count result writer.old writer.new (spec.changing_words change (option_copied variable.entry)) }
+    ensures { Writes W.contents W.fault_count result writer.old writer.new
+        (spec.changing_words change (option_copied variable.entry)) }
 {
     let word = change_word(change);
     match variable {
@@ -271,7 +287,8 @@ pub(crate) fn write_flags<W: Sink>(
     flags: &Strings<'_>,
     writer: &mut W,
 ) -> Result<(), WriteFault>
-    ensures { Writes W.contents W.fault_count result writer.old writer.new (spec.changing_words change (option_copied variable.entry) ++ spec.list_text flags.now) }
+    ensures { Writes W.contents W.fault_count result writer.old writer.new
+        (spec.changing_words change (option_copied variable.entry) ++ spec.list_text flags.now) }
 {
     write_changing_words(change, variable, writer)?;
     write_list(b"", flags, writer)
@@ -286,7 +303,8 @@ pub(crate) fn write_include<W: Sink>(
     name: &[u8],
     writer: &mut W,
 ) -> Result<(), WriteFault>
-    ensures { Writes W.contents W.fault_count result writer.old writer.new (spec.include_words place once optional name.now) }
+    ensures { Writes W.contents W.fault_count result writer.old writer.new
+        (spec.include_words place once optional name.now) }
 {
     write_pieces(
         &[

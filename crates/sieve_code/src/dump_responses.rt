@@ -28,7 +28,8 @@ fn write_addresses<W: Sink>(
     addresses: &Option<Strings<'_>>,
     writer: &mut W,
 ) -> Result<(), WriteFault>
-    ensures { Writes W.contents W.fault_count result writer.old writer.new (spec.addresses_words addresses.now) }
+    ensures { Writes W.contents W.fault_count result writer.old writer.new
+        (spec.addresses_words addresses.now) }
 {
     match addresses {
         Some(addresses) => write_list(b" addresses ", addresses, writer),
@@ -47,7 +48,8 @@ fn write_mime<W: Sink>(mime: bool, writer: &mut W) -> Result<(), WriteFault>
 /// Writes how often a sender gets a response, its subject and whom it is from, where they are given.
 #[tactic(auto, using(sieve_base::proofs::Writing::writing), unfolding(crate::specs::Dump::sending_words))]
 fn write_sending<W: Sink>(vacation: &VacationOp<'_>, writer: &mut W) -> Result<(), WriteFault>
-    ensures { Writes W.contents W.fault_count result writer.old writer.new (spec.sending_words (vacation_op_as vacation.now)) }
+    ensures { Writes W.contents W.fault_count result writer.old writer.new
+        (spec.sending_words (vacation_op_as vacation.now)) }
 {
     write_days(vacation.days, writer)?;
     write_given_string(b" subject ", vacation.subject, writer)?;
@@ -57,7 +59,8 @@ fn write_sending<W: Sink>(vacation: &VacationOp<'_>, writer: &mut W) -> Result<(
 /// Writes what else is given of a `vacation` beside its text.
 #[tactic(auto, using(sieve_base::proofs::Writing::writing, sieve_base::proofs::Writing::middle_failed), unfolding(crate::specs::Dump::further_words))]
 fn write_further<W: Sink>(vacation: &VacationOp<'_>, writer: &mut W) -> Result<(), WriteFault>
-    ensures { Writes W.contents W.fault_count result writer.old writer.new (spec.further_words (vacation_op_as vacation.now)) }
+    ensures { Writes W.contents W.fault_count result writer.old writer.new
+        (spec.further_words (vacation_op_as vacation.now)) }
 {
     write_addresses(&vacation.addresses, writer)?;
     write_mime(vacation.mime, writer)?;
@@ -71,7 +74,8 @@ fn write_vacation_words<W: Sink>(
     vacation: &VacationOp<'_>,
     writer: &mut W,
 ) -> Result<(), WriteFault>
-    ensures { Writes W.contents W.fault_count result writer.old writer.new (spec.vacation_words word.now (vacation_op_as vacation.now)) }
+    ensures { Writes W.contents W.fault_count result writer.old writer.new
+        (spec.vacation_words word.now (vacation_op_as vacation.now)) }
 {
     write_out(word, writer)?;
     write_sending(vacation, writer)?;
@@ -84,7 +88,8 @@ pub(crate) fn write_vacation<W: Sink>(
     vacation: &VacationOp<'_>,
     writer: &mut W,
 ) -> Result<(), WriteFault>
-    ensures { Writes W.contents W.fault_count result writer.old writer.new (spec.vacation_text (vacation_op_as vacation.now)) }
+    ensures { Writes W.contents W.fault_count result writer.old writer.new
+        (spec.vacation_text (vacation_op_as vacation.now)) }
 {
     write_vacation_words(b"vacation", vacation, writer)?;
     write_worded(b" ", vacation.reason, writer)
@@ -97,7 +102,8 @@ pub(crate) fn write_reject<W: Sink>(
     reason: &[Part],
     writer: &mut W,
 ) -> Result<(), WriteFault>
-    ensures { Writes W.contents W.fault_count result writer.old writer.new (spec.reject_text how reason.now) }
+    ensures { Writes W.contents W.fault_count result writer.old writer.new
+        (spec.reject_text how reason.now) }
 {
     write_out(how.word(), writer)?;
     write_worded(b" ", reason, writer)

@@ -36,7 +36,8 @@ fn write_part<'x, W: Sink>(
     part: &'x Part,
     writer: &mut W,
 ) -> Result<(), WriteFault>
-    ensures { Writes W.contents W.fault_count result writer.old writer.new (front.now ++ part_text part.now) }
+    ensures { Writes W.contents W.fault_count result writer.old writer.new
+        (front.now ++ part_text part.now) }
 {
     match part.as_ref() {
         PartRef::Literal(octets) => write_pieces(
@@ -67,7 +68,8 @@ fn write_part<'x, W: Sink>(
 /// Writes parts behind another.
 #[tactic(auto, using(sieve_base::proofs::Writing::writing_items), unfolding(crate::specs::view::Marked::marked_part))]
 fn write_marked_parts<W: Sink>(parts: &[Part], writer: &mut W) -> Result<(), WriteFault>
-    ensures { Writes W.contents W.fault_count result writer.old writer.new (flat_map marked_part parts.now) }
+    ensures { Writes W.contents W.fault_count result writer.old writer.new
+        (flat_map marked_part parts.now) }
 {
     for part in parts {
         write_part(b"+", part, writer)?;
@@ -81,7 +83,8 @@ pub(crate) fn write_string<W: Sink>(
     parts: &[Part],
     writer: &mut W,
 ) -> Result<(), WriteFault>
-    ensures { Writes W.contents W.fault_count result writer.old writer.new (front.now ++ string_text parts.now) }
+    ensures { Writes W.contents W.fault_count result writer.old writer.new
+        (front.now ++ string_text parts.now) }
 {
     match parts {
         [] => write_pieces(&[Piece::Raw(front), Piece::Raw(b"\"\"")], writer),
@@ -94,7 +97,8 @@ pub(crate) fn write_string<W: Sink>(
 
 /// Writes the strings behind the first.
 fn write_marked_strings<W: Sink>(strings: &Strings<'_>, writer: &mut W) -> Result<(), WriteFault>
-    ensures { Writes W.contents W.fault_count result writer.old writer.new (flat_map marked_string (drop 1 strings.now)) }
+    ensures { Writes W.contents W.fault_count result writer.old writer.new
+        (flat_map marked_string (drop 1 strings.now)) }
 {
     for i in 1..strings.len() {
         write_string(b", ", strings.get(i), writer)?;
@@ -109,7 +113,8 @@ fn write_strings<W: Sink>(
     strings: &Strings<'_>,
     writer: &mut W,
 ) -> Result<(), WriteFault>
-    ensures { Writes W.contents W.fault_count result writer.old writer.new (front.now ++ separated (codes ", ") string_text strings.now) }
+    ensures { Writes W.contents W.fault_count result writer.old writer.new
+        (front.now ++ separated (codes ", ") string_text strings.now) }
 {
     if strings.len() == 0 {
         return write_out(front, writer);
@@ -125,7 +130,8 @@ pub(crate) fn write_list<W: Sink>(
     strings: &Strings<'_>,
     writer: &mut W,
 ) -> Result<(), WriteFault>
-    ensures { Writes W.contents W.fault_count result writer.old writer.new (front.now ++ list_text strings.now) }
+    ensures { Writes W.contents W.fault_count result writer.old writer.new
+        (front.now ++ list_text strings.now) }
 {
     write_out(front, writer)?;
     write_strings(b"[", strings, writer)?;
@@ -138,7 +144,8 @@ pub(crate) fn write_further_list<W: Sink>(
     strings: &Strings<'_>,
     writer: &mut W,
 ) -> Result<(), WriteFault>
-    ensures { Writes W.contents W.fault_count result writer.old writer.new (further_list strings.now) }
+    ensures { Writes W.contents W.fault_count result writer.old writer.new
+        (further_list strings.now) }
 {
     write_list(b" ", strings, writer)
 }
@@ -149,7 +156,8 @@ pub(crate) fn write_number<W: Sink>(
     number: u64,
     writer: &mut W,
 ) -> Result<(), WriteFault>
-    ensures { Writes W.contents W.fault_count result writer.old writer.new (word.now ++ decimal number) }
+    ensures { Writes W.contents W.fault_count result writer.old writer.new
+        (word.now ++ decimal number) }
 {
     write_pieces(&[Piece::Raw(word), Piece::Number(number)], writer)
 }

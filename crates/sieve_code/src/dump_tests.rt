@@ -85,7 +85,8 @@ fn write_comparing<W: Sink>(
     comparison: Comparison,
     writer: &mut W,
 ) -> Result<(), WriteFault>
-    ensures { Writes W.contents W.fault_count result writer.old writer.new (comparing_words test.now comparison) }
+    ensures { Writes W.contents W.fault_count result writer.old writer.new
+        (comparing_words test.now comparison) }
 {
     write_pieces(
         &[
@@ -107,7 +108,8 @@ fn write_address_words<W: Sink>(
     part: AddressPart,
     writer: &mut W,
 ) -> Result<(), WriteFault>
-    ensures { Writes W.contents W.fault_count result writer.old writer.new (address_words test.now comparison part) }
+    ensures { Writes W.contents W.fault_count result writer.old writer.new
+        (address_words test.now comparison part) }
 {
     write_comparing(test, comparison, writer)?;
     write_pieces(
@@ -122,7 +124,8 @@ fn write_internal_list<W: Sink>(
     variables: &Option<Strings<'_>>,
     writer: &mut W,
 ) -> Result<(), WriteFault>
-    ensures { Writes W.contents W.fault_count result writer.old writer.new (internal_list variables.now) }
+    ensures { Writes W.contents W.fault_count result writer.old writer.new
+        (internal_list variables.now) }
 {
     match variables {
         Some(variables) => write_further_list(variables, writer),
@@ -138,7 +141,8 @@ fn write_values<W: Sink>(
     values: &Strings<'_>,
     writer: &mut W,
 ) -> Result<(), WriteFault>
-    ensures { Writes W.contents W.fault_count result writer.old writer.new (comparing_words test.now comparison ++ further_list values.now) }
+    ensures { Writes W.contents W.fault_count result writer.old writer.new
+        (comparing_words test.now comparison ++ further_list values.now) }
 {
     write_comparing(test, comparison, writer)?;
     write_further_list(values, writer)
@@ -153,7 +157,8 @@ fn write_address<W: Sink>(
     names: &Strings<'_>,
     writer: &mut W,
 ) -> Result<(), WriteFault>
-    ensures { Writes W.contents W.fault_count result writer.old writer.new (address_words test.now comparison part ++ further_list names.now) }
+    ensures { Writes W.contents W.fault_count result writer.old writer.new
+        (address_words test.now comparison part ++ further_list names.now) }
 {
     write_address_words(test, comparison, part, writer)?;
     write_further_list(names, writer)
@@ -166,7 +171,8 @@ fn write_hasflag<W: Sink>(
     variables: &Option<Strings<'_>>,
     writer: &mut W,
 ) -> Result<(), WriteFault>
-    ensures { Writes W.contents W.fault_count result writer.old writer.new (comparing_words (codes "hasflag") comparison ++ internal_list variables.now) }
+    ensures { Writes W.contents W.fault_count result writer.old writer.new
+        (comparing_words (codes "hasflag") comparison ++ internal_list variables.now) }
 {
     write_comparing(b"hasflag", comparison, writer)?;
     write_internal_list(variables, writer)
@@ -175,7 +181,8 @@ fn write_hasflag<W: Sink>(
 /// Writes a string behind a space.
 #[tactic(auto, unfolding(crate::specs::Dump::further_string))]
 fn write_further_string<W: Sink>(string: &[Part], writer: &mut W) -> Result<(), WriteFault>
-    ensures { Writes W.contents W.fault_count result writer.old writer.new (further_string string.now) }
+    ensures { Writes W.contents W.fault_count result writer.old writer.new
+        (further_string string.now) }
 {
     write_string(b" ", string, writer)
 }
@@ -183,7 +190,8 @@ fn write_further_string<W: Sink>(string: &[Part], writer: &mut W) -> Result<(), 
 /// Writes the zone in which a date is shown.
 #[tactic(auto, unfolding(crate::specs::Dump::zone_words))]
 fn write_zone<W: Sink>(zone: &ZoneOp<'_>, writer: &mut W) -> Result<(), WriteFault>
-    ensures { Writes W.contents W.fault_count result writer.old writer.new (zone_words (zone_op_as zone.now)) }
+    ensures { Writes W.contents W.fault_count result writer.old writer.new
+        (zone_words (zone_op_as zone.now)) }
 {
     match zone {
         ZoneOp::Local => write_out(b" local", writer),
@@ -200,7 +208,8 @@ fn write_date_words<W: Sink>(
     zone: &ZoneOp<'_>,
     writer: &mut W,
 ) -> Result<(), WriteFault>
-    ensures { Writes W.contents W.fault_count result writer.old writer.new (date_words test.now comparison (zone_op_as zone.now)) }
+    ensures { Writes W.contents W.fault_count result writer.old writer.new
+        (date_words test.now comparison (zone_op_as zone.now)) }
 {
     write_comparing(test, comparison, writer)?;
     write_zone(zone, writer)
@@ -213,7 +222,8 @@ fn write_field_part<W: Sink>(
     part: &[Part],
     writer: &mut W,
 ) -> Result<(), WriteFault>
-    ensures { Writes W.contents W.fault_count result writer.old writer.new (further_string field.now ++ further_string part.now) }
+    ensures { Writes W.contents W.fault_count result writer.old writer.new
+        (further_string field.now ++ further_string part.now) }
 {
     write_further_string(field, writer)?;
     write_further_string(part, writer)
@@ -228,7 +238,9 @@ fn write_date<W: Sink>(
     part: &[Part],
     writer: &mut W,
 ) -> Result<(), WriteFault>
-    ensures { Writes W.contents W.fault_count result writer.old writer.new (date_words (codes "date") comparison (zone_op_as zone.now) ++ (further_string field.now ++ further_string part.now)) }
+    ensures { Writes W.contents W.fault_count result writer.old writer.new
+        (date_words (codes "date") comparison
+        (zone_op_as zone.now) ++ (further_string field.now ++ further_string part.now)) }
 {
     write_date_words(b"date", comparison, zone, writer)?;
     write_field_part(field, part, writer)
@@ -242,7 +254,8 @@ fn write_current_date<W: Sink>(
     part: &[Part],
     writer: &mut W,
 ) -> Result<(), WriteFault>
-    ensures { Writes W.contents W.fault_count result writer.old writer.new (date_words (codes "currentdate") comparison (zone_op_as zone.now) ++ further_string part.now) }
+    ensures { Writes W.contents W.fault_count result writer.old writer.new (date_words
+        (codes "currentdate") comparison (zone_op_as zone.now) ++ further_string part.now) }
 {
     write_date_words(b"currentdate", comparison, zone, writer)?;
     write_further_string(part, writer)
@@ -255,7 +268,8 @@ fn write_word_and_list<W: Sink>(
     list: &Strings<'_>,
     writer: &mut W,
 ) -> Result<(), WriteFault>
-    ensures { Writes W.contents W.fault_count result writer.old writer.new (word.now ++ further_list list.now) }
+    ensures { Writes W.contents W.fault_count result writer.old writer.new
+        (word.now ++ further_list list.now) }
 {
     write_out(word, writer)?;
     write_further_list(list, writer)
@@ -264,7 +278,8 @@ fn write_word_and_list<W: Sink>(
 /// Writes what is taken of a body.
 #[tactic(auto, unfolding(crate::specs::Dump::transform_words))]
 fn write_transform<W: Sink>(transform: &BodyOp<'_>, writer: &mut W) -> Result<(), WriteFault>
-    ensures { Writes W.contents W.fault_count result writer.old writer.new (transform_words (body_op_as transform.now)) }
+    ensures { Writes W.contents W.fault_count result writer.old writer.new
+        (transform_words (body_op_as transform.now)) }
 {
     match transform {
         BodyOp::Raw => write_out(b" raw", writer),
@@ -280,7 +295,8 @@ fn write_body<W: Sink>(
     transform: &BodyOp<'_>,
     writer: &mut W,
 ) -> Result<(), WriteFault>
-    ensures { Writes W.contents W.fault_count result writer.old writer.new (comparing_words (codes "body") comparison ++ transform_words (body_op_as transform.now)) }
+    ensures { Writes W.contents W.fault_count result writer.old writer.new
+        (comparing_words (codes "body") comparison ++ transform_words (body_op_as transform.now)) }
 {
     write_comparing(b"body", comparison, writer)?;
     write_transform(transform, writer)
@@ -293,7 +309,8 @@ fn write_source<W: Sink>(
     comparison: Comparison,
     writer: &mut W,
 ) -> Result<(), WriteFault>
-    ensures { Writes W.contents W.fault_count result writer.old writer.new (source_text (source_op_as source.now) comparison) }
+    ensures { Writes W.contents W.fault_count result writer.old writer.new
+        (source_text (source_op_as source.now) comparison) }
 {
     match source {
         SourceOp::Header { names } => {
@@ -323,7 +340,8 @@ pub(crate) fn write_compares<W: Sink>(
     keys: &Strings<'_>,
     writer: &mut W,
 ) -> Result<(), WriteFault>
-    ensures { Writes W.contents W.fault_count result writer.old writer.new (source_text (source_op_as source.now) comparison ++ further_list keys.now) }
+    ensures { Writes W.contents W.fault_count result writer.old writer.new
+        (source_text (source_op_as source.now) comparison ++ further_list keys.now) }
 {
     write_source(source, comparison, writer)?;
     write_further_list(keys, writer)

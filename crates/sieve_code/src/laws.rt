@@ -7,7 +7,8 @@ ghost use Rattle.sieve_code.specs.Walk.{IsWhole, code_walk, tree_walk};
 /// Whatever the tree: its code does what it does, in at most as many operations as the code has, and each jump goes forward.
 #[tactic(auto, using(crate::proofs::Law::code_laws))]
 pub fn code_does_what_the_tree_does()
-    ensures walk { (tree : List Node) → code_walk (code_of tree) (length (code_of tree)) ≡ tree_walk tree }
+    ensures walk { (tree : List Node)
+        → code_walk (code_of tree) (length (code_of tree)) ≡ tree_walk tree }
     ensures forward { (tree : List Node) → AllGoForward (code_of tree) }
 {}
 

@@ -20,7 +20,8 @@ use std::alloc::AllocError;
 impl Pools {
     /// The operation of an `exists`.
     fn pack_exists(&mut self, names: Vec<Text>) -> Result<Op, AllocError>
-        ensures { IfOk result (λ op. Kept (pool_as self.old) (pool_as self.new) (λ p. op_in p op) (test_op (exists_ask (texts_as names.items)))) }
+        ensures { IfOk result (λ op. Kept (pool_as self.old) (pool_as self.new) (λ p. op_in p op)
+            (test_op (exists_ask (texts_as names.items)))) }
     {
         let names = self.keep_names(names)?;
         Ok(Op::Exists { names })
@@ -28,7 +29,8 @@ impl Pools {
 
     /// Keeps the zone in which a date is shown.
     fn keep_zone(&mut self, zone: DateZone) -> Result<PackedZone, AllocError>
-        ensures { IfOk result (λ kept. Kept (pool_as self.old) (pool_as self.new) (λ p. zone_in p kept) (date_zone_as zone)) }
+        ensures { IfOk result (λ kept. Kept (pool_as self.old) (pool_as self.new)
+            (λ p. zone_in p kept) (date_zone_as zone)) }
     {
         match zone {
             DateZone::Local => Ok(PackedZone::Local),
@@ -42,7 +44,8 @@ impl Pools {
 
     /// Keeps where a `date` test takes its value from. Answers its place.
     fn keep_date(&mut self, zone: DateZone, field: Parts, part: Parts) -> Result<u32, AllocError>
-        ensures { IfOk result (λ place. Kept (pool_as self.old) (pool_as self.new) (λ p. date_in p (date_packed_in p place)) (date_values (date_zone_as zone) field part)) }
+        ensures { IfOk result (λ place. Kept (pool_as self.old) (pool_as self.new) (λ p. date_in p
+            (date_packed_in p place)) (date_values (date_zone_as zone) field part)) }
     {
         let zone = self.keep_zone(zone)?;
         let field = self.keep_string(field)?;
@@ -52,7 +55,8 @@ impl Pools {
 
     /// Keeps where a `currentdate` test takes its value from. Answers its place.
     fn keep_current_date(&mut self, zone: DateZone, part: Parts) -> Result<u32, AllocError>
-        ensures { IfOk result (λ place. Kept (pool_as self.old) (pool_as self.new) (λ p. clock_in p (date_packed_in p place)) (clock_values (date_zone_as zone) part)) }
+        ensures { IfOk result (λ place. Kept (pool_as self.old) (pool_as self.new)
+            (λ p. clock_in p (date_packed_in p place)) (clock_values (date_zone_as zone) part)) }
     {
         let zone = self.keep_zone(zone)?;
         let part = self.keep_string(part)?;
@@ -65,7 +69,8 @@ impl Pools {
 
     /// Keeps what is taken of a body. Answers its kind, and the place of its list, if it has one.
     fn keep_body(&mut self, transform: BodyTransform) -> Result<(SourceKind, u32), AllocError>
-        ensures { IfOk result (λ kept. Kept (pool_as self.old) (pool_as self.new) (λ p. source_in p kept.0 kept.1) (body_values (transform_as transform))) }
+        ensures { IfOk result (λ kept. Kept (pool_as self.old) (pool_as self.new)
+            (λ p. source_in p kept.0 kept.1) (body_values (transform_as transform))) }
     {
         match transform {
             BodyTransform::Raw => Ok((SourceKind::RawBody, NOWHERE)),
@@ -79,7 +84,8 @@ impl Pools {
 
     /// Keeps where a test takes values from. Answers its kind, and the place of its list or of what a test of dates says.
     fn keep_source(&mut self, source: ValueSource) -> Result<(SourceKind, u32), AllocError>
-        ensures { IfOk result (λ kept. Kept (pool_as self.old) (pool_as self.new) (λ p. source_in p kept.0 kept.1) (source_as source)) }
+        ensures { IfOk result (λ kept. Kept (pool_as self.old) (pool_as self.new)
+            (λ p. source_in p kept.0 kept.1) (source_as source)) }
     {
         match source {
             ValueSource::Header { names } => {
@@ -121,7 +127,8 @@ impl Pools {
         comparison: Comparison,
         keys: Vec<Text>,
     ) -> Result<Op, AllocError>
-        ensures { IfOk result (λ op. Kept (pool_as self.old) (pool_as self.new) (λ p. op_in p op) (test_op (compares (source_as source) comparison (texts_as keys.items)))) }
+        ensures { IfOk result (λ op. Kept (pool_as self.old) (pool_as self.new) (λ p. op_in p op)
+            (test_op (compares (source_as source) comparison (texts_as keys.items)))) }
     {
         let (source, values) = self.keep_source(source)?;
         let keys = self.keep_list(keys)?;
@@ -131,7 +138,8 @@ impl Pools {
 
     /// The operation of a `mailboxexists`.
     fn pack_mailboxes(&mut self, names: Vec<Text>) -> Result<Op, AllocError>
-        ensures { IfOk result (λ op. Kept (pool_as self.old) (pool_as self.new) (λ p. op_in p op) (test_op (mailboxes_ask (texts_as names.items)))) }
+        ensures { IfOk result (λ op. Kept (pool_as self.old) (pool_as self.new) (λ p. op_in p op)
+            (test_op (mailboxes_ask (texts_as names.items)))) }
     {
         let names = self.keep_list(names)?;
         Ok(Op::MailboxExists { names })
@@ -139,7 +147,8 @@ impl Pools {
 
     /// The operation of a test that asks.
     pub(crate) fn pack_ask(&mut self, ask: Ask) -> Result<Op, AllocError>
-        ensures { IfOk result (λ op. Kept (pool_as self.old) (pool_as self.new) (λ p. op_in p op) (test_op (ask_as ask))) }
+        ensures { IfOk result (λ op. Kept (pool_as self.old) (pool_as self.new) (λ p. op_in p op)
+            (test_op (ask_as ask))) }
     {
         match ask {
             Ask::Compares {
@@ -157,7 +166,8 @@ impl Pools {
 
     /// The operation of a `keep`.
     fn pack_keep(&mut self, settings: Settings, line: u32) -> Result<Op, AllocError>
-        ensures { IfOk result (λ op. Kept (pool_as self.old) (pool_as self.new) (λ p. op_in p op) (act_op (keep_leaf (settings_as settings)) line)) }
+        ensures { IfOk result (λ op. Kept (pool_as self.old) (pool_as self.new) (λ p. op_in p op)
+            (act_op (keep_leaf (settings_as settings)) line)) }
     {
         let settings = self.keep_settings(settings)?;
         Ok(Op::Keep { line, settings })
@@ -170,7 +180,8 @@ impl Pools {
         settings: Settings,
         line: u32,
     ) -> Result<Op, AllocError>
-        ensures { IfOk result (λ op. Kept (pool_as self.old) (pool_as self.new) (λ p. op_in p op) (act_op (fileinto_leaf mailbox (settings_as settings)) line)) }
+        ensures { IfOk result (λ op. Kept (pool_as self.old) (pool_as self.new) (λ p. op_in p op)
+            (act_op (fileinto_leaf mailbox (settings_as settings)) line)) }
     {
         let mailbox = self.keep_string(mailbox)?;
         let settings = self.keep_settings(settings)?;
@@ -188,7 +199,8 @@ impl Pools {
         settings: Settings,
         line: u32,
     ) -> Result<Op, AllocError>
-        ensures { IfOk result (λ op. Kept (pool_as self.old) (pool_as self.new) (λ p. op_in p op) (act_op (redirect_leaf address (settings_as settings)) line)) }
+        ensures { IfOk result (λ op. Kept (pool_as self.old) (pool_as self.new) (λ p. op_in p op)
+            (act_op (redirect_leaf address (settings_as settings)) line)) }
     {
         let address = self.keep_string(address)?;
         let settings = self.keep_settings(settings)?;
@@ -207,7 +219,8 @@ impl Pools {
         value: Parts,
         line: u32,
     ) -> Result<Op, AllocError>
-        ensures { IfOk result (λ op. Kept (pool_as self.old) (pool_as self.new) (λ p. op_in p op) (act_op (set_leaf variable modifiers value) line)) }
+        ensures { IfOk result (λ op. Kept (pool_as self.old) (pool_as self.new) (λ p. op_in p op)
+            (act_op (set_leaf variable modifiers value) line)) }
     {
         let target = self.keep_target(Target {
             variable,
@@ -229,7 +242,8 @@ impl Pools {
         flags: Vec<Text>,
         line: u32,
     ) -> Result<Op, AllocError>
-        ensures { IfOk result (λ op. Kept (pool_as self.old) (pool_as self.new) (λ p. op_in p op) (act_op (flag_leaf change variable (texts_as flags.items)) line)) }
+        ensures { IfOk result (λ op. Kept (pool_as self.old) (pool_as self.new) (λ p. op_in p op)
+            (act_op (flag_leaf change variable (texts_as flags.items)) line)) }
     {
         let variable = self.keep_variable(variable)?;
         let flags = self.keep_list(flags)?;
@@ -250,7 +264,8 @@ impl Pools {
         name: Literal,
         line: u32,
     ) -> Result<Op, AllocError>
-        ensures { IfOk result (λ op. Kept (pool_as self.old) (pool_as self.new) (λ p. op_in p op) (act_op (include_leaf place once optional name) line)) }
+        ensures { IfOk result (λ op. Kept (pool_as self.old) (pool_as self.new) (λ p. op_in p op)
+            (act_op (include_leaf place once optional name) line)) }
     {
         let name = self.keep_script(name)?;
         Ok(Op::Include(Inclusion {
@@ -264,7 +279,8 @@ impl Pools {
 
     /// The operation of a `vacation`.
     fn pack_vacation(&mut self, vacation: Vacation, line: u32) -> Result<Op, AllocError>
-        ensures { IfOk result (λ op. Kept (pool_as self.old) (pool_as self.new) (λ p. op_in p op) (act_op (vacation_leaf (vacation_as vacation)) line)) }
+        ensures { IfOk result (λ op. Kept (pool_as self.old) (pool_as self.new) (λ p. op_in p op)
+            (act_op (vacation_leaf (vacation_as vacation)) line)) }
     {
         let vacation = self.keep_vacation(vacation)?;
         Ok(Op::Vacation { line, vacation })
@@ -272,7 +288,8 @@ impl Pools {
 
     /// The operation of a command that rejects the message.
     fn pack_reject(&mut self, how: Rejection, reason: Parts, line: u32) -> Result<Op, AllocError>
-        ensures { IfOk result (λ op. Kept (pool_as self.old) (pool_as self.new) (λ p. op_in p op) (act_op (reject_leaf how reason) line)) }
+        ensures { IfOk result (λ op. Kept (pool_as self.old) (pool_as self.new) (λ p. op_in p op)
+            (act_op (reject_leaf how reason) line)) }
     {
         let reason = self.keep_string(reason)?;
         Ok(Op::Reject { how, line, reason })
@@ -280,7 +297,8 @@ impl Pools {
 
     /// The operation of a command of a line that acts.
     pub(crate) fn pack_act(&mut self, leaf: Leaf, line: u32) -> Result<Op, AllocError>
-        ensures { IfOk result (λ op. Kept (pool_as self.old) (pool_as self.new) (λ p. op_in p op) (act_op (leaf_as leaf) line)) }
+        ensures { IfOk result (λ op. Kept (pool_as self.old) (pool_as self.new) (λ p. op_in p op)
+            (act_op (leaf_as leaf) line)) }
     {
         match leaf {
             Leaf::Keep { settings } => self.pack_keep(settings, line),

@@ -103,7 +103,8 @@ impl Pools {
 
     /// Keeps a string. Answers its place.
     pub(crate) fn keep_string(&mut self, string: Parts) -> Result<u32, AllocError>
-        ensures string { IfOk result (λ place. Kept (pool_as self.old) (pool_as self.new) (λ p. slice_index_or p.strings place []) string) }
+        ensures string { IfOk result (λ place. Kept (pool_as self.old) (pool_as self.new)
+            (λ p. slice_index_or p.strings place []) string) }
         ensures given { IfOk result (λ place. place < 4294967295) }
     {
         let place = place_of(self.strings.len())?;
@@ -113,7 +114,8 @@ impl Pools {
 
     /// Keeps a string that may be left out. Answers its place.
     fn keep_given_string(&mut self, string: Option<Parts>) -> Result<u32, AllocError>
-        ensures { IfOk result (λ place. Kept (pool_as self.old) (pool_as self.new) (λ p. given_string p place) string) }
+        ensures { IfOk result (λ place. Kept (pool_as self.old) (pool_as self.new)
+            (λ p. given_string p place) string) }
     {
         match string {
             Some(string) => {
@@ -126,7 +128,8 @@ impl Pools {
 
     /// Keeps a list. Answers its place.
     pub(crate) fn keep_list(&mut self, texts: Vec<Text>) -> Result<u32, AllocError>
-        ensures list { IfOk result (λ place. Kept (pool_as self.old) (pool_as self.new) (λ p. list_in p.lists place) (texts_as texts.items)) }
+        ensures list { IfOk result (λ place. Kept (pool_as self.old) (pool_as self.new)
+            (λ p. list_in p.lists place) (texts_as texts.items)) }
         ensures given { IfOk result (λ place. place < 4294967295) }
     {
         let place = place_of(self.lists.len())?;
@@ -136,7 +139,8 @@ impl Pools {
 
     /// Keeps a list that may be left out. Answers its place.
     pub(crate) fn keep_given(&mut self, texts: Option<Vec<Text>>) -> Result<u32, AllocError>
-        ensures { IfOk result (λ place. Kept (pool_as self.old) (pool_as self.new) (λ p. given_list p place) (option_map (λ given. texts_as given.items) texts)) }
+        ensures { IfOk result (λ place. Kept (pool_as self.old) (pool_as self.new)
+            (λ p. given_list p place) (option_map (λ given. texts_as given.items) texts)) }
     {
         match texts {
             Some(texts) => {
@@ -149,7 +153,8 @@ impl Pools {
 
     /// Keeps names of fields. Answers the place of their list.
     pub(crate) fn keep_names(&mut self, texts: Vec<Text>) -> Result<u32, AllocError>
-        ensures { IfOk result (λ place. Kept (pool_as self.old) (pool_as self.new) (λ p. list_in p.names place) (texts_as texts.items)) }
+        ensures { IfOk result (λ place. Kept (pool_as self.old) (pool_as self.new)
+            (λ p. list_in p.names place) (texts_as texts.items)) }
     {
         let place = place_of(self.names.len())?;
         self.names.push(texts)?;
@@ -158,7 +163,8 @@ impl Pools {
 
     /// Keeps what a command changes. Answers its place.
     pub(crate) fn keep_target(&mut self, target: Target) -> Result<u32, AllocError>
-        ensures target { IfOk result (λ place. Kept (pool_as self.old) (pool_as self.new) (λ p. slice_get p.targets place) (Some target)) }
+        ensures target { IfOk result (λ place. Kept (pool_as self.old) (pool_as self.new)
+            (λ p. slice_get p.targets place) (Some target)) }
         ensures given { IfOk result (λ place. place < 4294967295) }
     {
         let place = place_of(self.targets.len())?;
@@ -168,7 +174,8 @@ impl Pools {
 
     /// Keeps a variable that may be left out. Answers the place of its target.
     pub(crate) fn keep_variable(&mut self, variable: Option<Variable>) -> Result<u32, AllocError>
-        ensures { IfOk result (λ place. Kept (pool_as self.old) (pool_as self.new) (λ p. given_variable p place) variable) }
+        ensures { IfOk result (λ place. Kept (pool_as self.old) (pool_as self.new)
+            (λ p. given_variable p place) variable) }
     {
         match variable {
             Some(variable) => {
@@ -185,7 +192,8 @@ impl Pools {
 
     /// Keeps the name of a script. Answers its place.
     pub(crate) fn keep_script(&mut self, name: Literal) -> Result<u32, AllocError>
-        ensures { IfOk result (λ place. Kept (pool_as self.old) (pool_as self.new) (λ p. slice_index_or p.scripts place []) name) }
+        ensures { IfOk result (λ place. Kept (pool_as self.old) (pool_as self.new)
+            (λ p. slice_index_or p.scripts place []) name) }
     {
         let place = place_of(self.scripts.len())?;
         self.scripts.push(name)?;
@@ -194,7 +202,8 @@ impl Pools {
 
     /// Keeps what a test that compares says beside. Answers its place.
     pub(crate) fn keep_test(&mut self, test: PackedTest) -> Result<u32, AllocError>
-        ensures { IfOk result (λ place. Kept (pool_as self.old) (pool_as self.new) (λ p. test_in p place) test) }
+        ensures { IfOk result
+            (λ place. Kept (pool_as self.old) (pool_as self.new) (λ p. test_in p place) test) }
     {
         let place = place_of(self.tests.len())?;
         self.tests.push(test)?;
@@ -203,7 +212,8 @@ impl Pools {
 
     /// Keeps what a command says beside its mailbox or its address, whose strings lie at their places. Answers its place.
     fn put_settings(&mut self, settings: PackedSettings) -> Result<u32, AllocError>
-        ensures { IfOk result (λ place. Kept (pool_as self.old) (pool_as self.new) (λ p. packed_in p place) settings) }
+        ensures { IfOk result (λ place. Kept (pool_as self.old) (pool_as self.new)
+            (λ p. packed_in p place) settings) }
     {
         let place = place_of(self.settings.len())?;
         self.settings.push(settings)?;
@@ -212,7 +222,8 @@ impl Pools {
 
     /// Keeps what a command says beside its mailbox or its address. Answers its place.
     pub(crate) fn keep_settings(&mut self, settings: Settings) -> Result<u32, AllocError>
-        ensures { IfOk result (λ place. Kept (pool_as self.old) (pool_as self.new) (λ p. settings_in p place) (settings_as settings)) }
+        ensures { IfOk result (λ place. Kept (pool_as self.old) (pool_as self.new)
+            (λ p. settings_in p place) (settings_as settings)) }
     {
         if are_plain(&settings) {
             return Ok(NOWHERE);
@@ -231,7 +242,8 @@ impl Pools {
 
     /// Keeps what a `vacation` says, whose strings and list lie at their places. Answers its place.
     fn put_vacation(&mut self, vacation: PackedVacation) -> Result<u32, AllocError>
-        ensures { IfOk result (λ place. Kept (pool_as self.old) (pool_as self.new) (λ p. vacation_packed_in p place) vacation) }
+        ensures { IfOk result (λ place. Kept (pool_as self.old) (pool_as self.new)
+            (λ p. vacation_packed_in p place) vacation) }
     {
         let place = place_of(self.vacations.len())?;
         self.vacations.push(vacation)?;
@@ -240,7 +252,8 @@ impl Pools {
 
     /// Keeps what a `vacation` says. Answers its place.
     pub(crate) fn keep_vacation(&mut self, vacation: Vacation) -> Result<u32, AllocError>
-        ensures { IfOk result (λ place. Kept (pool_as self.old) (pool_as self.new) (λ p. vacation_in p place) (vacation_as vacation)) }
+        ensures { IfOk result (λ place. Kept (pool_as self.old) (pool_as self.new)
+            (λ p. vacation_in p place) (vacation_as vacation)) }
     {
         let days = vacation.days;
         let mime = vacation.mime;
@@ -262,7 +275,8 @@ impl Pools {
 
     /// Keeps what a test of dates says, whose strings lie at their places. Answers its place.
     pub(crate) fn put_date(&mut self, date: PackedDate) -> Result<u32, AllocError>
-        ensures { IfOk result (λ place. Kept (pool_as self.old) (pool_as self.new) (λ p. date_packed_in p place) date) }
+        ensures { IfOk result (λ place. Kept (pool_as self.old) (pool_as self.new)
+            (λ p. date_packed_in p place) date) }
     {
         let place = place_of(self.dates.len())?;
         self.dates.push(date)?;

@@ -37,7 +37,8 @@ fn jump_if(truth: bool, target: usize) -> Op
 
 /// Puts a jump in front of a tail where other tests follow there.
 fn put_joint(follows: bool, truth: bool, end: usize, tail: &mut Tail) -> Result<(), AllocError>
-    ensures { OnOk result (tail.new ≡ (if follows then jump_if_op truth end ∷ tail.old else tail.old)) }
+    ensures { OnOk result
+        (tail.new ≡ (if follows then jump_if_op truth end ∷ tail.old else tail.old)) }
 {
     if follows {
         tail.put(jump_if(truth, end))
@@ -48,7 +49,8 @@ fn put_joint(follows: bool, truth: bool, end: usize, tail: &mut Tail) -> Result<
 
 /// What a test of that name and with these arguments is, where there is one of that name. Each test of a checked script is one.
 fn reading_of(alloc: Global, name: &TestName, args: Vec<Argument>) -> Option<TestReading>
-    ensures { option_map test_reading_as result ≡ some_test_reading (test_named name.now) (map argument_of args.items) }
+    ensures { option_map test_reading_as result
+        ≡ some_test_reading (test_named name.now) (map argument_of args.items) }
 {
     match name.kind() {
         Some(kind) => Some(read_test(alloc, kind, args)),
@@ -96,7 +98,8 @@ fn put_tests(alloc: Global, truth: bool, tests: Tests, tail: &mut Tail) -> Resul
 /// Puts the tests of a list in front of a tail.
 #[cycle(test_code)]
 fn put_list(alloc: Global, truth: bool, list: Vec<Test>, tail: &mut Tail) -> Result<(), AllocError>
-    ensures { OnOk result (tail.new ≡ tests_before truth (test_list (tests (map test_of list.items))) tail.old) }
+    ensures { OnOk result
+        (tail.new ≡ tests_before truth (test_list (tests (map test_of list.items))) tail.old) }
 {
     if list.is_empty() {
         return tail.put(constant(!truth));

@@ -38,7 +38,8 @@ pub(crate) fn perform(
     line: u64,
     state: &mut State,
 ) -> Result<Flow, AllocError>
-    ensures { IfOk result (λ flow. ending_by flow (state_of state.new) ≡ spec.performs (delivery_as delivery.now) line deed (state_of state.old)) }
+    ensures { IfOk result (λ flow. ending_by flow (state_of state.new)
+        ≡ spec.performs (delivery_as delivery.now) line deed (state_of state.old)) }
 {
     let added = state.actions.add(delivery.alloc, deed.action)?;
     end_with(delivery, added, deed.leaves_keep, line, state)
@@ -52,7 +53,10 @@ fn end_with(
     line: u64,
     state: &mut State,
 ) -> Result<Flow, AllocError>
-    ensures { (performed : spec.Performed) (deed : deeds.Deed) → performed_as added (state_of state.old).actions ≡ performed → deed.leaves_keep ≡ leaves_keep → IfOk result (λ flow. ending_by flow (state_of state.new) ≡ spec.ends_with (delivery_as delivery.now) line deed performed (state_of state.old)) }
+    ensures { (performed : spec.Performed) (deed : deeds.Deed)
+        → performed_as added (state_of state.old).actions ≡ performed
+        → deed.leaves_keep ≡ leaves_keep → IfOk result (λ flow. ending_by flow (state_of state.new)
+        ≡ spec.ends_with (delivery_as delivery.now) line deed performed (state_of state.old)) }
 {
     match added {
         Added::Entered => {
@@ -72,7 +76,8 @@ fn filing_of(
     values: &Values,
     settings: &SettingsOp<'_>,
 ) -> Result<Filing, AllocError>
-    ensures { IfOk result (λ filing. filing ≡ spec.filing_of values.now (settings_op_as settings.now)) }
+    ensures { IfOk result
+        (λ filing. filing ≡ spec.filing_of values.now (settings_op_as settings.now)) }
 {
     Ok(Filing {
         create: settings.create,
@@ -90,7 +95,9 @@ fn store(
     state: &mut State,
 ) -> Result<Flow, AllocError>
     requires { filing ≡ spec.filing_of (state_of state.old).values (settings_op_as settings.now) }
-    ensures { IfOk result (λ flow. ending_by flow (state_of state.new) ≡ spec.performs (delivery_as delivery.now) line (spec.store_deed (state_of state.old) mailbox (settings_op_as settings.now)) (state_of state.old)) }
+    ensures { IfOk result (λ flow. ending_by flow (state_of state.new)
+        ≡ spec.performs (delivery_as delivery.now) line (spec.store_deed
+        (state_of state.old) mailbox (settings_op_as settings.now)) (state_of state.old)) }
 {
     let leaves_keep = settings.copy;
     match &settings.flags {
@@ -127,7 +134,8 @@ pub fn keep(
     line: u64,
     state: &mut State,
 ) -> Result<Flow, AllocError>
-    ensures { IfOk result (λ flow. ending_by flow (state_of state.new) ≡ spec.keeps (delivery_as delivery.now) (settings_op_as settings.now) line (state_of state.old)) }
+    ensures { IfOk result (λ flow. ending_by flow (state_of state.new) ≡ spec.keeps
+        (delivery_as delivery.now) (settings_op_as settings.now) line (state_of state.old)) }
 {
     let mailbox = Octets::copied(delivery.alloc, delivery.arrival.envelope.mailbox.as_slice())?;
     let filing = filing_of(delivery, &state.values, settings)?;
@@ -136,7 +144,8 @@ pub fn keep(
 
 /// Discards the message (RFC 5228, section 4.4). One action too many is an error of the script (section 2.10.4). Fails where memory is refused.
 pub fn discard(delivery: &Delivery<'_>, line: u64, state: &mut State) -> Result<Flow, AllocError>
-    ensures { IfOk result (λ flow. ending_by flow (state_of state.new) ≡ spec.discards (delivery_as delivery.now) line (state_of state.old)) }
+    ensures { IfOk result (λ flow. ending_by flow (state_of state.new)
+        ≡ spec.discards (delivery_as delivery.now) line (state_of state.old)) }
 {
     let action = Action::Discard;
     let leaves_keep = false;
@@ -220,7 +229,9 @@ pub fn file_into(
     line: u64,
     state: &mut State,
 ) -> Result<Flow, AllocError>
-    ensures { IfOk result (λ flow. ending_by flow (state_of state.new) ≡ spec.files_into (delivery_as delivery.now) mailbox.now (settings_op_as settings.now) line (state_of state.old)) }
+    ensures { IfOk result (λ flow. ending_by flow (state_of state.new)
+        ≡ spec.files_into (delivery_as delivery.now) mailbox.now (settings_op_as settings.now) line
+        (state_of state.old)) }
 {
     let Some(mailbox) = mailbox_named(delivery, &state.values, mailbox)? else {
         return fail(delivery, line, ErrorKind::BadMailbox);
@@ -259,7 +270,8 @@ fn address_named(
     values: &Values,
     address: &[Part],
 ) -> Result<Option<Octets>, AllocError>
-    ensures { IfOk result (λ octets. octets ≡ spec.only_address (addresses_of (text_value values.now address.now))) }
+    ensures { IfOk result
+        (λ octets. octets ≡ spec.only_address (addresses_of (text_value values.now address.now))) }
 {
     let text = values.expanded_string(delivery.alloc, address)?;
     let found = addresses(delivery.alloc, text.as_slice())?;
@@ -281,7 +293,8 @@ pub fn redirect(
     line: u64,
     state: &mut State,
 ) -> Result<Flow, AllocError>
-    ensures { IfOk result (λ flow. ending_by flow (state_of state.new) ≡ spec.sends (delivery_as delivery.now) address.now (settings_op_as settings.now) line (state_of state.old)) }
+    ensures { IfOk result (λ flow. ending_by flow (state_of state.new) ≡ spec.sends (delivery_as
+        delivery.now) address.now (settings_op_as settings.now) line (state_of state.old)) }
 {
     match address_named(delivery, &state.values, address)? {
         Some(address) => {
@@ -308,7 +321,8 @@ fn value_of(
     modifiers: Modifiers,
     value: &[Part],
 ) -> Result<Octets, AllocError>
-    ensures { IfOk result (λ octets. octets ≡ modified modifiers (text_value values.now value.now)) }
+    ensures { IfOk result
+        (λ octets. octets ≡ modified modifiers (text_value values.now value.now)) }
 {
     let octets = values.modified_string(delivery.alloc, modifiers, value)?;
     Ok(Octets::from_vec(octets))
@@ -322,7 +336,8 @@ pub(crate) fn give(
     line: u64,
     state: &mut State,
 ) -> Result<Flow, AllocError>
-    ensures { IfOk result (λ flow. ending_by flow (state_of state.new) ≡ spec.gives (delivery_as delivery.now) line variable.now value (state_of state.old)) }
+    ensures { IfOk result (λ flow. ending_by flow (state_of state.new)
+        ≡ spec.gives (delivery_as delivery.now) line variable.now value (state_of state.old)) }
 {
     if !state.values.has_room_for(variable) {
         return fail(delivery, line, ErrorKind::TooManyGlobals);
@@ -341,7 +356,8 @@ pub fn set(
     line: u64,
     state: &mut State,
 ) -> Result<Flow, AllocError>
-    ensures { IfOk result (λ flow. ending_by flow (state_of state.new) ≡ spec.sets (delivery_as delivery.now) variable.now modifiers value.now line (state_of state.old)) }
+    ensures { IfOk result (λ flow. ending_by flow (state_of state.new) ≡ spec.sets
+        (delivery_as delivery.now) variable.now modifiers value.now line (state_of state.old)) }
 {
     let octets = value_of(delivery, &state.values, modifiers, value)?;
     give(delivery, variable, octets, line, state)

@@ -80,8 +80,10 @@ impl Actions {
 
     /// Adds an action, or joins it with the one that is there already. Answers what became of it.
     pub(crate) fn add(&mut self, alloc: Global, action: Action) -> Result<Added, AllocError>
-        ensures kept { IfOk result (λ added. (kind : ErrorKind) → added ≡ Refused kind → self.new.actions ≡ self.old.actions) }
-        ensures value { IfOk result (λ added. performed_as added self.new.actions ≡ with_action action self.old.actions) }
+        ensures kept { IfOk result (λ added. (kind : ErrorKind) → added ≡ Refused kind
+            → self.new.actions ≡ self.old.actions) }
+        ensures value { IfOk result
+            (λ added. performed_as added self.new.actions ≡ with_action action self.old.actions) }
         ensures flags { OnOk result (self.new.flags ≡ self.old.flags) }
     {
         if let Some(kind) = conflict_among(&action, &self.actions) {
@@ -96,8 +98,10 @@ impl Actions {
 
     /// Adds an action that isn't there, where there is room for it.
     fn push(&mut self, action: Action) -> Result<Added, AllocError>
-        ensures kept { IfOk result (λ added. (kind : ErrorKind) → added ≡ Refused kind → self.new.actions ≡ self.old.actions) }
-        ensures value { IfOk result (λ added. list_any (same_action action) self.old.actions ≡ false → performed_as added self.new.actions ≡ with_room action self.old.actions) }
+        ensures kept { IfOk result (λ added. (kind : ErrorKind) → added ≡ Refused kind
+            → self.new.actions ≡ self.old.actions) }
+        ensures value { IfOk result (λ added. list_any (same_action action) self.old.actions ≡ false
+            → performed_as added self.new.actions ≡ with_room action self.old.actions) }
         ensures flags { OnOk result (self.new.flags ≡ self.old.flags) }
     {
         if self.actions.len() >= MAX_ACTIONS {
@@ -109,7 +113,8 @@ impl Actions {
 
     /// Joins each of the actions that are there with one that is performed.
     fn join(&mut self, alloc: Global, action: &Action) -> Result<(), AllocError>
-        ensures actions { OnOk result (self.new.actions ≡ map (joined_with action.now) self.old.actions) }
+        ensures actions { OnOk result
+            (self.new.actions ≡ map (joined_with action.now) self.old.actions) }
         ensures flags { OnOk result (self.new.flags ≡ self.old.flags) }
     {
         let known = mem::replace(&mut self.known, Vec::new(alloc));
@@ -126,8 +131,10 @@ impl Actions {
         mailbox: Octets,
         filing: Filing,
     ) -> Result<Added, AllocError>
-        ensures kept { IfOk result (λ added. (kind : ErrorKind) → added ≡ Refused kind → self.new.actions ≡ self.old.actions) }
-        ensures value { IfOk result (λ added. performed_as added self.new.actions ≡ with_action (Store mailbox self.old.flags filing) self.old.actions) }
+        ensures kept { IfOk result (λ added. (kind : ErrorKind) → added ≡ Refused kind
+            → self.new.actions ≡ self.old.actions) }
+        ensures value { IfOk result (λ added. performed_as added self.new.actions
+            ≡ with_action (Store mailbox self.old.flags filing) self.old.actions) }
         ensures flags { OnOk result (self.new.flags ≡ self.old.flags) }
     {
         if has_rejection(&self.actions) {
@@ -152,7 +159,8 @@ impl Actions {
         mailbox: &[u8],
         filing: &Filing,
     ) -> Result<(), AllocError>
-        ensures actions { OnOk result (self.new.actions ≡ map (joined_with (Store mailbox.now self.old.flags filing.now)) self.old.actions) }
+        ensures actions { OnOk result (self.new.actions
+            ≡ map (joined_with (Store mailbox.now self.old.flags filing.now)) self.old.actions) }
         ensures flags { OnOk result (self.new.flags ≡ self.old.flags) }
     {
         let known = mem::replace(&mut self.known, Vec::new(alloc));
@@ -173,7 +181,8 @@ impl Actions {
 
     /// Adds the flags of a text to the internal ones (RFC 5232, section 3.2).
     pub(crate) fn add_text(&mut self, alloc: Global, text: &[u8]) -> Result<(), AllocError>
-        ensures { OnOk result (self.new ≡ record self.old { flags = flag_union self.old.flags (flags_in text.now) }) }
+        ensures { OnOk result
+            (self.new ≡ record self.old { flags = flag_union self.old.flags (flags_in text.now) }) }
     {
         let known = mem::replace(&mut self.known, Vec::new(alloc));
         self.flags.add_text(alloc, text)?;
@@ -183,7 +192,8 @@ impl Actions {
 
     /// Takes the flags of a text out of the internal ones (RFC 5232, section 3.3).
     pub(crate) fn remove_text(&mut self, text: &[u8])
-        ensures { self.new ≡ record self.old { flags = flags_without self.old.flags (flags_in text.now) } }
+        ensures { self.new
+            ≡ record self.old { flags = flags_without self.old.flags (flags_in text.now) } }
     {
         flags_are_taken_out_in_turn();
         let mut rest = text;
@@ -195,7 +205,8 @@ impl Actions {
 
     /// Takes a flag out of the internal ones.
     fn remove_flag(&mut self, flag: &[u8])
-        ensures { self.new ≡ record self.old { flags = flags_without self.old.flags (flag.now ∷ []) } }
+        ensures { self.new
+            ≡ record self.old { flags = flags_without self.old.flags (flag.now ∷ []) } }
     {
         if let Some(place) = self.flags.take_out(flag) {
             lower_all(&mut self.known, place);
@@ -325,7 +336,8 @@ fn with_flags(
     known: usize,
 ) -> Result<(Action, usize), AllocError>
     requires { IsKnown flags.now known there }
-    ensures action { IfOk result (λ made. made.0 ≡ joined_with (Store mailbox.now flags.now filing.now) there) }
+    ensures action { IfOk result
+        (λ made. made.0 ≡ joined_with (Store mailbox.now flags.now filing.now) there) }
     ensures known { IfOk result (λ made. IsKnown flags.now made.1 made.0) }
 {
     if !stores_into(mailbox, &there) {
@@ -364,7 +376,8 @@ fn all_with_flags(
     known: &[usize],
 ) -> Result<(Vec<Action>, Vec<usize>), AllocError>
     requires { AreKnown flags.now known.now actions.items }
-    ensures actions { IfOk result (λ made. made.0.items ≡ map (joined_with (Store mailbox.now flags.now filing.now)) actions.items) }
+    ensures actions { IfOk result (λ made. made.0.items
+        ≡ map (joined_with (Store mailbox.now flags.now filing.now)) actions.items) }
     ensures known { IfOk result (λ made. AreKnown flags.now made.1.items made.0.items) }
 {
     let mut joined = Vec::with_capacity(alloc, actions.len())?;
@@ -382,7 +395,8 @@ fn all_with_flags(
 
 /// The number of the next action, or none where it is missing, and the numbers of those behind it.
 fn next_known(known: &[usize]) -> (usize, &[usize])
-    ensures { (flags : List (List ℕ)) (action : acts.Action) (actions : List acts.Action) → AreKnown flags known.now (action ∷ actions)
+    ensures { (flags : List (List ℕ)) (action : acts.Action) (actions : List acts.Action)
+        → AreKnown flags known.now (action ∷ actions)
         → IsKnown flags result.0 action × AreKnown flags result.1.now actions }
 {
     match known {

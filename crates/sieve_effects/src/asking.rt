@@ -35,7 +35,8 @@ fn find_in_source(
 ) -> Result<Option<MatchValues>, AllocError>
     requires { fields.old ≡ (delivery_as delivery.now).arrival }
     ensures arrival { fields.new ≡ fields.old }
-    ensures found { IfOk result (λ found. found ≡ first_some (found_with matcher.now) (values_of (delivery_as delivery.now) (state_of state.now) (source_op_as source.now))) }
+    ensures found { IfOk result (λ found. found ≡ first_some (found_with matcher.now)
+        (values_of (delivery_as delivery.now) (state_of state.now) (source_op_as source.now))) }
 {
     match source {
         SourceOp::Header { names } => {
@@ -71,7 +72,8 @@ fn find_by_count(
 ) -> Result<Option<MatchValues>, AllocError>
     requires { fields.old ≡ (delivery_as delivery.now).arrival }
     ensures arrival { fields.new ≡ fields.old }
-    ensures found { IfOk result (λ found. found ≡ found_with matcher.now (decimal (length (counted_of (delivery_as delivery.now) (state_of state.now) (source_op_as source.now))))) }
+    ensures found { IfOk result (λ found. found ≡ found_with matcher.now (decimal (length
+        (counted_of (delivery_as delivery.now) (state_of state.now) (source_op_as source.now))))) }
 {
     let count = count_in_source(delivery, fields, state, source)?;
     let mut buffer = Buffer::new();
@@ -89,7 +91,9 @@ fn find_keyed(
 ) -> Result<Option<MatchValues>, AllocError>
     requires { fields.old ≡ (delivery_as delivery.now).arrival }
     ensures arrival { fields.new ≡ fields.old }
-    ensures found { IfOk result (λ found. found ≡ first_some (found_with matcher.now) (compared_of matcher.now.comparison.match_type (delivery_as delivery.now) (state_of state.now) (source_op_as source.now))) }
+    ensures found { IfOk result (λ found. found
+        ≡ first_some (found_with matcher.now) (compared_of matcher.now.comparison.match_type
+        (delivery_as delivery.now) (state_of state.now) (source_op_as source.now))) }
 {
     match matcher.comparison.match_type {
         MatchType::Count(_) => find_by_count(delivery, fields, state, source, matcher),
@@ -126,7 +130,8 @@ fn find_match(
 ) -> Result<Option<MatchValues>, AllocError>
     requires { fields.old ≡ (delivery_as delivery.now).arrival }
     ensures arrival { fields.new ≡ fields.old }
-    ensures found { IfOk result (λ found. found ≡ match_found (delivery_as delivery.now) (state_of state.now) (source_op_as source.now) comparison keys.now) }
+    ensures found { IfOk result (λ found. found ≡ match_found (delivery_as delivery.now)
+        (state_of state.now) (source_op_as source.now) comparison keys.now) }
 {
     let matcher = Matcher {
         comparison,
@@ -161,7 +166,10 @@ fn keep_found_in(
     state: &mut State,
 ) -> bool
     ensures truth { result ≡ is_some found }
-    ensures kept { state_of state.new ≡ record (state_of state.old) { values = with_found_in (source_op_as source.now) match_type found (state_of state.old).values } }
+    ensures kept { state_of state.new ≡ record (state_of state.old) {
+      values = with_found_in
+          (source_op_as source.now) match_type found (state_of state.old).values;
+    } }
 {
     if sets_matched(source) {
         keep_found(match_type, found, state)
@@ -184,8 +192,11 @@ pub fn compare(
 ) -> Result<bool, AllocError>
     requires { fields.old ≡ (delivery_as delivery.now).arrival }
     ensures arrival { fields.new ≡ fields.old }
-    ensures truth { IfOk result (λ truth. truth ≡ truth_of (delivery_as delivery.now) (state_of state.old) (compares (source_op_as source.now) comparison keys.now)) }
-    ensures behind { IfOk result (λ truth. state_of state.new ≡ behind_test (delivery_as delivery.now) (compares (source_op_as source.now) comparison keys.now) (state_of state.old)) }
+    ensures truth { IfOk result (λ truth. truth ≡ truth_of (delivery_as delivery.now)
+        (state_of state.old) (compares (source_op_as source.now) comparison keys.now)) }
+    ensures behind { IfOk result
+        (λ truth. state_of state.new ≡ behind_test (delivery_as delivery.now)
+        (compares (source_op_as source.now) comparison keys.now) (state_of state.old)) }
 {
     let found = find_match(delivery, fields, &*state, source, comparison, keys)?;
     Ok(keep_found_in(source, comparison.match_type, found, state))
@@ -198,7 +209,8 @@ pub fn exists(
     names: &FieldNames<'_>,
     state: &State,
 ) -> Result<bool, AllocError>
-    ensures { IfOk result (λ truth. truth ≡ truth_of (delivery_as delivery.now) (state_of state.now) (exists_ask names.now)) }
+    ensures { IfOk result (λ truth. truth
+        ≡ truth_of (delivery_as delivery.now) (state_of state.now) (exists_ask names.now)) }
 {
     let message = delivery.arrival.message;
     has_fields(delivery.alloc, message, &state.values, names)

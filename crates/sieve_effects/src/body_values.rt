@@ -42,7 +42,8 @@ fn entries_of<'b>(
     values: &'b Values,
     transform: &BodyOp<'b>,
 ) -> Result<Option<Vec<CowSlice<'b, u8>>>, AllocError>
-    ensures { IfOk result (λ found. option_map (λ entries. octets_of_each entries.items) found ≡ spec.entries_of values.now (body_op_as transform.now)) }
+    ensures { IfOk result (λ found. option_map (λ entries. octets_of_each entries.items) found
+        ≡ spec.entries_of values.now (body_op_as transform.now)) }
 {
     match transform {
         BodyOp::Raw => Ok(None),
@@ -70,7 +71,8 @@ fn find_around(
     epilogue: Option<&[u8]>,
     matcher: &Matcher<'_>,
 ) -> Result<Option<MatchValues>, AllocError>
-    ensures { IfOk result (λ found. found ≡ first_some (found_with matcher.now) (prologue.now ∷ option_to_list (option_map (λ e. e.now) epilogue.entry))) }
+    ensures { IfOk result (λ found. found ≡ first_some (found_with matcher.now)
+        (prologue.now ∷ option_to_list (option_map (λ e. e.now) epilogue.entry))) }
 {
     if let Some(found) = matcher.first_match(alloc, prologue)? {
         return Ok(Some(found));
@@ -90,7 +92,8 @@ fn find_in_content(
     content: &[u8],
     matcher: &Matcher<'_>,
 ) -> Result<Option<MatchValues>, AllocError>
-    ensures { IfOk result (λ found. found ≡ first_some (found_with matcher.now) (texts_given (profile_as profile) (entity_as entity.now).type (entities.content encoding content.now))) }
+    ensures { IfOk result (λ found. found ≡ first_some (found_with matcher.now) (texts_given
+        (profile_as profile) (entity_as entity.now).type (entities.content encoding content.now))) }
 {
     let octets = encoding.octets_of(alloc, content)?;
     let text = entity.text(alloc, profile, octets)?;
@@ -104,7 +107,8 @@ fn find_in_entity(
     entity: &Entity<'_>,
     matcher: &Matcher<'_>,
 ) -> Result<Option<MatchValues>, AllocError>
-    ensures { IfOk result (λ found. found ≡ first_some (found_with matcher.now) (texts_of (profile_as profile) (entity_as entity.now))) }
+    ensures { IfOk result (λ found. found ≡ first_some (found_with matcher.now)
+        (texts_of (profile_as profile) (entity_as entity.now))) }
 {
     match entity.given() {
         Given::Around { prologue, epilogue } => find_around(alloc, prologue, epilogue, matcher),
@@ -123,7 +127,8 @@ fn find_if_named(
     entries: &[CowSlice<'_, u8>],
     matcher: &Matcher<'_>,
 ) -> Result<Option<MatchValues>, AllocError>
-    ensures { IfOk result (λ found. found ≡ entity_found (found_with matcher.now) (profile_as profile) (octets_of_each entries.now) (entity_as entity.now)) }
+    ensures { IfOk result (λ found. found ≡ entity_found (found_with matcher.now)
+        (profile_as profile) (octets_of_each entries.now) (entity_as entity.now)) }
 {
     if is_named_by(entity, entries) {
         find_in_entity(alloc, profile, entity, matcher)
@@ -140,7 +145,8 @@ fn find_in_each(
     entries: &[CowSlice<'_, u8>],
     matcher: &Matcher<'_>,
 ) -> Result<Option<MatchValues>, AllocError>
-    ensures { IfOk result (λ found. found ≡ first_some (entity_found (found_with matcher.now) (profile_as profile) (octets_of_each entries.now)) (map entity_as entities.now)) }
+    ensures { IfOk result (λ found. found ≡ first_some (entity_found (found_with matcher.now)
+        (profile_as profile) (octets_of_each entries.now)) (map entity_as entities.now)) }
 {
     for entity in entities {
         if let Some(found) = find_if_named(alloc, profile, entity, entries, matcher)? {
@@ -159,7 +165,9 @@ fn find_in_named(
 ) -> Result<Option<MatchValues>, AllocError>
     requires { fields.old ≡ (delivery_as delivery.now).arrival }
     ensures arrival { fields.new ≡ fields.old }
-    ensures found { IfOk result (λ found. found ≡ first_some (found_with matcher.now) (texts_named fields.old.profile (octets_of_each entries.now) (entities.entities_of fields.old.message))) }
+    ensures found { IfOk result
+        (λ found. found ≡ first_some (found_with matcher.now) (texts_named fields.old.profile
+        (octets_of_each entries.now) (entities.entities_of fields.old.message))) }
 {
     let entities = fields.take_entities(delivery.alloc)?;
     let profile = delivery.arrival.profile;
@@ -173,7 +181,8 @@ fn find_in_all(
     delivery: &Delivery<'_>,
     matcher: &Matcher<'_>,
 ) -> Result<Option<MatchValues>, AllocError>
-    ensures { IfOk result (λ found. found ≡ first_some (found_with matcher.now) (option_to_list (entities.body_of (delivery_as delivery.now).arrival.message))) }
+    ensures { IfOk result (λ found. found ≡ first_some (found_with matcher.now)
+        (option_to_list (entities.body_of (delivery_as delivery.now).arrival.message))) }
 {
     match body_of(delivery.arrival.message.octets()) {
         Some(body) => matcher.first_match(delivery.alloc, body),
@@ -191,7 +200,8 @@ pub(crate) fn find_in_body(
 ) -> Result<Option<MatchValues>, AllocError>
     requires { fields.old ≡ (delivery_as delivery.now).arrival }
     ensures arrival { fields.new ≡ fields.old }
-    ensures found { IfOk result (λ found. found ≡ first_some (found_with matcher.now) (values_of (delivery_as delivery.now) (state_of state.now) (body_values (body_op_as transform.now)))) }
+    ensures found { IfOk result (λ found. found ≡ first_some (found_with matcher.now) (values_of
+        (delivery_as delivery.now) (state_of state.now) (body_values (body_op_as transform.now)))) }
 {
     match entries_of(delivery.alloc, &state.values, transform)? {
         Some(entries) => find_in_named(delivery, fields, &entries, matcher),
@@ -201,7 +211,8 @@ pub(crate) fn find_in_body(
 
 /// How many values an entity has.
 fn count_in_entity(entity: &Entity<'_>) -> usize
-    ensures { (profile : profiles.Profile) → result ≡ length (texts_of profile (entity_as entity.now)) }
+    ensures { (profile : profiles.Profile)
+        → result ≡ length (texts_of profile (entity_as entity.now)) }
 {
     match entity.given() {
         Given::Around { epilogue, .. } => { if epilogue.is_some() { 2 } else { 1 } }
@@ -211,7 +222,8 @@ fn count_in_entity(entity: &Entity<'_>) -> usize
 
 /// How many values an entity has, if one of these entries names it.
 fn count_if_named(entity: &Entity<'_>, entries: &[CowSlice<'_, u8>]) -> usize
-    ensures { (profile : profiles.Profile) → result ≡ length (texts_if_named profile (octets_of_each entries.now) (entity_as entity.now)) }
+    ensures { (profile : profiles.Profile) → result
+        ≡ length (texts_if_named profile (octets_of_each entries.now) (entity_as entity.now)) }
 {
     if is_named_by(entity, entries) {
         count_in_entity(entity)
@@ -222,7 +234,8 @@ fn count_if_named(entity: &Entity<'_>, entries: &[CowSlice<'_, u8>]) -> usize
 
 /// How many values these entities have that are named. Nothing is decoded.
 fn count_in_each(entities: &[Entity<'_>], entries: &[CowSlice<'_, u8>]) -> Result<usize, AllocError>
-    ensures { (profile : profiles.Profile) → IfOk result (λ count. count ≡ length (texts_named profile (octets_of_each entries.now) (map entity_as entities.now))) }
+    ensures { (profile : profiles.Profile) → IfOk result (λ count. count
+        ≡ length (texts_named profile (octets_of_each entries.now) (map entity_as entities.now))) }
 {
     let mut count = 0usize;
     for entity in entities {
@@ -238,7 +251,8 @@ fn count_in_named(
     entries: &[CowSlice<'_, u8>],
 ) -> Result<usize, AllocError>
     ensures arrival { fields.new ≡ fields.old }
-    ensures count { IfOk result (λ count. count ≡ length (texts_named fields.old.profile (octets_of_each entries.now) (entities.entities_of fields.old.message))) }
+    ensures count { IfOk result (λ count. count ≡ length (texts_named fields.old.profile
+        (octets_of_each entries.now) (entities.entities_of fields.old.message))) }
 {
     let entities = fields.take_entities(alloc)?;
     let count = count_in_each(&entities, entries)?;
@@ -265,7 +279,8 @@ pub(crate) fn count_body(
 ) -> Result<usize, AllocError>
     requires { fields.old ≡ (delivery_as delivery.now).arrival }
     ensures arrival { fields.new ≡ fields.old }
-    ensures count { IfOk result (λ count. count ≡ length (counted_of (delivery_as delivery.now) (state_of state.now) (body_values (body_op_as transform.now)))) }
+    ensures count { IfOk result (λ count. count ≡ length (counted_of (delivery_as delivery.now)
+        (state_of state.now) (body_values (body_op_as transform.now)))) }
 {
     match entries_of(delivery.alloc, &state.values, transform)? {
         Some(entries) => count_in_named(delivery.alloc, fields, &entries),

@@ -62,7 +62,8 @@ fn fields_by_names(
     values: &Values,
     names: &FieldNames<'_>,
 ) -> Result<usize, AllocError>
-    ensures { IfOk result (λ count. count ≡ length (flat_map (values_named (fields_of message.now)) (map (text_value values.now) names.now))) }
+    ensures { IfOk result (λ count. count ≡ length
+        (flat_map (values_named (fields_of message.now)) (map (text_value values.now) names.now))) }
 {
     let mut buffer = Vec::new(alloc);
     let mut count = 0usize;
@@ -79,7 +80,8 @@ fn count_fields(
     state: &State,
     names: &FieldNames<'_>,
 ) -> Result<usize, AllocError>
-    ensures { IfOk result (λ count. count ≡ length (values_of (delivery_as delivery.now) (state_of state.now) (header_values names.now))) }
+    ensures { IfOk result (λ count. count ≡ length
+        (values_of (delivery_as delivery.now) (state_of state.now) (header_values names.now))) }
 {
     let message = delivery.arrival.message;
     fields_by_names(delivery.alloc, message, &state.values, names)
@@ -89,7 +91,8 @@ fn count_fields(
 fn addresses_at(alloc: Global, fields: &mut FieldReads<'_>, i: usize) -> Result<usize, AllocError>
     requires { i < length (fields_of fields.old.message) }
     ensures arrival { fields.new ≡ fields.old }
-    ensures count { IfOk result (λ count. slice_get (map (λ listed. length listed) (address_lists_of fields.old.message)) i ≡ Some count) }
+    ensures count { IfOk result (λ count. slice_get
+        (map (λ listed. length listed) (address_lists_of fields.old.message)) i ≡ Some count) }
 {
     let listed = fields.take_addresses(alloc, i)?;
     let count = listed.len();
@@ -104,7 +107,8 @@ fn addresses_in_fields(
     name: &FieldName<'_>,
 ) -> Result<usize, AllocError>
     ensures arrival { fields.new ≡ fields.old }
-    ensures count { IfOk result (λ count. count ≡ length (flat_map (parts_of_value All) (values_named (fields_of fields.old.message) name.now))) }
+    ensures count { IfOk result (λ count. count ≡ length
+        (flat_map (parts_of_value All) (values_named (fields_of fields.old.message) name.now))) }
 {
     let message = fields.message();
     let mut count = 0usize;
@@ -126,7 +130,8 @@ fn addresses_by_name(
     name: &FieldName<'_>,
 ) -> Result<usize, AllocError>
     ensures arrival { fields.new ≡ fields.old }
-    ensures count { IfOk result (λ count. count ≡ length (parts_named All (fields_of fields.old.message) name.now)) }
+    ensures count { IfOk result
+        (λ count. count ≡ length (parts_named All (fields_of fields.old.message) name.now)) }
 {
     if is_address_field(name.octets()) {
         addresses_in_fields(alloc, fields, name)
@@ -143,7 +148,8 @@ fn addresses_by_names(
     names: &FieldNames<'_>,
 ) -> Result<usize, AllocError>
     ensures arrival { fields.new ≡ fields.old }
-    ensures count { IfOk result (λ count. count ≡ length (flat_map (parts_named All (fields_of fields.old.message)) (map (text_value values.now) names.now))) }
+    ensures count { IfOk result (λ count. count ≡ length (flat_map
+        (parts_named All (fields_of fields.old.message)) (map (text_value values.now) names.now))) }
 {
     let mut buffer = Vec::new(alloc);
     let mut count = 0usize;
@@ -163,7 +169,8 @@ fn count_addresses(
 ) -> Result<usize, AllocError>
     requires { fields.old ≡ (delivery_as delivery.now).arrival }
     ensures arrival { fields.new ≡ fields.old }
-    ensures count { IfOk result (λ count. count ≡ length (values_of (delivery_as delivery.now) (state_of state.now) (address_values All names.now))) }
+    ensures count { IfOk result (λ count. count ≡ length (values_of (delivery_as delivery.now)
+        (state_of state.now) (address_values All names.now))) }
 {
     addresses_by_names(delivery.alloc, fields, &state.values, names)
 }
@@ -177,7 +184,8 @@ fn addresses_in_path(text: &[u8]) -> usize
 
 /// How many addresses there are in the envelope's part of that name.
 fn addresses_by_path_name(arrival: &Arrival<'_>, name: &[u8]) -> usize
-    ensures { result ≡ length (filter is_filled (envelope_named All (envelope_of (arrival_as arrival.now)) name.now)) }
+    ensures { result ≡ length
+        (filter is_filled (envelope_named All (envelope_of (arrival_as arrival.now)) name.now)) }
 {
     match envelope_text(arrival, name) {
         Some(text) => addresses_in_path(text),
@@ -192,7 +200,8 @@ fn addresses_by_path_names(
     values: &Values,
     names: &Strings<'_>,
 ) -> Result<usize, AllocError>
-    ensures { IfOk result (λ count. count ≡ length (filter is_filled (flat_map (envelope_named All (envelope_of (arrival_as arrival.now))) (map (text_value values.now) names.now)))) }
+    ensures { IfOk result (λ count. count ≡ length (filter is_filled (flat_map (envelope_named All
+        (envelope_of (arrival_as arrival.now))) (map (text_value values.now) names.now)))) }
 {
     let mut buffer = Vec::new(alloc);
     let mut count = 0usize;
@@ -209,14 +218,16 @@ fn count_paths(
     state: &State,
     names: &Strings<'_>,
 ) -> Result<usize, AllocError>
-    ensures { IfOk result (λ count. count ≡ length (filter is_filled (values_of (delivery_as delivery.now) (state_of state.now) (envelope_values All names.now)))) }
+    ensures { IfOk result (λ count. count ≡ length (filter is_filled (values_of
+        (delivery_as delivery.now) (state_of state.now) (envelope_values All names.now)))) }
 {
     addresses_by_path_names(delivery.alloc, delivery.arrival, &state.values, names)
 }
 
 /// How many strings there are that aren't empty.
 fn filled_strings(alloc: Global, values: &Values, texts: &Strings<'_>) -> Result<usize, AllocError>
-    ensures { IfOk result (λ count. count ≡ length (filter is_filled (map (text_value values.now) texts.now))) }
+    ensures { IfOk result
+        (λ count. count ≡ length (filter is_filled (map (text_value values.now) texts.now))) }
 {
     let mut buffer = Vec::new(alloc);
     let mut count = 0usize;
@@ -243,7 +254,8 @@ fn flags_in_variables(
     values: &Values,
     variables: &Strings<'_>,
 ) -> Result<usize, AllocError>
-    ensures { IfOk result (λ count. count ≡ length (flat_map flag_list (map (text_value values.now) variables.now))) }
+    ensures { IfOk result
+        (λ count. count ≡ length (flat_map flag_list (map (text_value values.now) variables.now))) }
 {
     let mut buffer = Vec::new(alloc);
     let mut count = 0usize;
@@ -260,7 +272,8 @@ fn count_flags(
     state: &State,
     variables: &Option<Strings<'_>>,
 ) -> Result<usize, AllocError>
-    ensures { IfOk result (λ count. count ≡ length (values_of (delivery_as delivery.now) (state_of state.now) (flag_values variables.now))) }
+    ensures { IfOk result (λ count. count ≡ length
+        (values_of (delivery_as delivery.now) (state_of state.now) (flag_values variables.now))) }
 {
     match variables {
         Some(variables) => flags_in_variables(delivery.alloc, &state.values, variables),
@@ -277,7 +290,8 @@ pub(crate) fn count_in_source(
 ) -> Result<usize, AllocError>
     requires { fields.old ≡ (delivery_as delivery.now).arrival }
     ensures arrival { fields.new ≡ fields.old }
-    ensures count { IfOk result (λ count. count ≡ length (counted_of (delivery_as delivery.now) (state_of state.now) (source_op_as source.now))) }
+    ensures count { IfOk result (λ count. count ≡ length
+        (counted_of (delivery_as delivery.now) (state_of state.now) (source_op_as source.now))) }
 {
     match source {
         SourceOp::Header { names } => count_fields(delivery, state, names),

@@ -29,7 +29,8 @@ fn date_named(
     message: &Message,
     name: &FieldName<'_>,
 ) -> Result<Option<Moment>, AllocError>
-    ensures { IfOk result (λ moment. option_map moment_as moment ≡ date_named (fields_of message.now) name.now) }
+    ensures { IfOk result
+        (λ moment. option_map moment_as moment ≡ date_named (fields_of message.now) name.now) }
 {
     match message.next_named(name, 0) {
         Some(i) => {
@@ -52,7 +53,8 @@ fn local_zone(clock: &Option<Clock>) -> Zone
 
 /// The zone that a string names.
 fn named_zone(alloc: Global, values: &Values, zone: &[Part]) -> Result<Option<Zone>, AllocError>
-    ensures { IfOk result (λ found. option_map zone_as found ≡ zones.zone_named (text_value values.now zone.now)) }
+    ensures { IfOk result
+        (λ found. option_map zone_as found ≡ zones.zone_named (text_value values.now zone.now)) }
 {
     let mut buffer = Vec::new(alloc);
     Ok(zone_named(values.expanded_in(zone, &mut buffer)?))
@@ -66,7 +68,8 @@ fn zone_for(
     written: Zone,
     zone: &ZoneOp<'_>,
 ) -> Result<Option<Zone>, AllocError>
-    ensures { IfOk result (λ found. option_map zone_as found ≡ spec.zone_for values.now clock.now (zone_as written) (zone_op_as zone.now)) }
+    ensures { IfOk result (λ found. option_map zone_as found
+        ≡ spec.zone_for values.now clock.now (zone_as written) (zone_op_as zone.now)) }
 {
     match zone {
         ZoneOp::Local => Ok(Some(local_zone(clock))),
@@ -92,7 +95,8 @@ fn part_of_moment(
     part: &[Part],
     moment: &Moment,
 ) -> Result<Option<Vec<u8>>, AllocError>
-    ensures { IfOk result (λ text. option_map (λ found. found.items) text ≡ spec.part_of_moment values.now clock.now (zone_op_as zone.now) part.now (moment_as moment.now)) }
+    ensures { IfOk result (λ text. option_map (λ found. found.items) text ≡ spec.part_of_moment
+        values.now clock.now (zone_op_as zone.now) part.now (moment_as moment.now)) }
 {
     let Some(zone) = zone_for(alloc, values, clock, moment.zone, zone)? else {
         return Ok(None);
@@ -111,7 +115,9 @@ fn date_value(
     field: &[Part],
     part: &[Part],
 ) -> Result<Option<Vec<u8>>, AllocError>
-    ensures { IfOk result (λ text. option_to_list (option_map (λ found. found.items) text) ≡ values_of (delivery_as delivery.now) (state_of state.now) (date_values (zone_op_as zone.now) field.now part.now)) }
+    ensures { IfOk result (λ text. option_to_list (option_map (λ found. found.items) text)
+        ≡ values_of (delivery_as delivery.now) (state_of state.now)
+        (date_values (zone_op_as zone.now) field.now part.now)) }
 {
     let alloc = delivery.alloc;
     let mut buffer = Vec::new(alloc);
@@ -132,7 +138,9 @@ fn clock_value(
     zone: &ZoneOp<'_>,
     part: &[Part],
 ) -> Result<Option<Vec<u8>>, AllocError>
-    ensures { IfOk result (λ text. option_to_list (option_map (λ found. found.items) text) ≡ values_of (delivery_as delivery.now) (state_of state.now) (clock_values (zone_op_as zone.now) part.now)) }
+    ensures { IfOk result (λ text. option_to_list (option_map (λ found. found.items) text)
+        ≡ values_of (delivery_as delivery.now) (state_of state.now)
+        (clock_values (zone_op_as zone.now) part.now)) }
 {
     let clock = &delivery.arrival.envelope.clock;
     match clock {
@@ -150,7 +158,8 @@ fn find_in_value(
     value: Option<Vec<u8>>,
     matcher: &Matcher<'_>,
 ) -> Result<Option<MatchValues>, AllocError>
-    ensures { IfOk result (λ found. found ≡ first_some (found_with matcher.now) (option_to_list (option_map (λ text. text.items) value))) }
+    ensures { IfOk result (λ found. found ≡ first_some (found_with matcher.now)
+        (option_to_list (option_map (λ text. text.items) value))) }
 {
     match value {
         Some(text) => matcher.first_match(alloc, &text),
@@ -167,7 +176,9 @@ pub(crate) fn find_in_date(
     part: &[Part],
     matcher: &Matcher<'_>,
 ) -> Result<Option<MatchValues>, AllocError>
-    ensures { IfOk result (λ found. found ≡ first_some (found_with matcher.now) (values_of (delivery_as delivery.now) (state_of state.now) (date_values (zone_op_as zone.now) field.now part.now))) }
+    ensures { IfOk result
+        (λ found. found ≡ first_some (found_with matcher.now) (values_of (delivery_as delivery.now)
+        (state_of state.now) (date_values (zone_op_as zone.now) field.now part.now))) }
 {
     let value = date_value(delivery, state, zone, field, part)?;
     find_in_value(delivery.alloc, value, matcher)
@@ -181,7 +192,9 @@ pub(crate) fn find_in_clock(
     part: &[Part],
     matcher: &Matcher<'_>,
 ) -> Result<Option<MatchValues>, AllocError>
-    ensures { IfOk result (λ found. found ≡ first_some (found_with matcher.now) (values_of (delivery_as delivery.now) (state_of state.now) (clock_values (zone_op_as zone.now) part.now))) }
+    ensures { IfOk result
+        (λ found. found ≡ first_some (found_with matcher.now) (values_of (delivery_as delivery.now)
+        (state_of state.now) (clock_values (zone_op_as zone.now) part.now))) }
 {
     let value = clock_value(delivery, state, zone, part)?;
     find_in_value(delivery.alloc, value, matcher)
@@ -205,7 +218,8 @@ pub(crate) fn count_date(
     field: &[Part],
     part: &[Part],
 ) -> Result<usize, AllocError>
-    ensures { IfOk result (λ count. count ≡ length (counted_of (delivery_as delivery.now) (state_of state.now) (date_values (zone_op_as zone.now) field.now part.now))) }
+    ensures { IfOk result (λ count. count ≡ length (counted_of (delivery_as delivery.now)
+        (state_of state.now) (date_values (zone_op_as zone.now) field.now part.now))) }
 {
     let value = date_value(delivery, state, zone, field, part)?;
     Ok(count_of(&value))
@@ -218,7 +232,8 @@ pub(crate) fn count_clock(
     zone: &ZoneOp<'_>,
     part: &[Part],
 ) -> Result<usize, AllocError>
-    ensures { IfOk result (λ count. count ≡ length (counted_of (delivery_as delivery.now) (state_of state.now) (clock_values (zone_op_as zone.now) part.now))) }
+    ensures { IfOk result (λ count. count ≡ length (counted_of (delivery_as delivery.now)
+        (state_of state.now) (clock_values (zone_op_as zone.now) part.now))) }
 {
     let value = clock_value(delivery, state, zone, part)?;
     Ok(count_of(&value))

@@ -49,8 +49,10 @@ fn put_behind(
     texts: Vec<Text>,
 ) -> Result<(), AllocError>
     ensures lists { OnOk result (lists.new ≡ lists_with lists.old (texts_as texts.items)) }
-    ensures kept { OnOk result ((more : Lists) → list_in (lists_plus lists.new more) (length lists.old.ends) ≡ texts_as texts.items) }
-    ensures hashes { OnOk result (hashes.new.items ≡ hashes.old.items ++ map kept_hash (texts_as texts.items)) }
+    ensures kept { OnOk result ((more : Lists)
+        → list_in (lists_plus lists.new more) (length lists.old.ends) ≡ texts_as texts.items) }
+    ensures hashes { OnOk result
+        (hashes.new.items ≡ hashes.old.items ++ map kept_hash (texts_as texts.items)) }
 {
     for text in &texts {
         hashes.push(kept_hash(text.string.as_slice()))?;
@@ -79,7 +81,8 @@ impl NameLists {
     /// Adds a list. An error is want of memory.
     pub fn push(&mut self, texts: Vec<Text>) -> Result<(), AllocError>
         ensures new { OnOk result (self.new ≡ lists_with self.old (texts_as texts.items)) }
-        ensures kept { OnOk result ((more : Lists) → list_in (lists_plus self.new more) (length self.old.ends) ≡ texts_as texts.items) }
+        ensures kept { OnOk result ((more : Lists)
+            → list_in (lists_plus self.new more) (length self.old.ends) ≡ texts_as texts.items) }
     {
         match put_behind(&mut self.lists, &mut self.hashes, texts) {
             Ok(()) => Ok(()),
@@ -173,7 +176,8 @@ impl<'a> FieldNames<'a> {
     where
         'a: 'b,
         requires { i < length self.now }
-        ensures { IfOk result (λ name. slice_get (map (text_value values.now) self.now) i ≡ Some name) }
+        ensures { IfOk result
+            (λ name. slice_get (map (text_value values.now) self.now) i ≡ Some name) }
     {
         let parts = self.strings.get(i);
         prepared_in(parts, self.hashes[i], values, buffer)

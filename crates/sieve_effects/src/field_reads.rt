@@ -94,7 +94,8 @@ impl<'a> FieldReads<'a> {
     ) -> Result<Vec<Address>, AllocError>
         requires { i < length (fields_of self.old.message) }
         ensures arrival { self.new ≡ self.old }
-        ensures listed { IfOk result (λ listed. slice_get (address_lists_of self.old.message) i ≡ Some listed.items) }
+        ensures listed { IfOk result
+            (λ listed. slice_get (address_lists_of self.old.message) i ≡ Some listed.items) }
     {
         if let Some(listed) = take(&mut self.listed, i) {
             return Ok(listed);
@@ -126,7 +127,9 @@ impl<'a> FieldReads<'a> {
     ) -> Result<CowSlice<'a, u8>, AllocError>
         requires { i < length (fields_of self.old.message) }
         ensures arrival { self.new ≡ self.old }
-        ensures decoded { IfOk result (λ value. slice_get (decoded_values_of self.old.profile self.old.message) i ≡ Some (cow_slice_items value)) }
+        ensures decoded { IfOk result
+            (λ value. slice_get (decoded_values_of self.old.profile self.old.message) i
+            ≡ Some (cow_slice_items value)) }
     {
         if let Some(value) = take(&mut self.decoded, i) {
             return Ok(value);
@@ -145,7 +148,8 @@ impl<'a> FieldReads<'a> {
         i: usize,
         value: CowSlice<'a, u8>,
     ) -> Result<(), AllocError>
-        requires { slice_get (decoded_values_of self.old.profile self.old.message) i ≡ Some (cow_slice_items value) }
+        requires { slice_get (decoded_values_of self.old.profile self.old.message) i
+            ≡ Some (cow_slice_items value) }
         ensures { self.new ≡ self.old }
     {
         reach(&mut self.decoded, i)?;
@@ -156,7 +160,8 @@ impl<'a> FieldReads<'a> {
     /// The entities of the message, which are found where they aren't kept. [`keep_entities`](FieldReads::keep_entities) takes them back.
     pub(crate) fn take_entities(&mut self, alloc: Global) -> Result<Vec<Entity<'a>>, AllocError>
         ensures arrival { self.new ≡ self.old }
-        ensures entities { IfOk result (λ entities. map entity_as entities.items ≡ entities_of self.old.message) }
+        ensures entities { IfOk result
+            (λ entities. map entity_as entities.items ≡ entities_of self.old.message) }
     {
         match self.entities.take() {
             Some(entities) => Ok(entities),

@@ -33,7 +33,8 @@ pub(crate) fn has_fields(
     values: &Values,
     names: &FieldNames<'_>,
 ) -> Result<bool, AllocError>
-    ensures { IfOk result (λ has. has ≡ list_all (has_field (fields_of message.now)) (map (text_value values.now) names.now)) }
+    ensures { IfOk result (λ has. has
+        ≡ list_all (has_field (fields_of message.now)) (map (text_value values.now) names.now)) }
 {
     let mut buffer = Vec::new(alloc);
     for i in 0..names.len() {
@@ -52,7 +53,8 @@ fn find_in_addresses(
     addresses: &[Address],
     matcher: &Matcher<'_>,
 ) -> Result<Option<MatchValues>, AllocError>
-    ensures { IfOk result (λ found. found ≡ first_some (part_found (found_with matcher.now) part) addresses.now) }
+    ensures { IfOk result
+        (λ found. found ≡ first_some (part_found (found_with matcher.now) part) addresses.now) }
 {
     for address in addresses {
         if let Some(values) = find_in_part(alloc, address.part(part), matcher)? {
@@ -68,7 +70,8 @@ pub(crate) fn find_in_part(
     part: Option<&[u8]>,
     matcher: &Matcher<'_>,
 ) -> Result<Option<MatchValues>, AllocError>
-    ensures { IfOk result (λ found. found ≡ option_and_then (found_with matcher.now) (option_map (λ octets. octets.now) part.entry)) }
+    ensures { IfOk result (λ found. found
+        ≡ option_and_then (found_with matcher.now) (option_map (λ octets. octets.now) part.entry)) }
 {
     match part {
         Some(octets) => matcher.first_match(alloc, octets),
@@ -85,7 +88,9 @@ fn find_in_decoded(
 ) -> Result<Option<MatchValues>, AllocError>
     requires { i < length (fields_of fields.old.message) }
     ensures arrival { fields.new ≡ fields.old }
-    ensures found { IfOk result (λ found. slice_get (map (λ field. value_found (found_with matcher.now) fields.old.profile None field.value) (fields_of fields.old.message)) i ≡ Some found) }
+    ensures found { IfOk result (λ found. slice_get
+        (map (λ field. value_found (found_with matcher.now) fields.old.profile None field.value)
+        (fields_of fields.old.message)) i ≡ Some found) }
 {
     let value = fields.take_decoded(alloc, i)?;
     let found = matcher.first_match(alloc, value.as_slice())?;
@@ -103,7 +108,9 @@ fn find_in_listed(
 ) -> Result<Option<MatchValues>, AllocError>
     requires { i < length (fields_of fields.old.message) }
     ensures arrival { fields.new ≡ fields.old }
-    ensures found { IfOk result (λ found. slice_get (map (λ field. value_found (found_with matcher.now) fields.old.profile (Some part) field.value) (fields_of fields.old.message)) i ≡ Some found) }
+    ensures found { IfOk result
+        (λ found. slice_get (map (λ field. value_found (found_with matcher.now) fields.old.profile
+        (Some part) field.value) (fields_of fields.old.message)) i ≡ Some found) }
 {
     let listed = fields.take_addresses(alloc, i)?;
     let found = find_in_addresses(alloc, part, &listed, matcher)?;
@@ -121,7 +128,9 @@ fn find_in_value(
 ) -> Result<Option<MatchValues>, AllocError>
     requires { i < length (fields_of fields.old.message) }
     ensures arrival { fields.new ≡ fields.old }
-    ensures found { IfOk result (λ found. slice_get (map (λ field. value_found (found_with matcher.now) fields.old.profile part field.value) (fields_of fields.old.message)) i ≡ Some found) }
+    ensures found { IfOk result (λ found. slice_get
+        (map (λ field. value_found (found_with matcher.now) fields.old.profile part field.value)
+        (fields_of fields.old.message)) i ≡ Some found) }
 {
     match part {
         None => find_in_decoded(alloc, fields, i, matcher),
@@ -138,7 +147,8 @@ fn find_in_fields(
     matcher: &Matcher<'_>,
 ) -> Result<Option<MatchValues>, AllocError>
     ensures arrival { fields.new ≡ fields.old }
-    ensures found { IfOk result (λ found. found ≡ first_some (field_found (found_with matcher.now) fields.old.profile part name.now) (fields_of fields.old.message)) }
+    ensures found { IfOk result (λ found. found ≡ first_some (field_found
+        (found_with matcher.now) fields.old.profile part name.now) (fields_of fields.old.message)) }
 {
     let message = fields.message();
     let mut start = 0;
@@ -173,7 +183,8 @@ fn find_by_name(
     matcher: &Matcher<'_>,
 ) -> Result<Option<MatchValues>, AllocError>
     ensures arrival { fields.new ≡ fields.old }
-    ensures found { IfOk result (λ found. found ≡ name_found (found_with matcher.now) fields.old.profile part (fields_of fields.old.message) name.now) }
+    ensures found { IfOk result (λ found. found ≡ name_found
+        (found_with matcher.now) fields.old.profile part (fields_of fields.old.message) name.now) }
 {
     if is_looked_at(part, name.octets()) {
         find_in_fields(alloc, fields, part, name, matcher)
@@ -192,7 +203,9 @@ fn find_by_names(
     matcher: &Matcher<'_>,
 ) -> Result<Option<MatchValues>, AllocError>
     ensures arrival { fields.new ≡ fields.old }
-    ensures found { IfOk result (λ found. found ≡ first_some (name_found (found_with matcher.now) fields.old.profile part (fields_of fields.old.message)) (map (text_value values.now) names.now)) }
+    ensures found { IfOk result (λ found. found ≡ first_some
+        (name_found (found_with matcher.now) fields.old.profile part (fields_of fields.old.message))
+        (map (text_value values.now) names.now)) }
 {
     let mut buffer = Vec::new(alloc);
     for i in 0..names.len() {
@@ -215,7 +228,8 @@ pub(crate) fn find_in_named(
 ) -> Result<Option<MatchValues>, AllocError>
     requires { fields.old ≡ (delivery_as delivery.now).arrival }
     ensures arrival { fields.new ≡ fields.old }
-    ensures found { IfOk result (λ found. found ≡ first_some (found_with matcher.now) (values_of (delivery_as delivery.now) (state_of state.now) (field_source part names.now))) }
+    ensures found { IfOk result (λ found. found ≡ first_some (found_with matcher.now)
+        (values_of (delivery_as delivery.now) (state_of state.now) (field_source part names.now))) }
 {
     find_by_names(delivery.alloc, fields, part, &state.values, names, matcher)
 }

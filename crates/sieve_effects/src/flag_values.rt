@@ -39,7 +39,8 @@ fn has_piece(flags: &FlagList, collation: Collation, key: &[u8]) -> bool
 
 /// Whether a key, or a piece of it where keys are cut, is among flags.
 fn has_key_of(flags: &FlagList, matcher: &Matcher<'_>, key: &[u8]) -> bool
-    ensures { result ≡ list_any (has_key (are_equal matcher.now.comparison.collation) flags.now) (cut_key matcher.now.are_cut key.now) }
+    ensures { result ≡ list_any (has_key (are_equal matcher.now.comparison.collation) flags.now)
+        (cut_key matcher.now.are_cut key.now) }
 {
     let collation = matcher.comparison.collation;
     if matcher.are_cut {
@@ -51,7 +52,8 @@ fn has_key_of(flags: &FlagList, matcher: &Matcher<'_>, key: &[u8]) -> bool
 
 /// Whether some key is among flags.
 fn has_some(alloc: Global, flags: &FlagList, matcher: &Matcher<'_>) -> Result<bool, AllocError>
-    ensures { IfOk result (λ has. has ≡ list_any (has_key (are_equal matcher.now.comparison.collation) flags.now) (key_texts matcher.now)) }
+    ensures { IfOk result (λ has. has ≡ list_any
+        (has_key (are_equal matcher.now.comparison.collation) flags.now) (key_texts matcher.now)) }
 {
     let mut buffer = Vec::new(alloc);
     for i in 0..matcher.keys.len() {
@@ -80,7 +82,8 @@ fn better(
     key: &[u8],
     so_far: Best,
 ) -> Result<Best, AllocError>
-    ensures { IfOk result (λ next. (rest : List (List ℕ)) → best_of matcher.now.comparison flags.now next rest ≡ best_of matcher.now.comparison flags.now so_far (key.now ∷ rest)) }
+    ensures { IfOk result (λ next. (rest : List (List ℕ)) → best_of matcher.now.comparison flags.now
+        next rest ≡ best_of matcher.now.comparison flags.now so_far (key.now ∷ rest)) }
 {
     for i in 0..so_far.before.min(flags.len()) {
         if let Some(values) = matcher.match_of(alloc, flags.get(i), key)? {
@@ -101,7 +104,8 @@ fn better_by_pieces(
     key: &[u8],
     so_far: Best,
 ) -> Result<Best, AllocError>
-    ensures { IfOk result (λ next. (rest : List (List ℕ)) → best_of matcher.now.comparison flags.now next rest ≡ best_of matcher.now.comparison flags.now so_far (flag_keys key.now ++ rest)) }
+    ensures { IfOk result (λ next. (rest : List (List ℕ)) → best_of matcher.now.comparison flags.now
+        next rest ≡ best_of matcher.now.comparison flags.now so_far (flag_keys key.now ++ rest)) }
 {
     if key.is_empty() {
         return better(alloc, flags, matcher, key, so_far);
@@ -123,7 +127,9 @@ fn better_by(
     key: &[u8],
     so_far: Best,
 ) -> Result<Best, AllocError>
-    ensures { IfOk result (λ next. (rest : List (List ℕ)) → best_of matcher.now.comparison flags.now next rest ≡ best_of matcher.now.comparison flags.now so_far (cut_key matcher.now.are_cut key.now ++ rest)) }
+    ensures { IfOk result (λ next. (rest : List (List ℕ))
+        → best_of matcher.now.comparison flags.now next rest ≡ best_of matcher.now.comparison
+        flags.now so_far (cut_key matcher.now.are_cut key.now ++ rest)) }
 {
     if matcher.are_cut {
         better_by_pieces(alloc, flags, matcher, key, so_far)
@@ -176,7 +182,8 @@ fn find_in_text(
     text: &[u8],
     matcher: &Matcher<'_>,
 ) -> Result<Option<MatchValues>, AllocError>
-    ensures { IfOk result (λ found. found ≡ first_some (found_with matcher.now) (flag_list text.now)) }
+    ensures { IfOk result
+        (λ found. found ≡ first_some (found_with matcher.now) (flag_list text.now)) }
 {
     let flags = flags_of(alloc, text)?;
     find_in_flags(alloc, &flags, matcher)
@@ -188,7 +195,8 @@ fn find_in_texts(
     texts: &[CowSlice<'_, u8>],
     matcher: &Matcher<'_>,
 ) -> Result<Option<MatchValues>, AllocError>
-    ensures { IfOk result (λ found. found ≡ first_some (λ text. first_some (found_with matcher.now) (flag_list text)) (octets_of_each texts.now)) }
+    ensures { IfOk result (λ found. found ≡ first_some
+        (λ text. first_some (found_with matcher.now) (flag_list text)) (octets_of_each texts.now)) }
 {
     for text in texts {
         if let Some(values) = find_in_text(alloc, text.as_slice(), matcher)? {
@@ -205,7 +213,8 @@ fn find_in_variables(
     variables: &Strings<'_>,
     matcher: &Matcher<'_>,
 ) -> Result<Option<MatchValues>, AllocError>
-    ensures { IfOk result (λ found. found ≡ first_some (found_with matcher.now) (values_of (delivery_as delivery.now) (state_of state.now) (flag_values (Some variables.now)))) }
+    ensures { IfOk result (λ found. found ≡ first_some (found_with matcher.now) (values_of
+        (delivery_as delivery.now) (state_of state.now) (flag_values (Some variables.now)))) }
 {
     let held = variables.expanded(delivery.alloc, &state.values)?;
     find_in_texts(delivery.alloc, &held, matcher)
@@ -218,7 +227,8 @@ pub(crate) fn find_in_held(
     variables: &Option<Strings<'_>>,
     matcher: &Matcher<'_>,
 ) -> Result<Option<MatchValues>, AllocError>
-    ensures { IfOk result (λ found. found ≡ first_some (found_with matcher.now) (values_of (delivery_as delivery.now) (state_of state.now) (flag_values variables.now))) }
+    ensures { IfOk result (λ found. found ≡ first_some (found_with matcher.now)
+        (values_of (delivery_as delivery.now) (state_of state.now) (flag_values variables.now))) }
 {
     match variables {
         Some(variables) => find_in_variables(delivery, state, variables, matcher),

@@ -80,7 +80,8 @@ fn changed_value(
     value: &[u8],
     named: FlagList,
 ) -> Result<Octets, AllocError>
-    ensures { IfOk result (λ octets. octets ≡ held_flags (changed_flags change (flag_list value.now) named)) }
+    ensures { IfOk result
+        (λ octets. octets ≡ held_flags (changed_flags change (flag_list value.now) named)) }
 {
     let flags = changed_list(alloc, change, value, named)?;
     held_flags(alloc, &flags)
@@ -95,7 +96,8 @@ fn change_variable(
     line: u64,
     state: &mut State,
 ) -> Result<Flow, AllocError>
-    ensures { IfOk result (λ flow. ending_by flow (state_of state.new) ≡ changes (delivery_as delivery.now) line change (Some variable.now) texts.now (state_of state.old)) }
+    ensures { IfOk result (λ flow. ending_by flow (state_of state.new) ≡ changes
+        (delivery_as delivery.now) line change (Some variable.now) texts.now (state_of state.old)) }
 {
     let named = flags_named(delivery, &*state, texts)?;
     let value = changed_value(
@@ -114,7 +116,10 @@ fn add_named(
     texts: &Strings<'_>,
     actions: &mut Actions,
 ) -> Result<(), AllocError>
-    ensures { OnOk result (actions.new ≡ record actions.old { flags = flag_union actions.old.flags (flags_of_texts (map (text_value values.now) texts.now)) }) }
+    ensures { OnOk result (actions.new ≡ record actions.old {
+      flags = flag_union actions.old.flags
+          (flags_of_texts (map (text_value values.now) texts.now));
+    }) }
 {
     texts_are_changed_in_turn();
     let mut buffer = Vec::new(alloc);
@@ -132,7 +137,10 @@ fn remove_named(
     texts: &Strings<'_>,
     actions: &mut Actions,
 ) -> Result<(), AllocError>
-    ensures { OnOk result (actions.new ≡ record actions.old { flags = flags_without actions.old.flags (flags_of_texts (map (text_value values.now) texts.now)) }) }
+    ensures { OnOk result (actions.new ≡ record actions.old {
+      flags = flags_without
+          actions.old.flags (flags_of_texts (map (text_value values.now) texts.now));
+    }) }
 {
     texts_are_changed_in_turn();
     let mut buffer = Vec::new(alloc);
@@ -151,7 +159,8 @@ fn change_internal(
     line: u64,
     state: &mut State,
 ) -> Result<Flow, AllocError>
-    ensures { IfOk result (λ flow. ending_by flow (state_of state.new) ≡ changes (delivery_as delivery.now) line change None texts.now (state_of state.old)) }
+    ensures { IfOk result (λ flow. ending_by flow (state_of state.new)
+        ≡ changes (delivery_as delivery.now) line change None texts.now (state_of state.old)) }
 {
     match change {
         FlagChange::Set => {
@@ -179,7 +188,8 @@ pub fn change(
     line: u64,
     state: &mut State,
 ) -> Result<Flow, AllocError>
-    ensures { IfOk result (λ flow. ending_by flow (state_of state.new) ≡ changes (delivery_as delivery.now) line change (option_copied variable.entry) texts.now (state_of state.old)) }
+    ensures { IfOk result (λ flow. ending_by flow (state_of state.new) ≡ changes (delivery_as
+        delivery.now) line change (option_copied variable.entry) texts.now (state_of state.old)) }
 {
     match variable {
         Some(variable) => change_variable(delivery, change, variable, texts, line, state),

@@ -21,7 +21,8 @@ pub enum Flow {
 
 /// An error of the script that runs, at a line of it (RFC 5228, section 2.10.6). Fails where memory is refused.
 pub fn fail(delivery: &Delivery<'_>, line: u64, kind: ErrorKind) -> Result<Flow, AllocError>
-    ensures { IfOk result (λ flow. flow ≡ Failed (record { script = delivery.now.script.now; line = line; kind = kind })) }
+    ensures { IfOk result (λ flow. flow
+        ≡ Failed (record { script = delivery.now.script.now; line = line; kind = kind })) }
 {
     let script = delivery.script.copy(delivery.alloc)?;
     Ok(Flow::Failed(RunError { script, line, kind }))

@@ -49,7 +49,8 @@ pub(crate) fn between<T>(items: &[T], from: usize, to: usize) -> &[T]
 
 /// Puts the parts of a string behind those of others, and where they end behind the ends of these.
 fn put_behind(parts: &mut Vec<Part>, ends: &mut Vec<u32>, string: Parts) -> Result<(), AllocError>
-    ensures { OnOk result ((parts.new.items ≡ parts.old.items ++ string) × (ends.new.items ≡ ends.old.items ++ length (parts.old.items ++ string) ∷ [])) }
+    ensures { OnOk result ((parts.new.items ≡ parts.old.items ++ string)
+        × (ends.new.items ≡ ends.old.items ++ length (parts.old.items ++ string) ∷ [])) }
 {
     string.append_to(parts)?;
     ends.push(end_of(parts.len())?)?;

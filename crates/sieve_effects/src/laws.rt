@@ -8,5 +8,6 @@ ghost use Rattle.sieve_effects.specs.declared.envelope.Envelope.{Envelope};
 /// The names that a test finds in an envelope are those that the validator accepts (RFC 5228, section 5.4).
 #[tactic(auto, using(crate::proofs::Paths::named_parts))]
 pub fn envelope_parts_are_found()
-    ensures { (envelope : Envelope) (name : List ℕ) → is_some (envelope_text envelope name) ≡ is_envelope_part name }
+    ensures { (envelope : Envelope) (name : List ℕ)
+        → is_some (envelope_text envelope name) ≡ is_envelope_part name }
 {}

@@ -69,7 +69,8 @@ fn has_mailboxes(
     values: &Values,
     names: &Strings<'_>,
 ) -> Result<bool, AllocError>
-    ensures { IfOk result (λ has. has ≡ list_all (has_mailbox envelope.now) (map (text_value values.now) names.now)) }
+    ensures { IfOk result
+        (λ has. has ≡ list_all (has_mailbox envelope.now) (map (text_value values.now) names.now)) }
 {
     let mut buffer = Vec::new(alloc);
     for i in 0..names.len() {
@@ -88,7 +89,8 @@ pub fn mailboxes_exist(
     names: &Strings<'_>,
     state: &State,
 ) -> Result<bool, AllocError>
-    ensures { IfOk result (λ truth. truth ≡ truth_of (delivery_as delivery.now) (state_of state.now) (mailboxes_ask names.now)) }
+    ensures { IfOk result (λ truth. truth
+        ≡ truth_of (delivery_as delivery.now) (state_of state.now) (mailboxes_ask names.now)) }
 {
     has_mailboxes(
         delivery.alloc,

@@ -69,7 +69,8 @@ pub(crate) fn keep_found(
     state: &mut State,
 ) -> bool
     ensures truth { result ≡ is_some found }
-    ensures kept { state_of state.new ≡ record (state_of state.old) { values = with_found match_type found (state_of state.old).values } }
+    ensures kept { state_of state.new ≡ record
+        (state_of state.old) { values = with_found match_type found (state_of state.old).values } }
 {
     match (match_type, found) {
         (MatchType::Matches, Some(values)) => {
@@ -103,7 +104,8 @@ fn related_match(
     value: &[u8],
     key: &[u8],
 ) -> Option<MatchValues>
-    ensures { result ≡ if stands_in relation (order_of collation value.now key.now) then Some [] else None }
+    ensures { result ≡ if stands_in relation (order_of collation value.now key.now) then Some []
+        else None }
 {
     plain_match(alloc, stands(relation, collation, value, key))
 }
@@ -138,7 +140,7 @@ fn may_match(values: &Values, kind: KeyKind, size: usize, parts: &[Part]) -> boo
 {
     let mut room = Room::new(kind, size);
     for part in parts {
-        room = room.behind(values.part(part));
+        room = room.after(values.part(part));
     }
     room.is_enough()
 }
@@ -179,7 +181,8 @@ impl Matcher<'_> {
 
     /// What a key is to a value that matches it, where that tells how many octets the value has.
     fn key_kind(&self) -> Option<KeyKind>
-        ensures { IfSome result (λ kind. (value key : List ℕ) → may_match kind (length value) key ≡ false → match_of self.now.comparison value key ≡ None) }
+        ensures { IfSome result (λ kind. (value key : List ℕ) → may_match kind (length value) key
+            ≡ false → match_of self.now.comparison value key ≡ None) }
     {
         keys_need_octets();
         match (self.comparison.match_type, self.comparison.collation) {
@@ -195,7 +198,8 @@ impl Matcher<'_> {
 
     /// Whether a value has to be compared with the key that a string gives. One of a single part costs nothing to make.
     fn can_match(&self, value: &[u8], parts: &[Part]) -> bool
-        ensures { result ≡ false → match_of self.now.comparison value.now (text_value self.now.values.now parts.now) ≡ None }
+        ensures { result ≡ false → match_of self.now.comparison value.now
+            (text_value self.now.values.now parts.now) ≡ None }
     {
         if parts.len() < 2 {
             return true;
@@ -215,7 +219,8 @@ impl Matcher<'_> {
         buffer: &mut Vec<u8>,
     ) -> Result<Option<MatchValues>, AllocError>
         requires { i < length self.now.keys.now }
-        ensures { IfOk result (λ found. slice_get (map (λ key. match_of self.now.comparison value.now (text_value self.now.values.now key)) self.now.keys.now) i ≡ Some found) }
+        ensures { IfOk result (λ found. slice_get (map (λ key. match_of self.now.comparison
+            value.now (text_value self.now.values.now key)) self.now.keys.now) i ≡ Some found) }
     {
         let parts = self.keys.get(i);
         if !self.can_match(value, parts) {
@@ -232,7 +237,8 @@ impl Matcher<'_> {
         value: &[u8],
         key: &[u8],
     ) -> Result<Option<MatchValues>, AllocError>
-        ensures { IfOk result (λ found. found ≡ first_match self.now.comparison (pairs_with (flag_keys key.now) value.now)) }
+        ensures { IfOk result (λ found. found
+            ≡ first_match self.now.comparison (pairs_with (flag_keys key.now) value.now)) }
     {
         if key.is_empty() {
             return self.match_of(alloc, value, key);
@@ -256,7 +262,8 @@ impl Matcher<'_> {
         buffer: &mut Vec<u8>,
     ) -> Result<Option<MatchValues>, AllocError>
         requires { i < length self.now.keys.now }
-        ensures { IfOk result (λ found. slice_get (map (key_found self.now value.now) self.now.keys.now) i ≡ Some found) }
+        ensures { IfOk result (λ found. slice_get
+            (map (key_found self.now value.now) self.now.keys.now) i ≡ Some found) }
     {
         if !self.are_cut {
             return self.match_whole(alloc, value, i, buffer);

@@ -42,7 +42,8 @@ fn recipient_of<'a>(own: Option<&'a Addresses>, envelope: &'a Envelope) -> &'a [
 
 /// The address of the envelope's part of that name.
 pub(crate) fn envelope_text<'a>(arrival: &'a Arrival<'a>, name: &[u8]) -> Option<&'a [u8]>
-    ensures { option_map (λ octets. octets.now) result ≡ envelope_text (envelope_of (arrival_as arrival.now)) name.now }
+    ensures { option_map (λ octets. octets.now) result
+        ≡ envelope_text (envelope_of (arrival_as arrival.now)) name.now }
 {
     if b"from".eq_ignore_ascii_case(name) {
         Some(sender_of(arrival.own, arrival.envelope))
@@ -62,7 +63,8 @@ pub(crate) fn is_null_path(text: &[u8]) -> bool
 
 /// What of a text that isn't one address is seen: all of it alone.
 fn seen_part(part: AddressPart, text: &[u8]) -> Option<&[u8]>
-    ensures { option_map (λ octets. octets.now) result ≡ part_of_address part (record { all = text.now; local_part = None; domain = None }) }
+    ensures { option_map (λ octets. octets.now) result
+        ≡ part_of_address part (record { all = text.now; local_part = None; domain = None }) }
 {
     match part {
         AddressPart::All => Some(text),
@@ -98,7 +100,8 @@ fn find_by_path_name(
     name: &[u8],
     matcher: &Matcher<'_>,
 ) -> Result<Option<MatchValues>, AllocError>
-    ensures { IfOk result (λ found. found ≡ path_name_found (found_with matcher.now) part (envelope_of (arrival_as arrival.now)) name.now) }
+    ensures { IfOk result (λ found. found ≡ path_name_found (found_with matcher.now) part
+        (envelope_of (arrival_as arrival.now)) name.now) }
 {
     match envelope_text(arrival, name) {
         Some(text) => find_in_path(alloc, part, text, matcher),
@@ -115,7 +118,8 @@ fn find_by_path_names(
     names: &Strings<'_>,
     matcher: &Matcher<'_>,
 ) -> Result<Option<MatchValues>, AllocError>
-    ensures { IfOk result (λ found. found ≡ first_some (path_name_found (found_with matcher.now) part (envelope_of (arrival_as arrival.now))) (map (text_value values.now) names.now)) }
+    ensures { IfOk result (λ found. found ≡ first_some (path_name_found (found_with matcher.now)
+        part (envelope_of (arrival_as arrival.now))) (map (text_value values.now) names.now)) }
 {
     let mut buffer = Vec::new(alloc);
     for i in 0..names.len() {
@@ -135,7 +139,8 @@ pub(crate) fn find_in_paths(
     names: &Strings<'_>,
     matcher: &Matcher<'_>,
 ) -> Result<Option<MatchValues>, AllocError>
-    ensures { IfOk result (λ found. found ≡ first_some (found_with matcher.now) (values_of (delivery_as delivery.now) (state_of state.now) (envelope_values part names.now))) }
+    ensures { IfOk result (λ found. found ≡ first_some (found_with matcher.now) (values_of
+        (delivery_as delivery.now) (state_of state.now) (envelope_values part names.now))) }
 {
     find_by_path_names(
         delivery.alloc,

@@ -104,7 +104,8 @@ pub(crate) fn given_text(
     values: &Values,
     string: Option<&[Part]>,
 ) -> Result<Option<Octets>, AllocError>
-    ensures { IfOk result (λ text. text ≡ option_map (text_value values.now) (option_copied string.entry)) }
+    ensures { IfOk result
+        (λ text. text ≡ option_map (text_value values.now) (option_copied string.entry)) }
 {
     match string {
         Some(string) => Ok(Some(kept_text(alloc, values, string)?)),
@@ -143,7 +144,8 @@ fn response_of(
     values: &Values,
     vacation: &VacationOp<'_>,
 ) -> Result<Response, AllocError>
-    ensures { IfOk result (λ response. response ≡ spec.response_of values.now (vacation_op_as vacation.now)) }
+    ensures { IfOk result
+        (λ response. response ≡ spec.response_of values.now (vacation_op_as vacation.now)) }
 {
     Ok(Response {
         reason: kept_text(alloc, values, vacation.reason)?,
@@ -178,7 +180,8 @@ pub fn respond(
     line: u64,
     state: &mut State,
 ) -> Result<Flow, AllocError>
-    ensures { IfOk result (λ flow. ending_by flow (state_of state.new) ≡ spec.responds (delivery_as delivery.now) (vacation_op_as vacation.now) line (state_of state.old)) }
+    ensures { IfOk result (λ flow. ending_by flow (state_of state.new) ≡ spec.responds
+        (delivery_as delivery.now) (vacation_op_as vacation.now) line (state_of state.old)) }
 {
     let response = response_of(delivery.alloc, &state.values, vacation)?;
     if !may_be_from(delivery.alloc, &response.from)? {
@@ -207,7 +210,8 @@ pub fn reject(
     line: u64,
     state: &mut State,
 ) -> Result<Flow, AllocError>
-    ensures { IfOk result (λ flow. ending_by flow (state_of state.new) ≡ spec.rejects (delivery_as delivery.now) how reason.now line (state_of state.old)) }
+    ensures { IfOk result (λ flow. ending_by flow (state_of state.new)
+        ≡ spec.rejects (delivery_as delivery.now) how reason.now line (state_of state.old)) }
 {
     let reason = kept_text(delivery.alloc, &state.values, reason)?;
     let action = Action::Reject { how, reason };

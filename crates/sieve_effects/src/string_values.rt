@@ -21,7 +21,8 @@ fn find_in_texts(
     texts: &Strings<'_>,
     matcher: &Matcher<'_>,
 ) -> Result<Option<MatchValues>, AllocError>
-    ensures { IfOk result (λ found. found ≡ first_some (found_with matcher.now) (map (text_value values.now) texts.now)) }
+    ensures { IfOk result (λ found. found
+        ≡ first_some (found_with matcher.now) (map (text_value values.now) texts.now)) }
 {
     let mut buffer = Vec::new(alloc);
     for i in 0..texts.len() {
@@ -40,7 +41,8 @@ pub(crate) fn find_in_strings(
     texts: &Strings<'_>,
     matcher: &Matcher<'_>,
 ) -> Result<Option<MatchValues>, AllocError>
-    ensures { IfOk result (λ found. found ≡ first_some (found_with matcher.now) (values_of (delivery_as delivery.now) (state_of state.now) (string_values texts.now))) }
+    ensures { IfOk result (λ found. found ≡ first_some (found_with matcher.now)
+        (values_of (delivery_as delivery.now) (state_of state.now) (string_values texts.now))) }
 {
     find_in_texts(delivery.alloc, &state.values, texts, matcher)
 }

@@ -18,7 +18,8 @@ fn put_behind(
     ends: &mut Vec<u32>,
     texts: Vec<Text>,
 ) -> Result<(), AllocError>
-    ensures { OnOk result ((strings.new ≡ strings.old ++ texts_as texts.items) × (ends.new.items ≡ ends.old.items ++ length (strings.old ++ texts_as texts.items) ∷ [])) }
+    ensures { OnOk result ((strings.new ≡ strings.old ++ texts_as texts.items)
+        × (ends.new.items ≡ ends.old.items ++ length (strings.old ++ texts_as texts.items) ∷ [])) }
 {
     for text in texts {
         strings.push(text.string)?;
@@ -66,7 +67,8 @@ impl StringLists {
     /// Adds a list. An error is want of memory.
     pub fn push(&mut self, texts: Vec<Text>) -> Result<(), AllocError>
         ensures new { OnOk result (self.new ≡ lists_with self.old (texts_as texts.items)) }
-        ensures kept { OnOk result ((more : Lists) → list_in (lists_plus self.new more) (length self.old.ends) ≡ texts_as texts.items) }
+        ensures kept { OnOk result ((more : Lists)
+            → list_in (lists_plus self.new more) (length self.old.ends) ≡ texts_as texts.items) }
     {
         match put_behind(&mut self.strings, &mut self.ends, texts) {
             Ok(()) => Ok(()),
@@ -96,7 +98,8 @@ impl StringLists {
 
     /// Where list `i` begins and ends among the strings.
     pub(crate) fn bounds(&self, i: usize) -> (usize, usize)
-        ensures { (result.0 ≡ start self.now.ends i) × (result.1 ≡ slice_index_or self.now.ends i 0) }
+        ensures { (result.0 ≡ start self.now.ends i)
+            × (result.1 ≡ slice_index_or self.now.ends i 0) }
     {
         bounds(&self.ends, i)
     }
@@ -163,7 +166,8 @@ impl<'a> Strings<'a> {
     where
         'a: 'b,
         requires { i < length self.now }
-        ensures { IfOk result (λ octets. drop i (map (text_value values.now) self.now) ≡ octets.now ∷ drop (i + 1) (map (text_value values.now) self.now)) }
+        ensures { IfOk result (λ octets. drop i (map (text_value values.now) self.now)
+            ≡ octets.now ∷ drop (i + 1) (map (text_value values.now) self.now)) }
     {
         values.expanded_in(self.get(i), buffer)
     }
@@ -176,7 +180,8 @@ impl<'a> Strings<'a> {
     ) -> Result<Vec<CowSlice<'b, u8>>, AllocError>
     where
         'a: 'b,
-        ensures { IfOk result (λ texts. octets_of_each texts.items ≡ map (text_value values.now) self.now) }
+        ensures { IfOk result
+            (λ texts. octets_of_each texts.items ≡ map (text_value values.now) self.now) }
     {
         let mut texts = Vec::new(alloc);
         for i in 0..self.len() {

@@ -33,8 +33,10 @@ fn with_settings(
 ) -> (Option<Argument>, Settings)
     requires flags { same_role role.Flags wanted ≡ false }
     requires text { same_role role.Text wanted ≡ false }
-    ensures argument { option_map argument_of result.0 ≡ in_role wanted (labels_in row.now args.items) (map argument_of args.items) }
-    ensures settings { settings_as result.1 ≡ spec.settings_by (labels_in row.now args.items) (map argument_of args.items) }
+    ensures argument { option_map argument_of result.0
+        ≡ in_role wanted (labels_in row.now args.items) (map argument_of args.items) }
+    ensures settings { settings_as result.1
+        ≡ spec.settings_by (labels_in row.now args.items) (map argument_of args.items) }
 {
     let tags = Tags::among(row, &args);
     let (argument, flags, special_use) = into_three(row, wanted, Role::Flags, Role::Text, args);
@@ -49,7 +51,8 @@ fn with_settings(
 
 /// What a `keep` does, none of whose arguments names a mailbox.
 fn keep_leaf(alloc: Global, row: &Row, args: Vec<Argument>) -> Leaf
-    ensures { leaf_as result ≡ spec.keep_by (labels_in row.now args.items) (map argument_of args.items) }
+    ensures { leaf_as result
+        ≡ spec.keep_by (labels_in row.now args.items) (map argument_of args.items) }
 {
     let (_, settings) = with_settings(alloc, row, Role::Mailbox, args);
     Leaf::Keep { settings }
@@ -57,7 +60,8 @@ fn keep_leaf(alloc: Global, row: &Row, args: Vec<Argument>) -> Leaf
 
 /// What a `fileinto` does.
 fn fileinto_leaf(alloc: Global, row: &Row, args: Vec<Argument>) -> Leaf
-    ensures { leaf_as result ≡ spec.fileinto_by (labels_in row.now args.items) (map argument_of args.items) }
+    ensures { leaf_as result
+        ≡ spec.fileinto_by (labels_in row.now args.items) (map argument_of args.items) }
 {
     let (mailbox, settings) = with_settings(alloc, row, Role::Mailbox, args);
     let mailbox = text_in(mailbox);
@@ -66,7 +70,8 @@ fn fileinto_leaf(alloc: Global, row: &Row, args: Vec<Argument>) -> Leaf
 
 /// What a `redirect` does.
 fn redirect_leaf(alloc: Global, row: &Row, args: Vec<Argument>) -> Leaf
-    ensures { leaf_as result ≡ spec.redirect_by (labels_in row.now args.items) (map argument_of args.items) }
+    ensures { leaf_as result
+        ≡ spec.redirect_by (labels_in row.now args.items) (map argument_of args.items) }
 {
     let (address, settings) = with_settings(alloc, row, Role::Address, args);
     let address = text_in(address);
@@ -101,7 +106,8 @@ fn modifiers_of(tags: Tags) -> Modifiers
 
 /// What a `set` does.
 fn set_leaf(row: &Row, args: Vec<Argument>) -> Leaf
-    ensures { leaf_as result ≡ spec.set_by (labels_in row.now args.items) (map argument_of args.items) }
+    ensures { leaf_as result
+        ≡ spec.set_by (labels_in row.now args.items) (map argument_of args.items) }
 {
     let modifiers = modifiers_of(Tags::among(row, &args));
     let (name, value) = into_arguments(row, Role::NameToSet, Role::Text, args);
@@ -116,7 +122,8 @@ fn set_leaf(row: &Row, args: Vec<Argument>) -> Leaf
 
 /// What a command does that changes flags.
 fn flags_leaf(alloc: Global, change: FlagChange, row: &Row, args: Vec<Argument>) -> Leaf
-    ensures { leaf_as result ≡ spec.flags_by change (labels_in row.now args.items) (map argument_of args.items) }
+    ensures { leaf_as result
+        ≡ spec.flags_by change (labels_in row.now args.items) (map argument_of args.items) }
 {
     let (name, flags) = into_arguments(row, Role::NameToSet, Role::Flags, args);
     let variable = given_variable(name);
@@ -148,7 +155,8 @@ fn place_of(tags: Tags) -> Place
 
 /// What an `include` does.
 fn include_leaf(row: &Row, args: Vec<Argument>) -> Leaf
-    ensures { leaf_as result ≡ spec.include_by (labels_in row.now args.items) (map argument_of args.items) }
+    ensures { leaf_as result
+        ≡ spec.include_by (labels_in row.now args.items) (map argument_of args.items) }
 {
     let tags = Tags::among(row, &args);
     let name = name_in(into_argument(row, Role::ScriptName, args));
@@ -162,7 +170,8 @@ fn include_leaf(row: &Row, args: Vec<Argument>) -> Leaf
 
 /// What a command does that rejects the message.
 fn reject_leaf(how: Rejection, row: &Row, args: Vec<Argument>) -> Leaf
-    ensures { leaf_as result ≡ spec.reject_by how (labels_in row.now args.items) (map argument_of args.items) }
+    ensures { leaf_as result
+        ≡ spec.reject_by how (labels_in row.now args.items) (map argument_of args.items) }
 {
     let reason = text_in(into_argument(row, Role::Text, args));
     Leaf::Reject { how, reason }
@@ -170,7 +179,8 @@ fn reject_leaf(how: Rejection, row: &Row, args: Vec<Argument>) -> Leaf
 
 /// What a command of a kind is, by its row.
 fn reading_by(alloc: Global, kind: CommandKind, row: &Row, args: Vec<Argument>) -> CommandReading
-    ensures { command_reading_as result ≡ spec.command_reading_by kind (labels_in row.now args.items) (map argument_of args.items) }
+    ensures { command_reading_as result
+        ≡ spec.command_reading_by kind (labels_in row.now args.items) (map argument_of args.items) }
 {
     let leaf = match kind {
         CommandKind::Require => return CommandReading::Nothing,
@@ -199,7 +209,8 @@ fn reading_by(alloc: Global, kind: CommandKind, row: &Row, args: Vec<Argument>) 
 /// What a command of that kind and with these arguments is, apart from its test and its block. What is read has the strings of the
 /// arguments. Takes no memory.
 pub fn read_command(alloc: Global, kind: CommandKind, args: Vec<Argument>) -> CommandReading
-    ensures { command_reading_as result ≡ spec.command_kind_reading kind (map argument_of args.items) }
+    ensures { command_reading_as result
+        ≡ spec.command_kind_reading kind (map argument_of args.items) }
 {
     reading_by(alloc, kind, &kind.row(), args)
 }

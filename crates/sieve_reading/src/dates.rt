@@ -32,10 +32,14 @@ struct Strings {
 
 /// The arguments that have strings, to be kept.
 fn into_strings(row: &Row, args: Vec<Argument>) -> Strings
-    ensures zone { option_map argument_of result.zone ≡ in_role role.Zone (labels_in row.now args.items) (map argument_of args.items) }
-    ensures field { option_map argument_of result.field ≡ in_role role.FieldNames (labels_in row.now args.items) (map argument_of args.items) }
-    ensures part { option_map argument_of result.part ≡ in_role role.DatePart (labels_in row.now args.items) (map argument_of args.items) }
-    ensures keys { option_map argument_of result.keys ≡ in_role role.Keys (labels_in row.now args.items) (map argument_of args.items) }
+    ensures zone { option_map argument_of result.zone
+        ≡ in_role role.Zone (labels_in row.now args.items) (map argument_of args.items) }
+    ensures field { option_map argument_of result.field
+        ≡ in_role role.FieldNames (labels_in row.now args.items) (map argument_of args.items) }
+    ensures part { option_map argument_of result.part
+        ≡ in_role role.DatePart (labels_in row.now args.items) (map argument_of args.items) }
+    ensures keys { option_map argument_of result.keys
+        ≡ in_role role.Keys (labels_in row.now args.items) (map argument_of args.items) }
 {
     let mut expected = row_expected::<AsParts>(row, None, &args);
     let mut zone = None;
@@ -85,7 +89,9 @@ fn zone_of(tags: Tags, named: Option<Parts>) -> DateZone
 
 /// What a `date` test asks.
 pub(crate) fn date_ask(alloc: Global, row: &Row, args: Vec<Argument>) -> Ask
-    ensures { ask_as result ≡ (let labels = labels_in row.now args.items in spec.compares_by (spec.date_source labels (map argument_of args.items)) labels (map argument_of args.items)) }
+    ensures { ask_as result ≡ (let labels = labels_in row.now args.items
+        in spec.compares_by (spec.date_source labels (map argument_of args.items)) labels
+        (map argument_of args.items)) }
 {
     let tags = Tags::among(row, &args);
     let comparison = comparison_of(tags, row, &args);
@@ -108,7 +114,9 @@ pub(crate) fn date_ask(alloc: Global, row: &Row, args: Vec<Argument>) -> Ask
 
 /// What a `currentdate` test asks.
 pub(crate) fn current_date_ask(alloc: Global, row: &Row, args: Vec<Argument>) -> Ask
-    ensures { ask_as result ≡ (let labels = labels_in row.now args.items in spec.compares_by (spec.clock_source labels (map argument_of args.items)) labels (map argument_of args.items)) }
+    ensures { ask_as result ≡ (let labels = labels_in row.now args.items
+        in spec.compares_by (spec.clock_source labels (map argument_of args.items)) labels
+        (map argument_of args.items)) }
 {
     let tags = Tags::among(row, &args);
     let comparison = comparison_of(tags, row, &args);

@@ -30,7 +30,8 @@ pub(crate) fn texts_in(alloc: Global, argument: Option<Argument>) -> Vec<Text>
 
 /// The strings of an argument that may be left out.
 pub(crate) fn given_texts(alloc: Global, argument: Option<Argument>) -> Option<Vec<Text>>
-    ensures { option_map (λ texts. texts_as texts.items) result ≡ spec.given_texts (option_map argument_of argument) }
+    ensures { option_map (λ texts. texts_as texts.items) result
+        ≡ spec.given_texts (option_map argument_of argument) }
 {
     match argument {
         Some(argument) => Some(texts_in(alloc, Some(argument))),
@@ -193,7 +194,8 @@ fn relation_by(argument: Option<&Argument>) -> Relation
 
 /// The match type that a tag names, with the relation that is given beside, which is `:is` where none does.
 fn match_type_by(tag: Option<Tag>, relation: Option<&Argument>) -> MatchType
-    ensures { result ≡ spec.match_type_by tag (spec.relation_by (option_map (λ a. argument_of a.now) relation.entry)) }
+    ensures { result ≡ spec.match_type_by tag
+        (spec.relation_by (option_map (λ a. argument_of a.now) relation.entry)) }
 {
     match tag {
         Some(Tag::Contains) => MatchType::Contains,
@@ -207,7 +209,8 @@ fn match_type_by(tag: Option<Tag>, relation: Option<&Argument>) -> MatchType
 /// The match type of a test, with the relation that is given.
 #[tactic(auto, unfolding(crate::specs::Given::match_type_of))]
 pub(crate) fn match_type_of(tags: Tags, relation: Option<&Argument>) -> MatchType
-    ensures { result ≡ spec.match_type_of (tags_as tags) (spec.relation_by (option_map (λ a. argument_of a.now) relation.entry)) }
+    ensures { result ≡ spec.match_type_of (tags_as tags)
+        (spec.relation_by (option_map (λ a. argument_of a.now) relation.entry)) }
 {
     match_type_by(tags.of(TagKind::MatchType), relation)
 }

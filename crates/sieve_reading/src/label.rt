@@ -126,7 +126,8 @@ impl<'a> Expected<'a> {
 
     /// What is expected behind the next positional argument.
     fn past_slot(self) -> Expected<'a>
-        ensures { expected_as result ≡ record { awaited = None; slots = drop 1 (expected_as self.entry).slots } }
+        ensures { expected_as result
+            ≡ record { awaited = None; slots = drop 1 (expected_as self.entry).slots } }
     {
         match (self.front, self.slots) {
             (Some(_), slots) => Expected::new(None, slots),

@@ -13,7 +13,8 @@ use sieve_table::{Role, Row, has_role};
 
 /// The first argument in a role.
 pub(crate) fn argument_in<'a>(row: &Row, wanted: Role, args: &'a [Argument]) -> Option<&'a Argument>
-    ensures { option_map (λ a. argument_of a.now) result ≡ in_role wanted (labels_in row.now args.now) (map argument_of args.now) }
+    ensures { option_map (λ a. argument_of a.now) result
+        ≡ in_role wanted (labels_in row.now args.now) (map argument_of args.now) }
 {
     let mut expected = row_expected::<AsParts>(row, None, args);
     for argument in args {
@@ -28,7 +29,8 @@ pub(crate) fn argument_in<'a>(row: &Row, wanted: Role, args: &'a [Argument]) -> 
 
 /// The first argument in a role, to be kept.
 pub(crate) fn into_argument(row: &Row, wanted: Role, args: Vec<Argument>) -> Option<Argument>
-    ensures { option_map argument_of result ≡ in_role wanted (labels_in row.now args.items) (map argument_of args.items) }
+    ensures { option_map argument_of result
+        ≡ in_role wanted (labels_in row.now args.items) (map argument_of args.items) }
 {
     let mut expected = row_expected::<AsParts>(row, None, &args);
     for argument in args {
@@ -43,7 +45,8 @@ pub(crate) fn into_argument(row: &Row, wanted: Role, args: Vec<Argument>) -> Opt
 
 /// The one that is there already, or the other.
 pub(crate) fn first_or(first: Option<Argument>, other: Argument) -> Option<Argument>
-    ensures { option_map argument_of result ≡ first_or (option_map argument_of first) (Some (argument_of other)) }
+    ensures { option_map argument_of result
+        ≡ first_or (option_map argument_of first) (Some (argument_of other)) }
 {
     match first {
         Some(first) => Some(first),
@@ -59,8 +62,10 @@ pub(crate) fn into_arguments(
     args: Vec<Argument>,
 ) -> (Option<Argument>, Option<Argument>)
     requires { same_role other wanted ≡ false }
-    ensures wanted { option_map argument_of result.0 ≡ in_role wanted (labels_in row.now args.items) (map argument_of args.items) }
-    ensures other { option_map argument_of result.1 ≡ in_role other (labels_in row.now args.items) (map argument_of args.items) }
+    ensures wanted { option_map argument_of result.0
+        ≡ in_role wanted (labels_in row.now args.items) (map argument_of args.items) }
+    ensures other { option_map argument_of result.1
+        ≡ in_role other (labels_in row.now args.items) (map argument_of args.items) }
 {
     let (in_wanted, in_other, _) = into_three(row, wanted, other, other, args);
     (in_wanted, in_other)
@@ -75,9 +80,13 @@ pub(crate) fn into_three(
     args: Vec<Argument>,
 ) -> (Option<Argument>, Option<Argument>, Option<Argument>)
     requires { same_role other wanted ≡ false }
-    ensures wanted { option_map argument_of result.0 ≡ in_role wanted (labels_in row.now args.items) (map argument_of args.items) }
-    ensures other { option_map argument_of result.1 ≡ in_role other (labels_in row.now args.items) (map argument_of args.items) }
-    ensures third { same_role third wanted ≡ false → same_role third other ≡ false → option_map argument_of result.2 ≡ in_role third (labels_in row.now args.items) (map argument_of args.items) }
+    ensures wanted { option_map argument_of result.0
+        ≡ in_role wanted (labels_in row.now args.items) (map argument_of args.items) }
+    ensures other { option_map argument_of result.1
+        ≡ in_role other (labels_in row.now args.items) (map argument_of args.items) }
+    ensures third { same_role third wanted ≡ false → same_role third other ≡ false
+        → option_map argument_of result.2
+        ≡ in_role third (labels_in row.now args.items) (map argument_of args.items) }
 {
     let mut expected = row_expected::<AsParts>(row, None, &args);
     let mut in_wanted = None;

@@ -104,8 +104,11 @@ fn labels_from<V: StringView>(
     tags: &[Tag],
     args: &[Argument],
 ) -> Result<RowLabels, AllocError>
-    ensures labels { IfOk result (λ found. found.labels.items ≡ labels_from (expected_as start.entry) (shapes_seen profile tags.now (map (argument_of V.seen) args.now))) }
-    ensures filled { IfOk result (λ found. found.filled ≡ fills (expected_as start.entry) (shapes_seen profile tags.now (map (argument_of V.seen) args.now))) }
+    ensures labels { IfOk result
+        (λ found. found.labels.items ≡ labels_from (expected_as start.entry)
+        (shapes_seen profile tags.now (map (argument_of V.seen) args.now))) }
+    ensures filled { IfOk result (λ found. found.filled ≡ fills (expected_as start.entry)
+        (shapes_seen profile tags.now (map (argument_of V.seen) args.now))) }
 {
     let mut labels = Vec::new(alloc);
     let mut fit = true;
@@ -128,7 +131,8 @@ fn fills<V: StringView>(
     tags: &[Tag],
     args: &[Argument],
 ) -> bool
-    ensures { result ≡ fills (expected_as start.entry) (shapes_seen profile tags.now (map (argument_of V.seen) args.now)) }
+    ensures { result ≡ fills (expected_as start.entry)
+        (shapes_seen profile tags.now (map (argument_of V.seen) args.now)) }
 {
     let mut expected = start;
     for argument in args {
@@ -148,7 +152,8 @@ pub(crate) fn row_expected<'a, V: StringView>(
     profile: Option<Profile>,
     args: &[Argument],
 ) -> Expected<'a>
-    ensures { expected_as result ≡ expecting (slots_of (row_as row.now) (shapes_seen profile row.now.tags.now (map (argument_of V.seen) args.now))) }
+    ensures { expected_as result ≡ expecting (slots_of (row_as row.now)
+        (shapes_seen profile row.now.tags.now (map (argument_of V.seen) args.now))) }
 {
     if row.front.is_some() {
         let longer = Expected::new(row.front, row.slots);
@@ -166,8 +171,10 @@ pub fn known_labels<V: StringView>(
     row: &Row,
     args: &[Argument],
 ) -> Result<RowLabels, AllocError>
-    ensures labels { IfOk result (λ found. found.labels.items ≡ known_labels (profile_as profile) (row_as row.now) (map (argument_of V.seen) args.now)) }
-    ensures filled { IfOk result (λ found. found.filled ≡ row_is_filled (row_as row.now) (known_shapes (profile_as profile) row.now.tags.now (map (argument_of V.seen) args.now))) }
+    ensures labels { IfOk result (λ found. found.labels.items
+        ≡ known_labels (profile_as profile) (row_as row.now) (map (argument_of V.seen) args.now)) }
+    ensures filled { IfOk result (λ found. found.filled ≡ row_is_filled (row_as row.now)
+        (known_shapes (profile_as profile) row.now.tags.now (map (argument_of V.seen) args.now))) }
 {
     let profile = Some(profile);
     let expected = row_expected::<V>(row, profile, args);

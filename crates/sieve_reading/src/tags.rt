@@ -45,7 +45,8 @@ impl Tags {
 
     /// The tags with this one as that of a kind.
     fn put(self, kind: TagKind, tag: Tag) -> Tags
-        ensures { tags_as result ≡ (λ other. if same_kind kind other then Some tag else tags_as self other) }
+        ensures { tags_as result
+            ≡ (λ other. if same_kind kind other then Some tag else tags_as self other) }
     {
         let mut tags = self;
         tags.found[kind as usize] = Some(tag);
@@ -54,7 +55,8 @@ impl Tags {
 
     /// The tags with another behind them, which counts where it is the first of its kind.
     fn with(self, tag: Tag) -> Tags
-        ensures { tags_as result ≡ (λ kind. first_or (tags_as self kind) (tag_at kind (Tagged tag))) }
+        ensures { tags_as result
+            ≡ (λ kind. first_or (tags_as self kind) (tag_at kind (Tagged tag))) }
     {
         let kind = tag.row().kind;
         match self.of(kind) {

@@ -33,7 +33,9 @@ pub(crate) fn comparison_of(tags: Tags, row: &Row, args: &[Argument]) -> Compari
 
 /// What a `header` test asks.
 fn header_ask(alloc: Global, row: &Row, args: Vec<Argument>) -> Ask
-    ensures { ask_as result ≡ (let labels = labels_in row.now args.items in spec.compares_by (spec.header_source labels (map argument_of args.items)) labels (map argument_of args.items)) }
+    ensures { ask_as result ≡ (let labels = labels_in row.now args.items
+        in spec.compares_by (spec.header_source labels (map argument_of args.items)) labels
+        (map argument_of args.items)) }
 {
     let comparison = comparison_of(Tags::among(row, &args), row, &args);
     let (names, keys) = into_arguments(row, Role::FieldNames, Role::Keys, args);
@@ -48,7 +50,9 @@ fn header_ask(alloc: Global, row: &Row, args: Vec<Argument>) -> Ask
 
 /// What an `address` test asks.
 fn address_ask(alloc: Global, row: &Row, args: Vec<Argument>) -> Ask
-    ensures { ask_as result ≡ (let labels = labels_in row.now args.items in spec.compares_by (spec.address_source labels (map argument_of args.items)) labels (map argument_of args.items)) }
+    ensures { ask_as result ≡ (let labels = labels_in row.now args.items
+        in spec.compares_by (spec.address_source labels (map argument_of args.items)) labels
+        (map argument_of args.items)) }
 {
     let tags = Tags::among(row, &args);
     let comparison = comparison_of(tags, row, &args);
@@ -65,7 +69,9 @@ fn address_ask(alloc: Global, row: &Row, args: Vec<Argument>) -> Ask
 
 /// What an `envelope` test asks.
 fn envelope_ask(alloc: Global, row: &Row, args: Vec<Argument>) -> Ask
-    ensures { ask_as result ≡ (let labels = labels_in row.now args.items in spec.compares_by (spec.envelope_source labels (map argument_of args.items)) labels (map argument_of args.items)) }
+    ensures { ask_as result ≡ (let labels = labels_in row.now args.items
+        in spec.compares_by (spec.envelope_source labels (map argument_of args.items)) labels
+        (map argument_of args.items)) }
 {
     let tags = Tags::among(row, &args);
     let comparison = comparison_of(tags, row, &args);
@@ -82,7 +88,9 @@ fn envelope_ask(alloc: Global, row: &Row, args: Vec<Argument>) -> Ask
 
 /// What a `string` test asks.
 fn string_ask(alloc: Global, row: &Row, args: Vec<Argument>) -> Ask
-    ensures { ask_as result ≡ (let labels = labels_in row.now args.items in spec.compares_by (spec.string_source labels (map argument_of args.items)) labels (map argument_of args.items)) }
+    ensures { ask_as result ≡ (let labels = labels_in row.now args.items
+        in spec.compares_by (spec.string_source labels (map argument_of args.items)) labels
+        (map argument_of args.items)) }
 {
     let comparison = comparison_of(Tags::among(row, &args), row, &args);
     let (texts, keys) = into_arguments(row, Role::Text, Role::Keys, args);
@@ -97,7 +105,9 @@ fn string_ask(alloc: Global, row: &Row, args: Vec<Argument>) -> Ask
 
 /// What a `hasflag` test asks.
 fn flag_ask(alloc: Global, row: &Row, args: Vec<Argument>) -> Ask
-    ensures { ask_as result ≡ (let labels = labels_in row.now args.items in spec.compares_by (spec.flag_source labels (map argument_of args.items)) labels (map argument_of args.items)) }
+    ensures { ask_as result ≡ (let labels = labels_in row.now args.items
+        in spec.compares_by (spec.flag_source labels (map argument_of args.items)) labels
+        (map argument_of args.items)) }
 {
     let comparison = comparison_of(Tags::among(row, &args), row, &args);
     let (variables, keys) = into_arguments(row, Role::NamesToRead, Role::Keys, args);
@@ -112,7 +122,8 @@ fn flag_ask(alloc: Global, row: &Row, args: Vec<Argument>) -> Ask
 
 /// What is taken of a body, by a tag and the entries that `:content` takes.
 fn transform_by(tag: Option<Tag>, named: Option<Vec<Text>>) -> BodyTransform
-    ensures { transform_as result ≡ spec.transform_by tag (option_map (λ texts. texts_as texts.items) named) }
+    ensures { transform_as result
+        ≡ spec.transform_by tag (option_map (λ texts. texts_as texts.items) named) }
 {
     match (tag, named) {
         (Some(Tag::Raw), _) => BodyTransform::Raw,
@@ -124,14 +135,17 @@ fn transform_by(tag: Option<Tag>, named: Option<Vec<Text>>) -> BodyTransform
 /// What is taken of a body.
 #[tactic(auto, unfolding(crate::specs::TestReading::transform_of))]
 fn transform_of(tags: Tags, named: Option<Vec<Text>>) -> BodyTransform
-    ensures { transform_as result ≡ spec.transform_of (tags_as tags) (option_map (λ texts. texts_as texts.items) named) }
+    ensures { transform_as result
+        ≡ spec.transform_of (tags_as tags) (option_map (λ texts. texts_as texts.items) named) }
 {
     transform_by(tags.of(TagKind::BodyTransform), named)
 }
 
 /// What a `body` test asks.
 fn body_ask(alloc: Global, row: &Row, args: Vec<Argument>) -> Ask
-    ensures { ask_as result ≡ (let labels = labels_in row.now args.items in spec.compares_by (spec.body_source labels (map argument_of args.items)) labels (map argument_of args.items)) }
+    ensures { ask_as result ≡ (let labels = labels_in row.now args.items
+        in spec.compares_by (spec.body_source labels (map argument_of args.items)) labels
+        (map argument_of args.items)) }
 {
     let tags = Tags::among(row, &args);
     let comparison = comparison_of(tags, row, &args);
@@ -147,7 +161,8 @@ fn body_ask(alloc: Global, row: &Row, args: Vec<Argument>) -> Ask
 
 /// What an `exists` test asks.
 fn exists_ask(alloc: Global, row: &Row, args: Vec<Argument>) -> Ask
-    ensures { ask_as result ≡ spec.exists_by (labels_in row.now args.items) (map argument_of args.items) }
+    ensures { ask_as result
+        ≡ spec.exists_by (labels_in row.now args.items) (map argument_of args.items) }
 {
     let names = texts_in(alloc, into_argument(row, Role::FieldNames, args));
     Ask::Exists { names }
@@ -173,7 +188,8 @@ fn bound_ask(tags: Tags, limit: u64) -> Ask
 
 /// What a `size` test asks.
 fn size_ask(row: &Row, args: Vec<Argument>) -> Ask
-    ensures { ask_as result ≡ spec.size_by (labels_in row.now args.items) (map argument_of args.items) }
+    ensures { ask_as result
+        ≡ spec.size_by (labels_in row.now args.items) (map argument_of args.items) }
 {
     let limit = number_in(argument_in(row, Role::Limit, &args));
     bound_ask(Tags::among(row, &args), limit)
@@ -181,7 +197,8 @@ fn size_ask(row: &Row, args: Vec<Argument>) -> Ask
 
 /// What a `mailboxexists` test asks.
 fn mailboxes_ask(alloc: Global, row: &Row, args: Vec<Argument>) -> Ask
-    ensures { ask_as result ≡ spec.mailboxes_by (labels_in row.now args.items) (map argument_of args.items) }
+    ensures { ask_as result
+        ≡ spec.mailboxes_by (labels_in row.now args.items) (map argument_of args.items) }
 {
     let names = texts_in(alloc, into_argument(row, Role::Mailbox, args));
     Ask::MailboxExists { names }
@@ -189,7 +206,8 @@ fn mailboxes_ask(alloc: Global, row: &Row, args: Vec<Argument>) -> Ask
 
 /// What a test of a kind is, by its row.
 fn reading_by(alloc: Global, kind: TestKind, row: &Row, args: Vec<Argument>) -> TestReading
-    ensures { test_reading_as result ≡ spec.test_reading_by kind (labels_in row.now args.items) (map argument_of args.items) }
+    ensures { test_reading_as result
+        ≡ spec.test_reading_by kind (labels_in row.now args.items) (map argument_of args.items) }
 {
     let ask = match kind {
         TestKind::Header => header_ask(alloc, row, args),

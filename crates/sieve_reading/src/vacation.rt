@@ -29,11 +29,16 @@ struct Strings {
 
 /// The arguments that have strings, to be kept.
 fn into_strings(row: &Row, args: Vec<Argument>) -> Strings
-    ensures reason { option_map argument_of result.reason ≡ in_role role.Text (labels_in row.now args.items) (map argument_of args.items) }
-    ensures subject { option_map argument_of result.subject ≡ in_role role.Subject (labels_in row.now args.items) (map argument_of args.items) }
-    ensures from { option_map argument_of result.from ≡ in_role role.Sender (labels_in row.now args.items) (map argument_of args.items) }
-    ensures addresses { option_map argument_of result.addresses ≡ in_role role.OwnAddresses (labels_in row.now args.items) (map argument_of args.items) }
-    ensures handle { option_map argument_of result.handle ≡ in_role role.Handle (labels_in row.now args.items) (map argument_of args.items) }
+    ensures reason { option_map argument_of result.reason
+        ≡ in_role role.Text (labels_in row.now args.items) (map argument_of args.items) }
+    ensures subject { option_map argument_of result.subject
+        ≡ in_role role.Subject (labels_in row.now args.items) (map argument_of args.items) }
+    ensures from { option_map argument_of result.from
+        ≡ in_role role.Sender (labels_in row.now args.items) (map argument_of args.items) }
+    ensures addresses { option_map argument_of result.addresses
+        ≡ in_role role.OwnAddresses (labels_in row.now args.items) (map argument_of args.items) }
+    ensures handle { option_map argument_of result.handle
+        ≡ in_role role.Handle (labels_in row.now args.items) (map argument_of args.items) }
 {
     let mut expected = row_expected::<AsParts>(row, None, &args);
     let mut reason = None;
@@ -68,7 +73,8 @@ fn into_strings(row: &Row, args: Vec<Argument>) -> Strings
 
 /// What a `vacation` does.
 pub(crate) fn vacation_leaf(alloc: Global, row: &Row, args: Vec<Argument>) -> Leaf
-    ensures { leaf_as result ≡ vacation_by (labels_in row.now args.items) (map argument_of args.items) }
+    ensures { leaf_as result
+        ≡ vacation_by (labels_in row.now args.items) (map argument_of args.items) }
 {
     let mime = Tags::among(row, &args).has(TagKind::Mime);
     let days = given_number(argument_in(row, Role::Days, &args));

@@ -127,7 +127,8 @@ fn skip_mailbox_line<'a>(
     mailbox: &[u8],
     flags: &FlagList,
 ) -> Option<&'a [u8]>
-    ensures { option_copied result ≡ behind_front (spec.mailbox_line word.now mailbox.now flags.now) text.now }
+    ensures { option_copied result
+        ≡ behind_front (spec.mailbox_line word.now mailbox.now flags.now) text.now }
 {
     let left = skip_worded(text, word, mailbox)?;
     skip_flags(left, flags)
@@ -172,7 +173,8 @@ fn skip_store<'a>(
     flags: &FlagList,
     filing: &Filing,
 ) -> Option<&'a [u8]>
-    ensures { option_copied result ≡ behind_front (spec.mailbox_line (codes "store ") mailbox.now flags.now ++ spec.filing_words filing.now) text.now }
+    ensures { option_copied result ≡ behind_front (spec.mailbox_line
+        (codes "store ") mailbox.now flags.now ++ spec.filing_words filing.now) text.now }
 {
     let left = skip_mailbox_line(text, b"store ", mailbox, flags)?;
     skip_filing(left, filing)
@@ -202,7 +204,8 @@ fn skip_action<'a>(text: &'a [u8], action: &Action) -> Option<&'a [u8]>
 /// What follows the line of the implicit keep.
 #[tactic(auto, unfolding(crate::specs::Lines::implicit_line))]
 fn skip_implicit<'a>(text: &'a [u8], mailbox: &[u8], flags: &FlagList) -> Option<&'a [u8]>
-    ensures { option_copied result ≡ behind_front (spec.implicit_line mailbox.now flags.now) text.now }
+    ensures { option_copied result
+        ≡ behind_front (spec.implicit_line mailbox.now flags.now) text.now }
 {
     skip_mailbox_line(text, b"implicit ", mailbox, flags)
 }
@@ -237,7 +240,8 @@ fn is_whole(left: Option<&[u8]>) -> bool
 /// What follows the line of an action.
 #[tactic(auto, using(crate::proofs::Left::saying))]
 fn behind_action<'a>(text: &'a [u8], action: &Action) -> Option<&'a [u8]>
-    ensures { (wanted : List (List ℕ)) → left_says (option_copied result) wanted ≡ spec.says text.now (spec.action_line action.now ∷ wanted) }
+    ensures { (wanted : List (List ℕ)) → left_says (option_copied result) wanted
+        ≡ spec.says text.now (spec.action_line action.now ∷ wanted) }
 {
     let (line, left) = next_line(text)?;
     if is_whole(skip_action(line, action)) {
@@ -250,7 +254,8 @@ fn behind_action<'a>(text: &'a [u8], action: &Action) -> Option<&'a [u8]>
 /// What follows the line of the implicit keep.
 #[tactic(auto, using(crate::proofs::Left::saying))]
 fn behind_implicit<'a>(text: &'a [u8], mailbox: &[u8], flags: &FlagList) -> Option<&'a [u8]>
-    ensures { (wanted : List (List ℕ)) → left_says (option_copied result) wanted ≡ spec.says text.now (spec.implicit_line mailbox.now flags.now ∷ wanted) }
+    ensures { (wanted : List (List ℕ)) → left_says (option_copied result) wanted
+        ≡ spec.says text.now (spec.implicit_line mailbox.now flags.now ∷ wanted) }
 {
     let (line, left) = next_line(text)?;
     if is_whole(skip_implicit(line, mailbox, flags)) {
@@ -263,7 +268,8 @@ fn behind_implicit<'a>(text: &'a [u8], mailbox: &[u8], flags: &FlagList) -> Opti
 /// What follows the line of an error.
 #[tactic(auto, using(crate::proofs::Left::saying))]
 fn behind_error<'a>(text: &'a [u8], error: &RunError) -> Option<&'a [u8]>
-    ensures { (wanted : List (List ℕ)) → left_says (option_copied result) wanted ≡ spec.says text.now (spec.error_line error.now ∷ wanted) }
+    ensures { (wanted : List (List ℕ)) → left_says (option_copied result) wanted
+        ≡ spec.says text.now (spec.error_line error.now ∷ wanted) }
 {
     let (line, left) = next_line(text)?;
     if is_whole(skip_error(line, error)) {
@@ -276,7 +282,8 @@ fn behind_error<'a>(text: &'a [u8], error: &RunError) -> Option<&'a [u8]>
 /// What follows the lines of actions.
 #[tactic(auto, using(crate::proofs::Left::saying))]
 fn behind_actions<'a>(text: &'a [u8], actions: &[Action]) -> Option<&'a [u8]>
-    ensures { (wanted : List (List ℕ)) → left_says (option_copied result) wanted ≡ spec.says text.now (map spec.action_line actions.now ++ wanted) }
+    ensures { (wanted : List (List ℕ)) → left_says (option_copied result) wanted
+        ≡ spec.says text.now (map spec.action_line actions.now ++ wanted) }
 {
     let mut left = text;
     for action in actions {
@@ -287,7 +294,8 @@ fn behind_actions<'a>(text: &'a [u8], actions: &[Action]) -> Option<&'a [u8]>
 
 /// What follows the line of the implicit keep, where it stands.
 fn behind_kept<'a>(text: &'a [u8], mailbox: &[u8], kept: Option<&FlagList>) -> Option<&'a [u8]>
-    ensures { (wanted : List (List ℕ)) → left_says (option_copied result) wanted ≡ spec.says text.now (spec.implicit_lines mailbox.now (option_copied kept.entry) ++ wanted) }
+    ensures { (wanted : List (List ℕ)) → left_says (option_copied result) wanted ≡ spec.says
+        text.now (spec.implicit_lines mailbox.now (option_copied kept.entry) ++ wanted) }
 {
     match kept {
         Some(flags) => behind_implicit(text, mailbox, flags),
@@ -297,7 +305,8 @@ fn behind_kept<'a>(text: &'a [u8], mailbox: &[u8], kept: Option<&FlagList>) -> O
 
 /// What follows the line of the error, where there is one.
 fn behind_failed<'a>(text: &'a [u8], failed: Option<&RunError>) -> Option<&'a [u8]>
-    ensures { (wanted : List (List ℕ)) → left_says (option_copied result) wanted ≡ spec.says text.now (spec.error_lines (option_copied failed.entry) ++ wanted) }
+    ensures { (wanted : List (List ℕ)) → left_says (option_copied result) wanted
+        ≡ spec.says text.now (spec.error_lines (option_copied failed.entry) ++ wanted) }
 {
     match failed {
         Some(error) => behind_error(text, error),
@@ -321,7 +330,8 @@ pub(crate) fn says(
     kept: Option<&FlagList>,
     failed: Option<&RunError>,
 ) -> bool
-    ensures { result ≡ spec.says text.now (map spec.action_line actions.now ++ (spec.implicit_lines mailbox.now (option_copied kept.entry) ++ spec.error_lines (option_copied failed.entry))) }
+    ensures { result ≡ spec.says text.now (map spec.action_line actions.now ++ (spec.implicit_lines
+        mailbox.now (option_copied kept.entry) ++ spec.error_lines (option_copied failed.entry))) }
 {
     let Some(left) = behind_actions(text, actions) else {
         return false;

@@ -17,7 +17,8 @@ use std::alloc::{AllocError, Global};
 
 /// What an `include` of a name finds in a library: a name of more than 1,024 octets is that of no script. Takes no memory.
 pub fn find<'a, L: Library>(lib: &'a L, name: &ScriptName) -> Found<'a>
-    ensures { FoundAs result (found_at (library_of (L.profile lib.now) (L.texts lib.now)) name.now) }
+    ensures { FoundAs result
+        (found_at (library_of (L.profile lib.now) (L.texts lib.now)) name.now) }
 {
     if name.name.as_slice().len() > MAX_NAME {
         Found::Missing
@@ -54,7 +55,8 @@ pub(crate) fn is_running(name: &ScriptName, delivery: &Delivery<'_>) -> bool
 
 /// The scripts that include one that the running one includes.
 pub(crate) fn including_next<'a>(delivery: &Delivery<'a>) -> Result<Vec<&'a ScriptName>, AllocError>
-    ensures { IfOk result (λ names. map (λ name. name.now) names.items ≡ (delivery_as delivery.now).including ++ (delivery_as delivery.now).script ∷ []) }
+    ensures { IfOk result (λ names. map (λ name. name.now) names.items
+        ≡ (delivery_as delivery.now).including ++ (delivery_as delivery.now).script ∷ []) }
 {
     let mut names = Vec::with_capacity(delivery.alloc, delivery.including.len())?;
     for name in delivery.including {

@@ -22,47 +22,69 @@ ghost use Rattle.sieve_base.specs.declared.name.ScriptName as names;
 /// its own block or behind that (RFC 5228, section 3.3).
 #[tactic(auto, using(crate::proofs::Unchanged::stop_ends))]
 pub fn stop_ends_the_commands()
-    ensures { (ask : Ask → RunState → spec.Answer) (act : Leaf → ℕ → RunState → Ending) (rest : Commands) (behind : RunState → Ending) (state : RunState) → spec.and_then (spec.exec ask act (stops rest) state) behind ≡ stopped state }
+    ensures { (ask : Ask → RunState → spec.Answer) (act : Leaf → ℕ → RunState → Ending)
+        (rest : Commands) (behind : RunState → Ending) (state : RunState)
+        → spec.and_then (spec.exec ask act (stops rest) state) behind ≡ stopped state }
 {}
 
 /// Commands behind a `return` change nothing either (RFC 6609, section 3.3).
 #[tactic(auto, using(crate::proofs::Unchanged::return_ends))]
 pub fn return_ends_the_commands()
-    ensures { (ask : Ask → RunState → spec.Answer) (act : Leaf → ℕ → RunState → Ending) (rest : Commands) (behind : RunState → Ending) (state : RunState) → spec.and_then (spec.exec ask act (returns rest) state) behind ≡ returned state }
+    ensures { (ask : Ask → RunState → spec.Answer) (act : Leaf → ℕ → RunState → Ending)
+        (rest : Commands) (behind : RunState → Ending) (state : RunState)
+        → spec.and_then (spec.exec ask act (returns rest) state) behind ≡ returned state }
 {}
 
 /// A run enters at most 256 scripts beside the main one. A script that was entered stays among those that were, whatever is done then.
 pub fn a_run_enters_so_many_scripts()
-    ensures many { (find : names.ScriptName → Lookup) (arrival : Arrival) (main : names.ScriptName) (tree : List Node) → length (state_behind (spec.run_of find arrival main tree)).entered ≤ suc include_limit }
-    ensures kept { (find : names.ScriptName → Lookup) (depth : ℕ) (delivery : Delivery) (tree : List Node) (state : RunState) → (more : List names.ScriptName) × ((state_behind (spec.running find depth delivery tree state)).entered ≡ state.entered ++ more) }
+    ensures many { (find : names.ScriptName → Lookup) (arrival : Arrival) (main : names.ScriptName)
+        (tree : List Node)
+        → length (state_behind (spec.run_of find arrival main tree)).entered ≤ suc include_limit }
+    ensures kept { (find : names.ScriptName → Lookup) (depth : ℕ) (delivery : Delivery)
+        (tree : List Node) (state : RunState) → (more : List names.ScriptName) × ((state_behind
+        (spec.running find depth delivery tree state)).entered ≡ state.entered ++ more) }
 {}
 
 /// Scripts include one another 10 deep at most, counted by those that include the running one: the main script runs with none
 /// above it; an include runs its script with one more above it, and enters none where 10 are.
 pub fn scripts_include_one_another_so_deep()
-    ensures main { (find : names.ScriptName → Lookup) (arrival : Arrival) (main : names.ScriptName) (tree : List Node) → spec.run_of find arrival main tree ≡ spec.running find (depth_left (spec.delivery_to arrival main)) (spec.delivery_to arrival main) tree (spec.begun main) }
-    ensures within { (find : names.ScriptName → Lookup) (delivery : Delivery) (name : names.ScriptName) (once optional : Bool) (line : ℕ) (state : RunState) → spec.included find (depth_left delivery) delivery name once optional line state ≡ spec.include_of find delivery (entered_within find delivery) name once optional line state }
-    ensures deepest { (find : names.ScriptName → Lookup) (delivery : Delivery) (name : names.ScriptName) (once optional : Bool) (line : ℕ) (state : RunState) → IsDeepest delivery → (state_behind (spec.included find (depth_left delivery) delivery name once optional line state)).entered ≡ state.entered }
+    ensures main { (find : names.ScriptName → Lookup) (arrival : Arrival) (main : names.ScriptName)
+        (tree : List Node) → spec.run_of find arrival main tree ≡ spec.running find (depth_left
+        (spec.delivery_to arrival main)) (spec.delivery_to arrival main) tree (spec.begun main) }
+    ensures within { (find : names.ScriptName → Lookup) (delivery : Delivery)
+        (name : names.ScriptName) (once optional : Bool) (line : ℕ) (state : RunState)
+        → spec.included find (depth_left delivery) delivery name once optional line state
+        ≡ spec.include_of find delivery
+        (entered_within find delivery) name once optional line state }
+    ensures deepest { (find : names.ScriptName → Lookup) (delivery : Delivery)
+        (name : names.ScriptName) (once optional : Bool) (line : ℕ) (state : RunState)
+        → IsDeepest delivery → (state_behind (spec.included find
+        (depth_left delivery) delivery name once optional line state)).entered ≡ state.entered }
 {}
 
 /// At no moment of a run do more than 10 scripts run below the main one (RFC 6609, section 3.1): whatever is done in place of a
 /// script that more include, the run is the same.
 pub fn no_run_comes_to_a_deeper_script()
-    ensures { (beyond : Delivery → List Node → RunState → Ending) (find : names.ScriptName → Lookup) (arrival : Arrival) (main : names.ScriptName) (tree : List Node) → watched_run beyond find arrival main tree ≡ spec.run_of find arrival main tree }
+    ensures { (beyond : Delivery → List Node → RunState → Ending) (find : names.ScriptName → Lookup)
+        (arrival : Arrival) (main : names.ScriptName) (tree : List Node)
+        → watched_run beyond find arrival main tree ≡ spec.run_of find arrival main tree }
 {}
 
 /// The frame: a verdict, with the names that it looked up, is the same over each library of the same profile that has the same text,
 /// or none, at each of these names.
 #[tactic(auto, using(crate::proofs::Frame::frame))]
 pub fn a_verdict_depends_on_what_it_looked_up()
-    ensures { (texts others : Texts) (main : Option names.ScriptName) (arrival : Arrival) → Agree texts others (outcome_over texts main arrival).reads → outcome_over others main arrival ≡ outcome_over texts main arrival }
+    ensures { (texts others : Texts) (main : Option names.ScriptName) (arrival : Arrival)
+        → Agree texts others (outcome_over texts main arrival).reads
+        → outcome_over others main arrival ≡ outcome_over texts main arrival }
 {}
 
 /// Tests set match variables at most (RFC 5229, section 3.2): neither the actions of a run nor whether the implicit keep is
 /// cancelled, neither the names looked up nor the variables that are set.
 #[tactic(auto, using(crate::proofs::Unchanged::decide_keeps))]
 pub fn tests_set_match_variables_at_most()
-    ensures state { (delivery : Delivery) (condition : Condition) (state : RunState) → spec.SetsMatched state (spec.decide (spec.answer_of delivery) condition state).state }
+    ensures state { (delivery : Delivery) (condition : Condition) (state : RunState)
+        → spec.SetsMatched state (spec.decide (spec.answer_of delivery) condition state).state }
 {}
 
 /// What running a checked tree's commands does is what doing the leaves of its walk in turn gives, up to the first that ends
@@ -70,33 +92,46 @@ pub fn tests_set_match_variables_at_most()
 /// The same comes of the list of answers that the tests give: what the walk meets with them is done in turn.
 #[tactic(auto, using(crate::proofs::Performing::walking))]
 pub fn a_run_does_its_walk()
-    ensures same { (ask : Ask → RunState → spec.Answer) (act : Leaf → ℕ → RunState → Ending) (tree : List Node) (state : RunState) → spec.exec ask act (script_of tree) state ≡ perform ask act (tree_walk tree) state }
-    ensures met { (ask : Ask → RunState → spec.Answer) (act : Leaf → ℕ → RunState → Ending) (tree : List Node) (state : RunState) → spec.exec ask act (script_of tree) state ≡ do_gone ask act (gone (tree_walk tree) (answers_of ask act (tree_walk tree) state)) state }
+    ensures same { (ask : Ask → RunState → spec.Answer) (act : Leaf → ℕ → RunState → Ending)
+        (tree : List Node) (state : RunState)
+        → spec.exec ask act (script_of tree) state ≡ perform ask act (tree_walk tree) state }
+    ensures met { (ask : Ask → RunState → spec.Answer) (act : Leaf → ℕ → RunState → Ending)
+        (tree : List Node) (state : RunState) → spec.exec ask act (script_of tree) state ≡ do_gone
+        ask act (gone (tree_walk tree) (answers_of ask act (tree_walk tree) state)) state }
 {}
 
 /// Whatever the scripts, the message, the envelope and the profile: no verdict has more actions than a run may perform (RFC 5228, section 2.10.4).
 #[tactic(auto, using(crate::proofs::Bounds::outcome_bounded))]
 pub fn no_run_acts_too_often()
-    ensures { (find : names.ScriptName → Lookup) (main : Option names.ScriptName) (arrival : Arrival) → length (spec.outcome_of find main arrival).actions ≤ action_limit }
+    ensures { (find : names.ScriptName → Lookup) (main : Option names.ScriptName)
+        (arrival : Arrival) → length (spec.outcome_of find main arrival).actions ≤ action_limit }
 {}
 
 /// Each action of a verdict has the command that entered it.
 #[tactic(auto, using(crate::proofs::Bounds::outcome_originated))]
 pub fn each_action_has_its_origin()
-    ensures { (find : names.ScriptName → Lookup) (main : Option names.ScriptName) (arrival : Arrival) → length (spec.outcome_of find main arrival).origins ≡ length (spec.outcome_of find main arrival).actions }
+    ensures { (find : names.ScriptName → Lookup) (main : Option names.ScriptName)
+        (arrival : Arrival) → length (spec.outcome_of find main arrival).origins
+        ≡ length (spec.outcome_of find main arrival).actions }
 {}
 
 /// No two actions of a verdict are one: it has no two stores into one mailbox, no two redirects to one address, and no two discards (RFC
 /// 5228, section 2.10.3), nor two responses or two rejections.
 #[tactic(auto, using(crate::proofs::Distinct::outcome_distinct))]
 pub fn no_run_acts_twice_alike()
-    ensures { (find : names.ScriptName → Lookup) (main : Option names.ScriptName) (arrival : Arrival) → AreDistinct (spec.outcome_of find main arrival).actions }
+    ensures { (find : names.ScriptName → Lookup) (main : Option names.ScriptName)
+        (arrival : Arrival) → AreDistinct (spec.outcome_of find main arrival).actions }
 {}
 
 /// No verdict acts against itself: it answers the sender once at most (RFC 5230, section 4.7), and where it rejects the message it does that
 /// once, and does nothing else than discard it (RFC 5429, section 2.4).
 #[tactic(auto, using(crate::proofs::AtPeace::outcome_responses, crate::proofs::AtPeace::outcome_rejections))]
 pub fn no_run_acts_against_itself()
-    ensures responses { (find : names.ScriptName → Lookup) (main : Option names.ScriptName) (arrival : Arrival) → length (filter is_response (spec.outcome_of find main arrival).actions) ≤ 1 }
-    ensures rejections { (find : names.ScriptName → Lookup) (main : Option names.ScriptName) (arrival : Arrival) → list_any is_rejection (spec.outcome_of find main arrival).actions ≡ true → length (filter (λ action. not (goes_with_rejections action)) (spec.outcome_of find main arrival).actions) ≡ 1 }
+    ensures responses { (find : names.ScriptName → Lookup) (main : Option names.ScriptName)
+        (arrival : Arrival)
+        → length (filter is_response (spec.outcome_of find main arrival).actions) ≤ 1 }
+    ensures rejections { (find : names.ScriptName → Lookup) (main : Option names.ScriptName)
+        (arrival : Arrival) → list_any is_rejection (spec.outcome_of find main arrival).actions
+        ≡ true → length (filter (λ action. not (goes_with_rejections action))
+        (spec.outcome_of find main arrival).actions) ≡ 1 }
 {}

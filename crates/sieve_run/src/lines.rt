@@ -18,7 +18,8 @@ pub(crate) fn write_spaced<W: Sink>(text: &[u8], writer: &mut W) -> Result<(), W
 /// Writes flags, each behind a space.
 #[tactic(auto, using(sieve_base::proofs::Writing::writing_items))]
 fn write_flags<W: Sink>(flags: &FlagList, writer: &mut W) -> Result<(), WriteFault>
-    ensures { Writes W.contents W.fault_count result writer.old writer.new (spaced_words flags.now) }
+    ensures { Writes W.contents W.fault_count result writer.old writer.new
+        (spaced_words flags.now) }
 {
     for i in 0..flags.len() {
         write_spaced(flags.get(i), writer)?;
@@ -33,7 +34,8 @@ pub(crate) fn write_worded<W: Sink>(
     text: &[u8],
     writer: &mut W,
 ) -> Result<(), WriteFault>
-    ensures { Writes W.contents W.fault_count result writer.old writer.new (worded_text word.now text.now) }
+    ensures { Writes W.contents W.fault_count result writer.old writer.new
+        (worded_text word.now text.now) }
 {
     write_pieces(&[Piece::Raw(word), Piece::Quoted(text)], writer)
 }
@@ -46,7 +48,8 @@ fn write_mailbox_line<W: Sink>(
     flags: &FlagList,
     writer: &mut W,
 ) -> Result<(), WriteFault>
-    ensures { Writes W.contents W.fault_count result writer.old writer.new (mailbox_line word.now mailbox.now flags.now) }
+    ensures { Writes W.contents W.fault_count result writer.old writer.new
+        (mailbox_line word.now mailbox.now flags.now) }
 {
     write_worded(word, mailbox, writer)?;
     write_flags(flags, writer)
@@ -55,7 +58,8 @@ fn write_mailbox_line<W: Sink>(
 /// Writes what a store asks for beside its mailbox.
 #[tactic(auto, using(sieve_base::proofs::Writing::writing), unfolding(crate::specs::Lines::filing_words))]
 fn write_filing<W: Sink>(filing: &Filing, writer: &mut W) -> Result<(), WriteFault>
-    ensures { Writes W.contents W.fault_count result writer.old writer.new (filing_words filing.now) }
+    ensures { Writes W.contents W.fault_count result writer.old writer.new
+        (filing_words filing.now) }
 {
     write_create(filing.create, writer)?;
     write_given(b" special-use ", &filing.special_use, writer)
@@ -75,7 +79,8 @@ pub(crate) fn write_given<W: Sink>(
     text: &Option<Octets>,
     writer: &mut W,
 ) -> Result<(), WriteFault>
-    ensures { Writes W.contents W.fault_count result writer.old writer.new (given_words word.now text.now) }
+    ensures { Writes W.contents W.fault_count result writer.old writer.new
+        (given_words word.now text.now) }
 {
     match text {
         Some(text) => write_pieces(&[Piece::Raw(word), Piece::Quoted(text.as_slice())], writer),
@@ -91,7 +96,8 @@ fn write_store<W: Sink>(
     filing: &Filing,
     writer: &mut W,
 ) -> Result<(), WriteFault>
-    ensures { Writes W.contents W.fault_count result writer.old writer.new (mailbox_line (codes "store ") mailbox.now flags.now ++ filing_words filing.now) }
+    ensures { Writes W.contents W.fault_count result writer.old writer.new
+        (mailbox_line (codes "store ") mailbox.now flags.now ++ filing_words filing.now) }
 {
     write_mailbox_line(b"store ", mailbox, flags, writer)?;
     write_filing(filing, writer)
@@ -100,7 +106,8 @@ fn write_store<W: Sink>(
 /// Writes the line of an action, without what stands before and behind it in a report. An error comes from the writer alone.
 #[tactic(auto, unfolding(crate::specs::Lines::action_line))]
 pub fn write_action<W: Sink>(action: &Action, writer: &mut W) -> Result<(), WriteFault>
-    ensures { Writes W.contents W.fault_count result writer.old writer.new (action_line action.now) }
+    ensures { Writes W.contents W.fault_count result writer.old writer.new
+        (action_line action.now) }
 {
     match action {
         Action::Store {
@@ -126,7 +133,8 @@ pub fn write_implicit<W: Sink>(
     flags: &FlagList,
     writer: &mut W,
 ) -> Result<(), WriteFault>
-    ensures { Writes W.contents W.fault_count result writer.old writer.new (implicit_line mailbox.now flags.now) }
+    ensures { Writes W.contents W.fault_count result writer.old writer.new
+        (implicit_line mailbox.now flags.now) }
 {
     write_mailbox_line(b"implicit ", mailbox, flags, writer)
 }
@@ -153,7 +161,8 @@ pub fn write_error<W: Sink>(error: &RunError, writer: &mut W) -> Result<(), Writ
 /// alone.
 #[tactic(auto, unfolding(crate::specs::Lines::origin_line))]
 pub fn write_origin<W: Sink>(origin: &Origin, writer: &mut W) -> Result<(), WriteFault>
-    ensures { Writes W.contents W.fault_count result writer.old writer.new (origin_line origin.now) }
+    ensures { Writes W.contents W.fault_count result writer.old writer.new
+        (origin_line origin.now) }
 {
     write_pieces(
         &[
@@ -173,7 +182,8 @@ pub fn write_read<W: Sink>(
     is_present: bool,
     writer: &mut W,
 ) -> Result<(), WriteFault>
-    ensures { Writes W.contents W.fault_count result writer.old writer.new (read_line (name.now, is_present)) }
+    ensures { Writes W.contents W.fault_count result writer.old writer.new
+        (read_line (name.now, is_present)) }
 {
     let end: &[u8] = if is_present { b"" } else { b" missing" };
     write_pieces(

@@ -26,7 +26,8 @@ pub(crate) fn ask_compares(
 ) -> Result<Step, AllocError>
     requires { fields.old ≡ (delivery_as turn.now.delivery.now).arrival }
     ensures arrival { fields.new ≡ fields.old }
-    ensures step { (act : Acts) → IfOk result (λ step. Carries act turn.now (Compares test values keys) (state_of state.old) step (state_of state.new)) }
+    ensures step { (act : Acts) → IfOk result (λ step. Carries act turn.now
+        (Compares test values keys) (state_of state.old) step (state_of state.new)) }
 {
     let test = turn.code.test(test);
     let source = turn.code.source(test.source, values);
@@ -44,7 +45,8 @@ pub(crate) fn ask_compares(
 
 /// Asks whether all named fields are there.
 pub(crate) fn ask_exists(turn: &Turn<'_>, names: u32, state: &State) -> Result<Step, AllocError>
-    ensures { (act : Acts) → IfOk result (λ step. Carries act turn.now (Exists names) (state_of state.now) step (state_of state.now)) }
+    ensures { (act : Acts) → IfOk result (λ step. Carries act turn.now (Exists names)
+        (state_of state.now) step (state_of state.now)) }
 {
     let truth = exists(turn.delivery, &turn.code.names(names), state);
     turn.tested(truth)
@@ -52,7 +54,8 @@ pub(crate) fn ask_exists(turn: &Turn<'_>, names: u32, state: &State) -> Result<S
 
 /// Asks whether all named mailboxes are there.
 pub(crate) fn ask_mailboxes(turn: &Turn<'_>, names: u32, state: &State) -> Result<Step, AllocError>
-    ensures { (act : Acts) → IfOk result (λ step. Carries act turn.now (MailboxExists names) (state_of state.now) step (state_of state.now)) }
+    ensures { (act : Acts) → IfOk result (λ step. Carries act turn.now (MailboxExists names)
+        (state_of state.now) step (state_of state.now)) }
 {
     let truth = mailboxes_exist(turn.delivery, &turn.code.list(names), state);
     turn.tested(truth)
@@ -67,14 +70,16 @@ pub(crate) fn ask_duplicate(turn: &Turn<'_>) -> Step
 
 /// Asks whether the message has more octets.
 pub(crate) fn ask_over(turn: &Turn<'_>, limit: u64) -> Step
-    ensures { (act : Acts) (state : RunState) → Carries act turn.now (Over limit) state result state }
+    ensures { (act : Acts) (state : RunState)
+        → Carries act turn.now (Over limit) state result state }
 {
     proceed(is_over(turn.delivery, limit), turn.behind)
 }
 
 /// Asks whether the message has fewer octets.
 pub(crate) fn ask_under(turn: &Turn<'_>, limit: u64) -> Step
-    ensures { (act : Acts) (state : RunState) → Carries act turn.now (Under limit) state result state }
+    ensures { (act : Acts) (state : RunState)
+        → Carries act turn.now (Under limit) state result state }
 {
     proceed(is_under(turn.delivery, limit), turn.behind)
 }
@@ -86,7 +91,9 @@ pub(crate) fn act_keep(
     settings: u32,
     state: &mut State,
 ) -> Result<Step, AllocError>
-    ensures { (include : Includes) → IfOk result (λ step. Carries (act_by include (delivery_as turn.now.delivery.now)) turn.now (Keep line settings) (state_of state.old) step (state_of state.new)) }
+    ensures { (include : Includes)
+        → IfOk result (λ step. Carries (act_by include (delivery_as turn.now.delivery.now)) turn.now
+        (Keep line settings) (state_of state.old) step (state_of state.new)) }
 {
     let settings = turn.code.settings(settings);
     let flow = keep(turn.delivery, &settings, line as u64, state);
@@ -101,7 +108,9 @@ pub(crate) fn act_fileinto(
     settings: u32,
     state: &mut State,
 ) -> Result<Step, AllocError>
-    ensures { (include : Includes) → IfOk result (λ step. Carries (act_by include (delivery_as turn.now.delivery.now)) turn.now (Fileinto line mailbox settings) (state_of state.old) step (state_of state.new)) }
+    ensures { (include : Includes)
+        → IfOk result (λ step. Carries (act_by include (delivery_as turn.now.delivery.now)) turn.now
+        (Fileinto line mailbox settings) (state_of state.old) step (state_of state.new)) }
 {
     let mailbox = turn.code.string(mailbox);
     let settings = turn.code.settings(settings);
@@ -117,7 +126,9 @@ pub(crate) fn act_redirect(
     settings: u32,
     state: &mut State,
 ) -> Result<Step, AllocError>
-    ensures { (include : Includes) → IfOk result (λ step. Carries (act_by include (delivery_as turn.now.delivery.now)) turn.now (Redirect line address settings) (state_of state.old) step (state_of state.new)) }
+    ensures { (include : Includes)
+        → IfOk result (λ step. Carries (act_by include (delivery_as turn.now.delivery.now)) turn.now
+        (Redirect line address settings) (state_of state.old) step (state_of state.new)) }
 {
     let address = turn.code.string(address);
     let settings = turn.code.settings(settings);
@@ -127,7 +138,9 @@ pub(crate) fn act_redirect(
 
 /// Discards the message.
 pub(crate) fn act_discard(turn: &Turn<'_>, line: u32, state: &mut State) -> Result<Step, AllocError>
-    ensures { (include : Includes) → IfOk result (λ step. Carries (act_by include (delivery_as turn.now.delivery.now)) turn.now (Discard line) (state_of state.old) step (state_of state.new)) }
+    ensures { (include : Includes)
+        → IfOk result (λ step. Carries (act_by include (delivery_as turn.now.delivery.now)) turn.now
+        (Discard line) (state_of state.old) step (state_of state.new)) }
 {
     let flow = discard(turn.delivery, line as u64, state);
     turn.acted(flow)
@@ -141,7 +154,9 @@ pub(crate) fn act_set(
     value: u32,
     state: &mut State,
 ) -> Result<Step, AllocError>
-    ensures { (include : Includes) → IfOk result (λ step. Carries (act_by include (delivery_as turn.now.delivery.now)) turn.now (Set line target value) (state_of state.old) step (state_of state.new)) }
+    ensures { (include : Includes)
+        → IfOk result (λ step. Carries (act_by include (delivery_as turn.now.delivery.now)) turn.now
+        (Set line target value) (state_of state.old) step (state_of state.new)) }
 {
     let Some(target) = turn.code.target(target) else {
         // No code has such an operation.
@@ -168,7 +183,9 @@ pub(crate) fn act_flags(
     flags: u32,
     state: &mut State,
 ) -> Result<Step, AllocError>
-    ensures { (include : Includes) → IfOk result (λ step. Carries (act_by include (delivery_as turn.now.delivery.now)) turn.now (Flags how line variable flags) (state_of state.old) step (state_of state.new)) }
+    ensures { (include : Includes)
+        → IfOk result (λ step. Carries (act_by include (delivery_as turn.now.delivery.now)) turn.now
+        (Flags how line variable flags) (state_of state.old) step (state_of state.new)) }
 {
     let variable = turn.code.variable(variable);
     let flags = turn.code.list(flags);
@@ -183,7 +200,9 @@ pub(crate) fn act_vacation(
     vacation: u32,
     state: &mut State,
 ) -> Result<Step, AllocError>
-    ensures { (include : Includes) → IfOk result (λ step. Carries (act_by include (delivery_as turn.now.delivery.now)) turn.now (Vacation line vacation) (state_of state.old) step (state_of state.new)) }
+    ensures { (include : Includes)
+        → IfOk result (λ step. Carries (act_by include (delivery_as turn.now.delivery.now)) turn.now
+        (Vacation line vacation) (state_of state.old) step (state_of state.new)) }
 {
     let vacation = turn.code.vacation(vacation);
     let flow = respond(turn.delivery, &vacation, line as u64, state);
@@ -198,7 +217,9 @@ pub(crate) fn act_reject(
     reason: u32,
     state: &mut State,
 ) -> Result<Step, AllocError>
-    ensures { (include : Includes) → IfOk result (λ step. Carries (act_by include (delivery_as turn.now.delivery.now)) turn.now (Reject how line reason) (state_of state.old) step (state_of state.new)) }
+    ensures { (include : Includes)
+        → IfOk result (λ step. Carries (act_by include (delivery_as turn.now.delivery.now)) turn.now
+        (Reject how line reason) (state_of state.old) step (state_of state.new)) }
 {
     let reason = turn.code.string(reason);
     let flow = reject(turn.delivery, how, reason, line as u64, state);

@@ -77,7 +77,8 @@ impl Outcome {
     /// part of it; the end of the text ends its last line. The empty text says nothing. The time is linear in the text. Takes no memory.
     pub fn agrees(&self, mailbox: &[u8], text: &[u8]) -> bool
         ensures value { result ≡ agrees mailbox.now self.now text.now }
-        ensures lines { IsTrue result ↔ ((0 < length text.now) × (lines text.now ≡ verdict_lines mailbox.now self.now)) }
+        ensures lines { IsTrue result
+            ↔ ((0 < length text.now) × (lines text.now ≡ verdict_lines mailbox.now self.now)) }
     {
         let has_lines = says(text, mailbox, self.actions(), self.implicit(), self.error());
         !text.is_empty() && has_lines

@@ -92,7 +92,8 @@ pub(crate) fn skip_response<'a>(text: &'a [u8], response: &Response) -> Option<&
 /// What follows the line of a rejection.
 #[tactic(auto, using(crate::proofs::Left::left))]
 pub(crate) fn skip_reject<'a>(text: &'a [u8], how: Rejection, reason: &[u8]) -> Option<&'a [u8]>
-    ensures { option_copied result ≡ behind_front (rejection_word how ++ spec.spaced_word reason.now) text.now }
+    ensures { option_copied result
+        ≡ behind_front (rejection_word how ++ spec.spaced_word reason.now) text.now }
 {
     let left = skip_octets(text, how.word())?;
     skip_spaced(left, reason)

@@ -22,7 +22,8 @@ fn write_days<W: Sink>(days: Option<u64>, writer: &mut W) -> Result<(), WriteFau
 /// Writes texts, each behind a space.
 #[tactic(auto, using(sieve_base::proofs::Writing::writing_items))]
 fn write_texts<W: Sink>(texts: &Texts, writer: &mut W) -> Result<(), WriteFault>
-    ensures { Writes W.contents W.fault_count result writer.old writer.new (spaced_words texts.now) }
+    ensures { Writes W.contents W.fault_count result writer.old writer.new
+        (spaced_words texts.now) }
 {
     for i in 0..texts.len() {
         write_spaced(texts.get(i), writer)?;
@@ -33,7 +34,8 @@ fn write_texts<W: Sink>(texts: &Texts, writer: &mut W) -> Result<(), WriteFault>
 /// Writes a word and texts, each behind a space.
 #[tactic(auto, using(sieve_base::proofs::Writing::writing), unfolding(crate::specs::Lines::worded_texts))]
 fn write_worded_texts<W: Sink>(word: &[u8], texts: &Texts, writer: &mut W) -> Result<(), WriteFault>
-    ensures { Writes W.contents W.fault_count result writer.old writer.new (worded_texts word.now texts.now) }
+    ensures { Writes W.contents W.fault_count result writer.old writer.new
+        (worded_texts word.now texts.now) }
 {
     write_out(word, writer)?;
     write_texts(texts, writer)
@@ -41,7 +43,8 @@ fn write_worded_texts<W: Sink>(word: &[u8], texts: &Texts, writer: &mut W) -> Re
 
 /// Writes further addresses of the user, where they are given.
 fn write_addresses<W: Sink>(addresses: &Option<Texts>, writer: &mut W) -> Result<(), WriteFault>
-    ensures { Writes W.contents W.fault_count result writer.old writer.new (addresses_words addresses.now) }
+    ensures { Writes W.contents W.fault_count result writer.old writer.new
+        (addresses_words addresses.now) }
 {
     match addresses {
         Some(addresses) => write_worded_texts(b" addresses", addresses, writer),
@@ -60,7 +63,8 @@ fn write_mime<W: Sink>(mime: bool, writer: &mut W) -> Result<(), WriteFault>
 /// Writes how often a sender gets a response, its subject and whom it is from, where they are given.
 #[tactic(auto, using(sieve_base::proofs::Writing::writing), unfolding(crate::specs::Lines::sending_words))]
 fn write_sending<W: Sink>(response: &Response, writer: &mut W) -> Result<(), WriteFault>
-    ensures { Writes W.contents W.fault_count result writer.old writer.new (sending_words response.now) }
+    ensures { Writes W.contents W.fault_count result writer.old writer.new
+        (sending_words response.now) }
 {
     write_days(response.days, writer)?;
     write_given(b" subject ", &response.subject, writer)?;
@@ -70,7 +74,8 @@ fn write_sending<W: Sink>(response: &Response, writer: &mut W) -> Result<(), Wri
 /// Writes what else is given of a response beside its text.
 #[tactic(auto, using(sieve_base::proofs::Writing::writing, sieve_base::proofs::Writing::middle_failed), unfolding(crate::specs::Lines::further_words))]
 fn write_further<W: Sink>(response: &Response, writer: &mut W) -> Result<(), WriteFault>
-    ensures { Writes W.contents W.fault_count result writer.old writer.new (further_words response.now) }
+    ensures { Writes W.contents W.fault_count result writer.old writer.new
+        (further_words response.now) }
 {
     write_addresses(&response.addresses, writer)?;
     write_mime(response.mime, writer)?;
@@ -80,7 +85,8 @@ fn write_further<W: Sink>(response: &Response, writer: &mut W) -> Result<(), Wri
 /// Writes the line of a response.
 #[tactic(auto, using(sieve_base::proofs::Writing::writing, sieve_base::proofs::Writing::middle_failed), unfolding(crate::specs::Lines::response_line))]
 pub(crate) fn write_response<W: Sink>(response: &Response, writer: &mut W) -> Result<(), WriteFault>
-    ensures { Writes W.contents W.fault_count result writer.old writer.new (response_line response.now) }
+    ensures { Writes W.contents W.fault_count result writer.old writer.new
+        (response_line response.now) }
 {
     write_worded(b"vacation ", response.reason.as_slice(), writer)?;
     write_sending(response, writer)?;
@@ -94,7 +100,8 @@ pub(crate) fn write_reject<W: Sink>(
     reason: &[u8],
     writer: &mut W,
 ) -> Result<(), WriteFault>
-    ensures { Writes W.contents W.fault_count result writer.old writer.new (rejection_word how ++ spaced_word reason.now) }
+    ensures { Writes W.contents W.fault_count result writer.old writer.new
+        (rejection_word how ++ spaced_word reason.now) }
 {
     write_out(how.word(), writer)?;
     write_spaced(reason, writer)

@@ -62,7 +62,8 @@ impl Script {
     /// Reads and checks a text, which isn't copied, under a profile. Refused for memory alone.
     pub fn new(alloc: Global, profile: Profile, text: Octets) -> Result<Script, AllocError>
         requires { length text ≤ text_limit }
-        ensures { IfOk result (λ script. script ≡ record { profile = profile_as profile; text = text }) }
+        ensures { IfOk result
+            (λ script. script ≡ record { profile = profile_as profile; text = text }) }
     {
         match judge(alloc, profile, text.as_slice()) {
             Ok(judged) => Ok(Script {

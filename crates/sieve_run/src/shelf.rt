@@ -40,7 +40,8 @@ impl Shelved {
 
     /// What a run finds here.
     fn found(&self) -> Found<'_>
-        ensures { (profile : profiles.Profile) → IsEntry profile self.now → FoundAs result (lookup_of profile (Some (entry_text self.now))) }
+        ensures { (profile : profiles.Profile) → IsEntry profile self.now
+            → FoundAs result (lookup_of profile (Some (entry_text self.now))) }
     {
         match self {
             Shelved::Script(script) => script.found(),
@@ -87,7 +88,8 @@ impl Shelf {
     /// Keeps an entry at a name, in place of the one there, which is given back. An error changes nothing.
     fn replace(&mut self, name: ScriptName, entry: Shelved) -> Result<Option<Shelved>, AllocError>
         requires { IsEntry self.old.profile entry }
-        ensures ok { OnOk result (self.new ≡ record self.old { scripts = with_text name (entry_text entry) self.old.scripts }) }
+        ensures ok { OnOk result (self.new
+            ≡ record self.old { scripts = with_text name (entry_text entry) self.old.scripts }) }
         ensures err { OnErr result (self.new ≡ self.old) }
     {
         Ok(self.scripts.insert(name, entry)?)
@@ -97,7 +99,8 @@ impl Shelf {
     /// of memory, changes nothing.
     pub fn add(&mut self, name: &ScriptName, text: &[u8]) -> Result<(), AllocError>
         requires { length name.now.name ≤ name_limit }
-        ensures ok { OnOk result (self.new ≡ record self.old { scripts = with_text name.now text.now self.old.scripts }) }
+        ensures ok { OnOk result (self.new
+            ≡ record self.old { scripts = with_text name.now text.now self.old.scripts }) }
         ensures err { OnErr result (self.new ≡ self.old) }
     {
         let entry = Shelved::new(self.alloc, self.profile, text)?;

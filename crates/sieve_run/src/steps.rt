@@ -49,9 +49,11 @@ pub(crate) fn execute<L: Library>(
 ) -> Result<Flow, AllocError>
     requires { fields.old ≡ (delivery_as running.now.delivery.now).arrival }
     ensures arrival { fields.new ≡ fields.old }
-    ensures ending { IfOk result (λ flow.
-        doing (act_of (library_of (L.profile running.now.lib.now) (L.texts running.now.lib.now)) running.now.depth (delivery_as running.now.delivery.now)) (delivery_as running.now.delivery.now) (code_walk (ops_of running.now.code.now) (length (ops_of running.now.code.now))) (state_of state.old)
-        ≡ ending_by flow (state_of state.new)) }
+    ensures ending { IfOk result (λ flow. doing (act_of (library_of (L.profile running.now.lib.now)
+        (L.texts running.now.lib.now)) running.now.depth (delivery_as running.now.delivery.now))
+        (delivery_as running.now.delivery.now)
+        (code_walk (ops_of running.now.code.now) (length (ops_of running.now.code.now)))
+        (state_of state.old) ≡ ending_by flow (state_of state.new)) }
 {
     let code = running.code;
     let mut place = 0;
@@ -94,8 +96,10 @@ fn carry_out<L: Library>(
 ) -> Result<Step, AllocError>
     requires { fields.old ≡ (delivery_as running.now.delivery.now).arrival }
     ensures arrival { fields.new ≡ fields.old }
-    ensures step { IfOk result (λ step.
-        StepsTo (act_of (library_of (L.profile running.now.lib.now) (L.texts running.now.lib.now)) running.now.depth (delivery_as running.now.delivery.now)) (delivery_as running.now.delivery.now) (op_of running.now.code.now op) behind register (state_of state.old) step (state_of state.new)) }
+    ensures step { IfOk result (λ step. StepsTo (act_of (library_of (L.profile running.now.lib.now)
+        (L.texts running.now.lib.now)) running.now.depth (delivery_as running.now.delivery.now))
+        (delivery_as running.now.delivery.now) (op_of running.now.code.now op) behind register
+        (state_of state.old) step (state_of state.new)) }
 {
     let code = running.code;
     let turn = &Turn {
@@ -164,7 +168,13 @@ fn include_named<L: Library>(
 ) -> Result<Flow, AllocError>
     requires { fields.old ≡ (delivery_as running.now.delivery.now).arrival }
     ensures arrival { fields.new ≡ fields.old }
-    ensures ending { IfOk result (λ flow. ending_by flow (state_of state.new) ≡ included (library_of (L.profile running.now.lib.now) (L.texts running.now.lib.now)) running.now.depth (delivery_as running.now.delivery.now) (record { place = inclusion.place; name = slice_index_or (pool_of running.now.code.now).scripts inclusion.name [] }) inclusion.once inclusion.optional inclusion.line (state_of state.old)) }
+    ensures ending { IfOk result (λ flow. ending_by flow (state_of state.new) ≡ included
+        (library_of (L.profile running.now.lib.now) (L.texts running.now.lib.now)) running.now.depth
+        (delivery_as running.now.delivery.now) (record {
+          place = inclusion.place;
+          name = slice_index_or (pool_of running.now.code.now).scripts inclusion.name [];
+        })
+        inclusion.once inclusion.optional inclusion.line (state_of state.old)) }
 {
     let name = ScriptName {
         place: inclusion.place,
@@ -184,9 +194,11 @@ fn execute_inside<L: Library>(
 ) -> Result<Flow, AllocError>
     requires { fields.old ≡ (delivery_as running.now.delivery.now).arrival }
     ensures arrival { fields.new ≡ fields.old }
-    ensures ending { IfOk result (λ flow.
-        doing (act_of (library_of (L.profile running.now.lib.now) (L.texts running.now.lib.now)) running.now.depth (inside name.now (delivery_as running.now.delivery.now))) (inside name.now (delivery_as running.now.delivery.now)) (code_walk (ops_of code.now) (length (ops_of code.now))) (state_of state.old)
-        ≡ ending_by flow (state_of state.new)) }
+    ensures ending { IfOk result (λ flow. doing (act_of
+        (library_of (L.profile running.now.lib.now) (L.texts running.now.lib.now)) running.now.depth
+        (inside name.now (delivery_as running.now.delivery.now)))
+        (inside name.now (delivery_as running.now.delivery.now)) (code_walk (ops_of code.now)
+        (length (ops_of code.now))) (state_of state.old) ≡ ending_by flow (state_of state.new)) }
 {
     let delivery = running.delivery;
     let including = including_next(delivery)?;
@@ -216,7 +228,9 @@ fn enter<L: Library>(
 ) -> Result<Flow, AllocError>
     requires { fields.old ≡ (delivery_as running.now.delivery.now).arrival }
     ensures arrival { fields.new ≡ fields.old }
-    ensures ending { IfOk result (λ flow. ending_by flow (state_of state.new) ≡ enters (library_of (L.profile running.now.lib.now) (L.texts running.now.lib.now)) running.now.depth (delivery_as running.now.delivery.now) name.now (ops_of code.now) (state_of state.old)) }
+    ensures ending { IfOk result (λ flow. ending_by flow (state_of state.new) ≡ enters
+        (library_of (L.profile running.now.lib.now) (L.texts running.now.lib.now)) running.now.depth
+        (delivery_as running.now.delivery.now) name.now (ops_of code.now) (state_of state.old)) }
 {
     let own = begin_included(running.delivery.alloc, name, state)?;
     let flow = execute_inside(running, name, code, fields, state)?;
@@ -235,7 +249,10 @@ fn look_up<L: Library>(
 ) -> Result<Flow, AllocError>
     requires { fields.old ≡ (delivery_as running.now.delivery.now).arrival }
     ensures arrival { fields.new ≡ fields.old }
-    ensures ending { IfOk result (λ flow. ending_by flow (state_of state.new) ≡ looks_up (library_of (L.profile running.now.lib.now) (L.texts running.now.lib.now)) running.now.depth (delivery_as running.now.delivery.now) name.now inclusion.optional inclusion.line (state_of state.old)) }
+    ensures ending { IfOk result (λ flow. ending_by flow (state_of state.new) ≡ looks_up
+        (library_of (L.profile running.now.lib.now) (L.texts running.now.lib.now)) running.now.depth
+        (delivery_as running.now.delivery.now) name.now inclusion.optional inclusion.line
+        (state_of state.old)) }
 {
     let delivery = running.delivery;
     let line = inclusion.line as u64;
@@ -265,7 +282,10 @@ fn include<L: Library>(
 ) -> Result<Flow, AllocError>
     requires { fields.old ≡ (delivery_as running.now.delivery.now).arrival }
     ensures arrival { fields.new ≡ fields.old }
-    ensures ending { IfOk result (λ flow. ending_by flow (state_of state.new) ≡ included (library_of (L.profile running.now.lib.now) (L.texts running.now.lib.now)) running.now.depth (delivery_as running.now.delivery.now) name.now inclusion.once inclusion.optional inclusion.line (state_of state.old)) }
+    ensures ending { IfOk result (λ flow. ending_by flow (state_of state.new) ≡ included
+        (library_of (L.profile running.now.lib.now) (L.texts running.now.lib.now)) running.now.depth
+        (delivery_as running.now.delivery.now) name.now inclusion.once inclusion.optional
+        inclusion.line (state_of state.old)) }
 {
     let delivery = running.delivery;
     let line = inclusion.line as u64;

@@ -58,7 +58,8 @@ impl Turn<'_> {
 
     /// The step after a command, where its call says how it ended.
     pub(crate) fn acted(&self, flow: Result<Flow, AllocError>) -> Result<Step, AllocError>
-        ensures { IfOk result (Follows flow (λ flow. step_after flow self.now.behind self.now.register)) }
+        ensures { IfOk result
+            (Follows flow (λ flow. step_after flow self.now.behind self.now.register)) }
     {
         Ok(step_after(flow?, self.behind, self.register))
     }

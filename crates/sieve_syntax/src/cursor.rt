@@ -57,7 +57,8 @@ fn skip_white(text: &[u8], cursor: Cursor) -> Cursor
 /// The next token, and the cursor behind it; or `None` where white space alone is left.
 pub(crate) fn next_token(text: &[u8], cursor: Cursor) -> Option<(Token, Cursor)>
     requires { IsCursor text.now cursor }
-    ensures { MatchOption result (SpellsFrom text.now cursor.place []) (λ next. IsNext text.now cursor.place next.0 next.1) }
+    ensures { MatchOption result (SpellsFrom text.now cursor.place [])
+        (λ next. IsNext text.now cursor.place next.0 next.1) }
 {
     let cursor = skip_white(text, cursor);
     if cursor.place == text.len() {

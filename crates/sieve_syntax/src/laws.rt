@@ -16,12 +16,15 @@ pub fn one_token_list()
 
 /// At most one tree writes a text, and none where there is a line of a fault.
 pub fn one_tree()
-    ensures only { (text : List ℕ) (a b : List Node) → WritesText a text → WritesText b text → a ≡ b }
-    ensures fault { (text : List ℕ) (line : ℕ) (tree : List Node) → IsFaultLine text line → WritesText tree text → ⊥ }
+    ensures only { (text : List ℕ) (a b : List Node) → WritesText a text → WritesText b text
+        → a ≡ b }
+    ensures fault { (text : List ℕ) (line : ℕ) (tree : List Node) → IsFaultLine text line
+        → WritesText tree text → ⊥ }
 {}
 
 /// `syntax_of` is the tree that writes the text, or the line of its fault.
 pub fn tree_or_fault()
-    ensures tree { (text : List ℕ) (tree : List Node) → syntax_of text ≡ Ok tree ↔ WritesText tree text }
+    ensures tree { (text : List ℕ) (tree : List Node)
+        → syntax_of text ≡ Ok tree ↔ WritesText tree text }
     ensures fault { (text : List ℕ) (line : ℕ) → syntax_of text ≡ Err line ↔ IsFaultLine text line }
 {}

@@ -61,7 +61,8 @@ pub fn parse(alloc: Global, text: &[u8]) -> Result<ParsedScript, SyntaxFault>
     // The tree writes the text.
     ensures tree { IfOk result (λ script. WritesText (nodes_of script) text.now) }
     // The line is that of the fault, and no tree writes the text.
-    ensures fault { (line : ℕ) → result ≡ Err (SyntaxFault.Syntax line) → IsFaultLine text.now line × ((tree : List Node) → WritesText tree text.now → ⊥) }
+    ensures fault { (line : ℕ) → result ≡ Err (SyntaxFault.Syntax line)
+        → IsFaultLine text.now line × ((tree : List Node) → WritesText tree text.now → ⊥) }
     // The tree or the line is what `syntax_of` says.
     ensures exact { Parses result (syntax_of text.now) }
     // Each string of the tree is one literal.
@@ -112,7 +113,9 @@ fn read_token(
 ) -> Result<ParserState, SyntaxFault>
     requires line { token.line < 4294967296 }
     requires inside { IsInside text.now token }
-    ensures { (view : View) → SeesLiterals view → Goes view outer.new result (Machine.step test_depth block_room (state_value view outer.old state) (symbol_of text.now token)) token.line }
+    ensures { (view : View) → SeesLiterals view
+        → Goes view outer.new result (Machine.step test_depth block_room
+        (state_value view outer.old state) (symbol_of text.now token)) token.line }
 {
     let symbol = read_symbol(alloc, text, token)?;
     match step(alloc, outer, state, symbol) {
@@ -126,7 +129,8 @@ fn read_token(
 #[tactic(auto, unfolding(crate::specs::Machine::whole))]
 fn finish(text: &[u8], outer: Outer, state: ParserState) -> Result<Vec<Command>, SyntaxFault>
     requires { length text.now ≤ text_limit }
-    ensures { (view : View) → Finishes view result (whole (state_value view outer state)) (line_at text.now (length text.now)) }
+    ensures { (view : View) → Finishes view result (whole (state_value view outer state))
+        (line_at text.now (length text.now)) }
 {
     if let ParserState::Between = state {
         if outer.blocks.is_empty() {

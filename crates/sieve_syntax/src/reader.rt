@@ -70,7 +70,8 @@ pub(crate) fn command_with(
     tests: Tests,
     block: Option<Vec<Command>>,
 ) -> Result<Command, AllocError>
-    ensures { IfOk result (λ command. (view : View) → node_of view command ≡ node_with (head_value view head) (tests_of view tests) (block_of view block)) }
+    ensures { IfOk result (λ command. (view : View) → node_of view command
+        ≡ node_with (head_value view head) (tests_of view tests) (block_of view block)) }
 {
     Ok(Command {
         name: CommandName::new(alloc, head.name)?,
@@ -83,7 +84,8 @@ pub(crate) fn command_with(
 
 /// The test with this head and these tests.
 pub(crate) fn finished_test(alloc: Global, head: Head, tests: Tests) -> Result<Test, AllocError>
-    ensures { IfOk result (λ test. (view : View) → test_of view test ≡ test_with (head_value view head) (tests_of view tests)) }
+    ensures { IfOk result (λ test. (view : View)
+        → test_of view test ≡ test_with (head_value view head) (tests_of view tests)) }
 {
     Ok(Test {
         name: TestName::new(alloc, head.name)?,

@@ -45,7 +45,8 @@ impl From<AllocError> for Stop {
 /// The state behind a symbol that stands between commands.
 #[tactic(auto, unfolding(crate::specs::Machine::step))]
 fn between(alloc: Global, outer: &mut Outer, symbol: Symbol) -> Result<ParserState, Stop>
-    ensures { (view : View) → Advances view outer.new result (step test_depth block_room (Machine.between (outer_value view outer.old)) (symbol_as symbol)) }
+    ensures { (view : View) → Advances view outer.new result (step test_depth block_room
+        (Machine.between (outer_value view outer.old)) (symbol_as symbol)) }
 {
     match symbol {
         Symbol::Identifier { name, line } => {
@@ -86,7 +87,8 @@ fn add_command(done: &mut Vec<Command>, command: Command) -> Result<(), Stop>
 /// The end of the innermost block.
 #[tactic(auto, unfolding(crate::specs::Machine::close_block))]
 fn close_block(alloc: Global, outer: &mut Outer) -> Result<ParserState, Stop>
-    ensures { (view : View) → Advances view outer.new result (close_block (outer_value view outer.old).blocks (outer_value view outer.old).done) }
+    ensures { (view : View) → Advances view outer.new result
+        (close_block (outer_value view outer.old).blocks (outer_value view outer.old).done) }
 {
     match outer.blocks.pop() {
         None => Err(Stop::Fault),
@@ -105,7 +107,9 @@ const FEW_ARGUMENTS: usize = 4;
 
 /// Behind one more argument of a head.
 fn behind_argument(head: Head, argument: Argument) -> Result<ParserState, Stop>
-    ensures { (view : View) (outer : Outer) → Advances view outer result (Some (Machine.in_arguments (outer_value view outer) (levels_value view outer.levels.items) (with_argument (head_value view head) (argument_of view argument)))) }
+    ensures { (view : View) (outer : Outer) → Advances view outer result
+        (Some (Machine.in_arguments (outer_value view outer) (levels_value view outer.levels.items)
+        (with_argument (head_value view head) (argument_of view argument)))) }
 {
     let mut head = head;
     if head.args.len() < FEW_ARGUMENTS {
@@ -123,7 +127,9 @@ fn in_arguments(
     head: Head,
     symbol: Symbol,
 ) -> Result<ParserState, Stop>
-    ensures { (view : View) → SeesLiterals view → Advances view outer.new result (step test_depth block_room (Machine.in_arguments (outer_value view outer.old) (levels_value view outer.old.levels.items) (head_value view head)) (symbol_as symbol)) }
+    ensures { (view : View) → SeesLiterals view → Advances view outer.new result
+        (step test_depth block_room (Machine.in_arguments (outer_value view outer.old)
+        (levels_value view outer.old.levels.items) (head_value view head)) (symbol_as symbol)) }
 {
     match symbol {
         Symbol::String { octets, line } => {
@@ -158,7 +164,10 @@ fn open_test(
     name: SmallOctets,
     line: u32,
 ) -> Result<ParserState, Stop>
-    ensures { (view : View) → Advances view outer.new result (if nat_lt (length (levels_value view outer.old.levels.items)) test_depth then Some (Machine.in_arguments (outer_value view outer.old) (for_one (head_value view head) ∷ levels_value view outer.old.levels.items) (bare_head name.items line)) else None) }
+    ensures { (view : View) → Advances view outer.new result
+        (if nat_lt (length (levels_value view outer.old.levels.items)) test_depth
+        then Some (Machine.in_arguments (outer_value view outer.old) (for_one (head_value view head)
+        ∷ levels_value view outer.old.levels.items) (bare_head name.items line)) else None) }
 {
     if outer.levels.len() >= MAX_TEST_DEPTH {
         return Err(Stop::Fault);
@@ -169,7 +178,10 @@ fn open_test(
 
 /// Into a list of tests, where there is depth for one.
 fn open_list(alloc: Global, outer: &mut Outer, head: Head) -> Result<ParserState, Stop>
-    ensures { (view : View) → Advances view outer.new result (if nat_lt (length (levels_value view outer.old.levels.items)) test_depth then Some (Machine.before_test (outer_value view outer.old) (for_list (head_value view head) [] ∷ levels_value view outer.old.levels.items)) else None) }
+    ensures { (view : View) → Advances view outer.new result
+        (if nat_lt (length (levels_value view outer.old.levels.items)) test_depth
+        then Some (Machine.before_test (outer_value view outer.old) (for_list
+        (head_value view head) [] ∷ levels_value view outer.old.levels.items)) else None) }
 {
     if outer.levels.len() >= MAX_TEST_DEPTH {
         return Err(Stop::Fault);
@@ -186,7 +198,10 @@ fn before_string(
     items: Vec<Text>,
     symbol: Symbol,
 ) -> Result<ParserState, Stop>
-    ensures { (view : View) → SeesLiterals view → (outer : Outer) → Advances view outer result (step test_depth block_room (Machine.before_string (outer_value view outer) (levels_value view outer.levels.items) (head_value view head) (map (text_of view) items.items)) (symbol_as symbol)) }
+    ensures { (view : View) → SeesLiterals view → (outer : Outer)
+        → Advances view outer result (step test_depth block_room
+        (Machine.before_string (outer_value view outer) (levels_value view outer.levels.items)
+        (head_value view head) (map (text_of view) items.items)) (symbol_as symbol)) }
 {
     match symbol {
         Symbol::String { octets, line } => {
@@ -201,7 +216,9 @@ fn before_string(
 /// In a list of strings, behind a string: a comma or the end of the list.
 #[tactic(auto, unfolding(crate::specs::Machine::step))]
 fn after_string(head: Head, items: Vec<Text>, symbol: Symbol) -> Result<ParserState, Stop>
-    ensures { (view : View) (outer : Outer) → Advances view outer result (step test_depth block_room (Machine.after_string (outer_value view outer) (levels_value view outer.levels.items) (head_value view head) (map (text_of view) items.items)) (symbol_as symbol)) }
+    ensures { (view : View) (outer : Outer) → Advances view outer result (step test_depth block_room
+        (Machine.after_string (outer_value view outer) (levels_value view outer.levels.items)
+        (head_value view head) (map (text_of view) items.items)) (symbol_as symbol)) }
 {
     match symbol {
         Symbol::Comma => Ok(ParserState::BeforeString(head, items)),
@@ -219,7 +236,9 @@ fn after_string(head: Head, items: Vec<Text>, symbol: Symbol) -> Result<ParserSt
 /// In a list of tests, where a test has to come.
 #[tactic(auto, unfolding(crate::specs::Machine::step))]
 fn before_test(alloc: Global, symbol: Symbol) -> Result<ParserState, Stop>
-    ensures { (view : View) (outer : Outer) → Advances view outer result (step test_depth block_room (Machine.before_test (outer_value view outer) (levels_value view outer.levels.items)) (symbol_as symbol)) }
+    ensures { (view : View) (outer : Outer)
+        → Advances view outer result (step test_depth block_room (Machine.before_test
+        (outer_value view outer) (levels_value view outer.levels.items)) (symbol_as symbol)) }
 {
     match symbol {
         Symbol::Identifier { name, line } => Ok(ParserState::Arguments(make_head(
@@ -238,7 +257,9 @@ fn close(
     tests: Tests,
     symbol: Symbol,
 ) -> Result<ParserState, Stop>
-    ensures { (view : View) → Advances view outer.new result (close block_room (outer_value view outer.old) (levels_value view outer.old.levels.items) (head_value view head) (tests_of view tests) (symbol_as symbol)) }
+    ensures { (view : View) → Advances view outer.new result
+        (close block_room (outer_value view outer.old) (levels_value view outer.old.levels.items)
+        (head_value view head) (tests_of view tests) (symbol_as symbol)) }
 {
     match outer.levels.pop() {
         None => close_command(alloc, outer, head, tests, symbol),
@@ -265,7 +286,9 @@ fn close_in_list(
     before: Vec<Test>,
     symbol: Symbol,
 ) -> Result<ParserState, Stop>
-    ensures { (view : View) → Advances view outer.new result (after_listed (outer_value view outer.old) (levels_value view outer.old.levels.items) (head_value view owner) (map (test_of view) before.items) (symbol_as symbol)) }
+    ensures { (view : View) → Advances view outer.new result
+        (after_listed (outer_value view outer.old) (levels_value view outer.old.levels.items)
+        (head_value view owner) (map (test_of view) before.items) (symbol_as symbol)) }
 {
     match symbol {
         Symbol::Comma => {
@@ -289,7 +312,9 @@ fn close_command(
     tests: Tests,
     symbol: Symbol,
 ) -> Result<ParserState, Stop>
-    ensures { (view : View) → Advances view outer.new result (after_command block_room (outer_value view outer.old) (head_value view head) (tests_of view tests) (symbol_as symbol)) }
+    ensures { (view : View)
+        → Advances view outer.new result (after_command block_room (outer_value view outer.old)
+        (head_value view head) (tests_of view tests) (symbol_as symbol)) }
 {
     match symbol {
         Symbol::Semicolon => {
@@ -317,7 +342,8 @@ pub(crate) fn step(
     state: ParserState,
     symbol: Symbol,
 ) -> Result<ParserState, Stop>
-    ensures { (view : View) → SeesLiterals view → Advances view outer.new result (step test_depth block_room (state_value view outer.old state) (symbol_as symbol)) }
+    ensures { (view : View) → SeesLiterals view → Advances view outer.new result
+        (step test_depth block_room (state_value view outer.old state) (symbol_as symbol)) }
 {
     match state {
         ParserState::Between => between(alloc, outer, symbol),

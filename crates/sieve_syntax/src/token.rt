@@ -60,7 +60,8 @@ pub fn tokens(alloc: Global, text: &[u8]) -> Result<Vec<Token>, AllocError>
     // Each token lies in the text.
     ensures inside { IfOk result (λ found. All (IsInside text.now) found.items) }
     // No other list of tokens does.
-    ensures only { IfOk result (λ found. (others : List Token) → Spells others text.now → others ≡ found.items) }
+    ensures only { IfOk result
+        (λ found. (others : List Token) → Spells others text.now → others ≡ found.items) }
 {
     let mut found = Vec::new(alloc);
     let mut cursor = Cursor {

@@ -77,7 +77,8 @@ fn one_literal(alloc: Global, octets: SmallOctets) -> Result<Parts, AllocError>
 impl Text {
     /// A string of a text's tree.
     pub(crate) fn written(alloc: Global, octets: SmallOctets, line: u32) -> Result<Text, AllocError>
-        ensures { (view : View) → SeesLiterals view → IfOk result (λ text. by.text_of view text ≡ record { string = octets.items; line = line }) }
+        ensures { (view : View) → SeesLiterals view → IfOk result
+            (λ text. by.text_of view text ≡ record { string = octets.items; line = line }) }
     {
         let string = one_literal(alloc, octets)?;
         Ok(Text { string, line })

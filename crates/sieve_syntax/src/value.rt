@@ -24,7 +24,8 @@ fn unit_of(octet: u8) -> u64
 /// The number with one more digit, or `None` past 64 bits.
 fn add_digit(number: u64, digit: u8) -> Option<u64>
     requires { IsTrue (is_digit digit) }
-    ensures { SomeIff result (10 * number + (digit - octet_of "0") < 2 ^ 64) (10 * number + (digit - octet_of "0")) }
+    ensures { SomeIff result (10 * number + (digit - octet_of "0") < 2 ^ 64)
+        (10 * number + (digit - octet_of "0")) }
 {
     number.checked_mul(10)?.checked_add(u64::from(digit - b'0'))
 }
@@ -79,7 +80,8 @@ fn push_with_cr(out: &mut Vec<u8>, octets: &[u8]) -> Result<(), AllocError>
 
 /// Adds an octet, but for a backslash that protects the next one; whether it is one. A protected octet is always added.
 fn push_kept(kept: &mut Vec<u8>, octet: u8, protected: bool) -> Result<bool, AllocError>
-    ensures kept { OnOk result (kept.new.items ≡ kept.old.items ++ spec.kept_octet protected octet) }
+    ensures kept { OnOk result
+        (kept.new.items ≡ kept.old.items ++ spec.kept_octet protected octet) }
     ensures protects { IfOk result (λ protects. protects ≡ spec.is_protector protected octet) }
 {
     if octet == b'\\' && !protected {

@@ -102,7 +102,8 @@ pub fn known_tag(profile: Profile, tag: Option<Tag>) -> Option<Tag>
 
 /// The command, where it is known.
 pub fn known_command(profile: Profile, kind: Option<CommandKind>) -> Option<CommandKind>
-    ensures { result ≡ option_and_then (spec.only_if (λ kind. spec.is_known_row (profile_as profile) (command_row kind))) kind }
+    ensures { result ≡ option_and_then
+        (spec.only_if (λ kind. spec.is_known_row (profile_as profile) (command_row kind))) kind }
 {
     match kind {
         Some(kind) if is_known_row(profile, &kind.row()) => Some(kind),
@@ -112,7 +113,8 @@ pub fn known_command(profile: Profile, kind: Option<CommandKind>) -> Option<Comm
 
 /// The test, where it is known.
 pub fn known_test(profile: Profile, kind: Option<TestKind>) -> Option<TestKind>
-    ensures { result ≡ option_and_then (spec.only_if (λ kind. spec.is_known_row (profile_as profile) (test_row kind))) kind }
+    ensures { result ≡ option_and_then
+        (spec.only_if (λ kind. spec.is_known_row (profile_as profile) (test_row kind))) kind }
 {
     match kind {
         Some(kind) if is_known_row(profile, &kind.row()) => Some(kind),

@@ -22,7 +22,9 @@ pub fn rules_go_by_their_numbers()
 /// Behind a string of a `require`, what was required still is, and what the string names, and nothing else.
 #[tactic(auto, using(crate::proofs::Naming::named_is_required))]
 pub fn what_is_named_is_required()
-    ensures { (required : Required) (name : List ℕ) (capability : Capability) → is_required (requiring required name) capability ≡ (is_required required capability || is_name_of name capability) }
+    ensures { (required : Required) (name : List ℕ) (capability : Capability)
+        → is_required (requiring required name) capability
+        ≡ (is_required required capability || is_name_of name capability) }
 {}
 
 /// Each command and each test is found by the name of its row, and each tag that one takes by its own among those. There is no tag that none
@@ -31,9 +33,15 @@ pub fn what_is_named_is_required()
 pub fn names_are_found()
     ensures commands { (kind : CommandKind) → command_named (command_row kind).name ≡ Some kind }
     ensures tests { (kind : TestKind) → test_named (test_row kind).name ≡ Some kind }
-    ensures command_tags { (kind : CommandKind) → map (λ tag. tag_named (command_row kind).tags (tag_row tag).name) (command_row kind).tags ≡ map Some (command_row kind).tags }
-    ensures test_tags { (kind : TestKind) → map (λ tag. tag_named (test_row kind).tags (tag_row tag).name) (test_row kind).tags ≡ map Some (test_row kind).tags }
-    ensures taken { (tag : Tag) → list_any (λ tags. list_any (same_tag tag) tags) (map (λ kind. (command_row kind).tags) commands ++ map (λ kind. (test_row kind).tags) tests) ≡ true }
-    ensures capabilities { (profile : Profile) (capability : Capability) → names_known profile (capability_name capability) ≡ is_known profile capability }
-    ensures alone { (capability : Capability) → filter (is_name_of (capability_name capability)) capabilities ≡ capability ∷ [] }
+    ensures command_tags { (kind : CommandKind) → map (λ tag. tag_named (command_row kind).tags
+        (tag_row tag).name) (command_row kind).tags ≡ map Some (command_row kind).tags }
+    ensures test_tags { (kind : TestKind) → map (λ tag. tag_named (test_row kind).tags
+        (tag_row tag).name) (test_row kind).tags ≡ map Some (test_row kind).tags }
+    ensures taken { (tag : Tag) → list_any (λ tags. list_any (same_tag tag) tags)
+        (map (λ kind. (command_row kind).tags) commands ++ map (λ kind. (test_row kind).tags) tests)
+        ≡ true }
+    ensures capabilities { (profile : Profile) (capability : Capability)
+        → names_known profile (capability_name capability) ≡ is_known profile capability }
+    ensures alone { (capability : Capability)
+        → filter (is_name_of (capability_name capability)) capabilities ≡ capability ∷ [] }
 {}

@@ -39,7 +39,8 @@ impl Required {
 
     /// What is required with a capability.
     fn with(self, capability: Capability) -> Required
-        ensures { required_as result ≡ (λ other. required_as self other || same_capability capability other) }
+        ensures { required_as result
+            ≡ (λ other. required_as self other || same_capability capability other) }
     {
         let mut required = self;
         required.named[capability as usize] = true;

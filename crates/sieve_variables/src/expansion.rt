@@ -46,7 +46,8 @@ impl Values {
         alloc: Global,
         parts: &'a [Part],
     ) -> Result<CowSlice<'a, u8>, AllocError>
-        ensures octets { IfOk result (λ octets. cow_slice_items octets ≡ text_value self.now parts.now) }
+        ensures octets { IfOk result
+            (λ octets. cow_slice_items octets ≡ text_value self.now parts.now) }
         ensures one_part { length parts.now ≡ 1 → IsOkAnd result IsBorrowedSlice }
         ensures no_part { parts.now ≡ [] → IsOk result }
     {
@@ -88,7 +89,8 @@ impl Values {
         parts: &[Part],
         limit: usize,
     ) -> Result<Vec<u8>, AllocError>
-        ensures { IfOk result (λ octets. octets.items ≡ take limit (text_value self.now parts.now)) }
+        ensures { IfOk result
+            (λ octets. octets.items ≡ take limit (text_value self.now parts.now)) }
     {
         let mut front_octets = Vec::new(alloc);
         for part in parts {
@@ -106,7 +108,8 @@ impl Values {
         parts: &'a [Part],
         limit: usize,
     ) -> Result<CowSlice<'a, u8>, AllocError>
-        ensures octets { IfOk result (λ octets. cow_slice_items octets ≡ take limit (text_value self.now parts.now)) }
+        ensures octets { IfOk result
+            (λ octets. cow_slice_items octets ≡ take limit (text_value self.now parts.now)) }
         ensures one_part { length parts.now ≡ 1 → IsOkAnd result IsBorrowedSlice }
         ensures no_part { parts.now ≡ [] → IsOk result }
     {
@@ -127,7 +130,8 @@ impl Values {
         modifiers: Modifiers,
         parts: &[Part],
     ) -> Result<Vec<u8>, AllocError>
-        ensures { IfOk result (λ octets. octets.items ≡ modified modifiers (text_value self.now parts.now)) }
+        ensures { IfOk result
+            (λ octets. octets.items ≡ modified modifiers (text_value self.now parts.now)) }
     {
         if modifiers.length {
             let whole = self.expanded_string(alloc, parts)?;

@@ -45,7 +45,8 @@ impl<L: Copy> Labelled<L> {
 
     /// Octets with a label. More than twelve take memory, and its want is the only refusal.
     pub fn kept(alloc: Global, label: L, octets: SmallOctets) -> Result<Labelled<L>, AllocError>
-        ensures ok { IfOk result (λ labelled. labelled ≡ record { label = label; octets = octets.items }) }
+        ensures ok { IfOk result
+            (λ labelled. labelled ≡ record { label = label; octets = octets.items }) }
         ensures few { length octets.items ≤ 12 → IsOk result }
     {
         let word = if octets.len() <= FEW {

@@ -146,7 +146,8 @@ pub(crate) fn front(value: &[u8], limit: usize) -> &[u8]
 impl Modifiers {
     /// A copy of a value with its letters in the cases that are asked for.
     fn cased(self, alloc: Global, value: &[u8]) -> Result<Vec<u8>, AllocError>
-        ensures { IfOk result (λ octets. octets.items ≡ with_first self.first_letter (with_case self.letter_case value.now)) }
+        ensures { IfOk result (λ octets. octets.items
+            ≡ with_first self.first_letter (with_case self.letter_case value.now)) }
     {
         let octets = with_case(alloc, self.letter_case, value)?;
         Ok(with_first(self.first_letter, octets))
@@ -156,7 +157,8 @@ impl Modifiers {
     /// no number of characters, and quoting only adds one for each octet that it quotes.
     #[tactic(auto, using(crate::proofs::Modified::counts))]
     fn character_count(self, value: &[u8]) -> usize
-        ensures { result ≡ character_count (with_quotes self.quote_wildcard (with_first self.first_letter (with_case self.letter_case value.now))) }
+        ensures { result ≡ character_count (with_quotes self.quote_wildcard
+            (with_first self.first_letter (with_case self.letter_case value.now))) }
     {
         let count = character_count(value);
         if self.quote_wildcard {

@@ -57,7 +57,8 @@ pub fn is_global_name(name: &[u8]) -> bool
 
 /// What stands behind `global.` in the name of a variable that scripts share.
 pub(crate) fn global_name(name: &[u8]) -> Option<&[u8]>
-    ensures { MatchOption result (is_global_name name.now ≡ false) (λ rest. (is_global_name name.now ≡ true) × (rest.now ≡ drop (length global_prefix) name.now)) }
+    ensures { MatchOption result (is_global_name name.now ≡ false) (λ rest.
+        (is_global_name name.now ≡ true) × (rest.now ≡ drop (length global_prefix) name.now)) }
 {
     if is_global_name(name) {
         Some(&name[name.len().min(GLOBAL_PREFIX.len())..])

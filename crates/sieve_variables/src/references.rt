@@ -137,7 +137,8 @@ fn is_inside(octet: u8) -> bool
 
 // Cuts at the first dot: the first word, and what stands behind the dot.
 fn cut(inside: &[u8]) -> Option<(&[u8], &[u8])>
-    ensures words { MatchOption result (spec.words_of inside.now ≡ inside.now ∷ []) (λ cut. spec.words_of inside.now ≡ cut.0.now ∷ spec.words_of cut.1.now) }
+    ensures words { MatchOption result (spec.words_of inside.now ≡ inside.now ∷ [])
+        (λ cut. spec.words_of inside.now ≡ cut.0.now ∷ spec.words_of cut.1.now) }
     ensures shorter { IfSome result (λ cut. length cut.1.now < length inside.now) }
 {
     for (i, octet) in inside.iter().enumerate() {

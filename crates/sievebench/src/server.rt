@@ -45,7 +45,9 @@ fn reply_line(outcome: Result<(), EditFault>) -> &'static [u8]
 
 /// Writes the reply to an edit.
 fn answer<W: Sink>(outcome: Result<(), EditFault>, writer: &mut W) -> Progress
-    ensures { progress.Continues result (Wrote W.contents W.fault_count writer.old writer.new (progress.reply_line outcome)) (WroteFront W.contents W.fault_count writer.old writer.new (progress.reply_line outcome)) }
+    ensures { progress.Continues result
+        (Wrote W.contents W.fault_count writer.old writer.new (progress.reply_line outcome))
+        (WroteFront W.contents W.fault_count writer.old writer.new (progress.reply_line outcome)) }
 {
     match write_out(reply_line(outcome), writer) {
         Ok(()) => Progress::Continues,
@@ -55,7 +57,9 @@ fn answer<W: Sink>(outcome: Result<(), EditFault>, writer: &mut W) -> Progress
 
 /// Writes the last reply where a line says nothing that there is.
 fn refuse_line<W: Sink>(writer: &mut W) -> Progress
-    ensures { progress.EndsBy SessionEnd.Syntax result (Wrote W.contents W.fault_count writer.old writer.new (codes "no syntax\n")) (WroteFront W.contents W.fault_count writer.old writer.new (codes "no syntax\n")) }
+    ensures { progress.EndsBy SessionEnd.Syntax result
+        (Wrote W.contents W.fault_count writer.old writer.new (codes "no syntax\n"))
+        (WroteFront W.contents W.fault_count writer.old writer.new (codes "no syntax\n")) }
 {
     match write_out(b"no syntax\n", writer) {
         Ok(()) => Progress::Ends(SessionEnd::Syntax),
@@ -65,7 +69,9 @@ fn refuse_line<W: Sink>(writer: &mut W) -> Progress
 
 /// Writes the last reply where octets end too early.
 fn refuse_octets<W: Sink>(writer: &mut W) -> Progress
-    ensures { progress.EndsBy SessionEnd.Truncated result (Wrote W.contents W.fault_count writer.old writer.new (codes "no truncated\n")) (WroteFront W.contents W.fault_count writer.old writer.new (codes "no truncated\n")) }
+    ensures { progress.EndsBy SessionEnd.Truncated result
+        (Wrote W.contents W.fault_count writer.old writer.new (codes "no truncated\n"))
+        (WroteFront W.contents W.fault_count writer.old writer.new (codes "no truncated\n")) }
 {
     match write_out(b"no truncated\n", writer) {
         Ok(()) => Progress::Ends(SessionEnd::Truncated),
@@ -110,13 +116,18 @@ fn serve_put<R: Source, W: Sink>(
 ) -> Progress
     requires known { Knows input.old (R.remaining reader.old) }
     ensures known { Knows input.new (R.remaining reader.new) }
-    ensures goes { (runs : ℕ) → progress.GoesFrom (λ rest. spec.with_octets count rest (edit_of subject)) result
-        (spec.served bench.old runs) (unused input.old (R.remaining reader.old)) (W.contents writer.old)
-        (spec.served bench.new runs) (unused input.new (R.remaining reader.new)) (R.remaining reader.new) (W.contents writer.new) }
-    ensures moves { (runs : ℕ) → spec.Moved (spec.served bench.old runs) (spec.served bench.new runs) }
+    ensures goes { (runs : ℕ) → progress.GoesFrom
+        (λ rest. spec.with_octets count rest (edit_of subject)) result (spec.served bench.old runs)
+        (unused input.old (R.remaining reader.old)) (W.contents writer.old)
+        (spec.served bench.new runs) (unused input.new (R.remaining reader.new))
+        (R.remaining reader.new) (W.contents writer.new) }
+    ensures moves { (runs : ℕ)
+        → spec.Moved (spec.served bench.old runs) (spec.served bench.new runs) }
     ensures fuel { fuel input.new ≤ fuel input.old }
-    ensures reads { Reads R.remaining R.fault_count R.call_count input.old input.new reader.old reader.new }
-    ensures faults { progress.TellsFaults result input.new (R.fault_count reader.old) (R.fault_count reader.new) (W.fault_count writer.old) (W.fault_count writer.new) }
+    ensures reads { Reads R.remaining R.fault_count R.call_count input.old input.new reader.old
+        reader.new }
+    ensures faults { progress.TellsFaults result input.new (R.fault_count reader.old)
+        (R.fault_count reader.new) (W.fault_count writer.old) (W.fault_count writer.new) }
     ensures end { progress.AtLast result (IsAtEnd (R.remaining reader.new)) }
 {
     let limit = limit_of(&subject);
@@ -146,12 +157,15 @@ fn serve_forgotten<R: Source, W: Sink>(
 ) -> Progress
     requires known { Knows input.old (R.remaining reader.old) }
     ensures known { Knows input.new (R.remaining reader.new) }
-    ensures goes { (old : spec.Served) (request : List ℕ → spec.Request) → progress.MayBeRefused count request → progress.GoesFrom request result
-        old (unused input.old (R.remaining reader.old)) (W.contents writer.old)
-        old (unused input.new (R.remaining reader.new)) (R.remaining reader.new) (W.contents writer.new) }
+    ensures goes { (old : spec.Served) (request : List ℕ → spec.Request)
+        → progress.MayBeRefused count request → progress.GoesFrom request result old
+        (unused input.old (R.remaining reader.old)) (W.contents writer.old) old (unused input.new
+        (R.remaining reader.new)) (R.remaining reader.new) (W.contents writer.new) }
     ensures fuel { fuel input.new ≤ fuel input.old }
-    ensures reads { Reads R.remaining R.fault_count R.call_count input.old input.new reader.old reader.new }
-    ensures faults { progress.TellsFaults result input.new (R.fault_count reader.old) (R.fault_count reader.new) (W.fault_count writer.old) (W.fault_count writer.new) }
+    ensures reads { Reads R.remaining R.fault_count R.call_count input.old input.new reader.old
+        reader.new }
+    ensures faults { progress.TellsFaults result input.new (R.fault_count reader.old)
+        (R.fault_count reader.new) (W.fault_count writer.old) (W.fault_count writer.new) }
     ensures end { progress.AtLast result (IsAtEnd (R.remaining reader.new)) }
 {
     match take_octets(alloc, input, reader, count as usize, false) {
@@ -165,9 +179,13 @@ fn serve_forgotten<R: Source, W: Sink>(
 /// Replies to an edit that is made already.
 #[tactic(auto, using(crate::proofs::Serving::serving))]
 fn serve_made<W: Sink>(outcome: Result<(), EditFault>, writer: &mut W) -> Progress
-    ensures goes { (ask : Option spec.Demand) (old new : BenchState) (runs : ℕ) (unused rest : Option (List ℕ)) → IsTried ask outcome old new → progress.GoesFrom (spec.request_by ask) result
-        (spec.served old runs) unused (W.contents writer.old) (spec.served new runs) unused rest (W.contents writer.new) }
-    ensures faults { progress.MatchProgress result (W.fault_count writer.old ≤ W.fault_count writer.new) ⊥ (HasRisen (W.fault_count writer.old) (W.fault_count writer.new)) ⊥ }
+    ensures goes { (ask : Option spec.Demand) (old new : BenchState) (runs : ℕ)
+        (unused rest : Option (List ℕ)) → IsTried ask outcome old new
+        → progress.GoesFrom (spec.request_by ask) result (spec.served old runs) unused
+        (W.contents writer.old) (spec.served new runs) unused rest (W.contents writer.new) }
+    ensures faults { progress.MatchProgress result
+        (W.fault_count writer.old ≤ W.fault_count writer.new) ⊥
+        (HasRisen (W.fault_count writer.old) (W.fault_count writer.new)) ⊥ }
     ensures end { progress.AtLast result ⊥ }
 {
     answer(outcome, writer)
@@ -176,10 +194,13 @@ fn serve_made<W: Sink>(outcome: Result<(), EditFault>, writer: &mut W) -> Progre
 /// Reports, or replies that memory was refused.
 #[tactic(auto, using(crate::proofs::Serving::serving))]
 fn serve_report<W: Sink>(bench: &mut Bench, meter: &mut Meter, writer: &mut W) -> Progress
-    ensures goes { (unused rest : Option (List ℕ)) → progress.GoesFrom (λ rest. spec.reports rest) result
-        (spec.served bench.old meter.old) unused (W.contents writer.old) (spec.served bench.new meter.new) unused rest (W.contents writer.new) }
+    ensures goes { (unused rest : Option (List ℕ)) → progress.GoesFrom (λ rest. spec.reports rest)
+        result (spec.served bench.old meter.old) unused (W.contents writer.old)
+        (spec.served bench.new meter.new) unused rest (W.contents writer.new) }
     ensures moves { spec.Moved (spec.served bench.old meter.old) (spec.served bench.new meter.new) }
-    ensures faults { progress.MatchProgress result (W.fault_count writer.old ≤ W.fault_count writer.new) ⊥ (HasRisen (W.fault_count writer.old) (W.fault_count writer.new)) ⊥ }
+    ensures faults { progress.MatchProgress result
+        (W.fault_count writer.old ≤ W.fault_count writer.new) ⊥
+        (HasRisen (W.fault_count writer.old) (W.fault_count writer.new)) ⊥ }
     ensures end { progress.AtLast result ⊥ }
 {
     match bench.report(meter, writer) {
@@ -192,7 +213,8 @@ fn serve_report<W: Sink>(bench: &mut Bench, meter: &mut Meter, writer: &mut W) -
 /// Writes the lines of a script's code and `ok`, or why there are none.
 #[tactic(auto, using(sieve_base::proofs::Writing::writing))]
 fn write_dump<W: Sink>(found: Found<'_>, writer: &mut W) -> Result<(), WriteFault>
-    ensures { (lookup : Lookup) → FoundAs found.entry lookup → Writes W.contents W.fault_count result writer.old writer.new (spec.dump_reply lookup) }
+    ensures { (lookup : Lookup) → FoundAs found.entry lookup
+        → Writes W.contents W.fault_count result writer.old writer.new (spec.dump_reply lookup) }
 {
     match found {
         Found::Missing => write_out(b"no no-such-script\n", writer),
@@ -211,7 +233,8 @@ fn write_answer<W: Sink>(
     writer: &mut W,
     question: &Question,
 ) -> Result<(), WriteFault>
-    ensures { Writes W.contents W.fault_count result writer.old writer.new (spec.answer_to bench.now.content question.now) }
+    ensures { Writes W.contents W.fault_count result writer.old writer.new
+        (spec.answer_to bench.now.content question.now) }
 {
     match question {
         Question::Nothing => Ok(()),
@@ -222,9 +245,12 @@ fn write_answer<W: Sink>(
 /// Answers a question.
 #[tactic(auto, using(crate::proofs::Serving::serving))]
 fn serve_question<W: Sink>(bench: &Bench, writer: &mut W, question: &Question) -> Progress
-    ensures goes { (runs : ℕ) (unused rest : Option (List ℕ)) → progress.GoesFrom (λ rest. spec.asks question.now rest) result
-        (spec.served bench.now runs) unused (W.contents writer.old) (spec.served bench.now runs) unused rest (W.contents writer.new) }
-    ensures faults { progress.MatchProgress result (W.fault_count writer.old ≤ W.fault_count writer.new) ⊥ (HasRisen (W.fault_count writer.old) (W.fault_count writer.new)) ⊥ }
+    ensures goes { (runs : ℕ) (unused rest : Option (List ℕ)) → progress.GoesFrom
+        (λ rest. spec.asks question.now rest) result (spec.served bench.now runs) unused
+        (W.contents writer.old) (spec.served bench.now runs) unused rest (W.contents writer.new) }
+    ensures faults { progress.MatchProgress result
+        (W.fault_count writer.old ≤ W.fault_count writer.new) ⊥
+        (HasRisen (W.fault_count writer.old) (W.fault_count writer.new)) ⊥ }
     ensures end { progress.AtLast result ⊥ }
 {
     match write_answer(bench, writer, question) {
@@ -245,13 +271,17 @@ fn perform<R: Source, W: Sink>(
 ) -> Progress
     requires known { Knows input.old (R.remaining reader.old) }
     ensures known { Knows input.new (R.remaining reader.new) }
-    ensures goes { (ask : Option spec.Demand) (old : BenchState) → Tasks task ask old bench.old → progress.GoesFrom (spec.request_by ask) result
-        (spec.served old meter.old) (unused input.old (R.remaining reader.old)) (W.contents writer.old)
-        (spec.served bench.new meter.new) (unused input.new (R.remaining reader.new)) (R.remaining reader.new) (W.contents writer.new) }
+    ensures goes { (ask : Option spec.Demand) (old : BenchState) → Tasks task ask old bench.old
+        → progress.GoesFrom (spec.request_by ask) result (spec.served old meter.old)
+        (unused input.old (R.remaining reader.old)) (W.contents writer.old)
+        (spec.served bench.new meter.new) (unused input.new (R.remaining reader.new))
+        (R.remaining reader.new) (W.contents writer.new) }
     ensures moves { spec.Moved (spec.served bench.old meter.old) (spec.served bench.new meter.new) }
     ensures fuel { fuel input.new ≤ fuel input.old }
-    ensures reads { Reads R.remaining R.fault_count R.call_count input.old input.new reader.old reader.new }
-    ensures faults { progress.TellsFaults result input.new (R.fault_count reader.old) (R.fault_count reader.new) (W.fault_count writer.old) (W.fault_count writer.new) }
+    ensures reads { Reads R.remaining R.fault_count R.call_count input.old input.new reader.old
+        reader.new }
+    ensures faults { progress.TellsFaults result input.new (R.fault_count reader.old)
+        (R.fault_count reader.new) (W.fault_count writer.old) (W.fault_count writer.new) }
     ensures end { progress.AtLast result (IsAtEnd (R.remaining reader.new)) }
 {
     match task {
@@ -277,13 +307,16 @@ fn serve<R: Source, W: Sink>(
 ) -> Progress
     requires known { Knows input.old (R.remaining reader.old) }
     ensures known { Knows input.new (R.remaining reader.new) }
-    ensures goes { progress.Serves input.new.ended result
-        (spec.served bench.old meter.old) (unused input.old (R.remaining reader.old)) (W.contents writer.old)
-        (spec.served bench.new meter.new) (unused input.new (R.remaining reader.new)) (R.remaining reader.new) (W.contents writer.new) }
+    ensures goes { progress.Serves input.new.ended result (spec.served bench.old meter.old)
+        (unused input.old (R.remaining reader.old)) (W.contents writer.old)
+        (spec.served bench.new meter.new) (unused input.new (R.remaining reader.new))
+        (R.remaining reader.new) (W.contents writer.new) }
     ensures moves { spec.Moved (spec.served bench.old meter.old) (spec.served bench.new meter.new) }
     ensures fuel { progress.OnContinues result (fuel input.new < fuel input.old) }
-    ensures reads { Reads R.remaining R.fault_count R.call_count input.old input.new reader.old reader.new }
-    ensures faults { progress.TellsFaults result input.new (R.fault_count reader.old) (R.fault_count reader.new) (W.fault_count writer.old) (W.fault_count writer.new) }
+    ensures reads { Reads R.remaining R.fault_count R.call_count input.old input.new reader.old
+        reader.new }
+    ensures faults { progress.TellsFaults result input.new (R.fault_count reader.old)
+        (R.fault_count reader.new) (W.fault_count writer.old) (W.fault_count writer.new) }
     ensures end { progress.AtLast result (IsAtEnd (R.remaining reader.new)) }
 {
     match Line::next(input, reader) {
@@ -315,21 +348,25 @@ pub fn session<R: Source, W: Sink>(
     // whole in what was read, and at `Write` a front of the text, up to a reply that was cut; the bench holds what these
     // commands leave. At each end the meter has counted the runs of these commands' reports. Where memory is refused at the start,
     // nothing has changed.
-    ensures session { spec.MatchSessionEnd result
-        (spec.SessionFrom result (spec.served bench.old meter.old) (R.remaining reader.old) (W.contents writer.old) (spec.served bench.new meter.new) (W.contents writer.new))
-        (spec.BrokenSessionFrom (spec.served bench.old meter.old) (R.remaining reader.old) (W.contents writer.old) (spec.served bench.new meter.new) (R.remaining reader.new) (W.contents writer.new))
-        (spec.CutSessionFrom (spec.served bench.old meter.old) (R.remaining reader.old) (W.contents writer.old) (spec.served bench.new meter.new) (W.contents writer.new))
-        ((bench.new ≡ bench.old) × (meter.new ≡ meter.old) × (reader.new ≡ reader.old) × (writer.new ≡ writer.old)) }
+    ensures session { spec.MatchSessionEnd result (spec.SessionFrom result
+        (spec.served bench.old meter.old) (R.remaining reader.old) (W.contents writer.old)
+        (spec.served bench.new meter.new) (W.contents writer.new)) (spec.BrokenSessionFrom
+        (spec.served bench.old meter.old) (R.remaining reader.old) (W.contents writer.old)
+        (spec.served bench.new meter.new) (R.remaining reader.new) (W.contents writer.new))
+        (spec.CutSessionFrom (spec.served bench.old meter.old) (R.remaining reader.old)
+        (W.contents writer.old) (spec.served bench.new meter.new) (W.contents writer.new))
+        ((bench.new ≡ bench.old) × (meter.new ≡ meter.old) × (reader.new ≡ reader.old)
+        × (writer.new ≡ writer.old)) }
     // Whatever the devices tell, what became of bench and meter are edits and reports in turn, and nothing else.
     ensures moves { spec.Moved (spec.served bench.old meter.old) (spec.served bench.new meter.new) }
     // At the end of the input none of the octets is unread.
     ensures end { spec.AtLastEnd result (IsAtEnd (R.remaining reader.new)) }
     // A fault is told only where the device counted one, and the end of the turns only where all were taken, no more than octets were given and faults counted.
-    ensures faults { spec.MatchFault result
-        (HasRisen (R.fault_count reader.old) (R.fault_count reader.new))
-        (HasRisen (W.fault_count writer.old) (W.fault_count writer.new))
+    ensures faults { spec.MatchFault result (HasRisen (R.fault_count reader.old)
+        (R.fault_count reader.new)) (HasRisen (W.fault_count writer.old) (W.fault_count writer.new))
         (spec.ReadsAreMade turns (R.call_count reader.old) (R.call_count reader.new)
-        × spec.TurnsAreSpent turns (R.remaining reader.old) (R.remaining reader.new) (R.fault_count reader.old) (R.fault_count reader.new)) }
+        × spec.TurnsAreSpent turns (R.remaining reader.old) (R.remaining reader.new)
+        (R.fault_count reader.old) (R.fault_count reader.new)) }
     ensures calls { R.call_count reader.new ≤ R.call_count reader.old + turns }
 {
     let Ok(mut input) = Input::new(bench.allocator(), turns) else {

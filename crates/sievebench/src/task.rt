@@ -57,7 +57,8 @@ fn copied_name(alloc: Global, place: Place, name: &Word<'_>) -> Result<ScriptNam
 
 /// To put a script.
 fn script_task(alloc: Global, place: Place, name: &Word<'_>, count: u64) -> Task
-    ensures { (state : BenchState) → Tasks result (Some (demand_of (line.script place name.now count))) state state }
+    ensures { (state : BenchState)
+        → Tasks result (Some (demand_of (line.script place name.now count))) state state }
 {
     match copied_name(alloc, place, name) {
         Ok(name) => Task::Put {
@@ -70,7 +71,8 @@ fn script_task(alloc: Global, place: Place, name: &Word<'_>, count: u64) -> Task
 
 /// To put a message.
 fn message_task(alloc: Global, id: &Word<'_>, count: u64) -> Task
-    ensures { (state : BenchState) → Tasks result (Some (demand_of (line.message id.now count))) state state }
+    ensures { (state : BenchState)
+        → Tasks result (Some (demand_of (line.message id.now count))) state state }
 {
     match id.copied(alloc) {
         Ok(id) => Task::Put {
@@ -83,7 +85,8 @@ fn message_task(alloc: Global, id: &Word<'_>, count: u64) -> Task
 
 /// To expect a text of a message's verdict.
 fn expect_task(alloc: Global, id: &Word<'_>, count: u64) -> Task
-    ensures { (state : BenchState) → Tasks result (Some (demand_of (line.expect id.now count))) state state }
+    ensures { (state : BenchState)
+        → Tasks result (Some (demand_of (line.expect id.now count))) state state }
 {
     match id.copied(alloc) {
         Ok(id) => Task::Put {
@@ -96,7 +99,8 @@ fn expect_task(alloc: Global, id: &Word<'_>, count: u64) -> Task
 
 /// To answer with the code of a script.
 fn dump_task(alloc: Global, place: Place, name: &Word<'_>) -> Task
-    ensures { (state : BenchState) → Tasks result (Some (demand_of (line.dump place name.now))) state state }
+    ensures { (state : BenchState)
+        → Tasks result (Some (demand_of (line.dump place name.now))) state state }
 {
     match copied_name(alloc, place, name) {
         Ok(name) => Task::Ask {
@@ -133,7 +137,8 @@ fn rename_script(
     new_place: Place,
     new_name: &Word<'_>,
 ) -> Result<(), EditFault>
-    ensures { IsTried (Some (demand_of (line.rename place name.now new_place new_name.now))) result bench.old bench.new }
+    ensures { IsTried (Some (demand_of (line.rename place name.now new_place new_name.now))) result
+        bench.old bench.new }
 {
     let from = copied_name(bench.allocator(), place, name)?;
     let to = copied_name(bench.allocator(), new_place, new_name)?;
@@ -143,7 +148,8 @@ fn rename_script(
 /// Removes a script.
 #[tactic(auto, using(crate::proofs::Tried::trying))]
 fn drop_script(bench: &mut Bench, place: Place, name: &Word<'_>) -> Result<(), EditFault>
-    ensures { IsTried (Some (demand_of (line.drop_script place name.now))) result bench.old bench.new }
+    ensures { IsTried
+        (Some (demand_of (line.drop_script place name.now))) result bench.old bench.new }
 {
     let name = copied_name(bench.allocator(), place, name)?;
     bench.remove_script(&name)
@@ -174,7 +180,8 @@ fn clear_expected(bench: &mut Bench, id: &Word<'_>) -> Result<(), EditFault>
 /// Sets the envelope's addresses.
 #[tactic(auto, using(crate::proofs::Tried::trying))]
 fn set_envelope(bench: &mut Bench, from: &Word<'_>, to: &Word<'_>) -> Result<(), EditFault>
-    ensures { IsTried (Some (demand_of (line.envelope from.now to.now))) result bench.old bench.new }
+    ensures { IsTried
+        (Some (demand_of (line.envelope from.now to.now))) result bench.old bench.new }
 {
     let from = from.copied(bench.allocator())?;
     let to = to.copied(bench.allocator())?;
@@ -198,7 +205,8 @@ fn set_message_envelope(
     from: &Word<'_>,
     to: &Word<'_>,
 ) -> Result<(), EditFault>
-    ensures { IsTried (Some (demand_of (line.message_envelope id.now from.now to.now))) result bench.old bench.new }
+    ensures { IsTried (Some
+        (demand_of (line.message_envelope id.now from.now to.now))) result bench.old bench.new }
 {
     let id = id.copied(bench.allocator())?;
     let from = from.copied(bench.allocator())?;
@@ -209,7 +217,8 @@ fn set_message_envelope(
 /// Takes a message's own addresses from it. Takes no memory: an id that is too long for an array isn't one of the bench.
 #[tactic(auto, using(crate::proofs::Tried::trying))]
 fn clear_message_envelope(bench: &mut Bench, id: &Word<'_>) -> Result<(), EditFault>
-    ensures { IsTried (Some (demand_of (line.no_message_envelope id.now))) result bench.old bench.new }
+    ensures { IsTried
+        (Some (demand_of (line.no_message_envelope id.now))) result bench.old bench.new }
 {
     match id.short::<MAX_ID>() {
         Some(id) => bench.clear_message_envelope(id.as_slice()),

@@ -23,6 +23,8 @@ pub trait Sequence {
 
 /// A text is cut into sequences and single octets in one way, and the computed pieces are that cut.
 pub fn the_cut_is_the_only_one<S: Sequence>()
-    ensures exists { (text : List ℕ) → Cuts S.written S.Legal (pieces_of S.found_at S.further text) text }
-    ensures only { (pieces : List (Piece S)) (text : List ℕ) → Cuts S.written S.Legal pieces text → pieces ≡ pieces_of S.found_at S.further text }
+    ensures exists { (text : List ℕ)
+        → Cuts S.written S.Legal (pieces_of S.found_at S.further text) text }
+    ensures only { (pieces : List (Piece S)) (text : List ℕ) → Cuts S.written S.Legal pieces text
+        → pieces ≡ pieces_of S.found_at S.further text }
 {}

@@ -16,9 +16,8 @@ loop-part-preserved c =
     let within : length so_far ≤ n = c.loop-part.invariant.0 in
     let items : c.extend_from_slice.new.self.items ≡ so_far ++ take (n - c.len.result) x = c.in_ok-extend_from_slice.ensures.items ∙ ap (λ l. so_far ++ l) c.front.ensures in
     let left : n - c.len.result ≡ n - length so_far = ap (λ (k : ℕ). n - k) len in
-    let next : text_value values (drop c.loop-part.part-index c.args.parts.now) ≡ x ++ more = grind (arith, common_steps) in
-    (
+    let next : text_value values (drop c.loop-part.part-index c.args.parts.now) ≡ x ++ more = grind (arith, common_steps) in (
       rw items (length-take_most n _ so_far x within left),
       ap (λ l. take n (l ++ more)) items ∙ ap (take n) (append_assoc so_far _ more) ∙ front_more n _ so_far x more within left
-      ∙ ap (λ l. take n (so_far ++ l)) (sym next) ∙ c.loop-part.invariant.1,
+          ∙ ap (λ l. take n (so_far ++ l)) (sym next) ∙ c.loop-part.invariant.1,
     )

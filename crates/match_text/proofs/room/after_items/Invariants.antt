@@ -1,7 +1,7 @@
 use Rattle.std.proofs.Common.{◌≡◌, ◌++◌, ℕ, List, Some, drop}
 use Rattle.match_text.specs.declared.room.KeyKind.TheVariants.{Pattern}
 use Rattle.match_text.specs.view.Room.{is_room}
-use Rattle.match_text.proofs.room.behind_items.Given as goal
+use Rattle.match_text.proofs.room.after_items.Given as goal
 
 -- so many octets are left for the rest as there were for all
 abbrev pub invariant-loop-octet : goal.invariant-loop-octet
