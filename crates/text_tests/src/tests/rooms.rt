@@ -8,7 +8,7 @@ type Piecewise<'a> = (&'a [u8], &'a [u8], usize);
 
 /// Whether a value of so many octets can match a key in pieces.
 fn is_enough(kind: KeyKind, size: usize, (front, back, _): Piecewise<'_>) -> bool {
-    Room::new(kind, size).behind(front).behind(back).is_enough()
+    Room::new(kind, size).after(front).after(back).is_enough()
 }
 
 /// Tells of each key that a value of as many octets as it needs can match, and one of fewer can't.
