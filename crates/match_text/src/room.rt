@@ -1,5 +1,5 @@
 //! Which keys can match a value at all, by how many octets they have.
-ghost use Rattle.std.specs.Prelude.{◌≡◌, ◌++◌, ℕ, List, Some, [], false};
+ghost use Rattle.std.specs.Prelude.{◌≡◌, ◌++◌, ℕ, List, Some, [], false, true};
 ghost use Rattle.match_text.specs.Room.{may_match};
 ghost use Rattle.match_text.specs.declared.room.KeyKind.TheVariants.{Pattern};
 ghost use Rattle.match_text.specs.view.Room.{has_room, is_room, takes_octet};
@@ -60,6 +60,13 @@ impl Room {
                 }
             }
         }
+    }
+
+    /// Whether the octets of a key so far are more than the value has room for, whatever comes after them. Takes no memory.
+    pub fn is_exceeded(self) -> bool
+        ensures { result ≡ true → (rest : List ℕ) → has_room self rest ≡ false }
+    {
+        self.left.is_none()
     }
 
     /// Whether the value can match the key, all of whose octets the room has seen. Takes no memory.

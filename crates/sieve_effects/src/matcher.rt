@@ -134,12 +134,16 @@ pub(crate) struct Matcher<'a> {
     pub(crate) are_cut: bool,
 }
 
-/// Whether a value of so many octets can match the key that a string gives. Takes no memory.
+/// Whether a value of so many octets can match the key that a string gives. No more of its parts are looked at than the value has room for.
+/// Takes no memory.
 fn may_match(values: &Values, kind: KeyKind, size: usize, parts: &[Part]) -> bool
     ensures { result ≡ may_match kind size (text_value values.now parts.now) }
 {
     let mut room = Room::new(kind, size);
     for part in parts {
+        if room.is_exceeded() {
+            return false;
+        }
         room = room.after(values.part(part));
     }
     room.is_enough()

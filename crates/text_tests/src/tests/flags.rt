@@ -2,7 +2,7 @@
 use super::{Row, holds, push_ended, same};
 use match_text::{
     Collation, FlagList, flag_keys, flag_keys_of_texts, flag_text, flags_of, flags_of_texts,
-    next_flag, union, without,
+    next_flag, next_key, union, without,
 };
 use std::alloc::{AllocError, Global};
 use std::borrow::CowSlice;
@@ -163,6 +163,27 @@ fn check_keys(
         push_ended(&mut told, key.as_slice(), b'|')?;
     }
     same(rt, row, &told, wanted);
+    Ok(())
+}
+
+/// The pieces of a key that have octets, one after another.
+#[test]
+fn a_key_gives_its_pieces(rt: HostRuntime) -> Result<(), AllocError> {
+    let rows: &[Row<'_>] = &[
+        (b"", b""),
+        (b"   ", b""),
+        (b"a", b"a|"),
+        (b" \\Seen  a* ", b"\\Seen|a*|"),
+    ];
+    for (key, wanted) in rows {
+        let mut told = Vec::new(rt.alloc());
+        let mut left = *key;
+        while let Some((piece, rest)) = next_key(left) {
+            push_ended(&mut told, piece, b'|')?;
+            left = rest;
+        }
+        same(&rt, *key, &told, *wanted);
+    }
     Ok(())
 }
 

@@ -11,11 +11,17 @@ fn is_enough(kind: KeyKind, size: usize, (front, back, _): Piecewise<'_>) -> boo
     Room::new(kind, size).after(front).after(back).is_enough()
 }
 
+/// Whether a key in pieces has more octets than a value of so many has room for.
+fn is_exceeded(kind: KeyKind, size: usize, (front, back, _): Piecewise<'_>) -> bool {
+    Room::new(kind, size).after(front).after(back).is_exceeded()
+}
+
 /// Tells of each key that a value of as many octets as it needs can match, and one of fewer can't.
 fn check_keys(rt: &impl Abort, kind: KeyKind, rows: &[Piecewise<'_>]) {
     for row in rows {
         let (_, back, needed) = *row;
         holds(rt, back, is_enough(kind, needed, *row));
+        holds(rt, back, !is_exceeded(kind, needed, *row));
         if needed > 0 {
             holds(rt, back, !is_enough(kind, needed - 1, *row));
         }
@@ -36,6 +42,9 @@ fn keys_need_their_octets(rt: HostRuntime) {
     for row in rows {
         let (_, back, needed) = *row;
         holds(&rt, back, !is_enough(KeyKind::Whole, needed + 1, *row));
+        if needed > 0 {
+            holds(&rt, back, is_exceeded(KeyKind::Part, needed - 1, *row));
+        }
         holds(&rt, back, is_enough(KeyKind::Part, needed + 1, *row));
     }
 }

@@ -2,8 +2,12 @@
 //! What strings, modifiers and variables come to stands in `examples/rows`. What is expected was written by hand from RFC 5229 and RFC 6609.
 
 use super::{holds, same};
-use sieve_variables::{folded, is_global_name, is_identifier, references_in};
-use std::alloc::AllocError;
+use sieve_base::Octets;
+use sieve_variables::{
+    LetterCase, Modifiers, Values, folded, is_global_name, is_identifier, parts_of_text,
+    references_in,
+};
+use std::alloc::{AllocError, Global};
 use std::process::Abort;
 
 /// Compares for each text whether it has a reference, one in a namespace, one in a foreign one, and one past the limit.
@@ -49,5 +53,69 @@ fn names_are_told_apart_and_kept_in_lower_case(rt: HostRuntime) -> Result<(), Al
     holds(&rt, b"global", !is_global_name(b"global"));
     let name = folded(rt.alloc(), b"First_NAME9")?;
     same(&rt, b"First_NAME9", name.as_slice(), b"first_name9");
+    Ok(())
+}
+
+/// What variables hold after a match of the value and of one wildcard.
+fn values_after(alloc: Global, value: &[u8], taken: &[u8]) -> Result<Values, AllocError> {
+    let mut texts = Vec::new(alloc);
+    texts.push(Octets::copied(alloc, value)?)?;
+    texts.push(Octets::copied(alloc, taken)?)?;
+    let mut values = Values::new(alloc);
+    values.set_matched(texts);
+    Ok(values)
+}
+
+/// The first octets that a string stands for.
+#[test]
+fn strings_have_their_fronts(rt: HostRuntime) -> Result<(), AllocError> {
+    let alloc = rt.alloc();
+    let values = values_after(alloc, b"abcdef", b"bcd")?;
+    let rows: &[(&[u8], usize, &[u8])] = &[
+        (b"", 3, b""),
+        (b"${0}", 4, b"abcd"),
+        (b"${0}", 9, b"abcdef"),
+        (b"x${1}${0}z", 5, b"xbcda"),
+        (b"x${1}${0}z", 4, b"xbcd"),
+        (b"x${1}y", 0, b""),
+        (b"x${1}y", 9, b"xbcdy"),
+        (b"${9}x${1}", 2, b"xb"),
+    ];
+    for (string, limit, wanted) in rows {
+        let parts = parts_of_text(alloc, *string)?;
+        let front = values.expanded_front(alloc, parts.as_slice(), *limit)?;
+        same(&rt, *string, front.as_slice(), *wanted);
+    }
+    Ok(())
+}
+
+/// A string of more than 4,096 octets is cut after all modifiers but `:length`, which counts all of it (RFC 5229, sections 4.1 and 6).
+#[test]
+fn strings_are_modified(rt: HostRuntime) -> Result<(), AllocError> {
+    let alloc = rt.alloc();
+    let long = vec![in alloc; b'a'; 4_090]?;
+    let values = values_after(alloc, &long, b"b")?;
+    let none = Modifiers {
+        letter_case: None,
+        first_letter: None,
+        quote_wildcard: false,
+        length: false,
+    };
+    let upper = Modifiers {
+        letter_case: Some(LetterCase::Upper),
+        ..none
+    };
+    let length = Modifiers {
+        length: true,
+        ..upper
+    };
+    let parts = parts_of_text(alloc, b"${1}${0}${1}c${0}")?;
+    let octets = values.modified_string(alloc, none, parts.as_slice())?;
+    holds(&rt, b"cut", octets.len() == 4_096);
+    same(&rt, b"after the value", &octets[4_091..], b"bcaaa");
+    let octets = values.modified_string(alloc, upper, parts.as_slice())?;
+    same(&rt, b"in capitals", &octets[4_091..], b"BCAAA");
+    let octets = values.modified_string(alloc, length, parts.as_slice())?;
+    same(&rt, b"counted", &octets, b"8183");
     Ok(())
 }
