@@ -1,0 +1,48 @@
+"""What is printed as one: a definition with its clauses, definitions in one `mutual` block, a type of the code with its model, or a contract."""
+import re
+
+
+class Part:
+    """Lines of a file: the comment before them, and the text, each with the number of its first line."""
+
+    def __init__(self, file, line, comment, text):
+        self.file, self.line, self.comment, self.text = file, line, comment, text
+
+    def size(self):
+        """How many lines there are without comments and blank lines."""
+        return sum(bool(it.strip()) and not re.match(r" *(?:--|//)", it) for it in self.text)
+
+
+class Unit:
+    """Its crate, its parts, the names that it defines, their full paths, and the terms in it, of which it is known later what they use."""
+
+    def __init__(self, crate, part, names, paths):
+        self.crate, self.parts, self.names, self.paths = crate, [part], names, paths
+        self.readers = []
+        self.known = None
+
+    def place(self):
+        """Its file and line."""
+        return f"{self.parts[0].file}:{self.parts[0].line}"
+
+    def size(self):
+        """How many definitions and lines it has."""
+        return len(self.names), sum(it.size() for it in self.parts)
+
+    def uses(self):
+        """The units that it uses, what it uses of the toolchain, as pairs of name and module, and the words that nothing defines."""
+        if self.known is None:
+            self.known = ({}, {}, [])
+            for reader in self.readers:
+                reader(self)
+        return self.known
+
+    def add(self, found, file, line, word):
+        """A word is used that stands for this: units, a pair of the toolchain, or nothing at all."""
+        units, tools, wrong = self.known
+        if found is None:
+            wrong.append((file, line, word))
+        elif isinstance(found, tuple):
+            tools[found] = True
+        else:
+            units.update((it, True) for it in found if it is not self)
