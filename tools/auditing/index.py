@@ -1,9 +1,11 @@
 """All definitions, types and contracts of the crates, by their names."""
+import os
+import pathlib
 import re
+import shutil
 
 from .sources import MADE, PRELUDE, PRIMITIVES, Source
 from .specs import CONSTRUCTORS, Specs
-from .units import Unit
 
 OWN = "Rattle."
 # The modules that are made of types of the code.
@@ -14,11 +16,17 @@ MADE_OF_CODE = re.compile(r"\.specs\.(?:declared|contracts)\b")
 FIELDS = set("now old new entry D make has_globals has_version subcommand_required arg_required_else_help value_names long short cmp eq write".split())
 
 
+def libraries():
+    """The names of the toolchain's libraries, or none where there is no toolchain."""
+    kit = pathlib.Path(os.path.realpath(shutil.which("rt") or "rt")).parent.parent
+    return {it.stem for it in (kit / "rlibs").glob("*.rlib")}
+
+
 class Index:
     """What stands in the crates of a folder. What isn't theirs is the toolchain's."""
 
     def __init__(self, top):
-        self.top = top
+        self.top, self.libraries = top, libraries()
         self.crates = sorted(it.name for it in (top / "crates").iterdir() if (it / "src").is_dir())
         self.specs, self.sources, self.known_fields = {}, {}, set()
         for crate in self.crates:
@@ -57,11 +65,15 @@ class Index:
         """Whether a module is one of these crates."""
         return module.startswith(OWN) and module.split(".")[1] in self.crates
 
+    def is_toolchain(self, module):
+        """Whether a module that isn't of these crates is one of a library that the toolchain has. Where there is no toolchain all are."""
+        return not module.startswith(OWN) or not self.libraries or module.split(".")[1] in self.libraries
+
     def member(self, module, path):
         """What the first name of a path stands for in a module, whose other names are fields: units, a pair of the toolchain, or nothing."""
         name = path[0]
         if not self.is_own(module):
-            return (name, module)
+            return (name, module) if self.is_toolchain(module) else None
         if MADE_OF_CODE.search(module):
             return self.declared(module.split("."), path)
         specs = self.specs.get(module)
@@ -138,6 +150,6 @@ class Index:
             return self.item(source, [*source.uses[head], *rest], depth + 1)
         if head in self.crates and rest and (head, ()) in self.sources:
             return self.item(self.sources[head, ()], rest, depth + 1)
-        if head in PRIMITIVES or head in PRELUDE or rest and head in ("std", "core", "alloc") or depth and head not in self.crates:
+        if head in PRIMITIVES or head in PRELUDE or rest and head not in self.crates and (not self.libraries or head in {"alloc", *self.libraries}):
             return ("::".join(path), "code")
         return None

@@ -1,5 +1,4 @@
 """What is asked for by name, and what it stands on, in an order in which nothing is used before it is printed."""
-from .units import Unit
 
 
 class Unknown(Exception):
@@ -97,9 +96,7 @@ def shown(group):
         yield ""
     for unit in group:
         for part in unit.parts:
-            yield f"{part.file}:{part.line}"
-            yield from part.comment
-            yield from part.text
+            yield from part.shown()
             yield ""
 
 

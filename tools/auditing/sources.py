@@ -1,15 +1,11 @@
-"""The types, traits, constants and contracts of a file `*.rt`, and what their words stand for."""
+"""What is printed of types, traits, constants and contracts of the code, and what their words stand for."""
 import re
 
-from .specs import Names
+from .code import File, Item, split
 from .units import Part, Unit
-from .words import Reader, pieces
+from .words import Reader
 
-PLAIN = re.compile(r"""//[^\n]*|/\*.*?\*/|b?r(#*)".*?"\1|b?"(?:\\.|[^"\\])*"|b?'(?:\\[^']*|[^'\\\n])'""", re.S)
-ITEM = re.compile(r"(pub(?:\([^)]*\))?\s+)?(?:unsafe\s+|const\s+(?=fn\b)|async\s+)*(ghost use|use|mod|fn|struct|enum|trait|impl|const|static|type|ghost)\b\s*(\w*)")
-CLAUSE = re.compile(r"\s*(requires|ensures|ghost)\b\*?\s*(\w*)\s*:?\s*(?=\{)")
 PATH = re.compile(r"(?<!['\w.])(?:crate::|self::|super::)*[A-Za-z_]\w*(?:::[A-Za-z_]\w*)*")
-OPENS, CLOSES = "([{", ")]}"
 PRIMITIVES = set("bool char str u8 u16 u32 u64 u128 usize i8 i16 i32 i64 i128 isize f32 f64".split())
 PRELUDE = set(
     "Option Some None Result Ok Err Vec Box String Copy Clone Drop Drops Send Sync Sized Fn FnMut FnOnce Iterator IntoIterator Default PartialEq Eq PartialOrd Ord From Into AsRef AsMut ToOwned AllocGlobal Print Eprint".split()
@@ -19,216 +15,18 @@ KEYWORDS = set("pub crate mut dyn impl for where const fn as in ref move static 
 MADE = re.compile(r"(?:out|fold|Held|Row_of|end_of|more_of|size|view|rec)-|\S+'$|\S+-F$|(?:Inside|enum|the_type|the_row)$|The\w+$")
 
 
-def blank(found):
-    """As many spaces, and the ends of lines."""
-    return re.sub(r"[^\n]", " ", found[0])
+class Source(File):
+    """A file of code, of which units are made."""
 
-
-def split(text, mark=","):
-    """The places of the parts of a text between marks that stand in no brackets: pairs of start and end."""
-    start = depth = 0
-    for at, it in enumerate(text):
-        depth += (it in "([{<") - (it in ")]}" or it == ">" and text[at - 1] != "-" and text[at - 1] != "=")
-        if it == mark and depth == 0:
-            yield start, at
-            start = at + 1
-    if text[start:].strip():
-        yield start, len(text)
-
-
-class Item:
-    """A type, trait, constant or function of the code: its kind and name, the module and the names around, where it stands, and its unit."""
-
-    def __init__(self, source, kind, name, start, head, end, around):
-        self.source, self.kind, self.name, self.start, self.head, self.end, self.around = source, kind, name, start, head, end, around
-        self.variants, self.members, self.is_public, self.made, self.own = {}, {}, False, None, None
-
-    def path(self):
-        """Its full path."""
-        return [self.source.crate, *self.source.module, *(it for it in [self.around and self.around.owner] if it), self.name]
-
-
-class Around:
-    """What stands around a function: an `impl` or a trait, its type, the words that it binds, and the names that it brings."""
-
-    def __init__(self, owner, head, is_trait):
-        self.owner, self.head, self.is_trait, self.names, self.members, self.of = owner, head, is_trait, Names(), [], None
-
-
-class Source:
-    """A file of code: its items by name, what its `use` lines bring, and the contracts in it."""
-
-    def __init__(self, index, crate, module, path):
-        self.index, self.crate, self.module, self.path = index, crate, module, path
-        self.file, self.text = str(path.relative_to(index.top)), path.read_text(encoding="utf-8")
-        self.plain = PLAIN.sub(blank, self.text)
-        self.names, self.uses, self.items, self.functions, self.impls, self.modules, self.wrong = Names(), {}, {}, [], [], [], []
-        self.read(0, len(self.plain), None)
-
-    # How the file is cut
-
-    def close(self, at):
-        """The place behind the bracket that closes the one at a place."""
-        depth = 0
-        for it in re.finditer(r"[(\[{)\]}]", self.plain[at:]):
-            depth += 1 if it[0] in OPENS else -1
-            if not depth:
-                return at + it.end()
-        return len(self.plain)
-
-    def until(self, at, marks):
-        """The place of the first of these marks that stands in no brackets; brackets are skipped but where they are marks."""
-        while at < len(self.plain) and self.plain[at] not in marks:
-            at = self.close(at) if self.plain[at] in OPENS else at + 1
-        return at
-
-    def read(self, at, end, around):
-        """Reads the items from a place to another."""
-        while True:
-            start = at
-            while at < end and (self.plain[at].isspace() or self.plain[at] == "#"):
-                at = self.close(self.plain.index("[", at)) if self.plain[at] == "#" else at + 1
-            if at >= end:
-                return
-            it = ITEM.match(self.plain, at)
-            if it:
-                is_test = re.search(r"#\[(?:cfg\()?test", self.plain[start:at])
-                at = self.item(it, start, around, is_test)
-            else:
-                at = self.until(at, ";{")
-                at = self.close(at) if at < end and self.plain[at] == "{" else at + 1
-
-    def item(self, it, start, around, is_test):
-        """Reads an item; gives the place behind it."""
-        kind, name = it[2], it[3]
-        if kind in ("use", "ghost use"):
-            end = self.plain.index(";", it.end())
-            self.use(kind, it.start(), end, around)
-        elif kind == "mod":
-            end = self.until(it.end(), ";{")
-            self.modules += [] if is_test or self.plain[end] != ";" else [name]
-            end = end if self.plain[end] == ";" else self.close(end) - 1
-        elif kind == "fn":
-            return self.function(it, start, around)
-        elif kind == "ghost":
-            end = self.until(it.end(), ";")
-            around.members += [(name, start, it.start(), end)]
-        elif kind in ("impl", "trait"):
-            return self.impl(it, start)
-        else:
-            end = self.until(it.end(), ";{" if kind in ("struct", "enum") else ";")
-            end = self.close(end) - 1 if self.plain[end] == "{" else end
-            item = Item(self, kind, name, start, it.start(), end + 1, around)
-            item.is_public = bool(it[1])
-            if name != "_" and (kind != "type" or not around):
-                self.keep(item)
-        return end + 1
-
-    def keep(self, item):
-        """Takes an item under its name, with the variants or fields that it has."""
-        if item.around:
-            self.items.setdefault(f"{item.around.owner}.{item.name}", item)
-        else:
-            self.items[item.name] = item
-        if item.kind in ("struct", "enum"):
-            at = self.plain.find("{", item.head, item.end)
-            body = (at + 1, item.end - 1) if at >= 0 else (item.head, item.head)
-            for start, end in self.parts(*body):
-                name = re.match(r"(?:\s*#\[[^\]]*\])*\s*(?:pub(?:\([^)]*\))?\s+)?(ghost\s+)?(\w+)", self.plain[start:end])
-                if name:
-                    (item.variants if item.kind == "enum" else item.members)[name[2]] = (start, end)
-
-    def parts(self, start, end):
-        """The places of the parts between commas."""
-        return [(start + a, start + b) for a, b in split(self.plain[start:end])]
-
-    def use(self, kind, start, end, around):
-        """A `use` line, of definitions or of code."""
-        if kind == "ghost use":
-            names = around.names if around else self.names
-            if not names.bring(" ".join(self.text[start:end].split()).removeprefix("ghost ")):
-                self.wrong.append((self.file, self.line(start), self.text[start:end]))
-        else:
-            text = re.sub(r"\s+", "", re.sub(r"^(?:pub(?:\([^)]*\))?\s+)?use\s+", "", self.plain[start:end]).replace(" as ", "@"))
-            self.bring(text, [])
-
-    def bring(self, text, before):
-        """What a `use` line of code brings, with the path before it."""
-        head, brace, rest = text.partition("{")
-        if not brace:
-            path, _, alias = text.partition("@")
-            path = [*before, *path.split("::")]
-            path = path[:-1] if path[-1] == "self" else path
-            self.uses[alias or path[-1]] = path
-            return
-        before = [*before, *filter(None, head.split("::"))]
-        for start, end in split(rest[: rest.rindex("}")]):
-            self.bring(rest[start:end], before)
-
-    def impl(self, it, start):
-        """An `impl` or a trait, with what is in it."""
-        body = self.until(it.end(2), "{")
-        end = self.close(body)
-        head = self.plain[it.start() : body]
-        if it[2] == "trait":
-            around = Around(it[3], head, True)
-            item = Item(self, "trait", it[3], start, it.start(), end, None)
-            item.is_public = bool(it[1])
-            self.items[it[3]] = item
-        else:
-            named = re.sub(r"^.*?\bfor\s+(?!<)", "", self.bare(head)) if re.search(r"\bfor\s+(?!<)", self.bare(head)) else self.bare(head)
-            owner = re.search(r"\w+(?:::\w+)*", re.sub(r"^&?(?:mut )?", "", named.strip()))
-            around = Around(owner[0].split("::")[-1] if owner else "", head, False)
-            around.of = re.match(r"\s*(\w+)", self.bare(head)) if " for " in head else None
-        self.read(body + 1, end - 1, around)
-        if it[2] == "trait":
-            item.own = around
-        elif around.of:
-            self.impls.append((around, start, it.start(), end))
-        return end
-
-    def bare(self, head):
-        """The head of an `impl` without its word, parameters and conditions."""
-        text = re.sub(r"^\s*(?:unsafe\s+)?impl\s*", "", head)
-        if text.startswith("<"):
-            depth = 0
-            for at, it in enumerate(text):
-                depth += (it == "<") - (it == ">" and text[at - 1] != "-")
-                if not depth:
-                    text = text[at + 1 :]
-                    break
-        return re.split(r"\bwhere\b", text)[0]
-
-    def function(self, it, start, around):
-        """A function with its contract; gives the place behind its body."""
-        item = Item(self, "fn", it[3], start, it.start(), None, around)
-        item.is_public = bool(it[1]) and "(" not in it[1] or bool(around and (around.is_trait or around.of))
-        at = it.end()
-        while self.plain[at] not in ";{" and not CLAUSE.match(self.plain, at):
-            at = self.close(at) if self.plain[at] in OPENS else at + 1
-        item.signature, item.clauses = (it.start(2), at), []
-        while clause := CLAUSE.match(self.plain, at):
-            at = self.close(clause.end())
-            item.clauses.append((clause[1], clause[2], clause.start(), clause.end() + 1, at - 1))
-        at = self.until(at, ";{")
-        item.end = at
-        self.functions.append(item)
-        return at + 1 if self.plain[at] == ";" else self.close(at)
-
-    def line(self, at):
-        """The number of a place's line."""
-        return 1 + self.text.count("\n", 0, at)
-
-    # What is printed
-
-    def part(self, start, head, pieces_of):
+    def part(self, start, head, shown, around=()):
         """The lines of these pieces of the file, with the comment before them, without attributes."""
-        comment = [it.rstrip() for it in self.text[start:head].split("\n") if it.strip().startswith("//")]
+        comment = [it for it in self.text[start:head].split("\n") if it.strip().startswith("//")]
         lines = []
-        for begin, end in pieces_of:
-            begin = self.text.rfind("\n", 0, begin) + 1 if not self.text[self.text.rfind("\n", 0, begin) + 1 : begin].strip() else begin
-            lines += [it.rstrip() for it in self.text[begin:end].strip("\n").split("\n") if not re.match(r"\s*#!?\[.*\]$", it)]
-        return Part(self.file, self.line(head), comment, lines)
+        for begin, end in shown:
+            before = self.text.rfind("\n", 0, begin) + 1
+            text = self.text[begin if self.text[before:begin].strip() else before : end].strip("\n")
+            lines += [it for it in text.split("\n") if not re.match(r"\s*#!?\[.*\]$", it)]
+        return Part(self.file, self.line(head), comment, lines, around)
 
     def unit_of(self, item):
         """The unit of a type, a trait or a constant."""
@@ -323,10 +121,10 @@ class Source:
         self.use_members(unit, around, around.members, names)
         for function in self.functions:
             if function.around is around:
-                self.use_contract(unit, function, None)
+                self.use_contract(unit, function, function.clauses)
 
     def use_members(self, unit, around, members, names):
-        """What ghost members use, of an `impl` or a trait: only the names that are brought there."""
+        """What ghost members of an `impl` or a trait use. There the members that are named are bound."""
         bound = {"Self", "self", "Value", *names, *re.findall(r"\w+", around.head)}
         for _, _, head, end in members:
             brace = self.plain.index("{", head)
@@ -361,15 +159,13 @@ class Source:
                 continue
             unit.add(self.index.code(self, path), self.file, self.line(it.start()), it[0])
 
-    # Contracts
-
     def contract(self, item, name=None):
         """The unit of a function's contract, or of its clauses of a name."""
-        clauses = [it for it in item.clauses if name is None or it[0] == "requires" or it[1] == name]
-        around = [self.head_of(item)] if item.around else []
-        shown = [*around, (item.start, item.signature[1]), *((it[2], it[4] + 1) for it in clauses)]
+        clauses = [it for it in item.clauses if name is None or it[0] != "ensures" or it[1] == name]
+        shown = [(item.head, item.signature[1]), *((it[2], it[4] + 1) for it in clauses)]
+        around = [" ".join(self.text[slice(*self.head_of(item))].split())] if item.around else []
         path = "::".join(item.path()) + (f".{name}" if name else "")
-        unit = Unit(self.crate, self.part(item.head, item.head, shown), [item.name], [path])
+        unit = Unit(self.crate, self.part(item.start, item.head, shown, around), [item.name], [path])
         unit.readers.append(lambda it: self.use_contract(it, item, clauses))
         return unit
 
@@ -382,9 +178,10 @@ class Source:
         if item.around and not item.around.is_trait:
             self.use_head(unit, item)
         bound = {"self", "Self", "result", *self.generics(item), *self.parameters(item)}
-        if item.around:
-            bound |= {name for name, _, _, _ in item.around.members} if item.around.is_trait else set()
-        for _, _, _, begin, stop in item.clauses if clauses is None else clauses:
+        bound |= {clause[1] for clause in item.clauses if clause[0] == "ghost"}
+        if item.around and item.around.is_trait:
+            bound |= {name for name, _, _, _ in item.around.members}
+        for _, _, _, begin, stop in clauses:
             self.use_term(unit, begin, stop, bound, item.around and item.around.names)
 
     def use_head(self, unit, item):
@@ -413,7 +210,7 @@ class Source:
         return text.count("<") - text.count(">")
 
     def use_term(self, unit, start, end, bound, block):
-        """What a term uses. Names are those of the block around first, then those of the file and of the code where it is a contract's."""
+        """What a term uses. Names are those of the block around first, then those of the file, and of the code."""
         scope = Scope(self, block)
         reader = Reader(self.text[start:end], start, scope.is_constructor)
         reader.term(0, bound)

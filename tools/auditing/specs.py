@@ -82,7 +82,7 @@ class Specs:
             self.own[word] = unit
 
     def block(self, lines, first, depth, params, within=None):
-        """Reads what begins at a depth. Within a unit, what is defined belongs to it. Parameters are the texts of those of modules around."""
+        """Reads what begins at a depth. Within a unit, what is defined belongs to it. Parameters are those of modules around: texts with their lines."""
         unit, name = within, None
         for comment, start, end in Lines(lines, first, depth).cut():
             text = "\n".join(lines[start:end])[depth:]
@@ -92,13 +92,13 @@ class Specs:
             elif re.match(r"(?:pub )?mod ", text):
                 continue
             elif re.match(rf"{MARKS}mutual\b", text):
-                own = within or self.unit(lines, first, comment, start, end)
+                own = within or self.unit(lines, first, (comment, start, end), params)
                 self.block(lines[start + 1 : end], first + start + 1, depth + 2, params, own)
             elif text.startswith("module _ "):
                 head = text[len("module _ ") :].split(" where\n")[0]
                 self.block(lines[start + 1 : end], first + start + 1, depth + 2, [*params, (head, first + start)])
             elif signed or declared:
-                unit = within or self.unit(lines, first, comment, start, end)
+                unit = within or self.unit(lines, first, (comment, start, end), params)
                 name = signed[1] if signed else declared[2]
                 unit.names.append(name)
                 unit.paths.append(f"{self.module}.{name}")
@@ -112,10 +112,11 @@ class Specs:
             elif not text.startswith("unfolding "):
                 self.wrong.append((self.file, first + start, text.split("\n")[0]))
 
-    def unit(self, lines, first, comment, start, end):
-        """A new unit, of these lines."""
-        part = Part(self.file, first + start, lines[comment:start], lines[start:end])
-        unit = Unit(self.crate, part, [], [])
+    def unit(self, lines, first, places, params):
+        """A new unit, of the lines between these places."""
+        comment, start, end = places
+        around = [f"module _ {head} where" for head, _ in params]
+        unit = Unit(self.crate, Part(self.file, first + start, lines[comment:start], lines[start:end], around), [], [])
         self.units.append(unit)
         return unit
 
@@ -157,9 +158,7 @@ class Specs:
     def clause(self, unit, name, lines, start, end, text, first, params, within):
         """A clause of a definition: a pattern for each argument, and a term."""
         if not within:
-            part = unit.parts[0]
-            begin = part.line - first
-            part.text = lines[begin:end]
+            unit.parts[0].text = lines[unit.parts[0].line - first : end]
 
         def read(it):
             reader = Reader(text[len(name) :], 0, self.is_constructor)

@@ -3,10 +3,14 @@ import re
 
 
 class Part:
-    """Lines of a file: the comment before them, and the text, each with the number of its first line."""
+    """Lines of a file: those of what is around it, the comment before the text, and the text, and the number of its first line."""
 
-    def __init__(self, file, line, comment, text):
-        self.file, self.line, self.comment, self.text = file, line, comment, text
+    def __init__(self, file, line, comment, text, around=()):
+        self.file, self.line, self.comment, self.text, self.around = file, line, comment, text, around
+
+    def shown(self):
+        """All of it, with its place."""
+        return [f"{self.file}:{self.line}", *self.around, *self.comment, *self.text]
 
     def size(self):
         """How many lines there are without comments and blank lines."""
