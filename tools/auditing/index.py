@@ -100,7 +100,8 @@ class Index:
         if not self.is_own(module):
             return name in CONSTRUCTORS or "◌" in name or name[:1].isupper() or name == "[]"
         if MADE_OF_CODE.search(module):
-            return True
+            item, _ = self.declared_item([*module.split("."), name])
+            return bool(item) and item.kind in ("struct", "enum")
         specs = self.specs.get(module)
         if specs is None:
             return False
@@ -110,17 +111,23 @@ class Index:
 
     def declared(self, words, path):
         """What a name of the module of a declared type stands for: the type, or a constant."""
-        crate, rest = words[1], [*words[4:], *path]
+        item, behind = self.declared_item([*words, *path])
+        if item is None or item.kind in ("struct", "enum") and not self.is_made(item, behind):
+            return None
+        return [item.source.unit_of(item)]
+
+    def declared_item(self, words):
+        """The type or the constant to which a path of a declared module leads, and the names behind it."""
+        crate, rest = words[1], words[4:]
         for end in range(len(rest), 0, -1):
             source = self.sources.get((crate, tuple(rest[: end - 1])))
             name, behind = rest[end - 1], rest[end:]
             if source and name == "TheConstants" and behind:
-                item = source.items.get(".".join(behind[:2])) or source.items.get(behind[0])
-                return [source.unit_of(item)] if item else None
+                return source.items.get(".".join(behind[:2])) or source.items.get(behind[0]), []
             item = source and source.items.get(name)
             if item and item.kind in ("struct", "enum"):
-                return [source.unit_of(item)] if self.is_made(item, behind) else None
-        return None
+                return item, behind
+        return None, []
 
     def is_made(self, item, names):
         """Whether names are what the module of a declared type has: the type, its variants, and what is made for it."""

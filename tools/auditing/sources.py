@@ -18,6 +18,10 @@ MADE = re.compile(r"(?:out|fold|Held|Row_of|end_of|more_of|size|view|rec)-|\S+'$
 class Source(File):
     """A file of code, of which units are made."""
 
+    def __init__(self, index, crate, module, path):
+        super().__init__(index, crate, module, path)
+        self.made = {}
+
     def part(self, start, head, shown, around=()):
         """The lines of these pieces of the file, with the comment before them, without attributes."""
         comment = [it for it in self.text[start:head].split("\n") if it.strip().startswith("//")]
@@ -60,20 +64,25 @@ class Source(File):
         unit.parts.append(self.part(start, head, shown))
         unit.readers.append(lambda it: self.use_members(it, around, wanted, ()))
 
+    def impl_of(self, item, trait):
+        """The units of what a type has by an `impl` of a trait."""
+        found = []
+        for around, start, head, end in self.impls_of(item, trait):
+            if start not in self.made:
+                unit = self.made[start] = Unit(self.crate, None, [f"{trait} for {item.name}"], [])
+                self.show_impl(unit, around, start, head, end, [it[0] for it in around.members])
+            found.append(self.made[start])
+        return found
+
     def use_code(self, unit, text, at):
-        """What code in a term names: types, and a ghost member that a type has by an `impl`."""
-        named = re.match(r"⟦\s*<\s*([\w:]+).*\sas\s+(?:\w+::)*(\w+)", text)
+        """What code in a term names: types, and what a type has by an `impl`."""
         for it in PATH.finditer(text):
-            found = None if it[0] in ("as", "dyn") else self.index.code(self, it[0].split("::"))
-            if it[0] not in ("as", "dyn"):
-                unit.add(found, self.file, self.line(at), it[0])
+            if it[0] not in KEYWORDS:
+                unit.add(self.index.code(self, it[0].split("::")), self.file, self.line(at), it[0])
+        named = re.match(r"⟦\s*<\s*([\w:]+).*\sas\s+(?:\w+::)*(\w+)", text)
         item = named and self.index.item(self, named[1].split("::"), 0)
         if isinstance(item, Item):
-            for around, start, head, end in item.source.impls_of(item, named[2]):
-                made = Unit(item.source.crate, item.source.part(start, head, []), [f"{named[2]} for {item.name}"], [])
-                made.parts.clear()
-                item.source.show_impl(made, around, start, head, end, [it[0] for it in around.members])
-                unit.add([made], self.file, self.line(at), text)
+            unit.add(item.source.impl_of(item, named[2]), self.file, self.line(at), text)
 
     def use_item(self, unit, item):
         """What a type, a trait or a constant uses."""
@@ -155,7 +164,7 @@ class Source(File):
             behind = self.plain[it.end() : it.end() + 3].lstrip()
             if path[0] in bound or path[0] in KEYWORDS or behind.startswith(":") and not behind.startswith("::") or it[0] in ("struct", "enum", "type"):
                 continue
-            if behind.startswith("=") and not behind.startswith("=="):
+            if behind.startswith("=") and item.kind not in ("const", "static"):
                 continue
             unit.add(self.index.code(self, path), self.file, self.line(it.start()), it[0])
 

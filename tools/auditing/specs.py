@@ -2,7 +2,7 @@
 import re
 
 from .units import Part, Unit
-from .words import NUMERAL, Reader, pieces
+from .words import Reader, pieces
 
 MARKS = r"(?:pattern |unfoldable |abbrev |pub |axiom )*"
 DECLARED = re.compile(rf"{MARKS}(data|record) (\S+)")
@@ -43,109 +43,145 @@ class Names:
         return True
 
 
-class Lines:
-    """The lines of a file at one depth, cut into what begins there: the number of the first line, that where its comment begins, and the lines."""
+class Piece:
+    """What begins at a line: its number, the lines of the comment before it, its own lines, their depth, and its text."""
 
-    def __init__(self, lines, first, depth):
-        self.lines, self.first, self.depth = lines, first, depth
+    def __init__(self, line, comment, lines, depth):
+        self.line, self.comment, self.lines, self.depth = line, comment, lines, depth
+        self.text = "\n".join(lines)[depth:]
 
-    def begins(self, line):
-        """Whether something begins at a line."""
-        return line[: self.depth].isspace() + (not self.depth) and len(line) > self.depth and line[self.depth] not in " )]}" and not line.startswith("--", self.depth)
+    def inside(self):
+        """What begins within it, one step deeper."""
+        return pieces_of(self.lines[1:], self.line + 1, self.depth + 2)
 
-    def cut(self):
-        """Each thing that begins: where its comment begins, and where it does and ends, as places in the lines."""
-        starts = [at for at, line in enumerate(self.lines) if self.begins(line)]
-        for at, start in enumerate(starts):
-            end = starts[at + 1] if at + 1 < len(starts) else len(self.lines)
-            while end > start and (not self.lines[end - 1].strip() or self.lines[end - 1].strip().startswith("--")):
-                end -= 1
-            comment = start
-            while comment > 0 and self.lines[comment - 1].startswith(" " * self.depth + "--"):
-                comment -= 1
-            yield comment, start, end
+
+def begins(line, depth):
+    """Whether something begins at a line of this depth."""
+    return not line[:depth].strip() and len(line) > depth and line[depth] not in " )]}" and not line.startswith("--", depth)
+
+
+def pieces_of(lines, first, depth):
+    """What begins in lines at a depth, of which the first has this number."""
+    starts = [at for at, line in enumerate(lines) if begins(line, depth)]
+    for start, end in zip(starts, [*starts[1:], len(lines)]):
+        while not lines[end - 1].strip() or lines[end - 1].strip().startswith("--"):
+            end -= 1
+        comment = start
+        while comment > 0 and lines[comment - 1].startswith(" " * depth + "--"):
+            comment -= 1
+        yield Piece(first + start, lines[comment:start], lines[start:end], depth)
 
 
 class Specs:
     """A file of definitions: its units, the names that it defines and the unit of each, and the names that others define."""
 
     def __init__(self, index, crate, module, path):
-        self.index, self.crate, self.module, self.path = index, crate, module, path
+        self.index, self.crate, self.module = index, crate, module
         self.file, self.lines = str(path.relative_to(index.top)), path.read_text(encoding="utf-8").split("\n")
-        self.names, self.exports, self.makes, self.fields, self.units, self.wrong = Names(), {}, set(), set(), [], []
-        self.own = {}
-        self.block(self.lines, 1, 0, [])
+        self.names, self.exports, self.own, self.makes, self.fields, self.units, self.wrong = Names(), {}, {}, set(), set(), [], []
+        self.block(pieces_of(self.lines, 1, 0), [])
 
-    def define(self, unit, name):
-        """A name is that of this unit."""
-        for word in pieces(name):
-            self.own[word] = unit
+    # How the file is read
 
-    def block(self, lines, first, depth, params, within=None):
-        """Reads what begins at a depth. Within a unit, what is defined belongs to it. Parameters are those of modules around: texts with their lines."""
+    def block(self, pieces, params, within=None):
+        """Reads pieces. Within a unit, what is defined belongs to it. Parameters are those of modules around: texts with their lines."""
         unit, name = within, None
-        for comment, start, end in Lines(lines, first, depth).cut():
-            text = "\n".join(lines[start:end])[depth:]
+        for piece in pieces:
+            text = piece.text
             signed, declared = SIGNED.match(text), DECLARED.match(text)
             if USED.match(" ".join(text.split())):
-                self.bring(text)
-            elif re.match(r"(?:pub )?mod ", text):
-                continue
+                self.bring(piece)
             elif re.match(rf"{MARKS}mutual\b", text):
-                own = within or self.unit(lines, first, (comment, start, end), params)
-                self.block(lines[start + 1 : end], first + start + 1, depth + 2, params, own)
+                self.block(piece.inside(), params, within or self.unit(piece, params))
             elif text.startswith("module _ "):
                 head = text[len("module _ ") :].split(" where\n")[0]
-                self.block(lines[start + 1 : end], first + start + 1, depth + 2, [*params, (head, first + start)])
+                self.block(piece.inside(), [*params, (head, piece.line)])
             elif signed or declared:
-                unit = within or self.unit(lines, first, (comment, start, end), params)
+                unit = within or self.unit(piece, params)
                 name = signed[1] if signed else declared[2]
-                unit.names.append(name)
-                unit.paths.append(f"{self.module}.{name}")
                 self.define(unit, name)
-                if signed:
-                    self.later(unit, text[signed.end() :], first + start, params)
-                else:
-                    self.declared(unit, declared, text, lines[start:end], first + start, depth, params)
+                unit.names.append(name)
+                self.signed(unit, signed, piece, params) if signed else self.declared(unit, declared, piece, params)
             elif name and re.match(rf"{re.escape(name)}(?=\s)", text):
-                self.clause(unit, name, lines, start, end, text, first, params, within)
-            elif not text.startswith("unfolding "):
-                self.wrong.append((self.file, first + start, text.split("\n")[0]))
+                if not within:
+                    unit.parts[0].text = self.lines[unit.parts[0].line - 1 : piece.line - 1 + len(piece.lines)]
+                self.clause(unit, name, piece, params)
+            elif not re.match(r"unfolding |(?:pub )?mod ", text):
+                self.wrong.append((self.file, piece.line, text.split("\n")[0]))
 
-    def unit(self, lines, first, places, params):
-        """A new unit, of the lines between these places."""
-        comment, start, end = places
+    def unit(self, piece, params):
+        """A new unit, of a piece that modules with parameters may be around."""
         around = [f"module _ {head} where" for head, _ in params]
-        unit = Unit(self.crate, Part(self.file, first + start, lines[comment:start], lines[start:end], around), [], [])
+        unit = Unit(self.crate, Part(self.file, piece.line, piece.comment, piece.lines, around), [], [])
         self.units.append(unit)
         return unit
 
-    def bring(self, text):
+    def define(self, unit, name):
+        """A name is that of this unit."""
+        unit.paths.append(f"{self.module}.{name}")
+        for word in pieces(name):
+            self.own[word] = unit
+
+    def bring(self, piece):
         """A `use` line, which may define what it brings for others."""
-        if not self.names.bring(text.removeprefix("pub ")):
-            self.wrong.append((self.file, 1, text))
-        if text.startswith("pub "):
-            path, names, alias = USED.match(" ".join(text.split())).groups()
+        self.names.bring(piece.text.removeprefix("pub "))
+        if piece.text.startswith("pub "):
+            path, names, alias = USED.match(" ".join(piece.text.split())).groups()
             self.exports.update(brought(path, names, alias)[0])
 
-    def later(self, unit, text, line, params, bound=()):
-        """A term of a unit: what it uses is looked up once all files are read."""
-        unit.readers.append(lambda it: self.read(it, text, line, params, bound))
+    def signed(self, unit, head, piece, params):
+        """The type of a definition."""
+        text = piece.text[head.end() :]
+        unit.readers.append(lambda it: self.term(it, text, piece.line, self.bound(it, params)))
 
-    def bound(self, unit, params, bound):
-        """What the parameters of modules around bind, and these names."""
-        bound = set(bound)
+    def clause(self, unit, name, piece, params):
+        """A clause of a definition: a pattern for each argument, and a term."""
+
+        def read(it):
+            text, bound = piece.text[len(name) :], self.bound(it, params)
+            reader = Reader(text, 0, self.is_constructor)
+            at = reader.pattern(0, bound, ("=",))
+            reader.term(at + 1, bound)
+            self.take(it, reader, text, piece.line)
+
+        unit.readers.append(read)
+
+    def declared(self, unit, head, piece, params):
+        """A type with its constructors, or a record with its fields, which those after them may name."""
+        is_record, members = head[1] == "record", []
+        for it in piece.inside():
+            names, _, of = it.text.removeprefix("pub ").partition(" :")
+            members.append((names.split(), of, it.line))
+            if is_record:
+                self.fields.update(names.split())
+            else:
+                self.makes.update(names.split())
+                self.define(unit, names.split()[0])
+        top = piece.text[head.end() :].split(" where", 1)[0]
+
+        def read(it):
+            bound = self.term(it, top, piece.line, self.bound(it, params))
+            for names, of, line in members:
+                self.term(it, of, line, bound)
+                bound = bound | set(names) if is_record else bound
+
+        unit.readers.append(read)
+
+    # What its terms use, once all files are read
+
+    def bound(self, unit, params):
+        """What the parameters of modules around bind."""
+        bound = set()
         for head, line in params:
-            reader = Reader(head, 0, self.is_constructor)
-            _, bound = reader.term(0, bound)
-            self.take(unit, reader, head, line)
+            bound = self.term(unit, head, line, bound)
         return bound
 
-    def read(self, unit, text, line, params, bound):
-        """Looks up what a term uses."""
+    def term(self, unit, text, line, bound):
+        """Adds what a term uses to a unit. Gives what is bound at its end."""
         reader = Reader(text, 0, self.is_constructor)
-        reader.term(0, self.bound(unit, params, bound))
+        _, bound = reader.term(0, bound)
         self.take(unit, reader, text, line)
+        return bound
 
     def take(self, unit, reader, text, line):
         """Adds what was read to what a unit uses."""
@@ -154,48 +190,6 @@ class Specs:
         for field, at in reader.fields:
             if not self.index.has_field(field):
                 unit.add(None, self.file, line + text.count("\n", 0, at), f".{field}")
-
-    def clause(self, unit, name, lines, start, end, text, first, params, within):
-        """A clause of a definition: a pattern for each argument, and a term."""
-        if not within:
-            unit.parts[0].text = lines[unit.parts[0].line - first : end]
-
-        def read(it):
-            reader = Reader(text[len(name) :], 0, self.is_constructor)
-            bound = self.bound(it, params, ())
-            at = reader.pattern(0, bound, ("=",))
-            reader.term(at + 1, bound)
-            self.take(it, reader, text[len(name) :], first + start)
-
-        unit.readers.append(read)
-
-    def declared(self, unit, head, text, lines, line, depth, params):
-        """A type with its constructors, or a record with its fields."""
-        top, is_record = text[head.end() :].split(" where", 1)[0], head[1] == "record"
-        entries = list(Lines(lines[1:], line + 1, depth + 2).cut()) if " where" in text else []
-        members = []
-        for _, start, end in entries:
-            entry = "\n".join(lines[1:][start:end])[depth + 2 :]
-            names, _, of = entry.removeprefix("pub ").partition(" :")
-            members.append((names.split(), of, line + 1 + start))
-        for names, _, _ in members:
-            for name in names:
-                if is_record:
-                    self.fields.add(name)
-                else:
-                    self.define(unit, name)
-                    self.makes.add(name)
-                    unit.paths.append(f"{self.module}.{name}")
-
-        def read(it):
-            reader = Reader(top, 0, self.is_constructor)
-            _, bound = reader.term(0, self.bound(it, params, ()))
-            self.take(it, reader, top, line)
-            for names, of, at in members:
-                self.read(it, of, at, (), bound)
-                bound = bound | set(names) if is_record else bound
-
-        unit.readers.append(read)
 
     def is_constructor(self, word):
         """Whether a word of a pattern is a constructor, and so isn't bound."""

@@ -21,7 +21,7 @@ class Unit:
     """Its crate, its parts, the names that it defines, their full paths, and the terms in it, of which it is known later what they use."""
 
     def __init__(self, crate, part, names, paths):
-        self.crate, self.parts, self.names, self.paths = crate, [part], names, paths
+        self.crate, self.parts, self.names, self.paths = crate, [part] if part else [], names, paths
         self.readers = []
         self.known = None
 

@@ -38,6 +38,16 @@ impl Model for Kept {
 
     ghost invariant = { λ k. k.octets ≡ nothing_of_this_name };
 }
+
+impl Ord for Kept {
+    ghost use Rattle.low.specs.Size.{twice};
+
+    ghost cmp = { twice };
+
+    fn cmp(&self, other: &Self) -> u64 {
+        0
+    }
+}
 """,
     "low/src/bag.rt": """\
 //! Bags in bags.
@@ -137,8 +147,37 @@ impl<'a> Counter<'a> {
         0
     }
 }
+
+/// Says nothing.
+pub fn kept_are_ordered()
+    ensures { (a b : Kept) → ⟦<Kept as Ord>⟧.cmp a ≡ ⟦<Kept as Ord>⟧.cmp a }
+{}
 """,
-    "high/specs/Lib.antt": "pub mod Use\npub mod Wrong\n",
+    "high/specs/Lib.antt": "pub mod More\npub mod Use\npub mod Wrong\n",
+    "high/specs/More.antt": """\
+use Rattle.std.specs.Prelude.{ℕ, ◌+◌, List}
+use Rattle.high.specs.declared.TheConstants.{MOST}
+use Rattle.low.specs.Size
+
+-- a row
+pub record Row (least : Type 0) : Type 0 where
+  pub first : least
+  -- and what is behind it
+  pub rest : List least
+
+pub data Choice : Type 0 where
+  one : Row ℕ → Choice
+  two : (most : ℕ) → Choice
+
+-- by a number
+module _ (n : ℕ) where
+  -- what they are together
+  abbrev pub sum : Choice → ℕ
+  sum (one row) = row.first + n
+  sum (two MOST) = MOST
+  sum (two most) =
+      let twice = most in Size.twice MOST + twice
+""",
     "high/specs/Use.antt": """\
 use Rattle.std.specs.Prelude.{ℕ, ◌+◌}
 use Rattle.low.specs.Again.{first}
@@ -276,6 +315,43 @@ crates/high/src/lib.rt:9
 pub const MOST: u64 = 3;
 
 """
+ORDERED = """\
+crates/low/src/kept.rt:21
+impl Ord for Kept {
+    ghost cmp = { twice };
+}
+
+crates/high/src/lib.rt:28
+/// Says nothing.
+pub fn kept_are_ordered()
+    ensures { (a b : Kept) → ⟦<Kept as Ord>⟧.cmp a ≡ ⟦<Kept as Ord>⟧.cmp a }
+
+"""
+CHOSEN = """\
+crates/high/specs/More.antt:6
+-- a row
+pub record Row (least : Type 0) : Type 0 where
+  pub first : least
+  -- and what is behind it
+  pub rest : List least
+
+crates/high/specs/More.antt:11
+pub data Choice : Type 0 where
+  one : Row ℕ → Choice
+  two : (most : ℕ) → Choice
+
+"""
+SUMMED = """\
+crates/high/specs/More.antt:18
+module _ (n : ℕ) where
+  -- what they are together
+  abbrev pub sum : Choice → ℕ
+  sum (one row) = row.first + n
+  sum (two MOST) = MOST
+  sum (two most) =
+      let twice = most in Size.twice MOST + twice
+
+"""
 COUNT = """\
 crates/high/src/lib.rt:18
 impl<'a> Counter<'a>
@@ -321,7 +397,7 @@ def made(room):
 
 def toolchain(names):
     """The last line of a listing: what it uses of the toolchain, names of the code and of definitions."""
-    code = {"Box", "Vec", "u64", "u8"}
+    code = {"Box", "Ord", "Vec", "u64", "u8"}
     return f"toolchain: {', '.join(it if it in code else f'{it} (Rattle.std.specs.Prelude)' for it in names.split())}\n"
 
 
@@ -342,6 +418,8 @@ def of_listings(room):
     yield run("Counter::count.exact", f"{contract}\n{names}")
     whole = f"{contract}        ensures wrong {{ result ≡ hidden }}\n\n{names}"
     yield run("high::Counter::count", whole, "crates/high/src/lib.rt:21: nothing is known as hidden\n", 1)
+    yield run("kept_are_ordered", ITEMS + KEPT + TWICE + ORDERED + toolchain("List Ord Vec u8 ℕ ◌+◌ ◌≡◌"))
+    yield run("sum", CHOSEN + TWICE + MOST + SUMMED + toolchain("List u64 ℕ ◌+◌"))
     yield run("wrong", LEAST + HIGHER_LEAST + WRONG + toolchain("ℕ"), NOTHING, 1)
     yield run("--count high/least is_even", COUNTED)
     yield run("least", "", SEVERAL, 2)
