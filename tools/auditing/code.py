@@ -4,7 +4,9 @@ import re
 from .specs import Names
 
 PLAIN = re.compile(r"""//[^\n]*|/\*.*?\*/|b?r(#*)".*?"\1|b?"(?:\\.|[^"\\])*"|b?'(?:\\[^']*|[^'\\\n])'""", re.S)
-ITEM = re.compile(r"(pub(?:\([^)]*\))?\s+)?(?:unsafe\s+|const\s+(?=fn\b)|async\s+)*(ghost use|use|mod|fn|struct|enum|trait|impl|const|static|type|ghost)\b\s*(\w*)")
+ITEM = re.compile(
+    r"(pub(?:\([^)]*\))?\s+)?(?:unsafe\s+|const\s+(?=fn\b)|async\s+)*(ghost use|use|mod|fn|struct|enum|trait|impl|const|static|type|ghost)\b\s*(\w*)"
+)
 CLAUSE = re.compile(r"\s*(requires|ensures|ghost)\b\*?\s*(\w*)\s*:?\s*(?=\{)")
 OPENS = "([{"
 
@@ -56,7 +58,7 @@ class File:
         self.read(0, len(self.plain), None)
 
     def close(self, at):
-        """The place behind the bracket that closes the one at a place."""
+        """The place after the bracket that closes the one at a place."""
         depth = 0
         for it in re.finditer(r"[(\[{)\]}]", self.plain[at:]):
             depth += 1 if it[0] in OPENS else -1
@@ -87,7 +89,7 @@ class File:
                 at = self.close(at) if at < end and self.plain[at] == "{" else at + 1
 
     def item(self, it, start, around, is_test):
-        """Reads an item; gives the place behind it."""
+        """Reads an item; gives the place after it."""
         kind, name = it[2], it[3]
         if kind in ("use", "ghost use"):
             end = self.plain.index(";", it.end())
@@ -188,7 +190,7 @@ class File:
         return re.split(r"\bwhere\b", text)[0]
 
     def function(self, it, start, around):
-        """A function with its contract; gives the place behind its body."""
+        """A function with its contract; gives the place after its body."""
         item = Item(self, "fn", it[3], start, it.start(), None, around)
         item.is_public = bool(it[1]) and "(" not in it[1] or bool(around and (around.is_trait or around.of))
         at = it.end()
@@ -206,3 +208,12 @@ class File:
     def line(self, at):
         """The number of a place's line."""
         return 1 + self.text.count("\n", 0, at)
+
+    def fields(self):
+        """The names of the fields of its types, and of what its traits have that is ghost."""
+        found = set()
+        for item in self.items.values():
+            found.update(item.members, (it[0] for it in item.own.members) if item.own else ())
+            for start, end in item.variants.values():
+                found.update(re.findall(r"(?<!:)\b(\w+)\s*:(?!:)", self.plain[start:end]))
+        return found

@@ -10,10 +10,11 @@ from .specs import CONSTRUCTORS, Specs
 OWN = "Rattle."
 # The modules that are made of types of the code.
 MADE_OF_CODE = re.compile(r"\.specs\.(?:declared|contracts)\b")
-
-
-# Fields that records of the toolchain have, and what the code sees of a value before a call and behind it.
-FIELDS = set("now old new entry D make has_globals has_version subcommand_required arg_required_else_help value_names long short cmp eq write".split())
+# What a contract sees of an argument, and fields that the toolchain's records and traits have.
+FIELDS = {
+    *"now old new entry cmp eq D make".split(),
+    *"has_globals has_version subcommand_required arg_required_else_help value_names long short write".split(),
+}
 
 
 def libraries():
@@ -30,21 +31,20 @@ class Index:
         self.crates = sorted(it.name for it in (top / "crates").iterdir() if (it / "src").is_dir())
         self.specs, self.sources, self.known_fields = {}, {}, set()
         for crate in self.crates:
-            folder = top / "crates" / crate
-            for path in sorted((folder / "specs").rglob("*.antt")):
-                module = ".".join(["Rattle", crate, *path.relative_to(folder).with_suffix("").parts])
-                self.specs[module] = Specs(self, crate, module, path)
-            for root in ("lib.rt", "main.rt"):
-                if (folder / "src" / root).is_file():
-                    self.source(crate, (), folder / "src" / root)
+            self.read(crate, top / "crates" / crate)
         for it in self.specs.values():
             self.known_fields |= it.fields
         for it in self.sources.values():
-            for item in it.items.values():
-                self.known_fields |= set(item.members)
-                self.known_fields |= {name for name, _, _, _ in item.own.members} if item.own else set()
-                for start, end in item.variants.values():
-                    self.known_fields |= set(re.findall(r"(?<!:)\b(\w+)\s*:(?!:)", it.plain[start:end]))
+            self.known_fields |= it.fields()
+
+    def read(self, crate, folder):
+        """Reads the files of a crate."""
+        for path in sorted((folder / "specs").rglob("*.antt")):
+            module = ".".join(["Rattle", crate, *path.relative_to(folder).with_suffix("").parts])
+            self.specs[module] = Specs(self, crate, module, path)
+        for root in ("lib.rt", "main.rt"):
+            if (folder / "src" / root).is_file():
+                self.source(crate, (), folder / "src" / root)
 
     def source(self, crate, module, path):
         """Reads a file of code, and the modules in it."""
@@ -86,7 +86,7 @@ class Index:
         return None
 
     def at(self, path):
-        """What a whole path stands for: of the modules that begin it the longest has the name behind it."""
+        """What a whole path stands for: of the modules that begin it the longest has the name that comes after it."""
         for end in range(len(path) - 1, 0, -1):
             module = ".".join(path[:end])
             if not self.is_own(module) or module in self.specs or MADE_OF_CODE.search(module):
@@ -111,22 +111,22 @@ class Index:
 
     def declared(self, words, path):
         """What a name of the module of a declared type stands for: the type, or a constant."""
-        item, behind = self.declared_item([*words, *path])
-        if item is None or item.kind in ("struct", "enum") and not self.is_made(item, behind):
+        item, names = self.declared_item([*words, *path])
+        if item is None or item.kind in ("struct", "enum") and not self.is_made(item, names):
             return None
         return [item.source.unit_of(item)]
 
     def declared_item(self, words):
-        """The type or the constant to which a path of a declared module leads, and the names behind it."""
+        """The type or the constant to which a path of a declared module leads, and the names after it."""
         crate, rest = words[1], words[4:]
         for end in range(len(rest), 0, -1):
             source = self.sources.get((crate, tuple(rest[: end - 1])))
-            name, behind = rest[end - 1], rest[end:]
-            if source and name == "TheConstants" and behind:
-                return source.items.get(".".join(behind[:2])) or source.items.get(behind[0]), []
+            name, names = rest[end - 1], rest[end:]
+            if source and name == "TheConstants" and names:
+                return source.items.get(".".join(names[:2])) or source.items.get(names[0]), []
             item = source and source.items.get(name)
             if item and item.kind in ("struct", "enum"):
-                return item, behind
+                return item, names
         return None, []
 
     def is_made(self, item, names):

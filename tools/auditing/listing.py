@@ -42,7 +42,7 @@ def named_in_code(index, name):
 def asked(index, name):
     """The unit of a name. Raises `Unknown` where there is none, or more than one."""
     found = list(definitions(index, name)) if "::" not in name else []
-    found = found or (list(named_in_code(index, name)) if "/" not in name else [])
+    found = found or list(named_in_code(index, name.replace("/", "::")))
     units = {it.place(): (path, it) for path, it in reversed(found)}
     if not units:
         raise Unknown(f"{name}: no definition, type or contract has this name{clauses(index, name)}")
@@ -61,7 +61,7 @@ def clauses(index, name):
 
 
 def groups(units):
-    """These units and all that they stand on, those that use one another together, and each group behind those that it uses (Tarjan)."""
+    """These units and all that they stand on, those that use one another together, and each group after those that it uses (Tarjan)."""
     number, low, open_units, found = {}, {}, [], []
     for first in units:
         calls = [] if first in number else [(first, None)]

@@ -7,10 +7,11 @@ from .words import Reader
 
 PATH = re.compile(r"(?<!['\w.])(?:crate::|self::|super::)*[A-Za-z_]\w*(?:::[A-Za-z_]\w*)*")
 PRIMITIVES = set("bool char str u8 u16 u32 u64 u128 usize i8 i16 i32 i64 i128 isize f32 f64".split())
-PRELUDE = set(
-    "Option Some None Result Ok Err Vec Box String Copy Clone Drop Drops Send Sync Sized Fn FnMut FnOnce Iterator IntoIterator Default PartialEq Eq PartialOrd Ord From Into AsRef AsMut ToOwned AllocGlobal Print Eprint".split()
-)
-KEYWORDS = set("pub crate mut dyn impl for where const fn as in ref move static true false ghost unsafe".split())
+PRELUDE = {
+    *"Option Some None Result Ok Err Vec Box String Iterator IntoIterator Fn FnMut FnOnce Copy Clone Default From Into AsRef AsMut ToOwned".split(),
+    *"PartialEq Eq PartialOrd Ord Drop Drops Send Sync Sized AllocGlobal Print Eprint".split(),
+}
+KEYWORDS = set("struct enum type trait pub crate mut dyn impl for where const fn as in ref move static true false ghost unsafe".split())
 # What a module of a declared type has, beside its own name and its variants.
 MADE = re.compile(r"(?:out|fold|Held|Row_of|end_of|more_of|size|view|rec)-|\S+'$|\S+-F$|(?:Inside|enum|the_type|the_row)$|The\w+$")
 
@@ -125,7 +126,7 @@ class Source(File):
     def use_trait(self, unit, item):
         """What the ghost members and the contracts of a trait use."""
         around = item.own
-        self.use_types(unit, item.head + len("trait"), self.plain.index("{", item.head), item, {item.name, "trait"})
+        self.use_types(unit, item.head + len("trait"), self.plain.index("{", item.head), item)
         names = {name for name, _, _, _ in around.members}
         self.use_members(unit, around, around.members, names)
         for function in self.functions:
@@ -161,20 +162,21 @@ class Source(File):
         bound = {"self", "Self", item.name, *self.generics(item), *bound}
         for it in PATH.finditer(self.plain, start, end):
             path = it[0].split("::")
-            behind = self.plain[it.end() : it.end() + 3].lstrip()
-            if path[0] in bound or path[0] in KEYWORDS or behind.startswith(":") and not behind.startswith("::") or it[0] in ("struct", "enum", "type"):
-                continue
-            if behind.startswith("=") and item.kind not in ("const", "static"):
+            after = self.plain[it.end() : it.end() + 3].lstrip()
+            is_label = after.startswith(":") and not after.startswith("::") or after.startswith("=") and item.kind not in ("const", "static")
+            if path[0] in bound or path[0] in KEYWORDS or is_label:
                 continue
             unit.add(self.index.code(self, path), self.file, self.line(it.start()), it[0])
 
     def contract(self, item, name=None):
         """The unit of a function's contract, or of its clauses of a name."""
+        if (item, name) in self.made:
+            return self.made[item, name]
         clauses = [it for it in item.clauses if name is None or it[0] != "ensures" or it[1] == name]
         shown = [(item.head, item.signature[1]), *((it[2], it[4] + 1) for it in clauses)]
         around = [" ".join(self.text[slice(*self.head_of(item))].split())] if item.around else []
         path = "::".join(item.path()) + (f".{name}" if name else "")
-        unit = Unit(self.crate, self.part(item.start, item.head, shown, around), [item.name], [path])
+        unit = self.made[item, name] = Unit(self.crate, self.part(item.start, item.head, shown, around), [item.name], [path])
         unit.readers.append(lambda it: self.use_contract(it, item, clauses))
         return unit
 

@@ -18,6 +18,10 @@ class Token:
         """Whether it is one of these marks or words."""
         return self.kind in ("word", "mark") and len(self.parts) == 1 and self.parts[0] in marks
 
+    def is_name(self):
+        """Whether it is a word that may be bound."""
+        return self.kind == "word" and len(self.parts) == 1 and not self.is_mark(":", "=", "→")
+
 
 def tokens(text, start=0):
     """The tokens of a term, whose text begins at a place."""
@@ -56,27 +60,27 @@ class Reader:
     """Reads a term, and keeps each word in it that isn't brought by the term itself, with its place."""
 
     def __init__(self, text, start, makes):
-        """The text, where it begins, and whether a path is that of a constructor, which no pattern binds."""
+        """The text, where it begins, and what says whether a word is a constructor, which no pattern binds."""
         self.tokens, self.makes = tokens(text, start), makes
         self.used, self.fields, self.code = [], [], []
 
-    def term(self, at, bound, ends=(), lasts=False):
+    def term(self, at, bound, ends=()):
         """Reads from a place to one of these ends, or to the end of the text. What a binder brings lasts to the end, or to what stands between
-        parts; where it `lasts`, as in a type of records, past that too. Gives the place of the end and what is bound there."""
+        parts. Gives the place of the end and what is bound there."""
         base, bound = set(bound), set(bound)
         while at < len(self.tokens):
             token = self.tokens[at]
             if token.is_mark(*ends):
                 return at, bound
             if token.is_mark(",", ";", "|"):
-                bound = bound if lasts else set(base)
+                bound = set(base)
                 at += 1
             else:
                 at = self.step(at, bound)
         return at, bound
 
     def step(self, at, bound):
-        """Reads one word, or what a bracket or a binder opens. Adds what is bound behind it."""
+        """Reads one word, or what a bracket or a binder opens. Adds what is bound after it."""
         token = self.tokens[at]
         if token.is_mark("λ"):
             return self.pattern(at + 1, bound, (".",)) + 1
@@ -109,13 +113,13 @@ class Reader:
     def names_before(self, at, mark):
         """The words from a place on to this mark, if there are only words before it."""
         end = at
-        while end < len(self.tokens) and self.tokens[end].kind == "word" and len(self.tokens[end].parts) == 1 and not self.tokens[end].is_mark(":", "=", "→"):
+        while end < len(self.tokens) and self.tokens[end].is_name():
             end += 1
         is_there = end > at and end < len(self.tokens) and self.tokens[end].is_mark(mark)
         return [it.parts[0] for it in self.tokens[at:end]] if is_there else []
 
     def bracket(self, at, bound):
-        """What stands in brackets: parameters with their type, which are bound behind it, a named argument, or a term."""
+        """What stands in brackets: parameters with their type, which are bound after it, a named argument, or a term."""
         close = BRACKETS[self.tokens[at].parts[0]]
         names = self.names_before(at + 1, ":")
         if names:

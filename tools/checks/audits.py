@@ -162,7 +162,7 @@ use Rattle.low.specs.Size
 -- a row
 pub record Row (least : Type 0) : Type 0 where
   pub first : least
-  -- and what is behind it
+  -- and what comes after it
   pub rest : List least
 
 pub data Choice : Type 0 where
@@ -332,7 +332,7 @@ crates/high/specs/More.antt:6
 -- a row
 pub record Row (least : Type 0) : Type 0 where
   pub first : least
-  -- and what is behind it
+  -- and what comes after it
   pub rest : List least
 
 crates/high/specs/More.antt:11
