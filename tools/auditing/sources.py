@@ -9,7 +9,7 @@ PATH = re.compile(r"(?<!['\w.])(?:crate::|self::|super::)*[A-Za-z_]\w*(?:::[A-Za
 PRIMITIVES = set("bool char str u8 u16 u32 u64 u128 usize i8 i16 i32 i64 i128 isize f32 f64".split())
 PRELUDE = {
     *"Option Some None Result Ok Err Vec Box String Iterator IntoIterator Fn FnMut FnOnce Copy Clone Default From Into AsRef AsMut ToOwned".split(),
-    *"PartialEq Eq PartialOrd Ord Drop Drops Send Sync Sized AllocGlobal Print Eprint".split(),
+    *"PartialEq Eq PartialOrd Ord Drop Drops Send Sync Sized AllocGlobal Input Print Eprint HostRuntime".split(),
 }
 KEYWORDS = set("struct enum type trait pub crate mut dyn impl for where const fn as in ref move static true false ghost unsafe".split())
 # What a module of a declared type has, beside its own name and its variants.
@@ -157,14 +157,14 @@ class Source(File):
                     found.update(re.findall(r"^\s*(?:const )?(\w+)", head[at + 1 : end][start:stop]))
         return found
 
-    def use_types(self, unit, start, end, item, bound=()):
-        """What the types between two places use."""
-        bound = {"self", "Self", item.name, *self.generics(item), *bound}
+    def use_types(self, unit, start, end, item, labels=()):
+        """What the types between two places use, where some words are names of parameters."""
+        bound = {"self", "Self", item.name, *self.generics(item)}
         for it in PATH.finditer(self.plain, start, end):
             path = it[0].split("::")
             after = self.plain[it.end() : it.end() + 3].lstrip()
             is_label = after.startswith(":") and not after.startswith("::") or after.startswith("=") and item.kind not in ("const", "static")
-            if path[0] in bound or path[0] in KEYWORDS or is_label:
+            if path[0] in bound or path[0] in KEYWORDS or is_label or it[0] in labels:
                 continue
             unit.add(self.index.code(self, path), self.file, self.line(it.start()), it[0])
 
@@ -185,7 +185,7 @@ class Source(File):
         start, end = item.signature
         opens = self.plain.index("(", start)
         generic = self.plain.find("<", start, opens)
-        self.use_types(unit, generic if generic >= 0 else opens, end, item)
+        self.use_types(unit, generic if generic >= 0 else opens, end, item, self.parameters(item))
         if item.around and not item.around.is_trait:
             self.use_head(unit, item)
         bound = {"self", "Self", "result", *self.generics(item), *self.parameters(item)}
@@ -212,7 +212,7 @@ class Source(File):
             opens = self.plain.index("(", opens + 1)
         found = set()
         for start, end in self.parts(opens + 1, self.close(opens) - 1):
-            found.update(re.findall(r"\w+", self.plain[start:end].split(":")[0]))
+            found.update(re.findall(r"\b[a-z_]\w*", self.plain[start:end].split(":")[0]))
         return found
 
     def generic_depth(self, start, end):
