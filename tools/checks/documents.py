@@ -91,10 +91,10 @@ def of_calling():
 
 def of_site(room):
     """What is expected of the mail with an order, and what is told where the script of orders sets no keyword."""
-    expected, told = (textwrap.dedent(it).encode() for it in re.findall(r"```\n( +(?:\[|site/mails/).*?) +```", SITE.read_text(encoding="utf-8"), re.S))
-    yield Run("what is expected of a mail", OFFICE, "cat mails/04-order.eml.expect", expected)
+    expected, told = re.findall(r"^```\n((?:\[|site/mails/).*?)^```", SITE.read_text(encoding="utf-8"), re.S | re.M)
+    yield Run("what is expected of a mail", OFFICE, "cat mails/04-order.eml.expect", expected.encode())
     changed = f"cp -R {shlex.quote(str(OFFICE))} site && sed -i 's/ :flags \"$Order\"//' site/personal/sales.sieve"
-    yield Run("what is told of a changed script", room, f"{changed} && {shlex.quote(str(TOOL))} check --strict site", told, status=1)
+    yield Run("what is told of a changed script", room, f"{changed} && {shlex.quote(str(TOOL))} check --strict site", told.encode(), status=1)
 
 
 def of_documents(room):

@@ -363,16 +363,12 @@ def of_pages(room):
     for name in ("branches", "limits", "chained"):
         yield Tried(f"the changes of {name}", room, room / name)
     blocks = [block for kind, block in re.findall(r"^```(\w*)\n(.*?)^```$", PAGE.read_text(encoding="utf-8"), re.S | re.M) if not kind]
-    find = {name: next(block for block in blocks if name in block) for name in ("changes are noticed", "diff --git", "site watch", "site why")}
-    yield run("untested, as the page has it", room / "page", "untested site", find["changes are noticed"].encode())
-    yield run("why, as the page has it", room / "page", "why --main sales site 04-order.eml", find["site why"].partition("\n")[2].encode())
+    find = {name: next(block for block in blocks if f"$ sievebench-site {name}" in block) for name in ("untested", "diff --git", "why")}
+    yield run("untested, as the page has it", room / "page", "untested site", find["untested"].partition("\n")[2].encode())
+    yield run("why, as the page has it", room / "page", "why --main sales site 04-order.eml", find["why"].partition("\n")[2].encode())
     begin = "git init -q . && git add -A && git -c user.name=a -c user.email=a@b.example commit -qm one"
     edit = "sed -i 's/ :flags \"$Order\"//' site/personal/sales.sieve"
     yield Run("the page's repository", room / "page", begin)
-    watched = find["site watch"].splitlines()[1:]
-    sales = room / "page/site/personal/sales.sieve"
-    text = sales.read_bytes()
-    yield Watched("watch, as the page has it", room / "page", "site", [lambda: sales.write_bytes(text.replace(b' :flags "$Order"', b""))], [Watched.ENDS.sub(", N seconds", line) for line in watched])
     yield Run("sievebench-site: diff, as the page has it", room / "page", f"{edit}; python3 {shlex.quote(str(TOOL))} diff --git HEAD site", find["diff --git"].partition("\n")[2].encode(), status=1)
 
 

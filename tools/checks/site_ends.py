@@ -1,4 +1,5 @@
-"""How runs of `sievebench-site` end and what they leave, what they take of a machine, mails that are imported, and what `docs/SITE.md` shows."""
+"""How runs of `sievebench-site` end and what they leave, what they take of a machine, mails that are imported, and what
+`examples/ci` has for servers."""
 import os
 import pathlib
 import re
@@ -13,7 +14,7 @@ from .runs import SECONDS, LeftOut, Run, lines, some
 from .site import PACK, TOOL, counted, run, site, told, write
 
 DISCARDS = b"[main]\ndiscard\n"
-PAGE = TOOL.parent.parent / "docs/SITE.md"
+SERVERS = TOOL.parent.parent / "examples/ci"
 # A program that says that it sleeps, in a file, before it answers anything.
 SLOW = b'#!/bin/sh\n[ "$1" = --version ] || { : > asleep; exec sleep 30; }\nexec sievebench "$@"\n'
 MEBIBYTE = 1 << 20
@@ -154,47 +155,37 @@ def of_imports(room):
     yield Run("sievebench-site: the octets are the same", room / "taken", "cmp md/cur/* site/mails/0001.eml && cmp md/new/* site/mails/0002.eml && cat site/mails/0004.eml", lines("Subject: four", "", "four"))
 
 
-def blocks():
-    """The blocks of the page, each with its language."""
-    return re.findall(r"^```(\w*)\n(.*?)^```", PAGE.read_text(encoding="utf-8"), re.S | re.M)
-
-
-def block(first):
-    """The block of the page that has this line."""
-    (found,) = [text for _, text in blocks() if first in text]
-    return found
-
-
-def of_page(room):
-    """What the page of sites shows for servers."""
+def of_servers(room):
+    """What is there for servers."""
     room = room / "repository"
-    write(room, {"bin/x": b"", **{f"site/{name}": octets for name, octets in site({"1.eml": b"Subject: a\r\n\r\n", "1.eml.expect": DISCARDS}, main=b"discard;").items()}, ".gitattributes": block("*.eml -text").encode()})
+    write(room, {"bin/x": b"", **{f"site/{name}": octets for name, octets in site({"1.eml": b"Subject: a\r\n\r\n", "1.eml.expect": DISCARDS}, main=b"discard;").items()}, ".gitattributes": (SERVERS / "gitattributes").read_bytes()})
     made = f'test -e bin/sievebench || {{ ln -s "$(readlink -f "$(command -v sievebench)")" bin/sievebench; python3 {shlex.quote(str(PACK))} bin/sievebench-site; }}'
     found = f'{made}; export PATH="$PWD/bin:$PATH";'
-    write(room, {"run.sh": block("status=0\n").encode()})
+    shutil.copy(SERVERS / "check.sh", room)
     agree = lines(counted(1, 1, 1, 1, 0, 0, 0, 0))
-    yield Run("the page of sites: its shell script", room, f"{found} sh run.sh && head -c 5 results.xml", agree + b"<?xml")
-    for form, first in (("github", "runs-on: "), ("gitlab", "filters:\n")):
-        steps = re.findall(r"^ *- (?:run: )?(bin/sievebench-site .*)", block(first), re.M)
-        assert steps, f"the page of sites: the job of {form} has no step"
-        yield Run(f"the page of sites: the job of {form}", room, f"{found} {' && '.join(steps)}", agree if form == "gitlab" else b"")
+    yield Run("examples for servers: check.sh", room, f"{found} ./check.sh && head -c 5 results.xml", agree + b"<?xml")
+    for form in ("github", "gitlab"):
+        steps = re.findall(r"^ *- (?:run: )?(bin/sievebench-site (?:lint|check) .*)", (SERVERS / f"{form}.yml").read_text(encoding="utf-8"), re.M)
+        assert steps, f"examples for servers: {form}.yml has no step"
+        yield Run(f"examples for servers: {form}.yml", room, f"{found} {' && '.join(steps)}", agree if form == "gitlab" else b"")
     if not shutil.which("git"):
-        yield LeftOut("the page of sites: its hooks", "since git isn't installed")
+        yield LeftOut("examples for servers: hooks", "since git isn't installed")
         return
     name = "git config user.name a && git config user.email a@b.example"
-    write(room, {"pre-commit": block("git checkout-index").encode(), "pre-receive": block("git archive").encode()})
+    for hook in ("pre-commit", "pre-receive"):
+        shutil.copy(SERVERS / hook, room)
     start = f"{found} git init -q . && {name} && git config core.autocrlf true && git add site .gitattributes 2> /dev/null && git commit -qm one && git cat-file -s HEAD:site/mails/1.eml"
-    yield Run("the page of sites: line ends of mails in git", room, start, b"14\n")
+    yield Run("examples for servers: line ends of mails in git", room, start, b"14\n")
     hook = "install -m 755 pre-commit .git/hooks/pre-commit && printf 'keep;' > site/personal/main.sieve && git add site && printf 'discard;' > site/personal/main.sieve"
     wrong = ["site/mails/1.eml under main", "  - discard", '  + store "INBOX"  (site/personal/main.sieve:1)']
-    yield Run("the page of sites: its hook before a commit", room, f"{found} {hook} && git commit -qm two; echo $?; git add site && git commit -q --allow-empty -m two; echo $?", lines("1", "0"), [line.encode() for line in wrong])
+    yield Run("examples for servers: its hook before a commit", room, f"{found} {hook} && git commit -qm two; echo $?; git add site && git commit -q --allow-empty -m two; echo $?", lines("1", "0"), [line.encode() for line in wrong])
     server = f"{found} git init -q --bare ../server && install -m 755 pre-receive ../server/hooks/pre-receive && git push -q ../server HEAD:main && printf 'keep;' > site/personal/main.sieve && git commit -qnam three && git push -q ../server HEAD:main; echo $?; git -C ../server log --format=%s main"
-    yield Run("the page of sites: its hook of a server", room, server, lines("1", "two", "one"), [line[-12:].encode() for line in wrong])
+    yield Run("examples for servers: its hook of a server", room, server, lines("1", "two", "one"), [line[-12:].encode() for line in wrong])
 
 
 def of_sites(room):
     """All of them."""
     room = room / "ends of sites"
     room.mkdir()
-    for part in (of_ends, of_colours, of_sizes, of_imports, of_page):
+    for part in (of_ends, of_colours, of_sizes, of_imports, of_servers):
         yield from some(part.__name__, part(room))

@@ -15,43 +15,63 @@ from .shown import Look
 DESCRIPTION = """\
 Tests a site's Sieve filters over sample mails, by the program sievebench.
 
-  check    compares the verdict on each mail, under each main script, with what is expected of it
-  record   writes today's verdicts as what is expected
-  lint     tells the faults of scripts, and what their includes, redirects and responses lead to
-  import   takes mails of mailboxes and files into a site
-  untested reports what can be changed in the scripts so that no mail's verdict notices
-  diff     reports which verdicts change from one site's scripts to another's, or from a revision in git to the files of today
-  why      says what entered each line of a mail's verdict, which scripts were looked up, and which branches were taken
-  watch    reports, whenever a file of a site is saved, which verdicts change
+Commands:
+  check     compares the verdicts on the mails with what is expected of them
+  record    writes today's verdicts as what is expected
+  lint      reports faults of scripts, and includes and actions that must fail
+  import    takes mails from mailboxes and files
+  untested  reports changes of the scripts that no mail notices
+  diff      reports the verdicts that an edit changes
+  why       says which commands entered a verdict, and which branches were taken
+  watch     reports changed verdicts after each save
 
-`sievebench-site COMMAND --help` tells the options of a command; `sievebench-site --version` tells the versions of this tool and of the
-program.
+'sievebench-site COMMAND --help' has the options of a command, 'sievebench-site --version' prints
+the versions of this tool and of the program.
 
 """
 SITE = """\
-SITE has
+Files of a site:
   personal/NAME.sieve      personal scripts
-  global/NAME.sieve        global scripts; this folder may be missing
-  mains                    the main scripts, one a line; several in a line run one after another, as before/10-spam main after/90-lists,
-                           where FOLDER/NAME is the site's file FOLDER/NAME.sieve, and a name with blanks stands between quotes
-  with                     the names of what the program is to know beyond what it always does, one a line; may be missing
-  mailboxes                where with has mailbox: the names of the mailboxes that there are, one a line; may be missing
-  clock                    where with has date: the current time, one line SECONDS ZONE as in a session; may be missing
-  envelope                 the sender and the recipient of mails whose own aren't known, two words as in a session; may be missing
-  mails/MAIL.eml           mails
-  mails/MAIL.eml.envelope  the addresses of a mail's sender and recipient, two words; else those of its fields Return-Path, and
-                           Delivered-To, X-Original-To or Envelope-To
-  mails/MAIL.eml.expect    what is expected of a mail: for each line of mains its names in brackets on a line, and then the lines of the
-                           verdict; # begins a comment
-  users/NAME/              where there are several users: personal, mains and mails of each. The folders global and mails and the file
-                           mains at the top are everybody's, and what is expected stands in blocks [NAME/MAIN]
-  mails/MAIL.eml.users     the users for whom a mail is judged; without it, all are
+  global/NAME.sieve        scripts for include :global; may be missing
+  mains                    the main scripts, one a line. Several in a line run one after another, as
+                           before/10-spam main after/90-lists: FOLDER/NAME is FOLDER/NAME.sieve of
+                           the site. A name with blanks stands between quotes
+  with                     names for --with of sievebench, one a line; may be missing
+  mailboxes                if with has mailbox: the mailboxes that exist, one a line; may be missing
+  clock                    if with has date: the current time, one line of seconds since 1970-01-01
+                           UTC and a zone, as 1783245600 +0200. The zone is also that of dates
+                           that are shown without :zone and :originalzone. May be missing
+  envelope                 two words, the sender and the recipient of mails without their own, as
+                           eva@a.example ada@b.example; \"\" is an empty one. May be missing, and
+                           then both are empty, as the sender of a bounce
+  mails/MAIL.eml           mails; those whose names begin with a dot are skipped. What looks like a
+                           mail and isn't taken is reported: a name that ends in .EML or is that
+                           of a Maildir's file, a file in a folder below, a broken link, and a mail
+                           that is too large
+  mails/MAIL.eml.envelope  the same of this mail. Without it, the sender is the first Return-Path
+                           that is an address or <>, and the recipient the first Delivered-To that
+                           is an address, or else X-Original-To, or else Envelope-To
+  mails/MAIL.eml.expect    what is expected of the mail: for each line of mains its names in
+                           brackets, and then the lines of the verdict
+  mails/MAIL.eml.users     the users for whom the mail is judged; without it, all
+  users/NAME/              a user, if there are several: personal, and maybe mains and mails. The
+                           folders global and mails and the file mains at the top are everybody's.
+                           Expectations stand in blocks [NAME/MAIN]
 """
 STATUS = """\
-Status: 0 all agree, or lint told no fault, or diff reports no verdict; 1 diff reports a verdict that changed, fewer changes are noticed
-than untested --fail-under asks for, a verdict disagrees or can't be judged, a script has a fault, record left a file, or without
---lax nothing is expected or something is stale; 2 misuse: no mails, no such main script or mail, a file that can't be read or written, an
-edit that was refused; 3 the program, or sievec, can't be run; 130 and 143 after Ctrl-C and SIGTERM.
+Exit status:
+  0    check: all verdicts agree; lint: no fault; diff: no verdict changed; untested, why: done
+  1    check: a verdict disagrees or can't be judged, a script has a fault, or without --lax
+       something isn't expected or is stale; lint: a fault; record: it left a file; diff: a verdict
+       that changed; untested: fewer changes are noticed than --fail-under asks for
+  2    misuse: no mails, no such main script or mail, a file that can't be read or written, a
+       refused edit
+  3    the program, or sievec, can't be run
+  130  ended by Ctrl-C
+  143  ended by SIGTERM
+"""
+MORE = """\
+'sievebench-site --help' has the files of a site and the statuses.
 """
 FORMS = ("text", "json", "junit", "github", "sarif")
 UNITS = {"": 1, "K": 1 << 10, "M": 1 << 20, "G": GIBIBYTE}
@@ -86,15 +106,89 @@ def percent(text: str) -> float:
     return float(text)
 
 
-SENTENCES = {
-    "check": "Compares the verdict on each mail, under each main script, with what is expected of it.",
-    "record": "Writes today's verdicts as what is expected.",
-    "lint": "Tells the faults of scripts, and what their includes, redirects and responses lead to.",
-    "import": "Takes mails of mailboxes and files into a site, under short names, and none twice.",
-    "untested": "Reports what can be changed in the scripts so that no mail's verdict notices.",
-    "diff": "Reports which verdicts on the mails of a site its scripts change: from those of another site, or of a revision in git.",
-    "why": "Says what entered each line of one mail's verdict, which scripts were looked up, and which branches the run took.",
-    "watch": "Reports, whenever a file of a site is saved, which verdicts change, until Ctrl-C ends it.",
+DETAILS = {
+    "check": """\
+Compares the verdict on each mail, under each main script, with what is expected of it.
+
+Prints each difference with the mails that have it, the scripts that have a fault or can't be
+judged, mails of which nothing is expected, what is stale, files that are left out, and a line of
+counts. What is stale is expected of a mail that isn't there, or under scripts that mains doesn't
+name; --only or --user and --main hide it.
+
+A script that requires what the file with doesn't name can't be judged. That fails a check only if
+a mail's run comes to it.
+
+The object of --json has passed; counts; cases, each with mail, main, agrees (null if nothing is
+expected or it isn't judged), expected, verdict and the lines of scripts that entered it (null if
+none did); faults, each with script, line and word; not judged; stale and left out, each with file
+and why.""",
+    "record": """\
+Writes today's verdicts as what is expected.
+
+What is expected of mails and under scripts that aren't run stays, and so does what is expected of
+a mail that can't be judged. Remove by hand what stands under scripts that mains no longer names.
+A file that isn't as this tool writes it, for example with comments, CR LF or another order, is
+left and reported, and so is one that changes meanwhile. If a script has a fault, nothing is
+written. Only one record or import may write to a site at a time.""",
+    "lint": """\
+Reports the first fault of each script, and what must fail: includes of scripts that are missing or
+have a fault, or that lead back; redirects to what isn't one address, responses from what isn't one,
+and stores into what no mailbox can be, if they have no variable.
+
+Also says which scripts can't be judged, which ones no main script comes to, and where scripts ask
+for the current date if the site has no clock. These are no faults.
+
+With --sievec it passes over scripts that come to one that can't be judged. What sievec complains
+of and compiles all the same isn't reported.""",
+    "import": """\
+Takes mails into a site's folder mails, as 0001.eml and on: those of Maildirs, mbox files, and files
+of one mail each.
+
+The octets stay as they are. Nothing is overwritten, and no mail is taken twice. A mail's envelope
+is written next to it if both addresses are known; the sender may be that of the mbox's From line.
+What is left out is reported with the reason: mails that are there already, or are too large, and
+folders inside a Maildir, which are mailboxes of their own. Only one record or import may write to
+a site at a time.""",
+    "untested": """\
+Changes the scripts that some verdict looked up, one change after another, and reports each change
+that no mail's verdict notices.
+
+Each command that acts is taken out: all but require, global, if, elsif and else. Each condition
+of an if or elsif is made true, and made false. All other lines stay where they are. A change is
+noticed if the lines of a verdict differ, the script and line that entered an action apart.
+
+\"reached by no mail\": no mail's run comes to the command, or asks for the condition.
+\"mails come there\": they do, but the change makes no difference, as of a stop after which nothing
+would be done, or of two rules that do the same.
+Of scripts that no verdict looked up only that is said. Changes that leave a fault and those that
+change nothing are counted apart. A script with a fault isn't changed.
+
+The object of --json has passed; counts; unnoticed, each with script, line, change, text and
+reached; faults; not judged; not looked up.""",
+    "diff": """\
+Reports which verdicts on the mails of SITE change if its scripts replace those of OLD, or of a
+revision in git.
+
+Only the scripts are those of OLD. Mails, main scripts, envelopes and the files with, mailboxes and
+clock are those of SITE; if one of these three was another, that is said. Main scripts that weren't
+there before are \"not compared\". New faults are reported too. A verdict that can't be judged,
+before or now, is reported and not counted as changed.""",
+    "why": """\
+Says of one mail's verdict which script and line entered each action, which scripts were looked up,
+and which branches the run took, in order.
+
+If the run ends in an error, the command that fails is taken out to find the branches, and that is
+said. If its script may be included more than once, the branches end where the run first comes to
+the command. A branch that is taken more than once is listed where it was taken first.""",
+    "watch": """\
+Looks at a site's files each half second, until Ctrl-C ends it. After a save it reports the verdicts
+that changed, new faults, verdicts that are newly not as expected, and the time that it took.
+
+The verdicts of a script that is saved with a fault stay; other scripts that were saved with it
+count. Mails, main scripts and settings may come and go. If the site can't be read, the last
+verdicts stay. A save counts once the files stay as they are for a twentieth of a second. Only what
+a save touched is run, except main scripts that run one after another. All mails are held in memory,
+once for each line of mains.""",
 }
 PLACES = {"import": "MAILBOX.. SITE", "diff": "[OLD] SITE", "why": "SITE MAIL"}
 
@@ -102,8 +196,7 @@ PLACES = {"import": "MAILBOX.. SITE", "diff": "[OLD] SITE", "why": "SITE MAIL"}
 def parser_of(command: str) -> Parser:
     """The parser of a command."""
     name, form = f"sievebench-site {command}", argparse.RawDescriptionHelpFormatter
-    epilog = f"{SITE}\n{STATUS}"
-    parser = Parser(name, description=SENTENCES[command], epilog=epilog, formatter_class=form, allow_abbrev=False)
+    parser = Parser(name, description=DETAILS[command], epilog=MORE, formatter_class=form, allow_abbrev=False)
     parser.add_argument("folders", nargs="*", metavar=PLACES.get(command, "SITE"))
     add_shown(parser)
     ADDERS[command](parser)
@@ -113,9 +206,11 @@ def parser_of(command: str) -> Parser:
 def add_shown(parser: Parser) -> None:
     """Adds the options that say how names are shown."""
     group = parser.add_mutually_exclusive_group()
-    shows = "shows octets of UTF-8 as characters, as on a terminal"
+    shows = "shows octets of UTF-8 as characters, as is usual on a terminal"
     group.add_argument("--utf8", action="store_true", default=None, help=shows)
-    group.add_argument("--no-utf8", action="store_false", dest="utf8", help="shows them as \\xHH, as elsewhere")
+    group.add_argument(
+        "--no-utf8", action="store_false", dest="utf8", help="shows them as \\xHH, as is usual elsewhere"
+    )
 
 
 def add_running(parser: Parser) -> None:
@@ -125,35 +220,35 @@ def add_running(parser: Parser) -> None:
         action="append",
         default=[],
         metavar="NAME",
-        help="a user of the site, and no others; may be given again",
+        help="takes only this user of the site; may be given again",
     )
     parser.add_argument(
         "--main",
         action="append",
         default=[],
         metavar="NAME",
-        help="a line of main scripts, in place of those of mains; may be given again",
+        help="takes this line of main scripts and not those of mains, for all users who have them; may be given again",
     )
     parser.add_argument(
-        "--clock", metavar="TIME", help="the time in place of that of the file clock, as 1783245600+0200"
+        "--clock", metavar="TIME", help="the current time, in place of the file clock, as 1783245600+0200"
     )
     parser.add_argument(
         "--program",
         metavar="PROGRAM",
-        help="the program, where it isn't the sievebench beside this tool or of the path",
+        help="the program; else sievebench next to this tool, or that of the path",
     )
     parser.add_argument(
         "--memory",
         type=memory,
         default=4 * GIBIBYTE,
         metavar="SIZE",
-        help="the memory that each process of the program may take, as 512M; 4G where none is given",
+        help="the memory that each process of the program may take, as 512M; else 4G. A mail that needs more isn't judged",
     )
 
 
 def add_quiet(parser: Parser) -> None:
     """Adds the option of what needn't be read where all is well."""
-    parser.add_argument("-q", "--quiet", action="store_true", help="tells only what fails")
+    parser.add_argument("-q", "--quiet", action="store_true", help="prints only what fails")
 
 
 def add_judging(parser: Parser) -> None:
@@ -164,14 +259,14 @@ def add_judging(parser: Parser) -> None:
         action="append",
         default=[],
         metavar="MAIL",
-        help="a mail by its file's name, as 09.eml, and no others; may be given again",
+        help="takes only the mail of this file, as 09.eml; may be given again",
     )
     parser.add_argument(
         "--jobs",
         type=jobs,
         default=processors,
         metavar="N",
-        help="how many processes of the program run at once; as many as there are processors where none is given",
+        help="how many processes of the program run at once; else as many as there are processors",
     )
 
 
@@ -180,15 +275,15 @@ def add_check(parser: Parser) -> None:
     add_running(parser)
     add_quiet(parser)
     add_judging(parser)
-    lets = "lets a mail pass of which nothing is expected, and what is stale"
+    lets = "passes mails of which nothing is expected, and what is stale"
     parser.add_argument("--lax", action="store_true", help=lets)
-    parser.add_argument("--strict", action="store_true", help="says that they fail, as they do without it")
-    tells = "tells each difference by itself, and not once for all mails that have it"
+    parser.add_argument("--strict", action="store_true", help="fails them, as is usual")
+    tells = "prints each difference by itself, and each file that is left out"
     parser.add_argument("--all", action="store_true", help=tells)
     add_format(parser)
     same = "the same as --format json"
     parser.add_argument("--json", action="store_const", const="json", dest="format", help=same)
-    parser.add_argument("--junit", metavar="FILE", help="writes the results also as JUnit has them")
+    parser.add_argument("--junit", metavar="FILE", help="also writes the results to a file as JUnit has them")
 
 
 def add_record(parser: Parser) -> None:
@@ -196,7 +291,7 @@ def add_record(parser: Parser) -> None:
     add_running(parser)
     add_quiet(parser)
     add_judging(parser)
-    writes = "writes files anew, too, that aren't as it writes them"
+    writes = "also rewrites files that aren't as this tool writes them, without their comments"
     parser.add_argument("--force", action="store_true", help=writes)
 
 
@@ -205,18 +300,20 @@ def add_lint(parser: Parser) -> None:
     add_running(parser)
     add_quiet(parser)
     add_format(parser)
-    runs = "runs also sievec, which Dovecot's site has, over each script, and tells where the two disagree"
+    runs = (
+        "also runs sievec, the compiler of Dovecot's Pigeonhole, over each script, and reports where the two disagree"
+    )
     parser.add_argument("--sievec", action="store_true", help=runs)
 
 
 def add_import(parser: Parser) -> None:
     """Adds the options of import."""
-    parser.add_argument("--user", metavar="NAME", help="the user whose mails they become")
+    parser.add_argument("--user", metavar="NAME", help="the user who gets the mails")
 
 
 def add_format(parser: Parser) -> None:
     """Adds the form of what is printed."""
-    how = "how the results are printed: text, json, junit, github or sarif"
+    how = "prints the results as text, one object of JSON, JUnit's XML, annotations of GitHub, or SARIF 2.1.0"
     parser.add_argument("--format", choices=FORMS, default="text", help=how)
 
 
@@ -225,11 +322,11 @@ def add_untested(parser: Parser) -> None:
     add_running(parser)
     add_quiet(parser)
     add_judging(parser)
-    keys = "takes out also each string of a list of two or more"
+    keys = "also takes out each string of a list of two or more"
     parser.add_argument("--keys", action="store_true", help=keys)
-    numbers = "moves also each limit of size by one, up and down"
+    numbers = "also moves each limit of size by one, up and down"
     parser.add_argument("--numbers", action="store_true", help=numbers)
-    fails = "fails where fewer of a hundred changes are noticed"
+    fails = "ends with status 1 if fewer of a hundred changes are noticed"
     parser.add_argument("--fail-under", type=percent, default=0.0, metavar="PERCENT", help=fails)
     parser.add_argument("--json", action="store_true", help="prints one object")
 
@@ -239,11 +336,11 @@ def add_diff(parser: Parser) -> None:
     add_running(parser)
     add_quiet(parser)
     add_judging(parser)
-    old = "compares with the site's folder in this revision of its repository, in place of another folder"
+    old = "compares with the site's folder in this revision of its repository"
     parser.add_argument("--git", metavar="REVISION", help=old)
-    tells = "reports each difference by itself, and not once for all mails that have it"
+    tells = "prints each difference by itself"
     parser.add_argument("--all", action="store_true", help=tells)
-    how = "how the results are printed: text, or markdown for merge requests"
+    how = "prints text, or Markdown for merge requests"
     parser.add_argument("--format", choices=("text", "markdown"), default="text", help=how)
 
 
@@ -251,7 +348,7 @@ def add_watch(parser: Parser) -> None:
     """Adds the options of watch."""
     add_running(parser)
     add_judging(parser)
-    tells = "reports each difference by itself, and not once for all mails that have it"
+    tells = "prints each difference by itself"
     parser.add_argument("--all", action="store_true", help=tells)
 
 
