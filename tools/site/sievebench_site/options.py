@@ -157,9 +157,10 @@ Each command that acts is taken out: all but require, global, if, elsif and else
 of an if or elsif is made true, and made false. All other lines stay where they are. A change is
 noticed if the lines of a verdict differ, the script and line that entered an action apart.
 
-\"reached by no mail\": no mail's run comes to the command, or asks for the condition.
-\"mails come there\": they do, but the change makes no difference, as of a stop after which nothing
-would be done, or of two rules that do the same.
+  reached by no mail  no mail's run comes to the command, or asks for the condition
+  mails come there    they do, but the change makes no difference to them: nothing would be done
+                      after the stop, or another rule does the same
+
 Of scripts that no verdict looked up only that is said. Changes that leave a fault and those that
 change nothing are counted apart. A script with a fault isn't changed.
 
