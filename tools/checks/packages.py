@@ -64,16 +64,17 @@ def copy(room, rt):
 
 
 def of_packages(room):
-    """All of them. Where there is no dpkg, packages are left out."""
+    """All of them. Where there is no dpkg or no lowdown, packages are left out."""
     room = room / "packages"
     room.mkdir()
     yield from of_versions(room)
-    if shutil.which("dpkg-deb"):
-        yield from of_made(room)
-        yield from of_installed(room)
-        yield from of_refusals(room)
-    else:
-        print("there is no dpkg-deb: packages are left out", file=sys.stderr)
+    missing = [it for it in ("dpkg-deb", "lowdown") if not shutil.which(it)]
+    if missing:
+        print(f"there is no {missing[0]}: packages are left out", file=sys.stderr)
+        return
+    yield from of_made(room)
+    yield from of_installed(room)
+    yield from of_refusals(room)
 
 
 def of_versions(room):
@@ -111,8 +112,9 @@ def of_made(room):
     if shutil.which("lintian"):
         # Whoever builds it has no address of the archive's maintainers, and no licence has been chosen.
         yield Run("lintian finds no error", one, "LC_ALL=C lintian --allow-root --fail-on error --tag-display-limit 0 out/*.deb > lintian.told 2>&1 || cat lintian.told")
-    unpacked = "mkdir p && tar -C p --strip-components=1 -xf out/*.tar.gz && p/bin/sievebench-site check p/share/doc/sievebench/examples/site; find p -type f -perm /022; ls p p/share/man/man5"
-    yield Run("the archive over a prefix", one, unpacked, lines(SITE, "p:", "bin", "share", "", "p/share/man/man5:", "sievebench-session.5.gz"))
+    unpacked = "mkdir p && tar -C p --strip-components=1 -xf out/*.tar.gz && p/bin/sievebench-site check p/share/doc/sievebench/examples/site; find p -type f -perm /022; ls p p/share/man/*"
+    pages = ["p/share/man/man1:", "sievebench-site.1.gz", "sievebench.1.gz", "", "p/share/man/man5:", "sievebench-session.5.gz"]
+    yield Run("the archive over a prefix", one, f"LC_ALL=C; export LC_ALL; {unpacked}", lines(SITE, "p:", "bin", "share", "", *pages))
     completes = f"{COMPLETES} p/share/bash-completion/completions/sievebench"
     for words, wanted in [
         ("p/bin/sievebench d", ["dump"]),
@@ -129,7 +131,7 @@ def of_installed(room):
     top = copy(room, HANDS_ON)
     makes = f'{ENV} tools/package > told'
     checks = 'PATH="$PWD/root/usr/bin:$PATH" root/usr/bin/sievebench-site check root/usr/share/doc/sievebench/examples/site'
-    yield Run("a package is installed and run", top, f"{makes}; {SYSTEM} {DPKG} -i out/*.deb > told && {checks} && man -l root/usr/share/man/man1/sievebench.1.gz | grep -c '^NAME'", lines(SITE, "1"))
+    yield Run("a package is installed and run", top, f"{makes}; {SYSTEM} {DPKG} -i out/*.deb > told && {checks} && for it in $(find root/usr/share/man -name '*.gz'); do man -l $it | grep -c '^NAME'; done", lines(SITE, "1", "1", "1"))
     newer = f"sed -i s/{re.escape(VERSION)}/{NEXT}/ CHANGELOG.md {COMMANDS} tools/site/sievebench_site/main.py; rm out/*; {GIT} commit -qam two; {makes}"
     yield Run("it is upgraded", top, f"{newer}; {DPKG} -i out/*.deb > told && root/usr/bin/sievebench --version | cut -c 1-{len('sievebench ') + len(NEXT)} && {checks}", lines(f"sievebench {NEXT}", SITE))
     left = f"{DPKG} --purge sievebench > told; find root -path root/var/lib/dpkg -prune -o ! -type d -print; find root -name '*sievebench*'"
@@ -148,3 +150,6 @@ def of_refusals(room):
         ("two words are given", ":", "a b", 1, [b"package: one word at most is wanted"]),
     ]:
         yield Run(f"no package where {title}", copy(room, HANDS_ON), f"{before}; {made.format(words)}", lines(status), error)
+    top = copy(room, HANDS_ON)
+    others = 'mkdir bin; for it in env python3 git strip dpkg dpkg-deb; do ln -s "$(command -v $it)" bin; done'
+    yield Run("no package without lowdown", top, f'{others}; PATH="$PWD/bin:$PWD/kit" tools/package; echo $?; ls', [b"1\n"], b"package: there is no lowdown in the path\n")
