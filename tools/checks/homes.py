@@ -1,11 +1,11 @@
 """What stands in several places has one home, and is the same in each other one.
 
-- A limit has its home in the sources, as a constant: `limits.rt` of `sieve_base` has most. It stands in the documents, the manual, the help,
-  the table of faults, and the tools.
-- What a status means has its home in `docs/FORMATS.md`, and for sites in `docs/SITE.md`: each status has words of its own, which stand there and
-  in the manual and the help, and in no other status.
-- The lines of a session, the words of its refusals and what is said on standard error have their home in `docs/FORMATS.md`, and the names that
-  are asked for, the rules and the errors of a run in `docs/LANGUAGE.md`: the manual, the help and the sources have the same ones.
+- A limit has its home in the sources, as a constant: `limits.rt` of `sieve_base` has most. It stands in the documents, the help, the table of
+  faults, and the tools.
+- What a status means has its home in the help of a program: each status has words of its own, which stand there and in the help of its commands,
+  and in no other status.
+- The lines of a session and the words of its refusals have their home in `docs/FORMATS.md`, and the names that are asked for, the rules and the
+  errors of a run in `docs/LANGUAGE.md`: the help and the sources have the same ones. The help has what the sources say on standard error.
 """
 import ast
 import pathlib
@@ -16,26 +16,23 @@ from .runs import Reading
 TOP = pathlib.Path(__file__).resolve().parent.parent.parent
 FORMATS, LANGUAGE, SITE, DATES = (f"docs/{name}.md" for name in ("FORMATS", "LANGUAGE", "SITE", "FROM_SIEVE_TEST"))
 FAULTS, FRONT = "docs/faults.tsv", "docs/CALLING.md"
-PAGE, SESSION_PAGE, SITE_PAGE = (f"docs/man/{name}" for name in ("sievebench.1", "sievebench-session.5", "sievebench-site.1"))
 HELP, OPTIONS = "crates/command_line/src/help.rt", "tools/site/sievebench_site/options.py"
-SOURCES = "crates/sieve_base/src/limits.rt"
+SOURCES, SAYS = "crates/sieve_base/src/limits.rt", "crates/sievebench_cli/src"
 AMOUNTS, BODIES, SITE_DATES, TOOL, CLOCK = "tools/checks/amounts.py", "tools/checks/bodies.py", "tools/checks/dates.py", "tools/site/sievebench_site/words.py", "tools/site/sievebench_site/clock.py"
 NUMBER = r"(\d[\d,_]*\d|\d|[Tt]en)"
 # Of each limit the places beside its home: a file and a pattern, whose groups are numbers, each of them the limit; or the name of a constant of a
 # file of Python. What is told as one past the limit has a third part.
 PLACES = {
     "MAX_TEXT": [
-        (FORMATS, rf"\| a script's text \| {NUMBER} octets"),
+        (FORMATS, rf"\| a script's text, the list of mailboxes \| {NUMBER} octets"),
         (LANGUAGE, rf"Texts have at most {NUMBER} octets"),
-        (SESSION_PAGE, rf"\.It {NUMBER} octets\nA script's text"),
         (HELP, rf"Limits: {NUMBER} octets a script "),
         (HELP, rf"a script past\n{NUMBER} octets"),
         (AMOUNTS, "TEXT_LIMIT"),
         (TOOL, "TEXT_LIMIT"),
     ],
     "MAX_MAILBOXES": [
-        (FORMATS, rf"\| the list of mailboxes \| {NUMBER} octets"),
-        (SESSION_PAGE, rf"\.It {NUMBER} octets\nA script's text, and the list of mailboxes\."),
+        (FORMATS, rf"\| a script's text, the list of mailboxes \| {NUMBER} octets"),
         (HELP, rf"Limits: {NUMBER} octets a script and the list of mailboxes"),
         (AMOUNTS, "MAILBOXES_LIMIT"),
         # The tool says it of a list of mailboxes too.
@@ -45,21 +42,18 @@ PLACES = {
         (FORMATS, rf"\| a message \| {NUMBER} octets"),
         (FRONT, rf"`Message::new`, which refuses more than {NUMBER} octets"),
         ("docs/PROVED.md", rf"`Message::new`: `TooLarge` exactly past {NUMBER} octets"),
-        (SESSION_PAGE, rf"\.It {NUMBER} octets\nA message"),
         (HELP, rf"Limits: [^.]*?, {NUMBER} the mail"),
         (AMOUNTS, "MESSAGE_LIMIT"),
         (TOOL, "MESSAGE_LIMIT"),
     ],
     "MAX_EXPECTED": [
         (FORMATS, rf"\| an expected text \| {NUMBER} octets"),
-        (SESSION_PAGE, rf"\.It {NUMBER} octets\nAn expected text"),
         (AMOUNTS, "EXPECTED_LIMIT"),
     ],
     "MAX_NAME": [
         (FORMATS, rf"\| a script's name, a message's id, an address of the envelope \| {NUMBER} octets"),
         (LANGUAGE, rf"a name past {NUMBER} octets is that of no script"),
         (LANGUAGE, rf"A script's name is any octets, {NUMBER} at most"),
-        (SESSION_PAGE, rf"\.It {NUMBER} octets\nA script's name"),
         (HELP, rf"octets or a name past {NUMBER},"),
         (HELP, rf"; {NUMBER} a name, an\naddress and the word MAIL"),
         (AMOUNTS, "NAME_LIMIT"),
@@ -67,11 +61,9 @@ PLACES = {
     "MAX_ID": [
         (FORMATS, rf"\| a script's name, a message's id, an address of the envelope \| {NUMBER} octets"),
         ("docs/DECISIONS.md", rf"no id is longer than {NUMBER} octets"),
-        (SESSION_PAGE, rf"\.It {NUMBER} octets\nA script's name, a message's id, an address of the envelope"),
     ],
     "MAX_ADDRESS": [
         (FORMATS, rf"\| a script's name, a message's id, an address of the envelope \| {NUMBER} octets"),
-        (SESSION_PAGE, rf"\.It {NUMBER} octets\nA script's name, a message's id, an address of the envelope"),
         (TOOL, "ADDRESS_LIMIT"),
     ],
     "MAX_MAILBOX": [
@@ -79,40 +71,32 @@ PLACES = {
         (LANGUAGE, rf"the string of a `fileinto` is empty, has more than {NUMBER} octets"),
         (LANGUAGE, rf"A mailbox's name has at most {NUMBER} octets"),
         (DATES, rf"a mailbox's name that is empty, longer than {NUMBER} octets"),
-        (SESSION_PAGE, rf"\.It {NUMBER} octets\nThe mailbox"),
         (HELP, rf"; {NUMBER} the mailbox"),
         (AMOUNTS, "MAILBOX_LIMIT"),
         (TOOL, "MAILBOX_LIMIT"),
     ],
     "MAX_SCRIPTS": [
         (FORMATS, rf"\| scripts, messages \| {NUMBER} and"),
-        (SESSION_PAGE, rf"\.It {NUMBER} and [\d,]+\nScripts and messages"),
         (HELP, rf"; {NUMBER} scripts\."),
         (AMOUNTS, "SCRIPT_LIMIT"),
         (TOOL, "SCRIPT_LIMIT"),
     ],
     "MAX_MESSAGES": [
-        (FORMATS, rf"\| scripts, messages \| [\d,]+ and {NUMBER},"),
-        (SESSION_PAGE, rf"\.It [\d,]+ and {NUMBER}\nScripts and messages"),
+        (FORMATS, rf"\| scripts, messages \| [\d,]+ and {NUMBER} "),
         (AMOUNTS, "MAIL_LIMIT"),
         (TOOL, "MAIL_LIMIT"),
     ],
     "MAX_LINE": [
         (FORMATS, rf"\| a session's line \| {NUMBER} octets"),
-        (FORMATS, rf"A line has at most {NUMBER} octets without its end"),
-        (FORMATS, rf"Octet {NUMBER} makes it too long", 1),
-        (SESSION_PAGE, rf"\.It {NUMBER} octets\nA line, without its end"),
+        (FORMATS, rf"A line has at most {NUMBER} octets\."),
         (AMOUNTS, "LINE_LIMIT"),
     ],
     "SESSION_TURNS": [
         (FORMATS, rf"\| reads in a session of the program \| {NUMBER} \|"),
-        (SESSION_PAGE, rf"\.It {NUMBER}\nReads in a session of the program"),
-        (PAGE, rf"A session made {NUMBER} reads"),
         (HELP, rf"a session made {NUMBER} reads"),
     ],
     "LAST_SECOND": [
         (FORMATS, rf"up to {NUMBER}, the end of the year 9999"),
-        (SESSION_PAGE, rf"up to {NUMBER}, the end of the year\n9999"),
         (AMOUNTS, "LAST_SECOND"),
         (SITE_DATES, "LAST_CLOCK"),
         (CLOCK, "LAST_SECOND"),
@@ -181,10 +165,10 @@ STATUSES = {
     "4": [r"memory"],
 }
 SITE_STATUSES = {
-    "0": [r"verdicts agree|all agree", r"told no fault|no fault was told", r"reports no verdict|no verdict changed"],
-    "1": [r"disagrees", r"n't be judged|cannot be judged", r"verdict that changed", r"fewer", r"a script has a fault", r"left\s+a file", r"something is stale"],
-    "2": [r"[Mm]isuse", r"no mails", r"be read or written|be\s+read or\s+written"],
-    "3": [r"sievec", r"(?:can't|cannot)\s+be run"],
+    "0": [r"verdicts agree", r"no fault", r"no verdict changed"],
+    "1": [r"disagrees", r"can't be judged", r"verdict\s+that changed", r"fewer", r"a script has a fault", r"left a file", r"is stale"],
+    "2": [r"misuse", r"no mails", r"be read or written"],
+    "3": [r"sievec", r"can't be run"],
     "130": [r"Ctrl-C"],
     "143": [r"SIGTERM"],
 }
@@ -238,8 +222,7 @@ class Limits(Reading):
 
     title, command = "the lists of limits", SOURCES
     LISTS = [
-        (FORMATS, r"\n## Limits\n(.*?)\n## ", "MAX_TEXT MAX_MESSAGE MAX_EXPECTED MAX_MAILBOXES MAX_NAME MAX_MAILBOX MAX_SCRIPTS MAX_MESSAGES MAX_LINE SESSION_TURNS"),
-        (SESSION_PAGE, r"\n\.Ss Limits\n(.*?)\n\.Sh ", "MAX_TEXT MAX_MESSAGE MAX_EXPECTED MAX_NAME MAX_MAILBOX MAX_SCRIPTS MAX_MESSAGES MAX_LINE SESSION_TURNS"),
+        (FORMATS, r"\n## Limits\n(.*?)\n## ", "MAX_TEXT MAX_MESSAGE MAX_EXPECTED MAX_NAME MAX_MAILBOX MAX_SCRIPTS MAX_MESSAGES MAX_LINE SESSION_TURNS"),
         (HELP, r"\nLimits: (.*?)\n\n", "MAX_TEXT MAX_MESSAGE MAX_NAME MAX_MAILBOX MAX_SCRIPTS"),
     ]
 
@@ -260,12 +243,6 @@ def rows(path, heading):
     """The rows of the first table behind a heading: each with its cells."""
     text = text_of(path).partition(heading)[2]
     return [re.split(r" \| ", line.strip("| ")) for line in re.findall(r"^\|(?!---).*", text.partition("\n\n|")[2].partition("\n\n")[0], re.M)]
-
-
-def items(path, section):
-    """The items of a list in a section of a page of the manual, and their texts."""
-    text = re.search(rf"^\.S[hs] {section}\n(.*?)(?=^\.S[hs] |\Z)", text_of(path), re.M | re.S)[1]
-    return [(head, re.sub(r"\n\.(?:Cm|Ic|Fl|Li|Ar|Xr|Pa) ?", "\n", body)) for head, body in re.findall(r"^\.It (?:(?:Ic|Li) )?([^\n]*)\n(.*?)(?=^\.It |^\.El)", text, re.M | re.S)]
 
 
 def helped(function):
@@ -301,16 +278,12 @@ class Statuses(Reading):
 
 def of_statuses():
     """Each place that says what statuses mean."""
-    yield Statuses(FORMATS, STATUSES, rows(FORMATS, "\n## Statuses of the program"))
-    yield Statuses(PAGE, STATUSES, items(PAGE, "EXIT STATUS"))
     program = helped("of_program").partition("\n\n")[0]
     yield Statuses("the help of the program", STATUSES, re.findall(r"^  (\d)  (.*?)(?=^  \d|\Z)", f"{program}\n", re.M | re.S))
     for function in ("of_session", "of_dump", "of_test"):
         yield Statuses(f"the help, {function}", STATUSES, sentence(helped(function)), is_list=False)
-    yield Statuses(SITE, SITE_STATUSES, rows(SITE, "\n```sh\ntar --strip-components"))
-    yield Statuses(SITE_PAGE, SITE_STATUSES, items(SITE_PAGE, "EXIT STATUS"))
-    told = re.search(r'STATUS = """\\\nStatus: (.*?)\.\n"""', text_of(OPTIONS), re.S)[1].replace("130 and 143 after Ctrl-C and SIGTERM", "130, 143 after Ctrl-C and SIGTERM")
-    yield Statuses("the help of the tool for sites", SITE_STATUSES, re.findall(r"(\d+(?:, \d+)?) (.*?)(?=; \d|\Z)", told, re.S))
+    told = re.search(r'STATUS = """\\\nExit status:\n(.*?)"""', text_of(OPTIONS), re.S)[1]
+    yield Statuses("the help of the tool for sites", SITE_STATUSES, re.findall(r"^  (\d+) +(.*?)(?=^  \d|\Z)", told, re.M | re.S))
 
 
 def words(path):
@@ -332,23 +305,20 @@ class Same(Reading):
 
 def of_lists():
     """The lines of sessions, why edits are refused, what is said on standard error, and names."""
-    lines = [row[0].strip("`") for row in rows(FORMATS, "A line of spaces alone")]
-    manual = [head.replace(" Ar ", " ") for head, _ in items(SESSION_PAGE, "Lines")]
+    lines = [row[0].strip("`") for row in rows(FORMATS, "A line without words has no reply")]
     helps = re.findall(r"^  ([a-z-]+(?: [A-Z]+)*)  ", helped("of_session").partition("\n\nPLACE is")[0], re.M)
-    yield Same("the lines of a session", FORMATS, sorted(lines), {SESSION_PAGE: sorted(manual), HELP: sorted(helps)})
-    kinds = [row[0].strip("`") for row in rows(FORMATS, "KIND is the first of these that holds")]
-    manual = [head for head, _ in items(SESSION_PAGE, "Replies")]
-    yield Same("why an edit is refused, in order", FORMATS, kinds, {SESSION_PAGE: manual})
+    yield Same("the lines of a session", FORMATS, sorted(lines), {HELP: sorted(helps)})
+    kinds = [row[0].strip("`") for row in rows(FORMATS, "the first reason that holds")]
     told = re.search(r"A reply is ok, or no and why, and the session goes on: (.*?)\. ", helped("of_session"), re.S)[1]
     yield Same("why an edit is refused", FORMATS, sorted(kinds), {HELP: sorted(re.split(r",\s", told))})
-    said = re.findall(r"`sievebench: ([^`]*)`", text_of(FORMATS).partition("\nFrom 2 on standard error has one of")[2].partition("\n")[0])
-    manual = [head.replace("\\(dq", '"') for head, _ in items(PAGE, "DIAGNOSTICS")]
-    helps = re.findall(r"^  (\S.*?)  +\S", helped("of_program").partition("Standard error")[2].partition("\nA mistake")[0], re.M)
-    yield Same("what is said on standard error", FORMATS, sorted(said), {PAGE: sorted(manual), HELP: sorted(helps)})
+    said = re.findall(r"^  (\S.*?)  +\S", helped("of_program").partition("Standard error")[2].partition("\nA mistake")[0], re.M)
+    sources = "\n".join(text_of(it.relative_to(TOP)) for it in sorted((TOP / SAYS).glob("*.rt")))
+    told = {f'{word} "PATH"' if of else word for of, word in re.findall(r'complain(_of)?\(\s*rt,\s*"([^"]*)"', sources)}
+    told |= set(re.findall(r'=> Some\("([^"]*)"\)', sources))
+    yield Same("what is said on standard error", HELP, sorted(said), {SAYS: sorted(told)})
     names = [row[0].strip("`") for row in rows(LANGUAGE, "\n## What is asked for by name")]
-    manual = re.findall(r"^\.It Li (.*)", re.search(r"^The names are:\n(.*?)^\.El", text_of(PAGE), re.M | re.S)[1], re.M)
     known = words("crates/sieve_profile/src/extension.rt")
-    yield Same("the names that are asked for", LANGUAGE, names, {PAGE: manual, "the sources": known})
+    yield Same("the names that are asked for", LANGUAGE, names, {"the sources": known})
     rules = [row[0].strip("`") for row in rows(LANGUAGE, "\n## Rules")]
     yield Same("the rules, in order", LANGUAGE, rules, {"the sources": words("crates/sieve_table/src/rule.rt")})
     errors = [word for row in rows(LANGUAGE, "\nAn error ends the run") for word in re.findall(r"`([a-z-]+)`", row[0])]

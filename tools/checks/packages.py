@@ -152,4 +152,4 @@ def of_refusals(room):
         yield Run(f"no package where {title}", copy(room, HANDS_ON), f"{before}; {made.format(words)}", lines(status), error)
     top = copy(room, HANDS_ON)
     others = 'mkdir bin; for it in env python3 git strip dpkg dpkg-deb; do ln -s "$(command -v $it)" bin; done'
-    yield Run("no package without lowdown", top, f'{others}; PATH="$PWD/bin:$PWD/kit" tools/package; echo $?; ls', [b"1\n"], b"package: there is no lowdown in the path\n")
+    yield Run("no package without lowdown", top, f'{others}; PATH="$PWD/bin:$PWD/kit" tools/package; echo $?', lines("1"), b"package: there is no lowdown in the path\n")
