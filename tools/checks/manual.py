@@ -35,8 +35,8 @@ PLANTED = [
     ('(("FILES", files), ("EXIT STATUS", statuses))', '(("FILES", files),)'),
     ('yield section("SEE ALSO", "sievebench(1), sievebench-site(1)")', 'yield section("SEE ALSO", "sievebench(1), sievebench-mails(1)")'),
     ('f"section={number}"', '"section=7"'),
-    ('(r"\\\\fC", r"\\\\fB")', '(r"\\\\fX", r"\\\\fB")'),
-    ('re.findall(r"^  (-.*?)(?:  +|\\n +)(\\S.*)"', 're.findall(r"^  (-.*?)(?:  +)(\\S.*)"'),
+    ('(r"\\\\f(?:C|', '(r"\\\\f(?:X|'),
+    ("(?:  +|\\n +)", "(?:  +)"),
     ("last.below.append(entry)", "pass"),
 ]
 

@@ -113,8 +113,8 @@ def places(folder):
 def of_additions():
     """The rows of each crate, and all other names."""
     crates = {path.name: places(path) for path in (TOP / "crates").iterdir() if path.is_dir()}
-    pages = (path.name for folder in ("docs", "docs/man", "examples/rows") for path in (TOP / folder).iterdir())
-    anywhere = set().union(*crates.values(), places(TOP / "tools/checks"), ("docs", "man", "tools", "checks", "tsv"), pages)
+    pages = (path.name for folder in ("docs", "examples/rows") for path in (TOP / folder).iterdir())
+    anywhere = set().union(*crates.values(), places(TOP / "tools/checks"), ("docs", "tools", "checks", "tsv"), pages)
     rows, others = {}, []
     for line in ADDING.read_text(encoding="utf-8").splitlines():
         first, *cells = re.split(r" \| ", line.strip("|"))
