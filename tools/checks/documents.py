@@ -1,11 +1,13 @@
 """What the documents show: the lines of shell of `docs/FORMATS.md` that say how a session went, the whole script and the contents of
-`docs/LANGUAGE.md`, the caller of `docs/CALLING.md`, and what is expected and told of a mail in `docs/SITE.md`.
+`docs/LANGUAGE.md`, the caller of `docs/CALLING.md`, and what `docs/SITE.md` shows of a first check, of what is expected of a mail and of what is
+reported then.
 """
 import pathlib
 import re
 import shlex
 import textwrap
 
+from .files import write
 from .runs import Reading, Run, lines, put
 
 TOP = pathlib.Path(__file__).resolve().parent.parent.parent
@@ -89,6 +91,22 @@ def of_calling():
     yield Shown("the caller", shown, source[source.find(shown) :][: len(shown)])
 
 
+def of_first_checks(room):
+    """The lines that lead to a first check, from filters and a mailbox and from a server of Dovecot's."""
+    home = room / "home"
+    mail = b"Return-Path: <a@b.example>\nDelivered-To: c@d.example\nSubject: one\n\n"
+    write(home, {"filters/main.sieve": b'require "envelope"; if envelope "to" "c@d.example" { discard; }', "Maildir/new/1": b"", "Maildir/cur/1795931695.M1.host:2,S": mail, "bin/x": b""})
+    write(home, {"sieve/other.sieve": b"keep;", ".dovecot.sieve": b"discard;", "before.d/10-spam.sieve": b""})
+    (home / "bin/sievebench-site").symlink_to(TOOL)
+    shell = re.findall(BLOCK, SITE.read_text(encoding="utf-8"), re.S)
+    ends = "2 mails, 1 mains, 2 verdicts, 2 agree, 0 disagree, 0 without expectation, 0 stale expectations, 0 scripts with a fault, 1 mails without an envelope"
+    for number, (word, more) in enumerate([("cp ~/filters", ""), (".dovecot.sieve", "sievebench-site record site; sievebench-site check site")]):
+        (text,) = (it.replace("/etc/dovecot/sieve", "~") for it in shell if word in it)
+        (room / f"first{number}").mkdir()
+        command = f"HOME={shlex.quote(str(home))}; export HOME; PATH=$HOME/bin:$PATH; set -e\n{text}{more}"
+        yield Run(f"the lines of a first check with {word}", room / f"first{number}", command, [lines(ends)])
+
+
 def of_site(room):
     """What is expected of the mail with an order, and what is told where the script of orders sets no keyword."""
     expected, told = re.findall(r"^```\n((?:\[|site/mails/).*?)^```", SITE.read_text(encoding="utf-8"), re.S | re.M)
@@ -105,4 +123,5 @@ def of_documents(room):
     yield from of_failing(room)
     yield from of_language()
     yield from of_calling()
+    yield from of_first_checks(room)
     yield from of_site(room)
