@@ -111,9 +111,9 @@ DETAILS = {
 Compares the verdict on each mail, under each main script, with what is expected of it.
 
 Prints each difference with the mails that have it, the scripts that have a fault or can't be
-judged, mails of which nothing is expected, what is stale, files that are left out, and a line of
-counts. What is stale is expected of a mail that isn't there, or under scripts that mains doesn't
-name; --only or --user and --main hide it.
+judged, mails without expectations, stale expectations, files that are left out, and a line of
+counts. An expectation is stale if its mail isn't there, which isn't looked at with --only, or if
+mains doesn't name its scripts, which isn't looked at with --user or --main.
 
 A script that requires what the file with doesn't name can't be judged. That fails a check only if
 a mail's run comes to it.
@@ -276,7 +276,7 @@ def add_check(parser: Parser) -> None:
     add_running(parser)
     add_quiet(parser)
     add_judging(parser)
-    lets = "passes mails of which nothing is expected, and what is stale"
+    lets = "passes mails without expectations, and stale expectations"
     parser.add_argument("--lax", action="store_true", help=lets)
     parser.add_argument("--strict", action="store_true", help="fails them, as is usual")
     tells = "prints each difference by itself, and each file that is left out"
