@@ -26,10 +26,11 @@ PAGES = [
 ]
 LISTED = r"^ +(-[^\s,]+)(?:, (--[a-z-]+))?"
 # Words of the help that no page needs: where it says where more is said, and how argparse says what a command takes.
-ELSEWHERE = {"project", "positional", "arguments", "usage", "formats", "versions"}
+ELSEWHERE = {"project", "positional", "arguments", "usage", "formats"}
 # Faults of the tool: a text that it has once, and what stands in its place.
 PLANTED = [
-    ('yield section("OPTIONS", *options_of(commands))', 'yield section("OPTIONS", *list(options_of(commands))[1:])'),
+    ('section("OPTIONS", *options_of(commands), ', 'section("OPTIONS", *list(options_of(commands))[1:], '),
+    ("for it in notes))", "for it in notes[1:]))"),
     ('return section("DESCRIPTION", "".join(parts))', 'return section("DESCRIPTION", "".join(parts[::2]))'),
     ("for command, sentence, usage, rest in helps:", "for command, sentence, usage, rest in helps[1:]:"),
     ('(("FILES", files), ("EXIT STATUS", statuses))', '(("FILES", files),)'),

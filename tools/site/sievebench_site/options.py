@@ -28,6 +28,9 @@ Commands:
 'sievebench-site COMMAND --help' has the options of a command, 'sievebench-site --version' prints
 the versions of this tool and of the program.
 
+A value that begins with - is joined to its option by =, and a path that begins with - stands after
+--. Lines have colours only on a terminal, and none if NO_COLOR is set.
+
 """
 SITE = """\
 Files of a site:
