@@ -141,8 +141,8 @@ and stores into what no mailbox can be, if they have no variable.
 Also says which scripts can't be judged, which ones no main script comes to, and where scripts ask
 for the current date if the site has no clock. These are no faults.
 
-With --sievec it passes over scripts that come to one that can't be judged. What sievec complains
-of and compiles all the same isn't reported.""",
+--sievec skips scripts that come to one that can't be judged. What sievec complains of and compiles
+all the same isn't reported.""",
     "import": """\
 Takes mails into a site's folder mails, as 0001.eml and on: those of Maildirs, mbox files, and files
 of one mail each.
