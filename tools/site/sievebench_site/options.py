@@ -210,10 +210,10 @@ def parser_of(command: str) -> Parser:
 def add_shown(parser: Parser) -> None:
     """Adds the options that say how names are shown."""
     group = parser.add_mutually_exclusive_group()
-    shows = "shows octets of UTF-8 as characters, as is usual on a terminal"
+    shows = "shows octets of UTF-8 as characters; the default on a terminal"
     group.add_argument("--utf8", action="store_true", default=None, help=shows)
     group.add_argument(
-        "--no-utf8", action="store_false", dest="utf8", help="shows them as \\xHH, as is usual elsewhere"
+        "--no-utf8", action="store_false", dest="utf8", help="shows them as \\xHH; the default elsewhere"
     )
 
 
@@ -281,7 +281,7 @@ def add_check(parser: Parser) -> None:
     add_judging(parser)
     lets = "passes mails without expectations, and stale expectations"
     parser.add_argument("--lax", action="store_true", help=lets)
-    parser.add_argument("--strict", action="store_true", help="fails them, as is usual")
+    parser.add_argument("--strict", action="store_true", help="fails them; the default")
     tells = "prints each difference by itself, and each file that is left out"
     parser.add_argument("--all", action="store_true", help=tells)
     add_format(parser)
