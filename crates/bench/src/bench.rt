@@ -118,7 +118,8 @@ impl Bench {
         ensures { Tries (edit.put_script name text) result self.old self.new }
     {
         refuse_script(&self.scripts, &name, text.as_slice())?;
-        self.scripts.put(self.alloc, &mut self.messages, name, text)?;
+        self.scripts
+            .put(self.alloc, &mut self.messages, name, text)?;
         Ok(())
     }
 
@@ -150,7 +151,8 @@ impl Bench {
         ensures { Tries (edit.rename_script from.now to) result self.old self.new }
     {
         refuse_rename(&self.scripts, from, &to)?;
-        self.scripts.rename(self.alloc, &mut self.messages, from, to)?;
+        self.scripts
+            .rename(self.alloc, &mut self.messages, from, to)?;
         forget_readers(&mut self.messages, from);
         Ok(())
     }

@@ -22,7 +22,11 @@ pub(crate) fn is_long(name: &Octets) -> bool
 }
 
 /// Why a script isn't put, apart from memory.
-pub(crate) fn refuse_script(scripts: &Scripts, name: &ScriptName, text: &[u8]) -> Result<(), EditFault>
+pub(crate) fn refuse_script(
+    scripts: &Scripts,
+    name: &ScriptName,
+    text: &[u8],
+) -> Result<(), EditFault>
     ensures { spec.Finds (spec.script_refusal scripts.now.scripts name.now text.now) result }
 {
     if is_long(&name.name) || text.len() > MAX_TEXT {
@@ -41,7 +45,8 @@ pub(crate) fn refuse_message(
     id: &Octets,
     bytes: &[u8],
 ) -> Result<(), EditFault>
-    ensures { spec.Finds (spec.message_refusal (messages_of messages.now.entries) id.now bytes.now) result }
+    ensures { spec.Finds
+        (spec.message_refusal (messages_of messages.now.entries) id.now bytes.now) result }
 {
     if id.as_slice().len() > MAX_ID || bytes.len() > MAX_MESSAGE {
         return Err(EditFault::TooLarge);
@@ -54,7 +59,10 @@ pub(crate) fn refuse_message(
 
 /// Why a message isn't removed, or why what is expected of it or its own addresses aren't.
 #[tactic(auto, using(crate::proofs::Entries::entries))]
-pub(crate) fn refuse_absent(messages: &IndexMap<Octets, EntryBox>, id: &[u8]) -> Result<(), EditFault>
+pub(crate) fn refuse_absent(
+    messages: &IndexMap<Octets, EntryBox>,
+    id: &[u8],
+) -> Result<(), EditFault>
     ensures { spec.Finds (spec.absent_refusal (messages_of messages.now.entries) id.now) result }
 {
     if id.len() > MAX_ID {
@@ -73,7 +81,8 @@ pub(crate) fn refuse_expected(
     id: &[u8],
     text: &[u8],
 ) -> Result<(), EditFault>
-    ensures { spec.Finds (spec.expected_refusal (messages_of messages.now.entries) id.now text.now) result }
+    ensures { spec.Finds
+        (spec.expected_refusal (messages_of messages.now.entries) id.now text.now) result }
 {
     if id.len() > MAX_ID || text.len() > MAX_EXPECTED {
         Err(EditFault::TooLarge)
@@ -142,7 +151,8 @@ pub(crate) fn refuse_addresses(
     from: &[u8],
     to: &[u8],
 ) -> Result<(), EditFault>
-    ensures { spec.Finds (spec.addresses_refusal (messages_of messages.now.entries) id.now from.now to.now) result }
+    ensures { spec.Finds
+        (spec.addresses_refusal (messages_of messages.now.entries) id.now from.now to.now) result }
 {
     if id.len() > MAX_ID || are_long(from, to) {
         Err(EditFault::TooLarge)

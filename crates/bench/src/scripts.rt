@@ -118,7 +118,7 @@ impl Scripts {
     {
         let entry = self.by_name.entry(name)?;
         forget_readers(messages, entry.key());
-        entry.insert_entry(script);
+        entry.insert_entry(script).into_mut();
         Ok(())
     }
 

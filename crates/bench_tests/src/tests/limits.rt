@@ -17,8 +17,16 @@ fn check_names(
     let name = personal(rt.alloc(), id.as_slice())?;
     let at = ("a name", count as u64, 0);
     holds(rt, at, bench.set_main(main) == *wanted);
-    holds(rt, at, bench.put_script(name, many(rt.alloc(), 0)?) == *wanted);
-    holds(rt, at, bench.put_message(id, many(rt.alloc(), 0)?) == *wanted);
+    holds(
+        rt,
+        at,
+        bench.put_script(name, many(rt.alloc(), 0)?) == *wanted,
+    );
+    holds(
+        rt,
+        at,
+        bench.put_message(id, many(rt.alloc(), 0)?) == *wanted,
+    );
     Ok(())
 }
 

@@ -19,6 +19,12 @@ invariant_of-self-2 c =
     )
 
 pub returns : goal.returns
-returns c =
-    ((rw (c.in_ok-put.ensures.ok, c.in_ok-put.ensures.forgotten.messages) (search rules), rw (← c.self.view_is, c.in_ok-put.ensures.forgotten.entries)
-    (stale-marked (verdict_by (site_by c.self.inside.main c.self.inside.envelope c.self.inside.scripts)) c.args.name c.self.inside.messages.entries c.self.invariant.0 c.self.invariant.1)), tt, search rules)
+returns c = (
+  (
+    rw (c.in_ok-put.ensures.ok, c.in_ok-put.ensures.forgotten.messages) (search rules),
+    rw (← c.self.view_is, c.in_ok-put.ensures.forgotten.entries)
+        (stale-marked (verdict_by (site_by c.self.inside.main c.self.inside.envelope c.self.inside.scripts)) c.args.name c.self.inside.messages.entries c.self.invariant.0 c.self.invariant.1),
+  ),
+  tt,
+  search rules,
+)

@@ -16,6 +16,12 @@ invariant_of-self c =
     )
 
 pub returns : goal.returns
-returns c =
-    ((rw (c.remove.ensures, c.forget_readers.ensures.forgotten.messages) (search rules), rw (← c.self.view_is, c.forget_readers.ensures.forgotten.entries)
-    (stale-marked (verdict_by (site_by c.self.inside.main c.self.inside.envelope c.self.inside.scripts)) c.args.name.now c.self.inside.messages.entries c.self.invariant.0 c.self.invariant.1)), tt, search rules)
+returns c = (
+  (
+    rw (c.remove.ensures, c.forget_readers.ensures.forgotten.messages) (search rules),
+    rw (← c.self.view_is, c.forget_readers.ensures.forgotten.entries)
+        (stale-marked (verdict_by (site_by c.self.inside.main c.self.inside.envelope c.self.inside.scripts)) c.args.name.now c.self.inside.messages.entries c.self.invariant.0 c.self.invariant.1),
+  ),
+  tt,
+  search rules,
+)

@@ -9,7 +9,7 @@ use Rattle.bench.proofs.Trying.{named_there}
 use Rattle.bench.proofs.bench.Bench.rename_script.Goals as goal
 
 pub rename-requires : goal.rename-requires
-rename-requires c = named_there _ _ _ c.in_ok-refuse_rename.ensures
+rename-requires c = named_there c.self.inside.scripts.scripts c.args.from.now c.args.to c.in_ok-refuse_rename.ensures
 
 pub invariant_of-self : goal.invariant_of-self
 invariant_of-self c = (rw (c.in_err-rename.ensures.err, c.in_err-rename.ensures.unmarked) c.self.invariant.0, rw c.in_err-rename.ensures.unmarked c.self.invariant.1)
@@ -28,6 +28,12 @@ invariant_of-self-2 c =
     )
 
 pub returns : goal.returns
-returns c =
-    ((rw (c.in_ok-rename.ensures.ok, c.forget_readers.ensures.forgotten.messages, c.in_ok-rename.ensures.forgotten.messages) (search rules), rw (← c.self.view_is, c.forget_readers.ensures.forgotten.entries, c.in_ok-rename.ensures.forgotten.entries)
-    (stale-marked_twice (verdict_by (site_by c.self.inside.main c.self.inside.envelope c.self.inside.scripts)) c.args.from.now c.args.to c.self.inside.messages.entries c.self.invariant.0 c.self.invariant.1)), tt, search rules)
+returns c = (
+  (
+    rw (c.in_ok-rename.ensures.ok, c.forget_readers.ensures.forgotten.messages, c.in_ok-rename.ensures.forgotten.messages) (search rules),
+    rw (← c.self.view_is, c.forget_readers.ensures.forgotten.entries, c.in_ok-rename.ensures.forgotten.entries)
+        (stale-marked_twice (verdict_by (site_by c.self.inside.main c.self.inside.envelope c.self.inside.scripts)) c.args.from.now c.args.to c.self.inside.messages.entries c.self.invariant.0 c.self.invariant.1),
+  ),
+  tt,
+  search rules,
+)
