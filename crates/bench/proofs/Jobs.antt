@@ -7,7 +7,7 @@ use Rattle.sieve_base.specs.declared.name.ScriptName.{ScriptName}
 use Rattle.bench.specs.Bench.{BenchState, Makes}
 use Rattle.bench.specs.Content.{Content, Edit, Sample, after, put_message, set_main, set_envelope, set_mailbox, set_mailboxes, Refuses, unless, script_refusal, message_refusal, main_refusal, envelope_refusal, mailbox_refusal, mailboxes_refusal, with_message}
 use Rattle.bench.specs.Edits.{clock_edits}
-use Rattle.bench.specs.Stale.{ids_where, stale_after, touches}
+use Rattle.bench.specs.Stale.{ids_where, touches}
 use Rattle.bench.specs.Test.{after_all, put_of, then_edit}
 use Rattle.bench.specs.declared.fault.EditFault.{EditFault}
 use Rattle.bench.specs.declared.fault.EditFault.TheVariants.{TooLarge, NoSuchScript, NameTaken, NoSuchMessage, Full, NoMemory}

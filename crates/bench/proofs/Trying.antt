@@ -1,10 +1,7 @@
 -- What an edit that is tried answers.
-use Rattle.std.proofs.Common.{◌≡◌, Bool, true, false, ◌||◌, if◌then◌else◌, List, ℕ, Option, None, Some, Result, Ok, Err, is_none, is_some, refl, sym, ap}
+use Rattle.std.proofs.Common.{◌≡◌, Bool, true, false, ◌||◌, if◌then◌else◌, List, ℕ, Option, None, Some, is_none, is_some, refl}
 use Rattle.sieve_base.specs.declared.name.ScriptName.{ScriptName}
-use Rattle.bench.specs.Bench.{BenchState, Tries, TriesInPlace}
-use Rattle.bench.specs.Content.{Content, Edit, after, is_long, rename_refusal, text_at, unless}
-use Rattle.bench.specs.Stale.{stale_after}
-use Rattle.bench.specs.declared.fault.EditFault.{EditFault}
+use Rattle.bench.specs.Content.{is_long, rename_refusal, text_at}
 use Rattle.bench.specs.declared.fault.EditFault.TheVariants.{TooLarge, NoSuchScript, NameTaken}
 
 -- a script that is renamed is there

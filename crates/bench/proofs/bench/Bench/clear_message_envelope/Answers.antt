@@ -1,4 +1,4 @@
-use Rattle.std.proofs.Common.{None, refl, rules}
+use Rattle.std.proofs.Common.{None, rules}
 use Rattle.bench.proofs.Entries.{entries}
 use Rattle.bench.proofs.Marks.{due-readdressed, stale-readdressed}
 use Rattle.bench.proofs.bench.Bench.clear_message_envelope.Goals as goal

@@ -1,4 +1,4 @@
-use Rattle.std.proofs.Common.{rules, refl}
+use Rattle.std.proofs.Common.{refl}
 use Rattle.bench.proofs.Marks.{due-all_marked, stale-all_marked}
 use Rattle.bench.proofs.bench.Bench.set_clock.Goals as goal
 

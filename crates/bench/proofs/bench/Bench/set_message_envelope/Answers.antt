@@ -1,4 +1,4 @@
-use Rattle.std.proofs.Common.{Some, refl, rules}
+use Rattle.std.proofs.Common.{Some, rules}
 use Rattle.bench.proofs.Entries.{entries}
 use Rattle.bench.proofs.Marks.{due-readdressed, stale-readdressed}
 use Rattle.bench.proofs.bench.Bench.set_message_envelope.Goals as goal

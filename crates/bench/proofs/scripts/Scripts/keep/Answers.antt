@@ -1,21 +1,14 @@
-use Rattle.std.proofs.Common.{◌≡◌, ℕ, List, rules, sym, ap, subst, ◌∙◌}
-use Rattle.std.specs.BTreeMap as tree
+use Rattle.std.proofs.Common.{◌≡◌, rules, sym, ap, subst, ◌∙◌}
 use Rattle.std.specs.BTreeMap.Entry.{entry_key, map_with_value}
-use Rattle.std.specs.declared.cmp.Ordering.{Ordering}
 use Rattle.std.specs.declared.cmp.Ordering.TheVariants.{Equal}
 use Rattle.sieve_base.specs.Name.{name_cmp}
 use Rattle.sieve_base.specs.declared.name.ScriptName.{ScriptName}
-use Rattle.sieve_run.specs.Script.{ScriptState}
 use Rattle.bench.specs.Content.{with_script}
 use Rattle.bench.specs.view.Scripts.{AreOf, ScriptsState, texts_of}
 use Rattle.bench.specs.view.Site.{ForgetsReaders}
 use Rattle.bench.proofs.Names.{tied_names}
 use Rattle.bench.proofs.Texts.{inserted_alike, of-insert, scripts_of, texts-insert}
 use Rattle.bench.proofs.scripts.Scripts.keep.Goals as goal
-
--- names that an order like that of names doesn't tell apart are the same
-same : (cmp : ScriptName → ScriptName → Ordering) (a b : ScriptName) (es new : List (ScriptName × ScriptState)) (script : ScriptState) → new ≡ tree.insert_entry cmp es a script → cmp a b ≡ Equal → ((x y : ScriptName) → cmp x y ≡ name_cmp x y) → a ≡ b
-same cmp a b es new script put is alike = tied_names a b (sym (alike a b) ∙ is)
 
 pub invariant_of-self-2 : goal.invariant_of-self-2
 invariant_of-self-2 c =
@@ -43,5 +36,7 @@ returns-clause-ok c =
 
 pub returns-clause-forgotten : goal.returns-clause-forgotten
 returns-clause-forgotten c =
-    let is : c.args.name ≡ c.key.result.now = same _ c.args.name (entry_key c.in_ok-entry.entry) _ _ _ (c.in_ok-entry.ensures.update.1 c.args.script) c.in_ok-entry.ensures.same_key (λ x y. search rules) ∙ sym c.key.ensures in
+    let key = c.in_ok-entry.ensures.same_key in
+    let tied : name_cmp c.args.name (entry_key c.in_ok-entry.entry) ≡ Equal = search (rules, key) in
+    let is : c.args.name ≡ c.key.result.now = tied_names c.args.name (entry_key c.in_ok-entry.entry) tied ∙ sym c.key.ensures in
     subst (λ (name : ScriptName). ForgetsReaders name c.args.messages.now.entries c.forget_readers.new.messages.entries) (sym is) c.forget_readers.ensures.forgotten
