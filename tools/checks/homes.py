@@ -119,7 +119,7 @@ PLACES = {
         (FAULTS, rf"A run has {NUMBER} actions at most"),
     ],
     "MAX_LOCALS": [
-        (LANGUAGE, rf"\| own variables that [^|]* \| {NUMBER} \|"),
+        (LANGUAGE, rf"\| variables of its own that [^|]* \| {NUMBER} \|"),
         (FAULTS, rf"The script sets more than {NUMBER} variables of its own"),
     ],
     "MAX_GLOBALS": [
