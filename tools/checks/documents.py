@@ -1,6 +1,5 @@
-"""What the documents show: the lines of shell of `docs/FORMATS.md` that say how a session went, the whole script and the contents of
-`docs/LANGUAGE.md`, the caller of `docs/CALLING.md`, and what `docs/SITE.md` shows of a first check, of what is expected of a mail and of what is
-reported then.
+"""What the documents show: the lines of shell of `docs/FORMATS.md` that say how a session went, the contents of `docs/LANGUAGE.md`, the
+caller of `docs/CALLING.md`, and what `docs/SITE.md` shows of a first check, of what is expected of a mail and of what is reported then.
 """
 import pathlib
 import re
@@ -11,7 +10,7 @@ from .files import write
 from .runs import Reading, Run, lines, put
 
 TOP = pathlib.Path(__file__).resolve().parent.parent.parent
-FORMATS, LANGUAGE, SCRIPT = TOP / "docs/FORMATS.md", TOP / "docs/LANGUAGE.md", TOP / "examples/office/main.sieve"
+FORMATS, LANGUAGE = TOP / "docs/FORMATS.md", TOP / "docs/LANGUAGE.md"
 CALLING, CALLER = TOP / "docs/CALLING.md", TOP / "crates/library_tests/src/tests/caller.rt"
 SITE, OFFICE, TOOL = TOP / "docs/SITE.md", TOP / "examples/site", TOP / "tools/sievebench-site"
 # What writes the session in the document's lines; here a file has it.
@@ -76,9 +75,8 @@ class Shown(Reading):
 
 
 def of_language():
-    """The whole script, and the contents with their links."""
+    """The contents with their links."""
     text = LANGUAGE.read_text(encoding="utf-8")
-    yield Shown("the whole script", SCRIPT.read_text(encoding="utf-8"), re.search(r"```sieve\n(.*?)```", text, re.S)[1])
     headings = re.findall(r"^## (.*)", text, re.M)
     wanted = [(heading, re.sub(r"[^a-z0-9 -]", "", heading.lower()).replace(" ", "-")) for heading in headings]
     yield Shown("the contents", wanted, re.findall(r"^- \[(.*?)\]\(#(.*?)\)", text, re.M))

@@ -14,7 +14,7 @@ import re
 from .runs import Reading
 
 TOP = pathlib.Path(__file__).resolve().parent.parent.parent
-FORMATS, LANGUAGE, SITE, DATES = (f"docs/{name}.md" for name in ("FORMATS", "LANGUAGE", "SITE", "FROM_SIEVE_TEST"))
+FORMATS, LANGUAGE, SITE = (f"docs/{name}.md" for name in ("FORMATS", "LANGUAGE", "SITE"))
 FAULTS, FRONT = "docs/faults.tsv", "docs/CALLING.md"
 HELP, OPTIONS = "crates/command_line/src/help.rt", "tools/site/sievebench_site/options.py"
 SOURCES, SAYS = "crates/sieve_base/src/limits.rt", "crates/sievebench_cli/src"
@@ -25,7 +25,6 @@ NUMBER = r"(\d[\d,_]*\d|\d|[Tt]en)"
 PLACES = {
     "MAX_TEXT": [
         (FORMATS, rf"\| a script's text, the list of mailboxes \| {NUMBER} octets"),
-        (LANGUAGE, rf"Texts have at most {NUMBER} octets"),
         (HELP, rf"Limits: {NUMBER} octets a script "),
         (HELP, rf"a script past\n{NUMBER} octets"),
         (AMOUNTS, "TEXT_LIMIT"),
@@ -52,8 +51,7 @@ PLACES = {
     ],
     "MAX_NAME": [
         (FORMATS, rf"\| a script's name, a message's id, an address of the envelope \| {NUMBER} octets"),
-        (LANGUAGE, rf"a name past {NUMBER} octets is that of no script"),
-        (LANGUAGE, rf"A script's name is any octets, {NUMBER} at most"),
+        (LANGUAGE, rf"\| an included script's name \| {NUMBER} octets"),
         (HELP, rf"octets or a name past {NUMBER},"),
         (HELP, rf"; {NUMBER} a name, an\naddress and the word MAIL"),
         (AMOUNTS, "NAME_LIMIT"),
@@ -68,9 +66,7 @@ PLACES = {
     ],
     "MAX_MAILBOX": [
         (FORMATS, rf"\| the mailbox \| {NUMBER} octets"),
-        (LANGUAGE, rf"the string of a `fileinto` is empty, has more than {NUMBER} octets"),
-        (LANGUAGE, rf"A mailbox's name has at most {NUMBER} octets"),
-        (DATES, rf"a mailbox's name that is empty, longer than {NUMBER} octets"),
+        (LANGUAGE, rf"\| a mailbox's name \| {NUMBER} octets"),
         (HELP, rf"; {NUMBER} the mailbox"),
         (AMOUNTS, "MAILBOX_LIMIT"),
         (TOOL, "MAILBOX_LIMIT"),
@@ -102,54 +98,39 @@ PLACES = {
         (CLOCK, "LAST_SECOND"),
     ],
     "MAX_ACTIONS": [
-        (LANGUAGE, rf"an action would be the {NUMBER}rd", 1),
-        (LANGUAGE, rf"At most {NUMBER} actions in a run"),
-        (DATES, rf"\| actions in a run \| {NUMBER}, with redirects"),
+        (LANGUAGE, rf"\| actions in a run \| {NUMBER} \|"),
         (SITE, rf"\| actions of several scripts \| {NUMBER} in each script \| {NUMBER} in all"),
         (FAULTS, rf"A run has {NUMBER} actions at most"),
     ],
     "MAX_LOCALS": [
-        (LANGUAGE, rf"flag commands of a script name {NUMBER} variables of the script at most"),
-        (LANGUAGE, rf"that of the {NUMBER}th variable of the script", 1),
-        (LANGUAGE, rf"The {NUMBER}th variable of a script is a fault", 1),
-        (DATES, rf"variables that a script sets; their names \| at most {NUMBER};"),
+        (LANGUAGE, rf"\| variables of its own that [^|]* \| {NUMBER} \|"),
         (FAULTS, rf"The script sets more than {NUMBER} variables of its own"),
     ],
     "MAX_GLOBALS": [
-        (LANGUAGE, rf"would set the {NUMBER}th of the variables that scripts share", 1),
-        (LANGUAGE, rf"A run sets {NUMBER} shared variables at most"),
+        (LANGUAGE, rf"\| shared variables set in a run \| {NUMBER} \|"),
         (FAULTS, rf"A run sets {NUMBER} variables at most that scripts share"),
     ],
     "MAX_MATCH": [
-        (LANGUAGE, rf"a string refers to a match variable past {NUMBER} \|"),
-        (LANGUAGE, rf"A reference past `\$\{{{NUMBER}\}}` is a fault"),
-        (DATES, rf"the last match variable; one past it \| `\$\{{{NUMBER}\}}`; a fault"),
+        (LANGUAGE, rf"\| match variables \| `\$\{{{NUMBER}\}}` \|"),
         (FAULTS, rf"There is no match variable past `\$\{{{NUMBER}\}}`"),
     ],
     "MAX_VALUE": [
-        (LANGUAGE, rf"what is past the first {NUMBER} octets is cut off"),
-        (LANGUAGE, rf"The value of a variable is cut at {NUMBER} octets"),
-        (LANGUAGE, rf"The flags that a variable holds are cut at {NUMBER} octets"),
+        (LANGUAGE, rf"\| a variable's value \| {NUMBER} octets"),
         ("docs/PROVED.md", rf"and then cut at {NUMBER} octets"),
-        (DATES, rf"\| a value's {NUMBER} octets \|"),
     ],
     "MAX_INCLUDE_DEPTH": [
-        (LANGUAGE, rf"`include-depth`, where {NUMBER} scripts below the main one run"),
-        (LANGUAGE, rf"At most {NUMBER} scripts below the main one run at once"),
-        (DATES, rf"{NUMBER} below the main one run at once"),
+        (LANGUAGE, rf"\| scripts that run below the main one \| {NUMBER} \|"),
         (FAULTS, rf"{NUMBER} scripts below the main one run already"),
     ],
     "MAX_INCLUDES": [
-        (LANGUAGE, rf"`include-count`, where scripts below the main one were entered {NUMBER} times"),
-        (LANGUAGE, rf"run at once, and {NUMBER} are entered"),
+        (LANGUAGE, rf"\| scripts entered below the main one \| {NUMBER} \|"),
         ("docs/PROVED.md", rf"A run runs the main script, and others {NUMBER} times at most"),
-        (DATES, rf"run at once, and {NUMBER} are entered"),
         (FAULTS, rf"The run has entered {NUMBER} scripts below the main one"),
     ],
-    "MAX_OPEN_BLOCKS": [(LANGUAGE, rf"At most {NUMBER} blocks stand open at once"), (LANGUAGE, rf"At most {NUMBER} open blocks and tests")],
-    "MAX_TEST_DEPTH": [(LANGUAGE, rf"and {NUMBER} is the greatest depth"), (LANGUAGE, rf"open blocks and tests {NUMBER} deep")],
+    "MAX_OPEN_BLOCKS": [(LANGUAGE, rf"\| blocks in one another; tests in one another \| {NUMBER};")],
+    "MAX_TEST_DEPTH": [(LANGUAGE, rf"; tests in one another \| [^|]*; {NUMBER} \|")],
     "DEPTH_LIMIT": [
-        (LANGUAGE, rf"At most {NUMBER} lie in one another"),
+        (LANGUAGE, rf"\| entities in one another, with the message \| {NUMBER} \|"),
         ("docs/PROVED.md", rf"in the order of the text, {NUMBER} in one another at most"),
         (BODIES, "DEPTH"),
     ],
@@ -316,12 +297,12 @@ def of_lists():
     told = {f'{word} "PATH"' if of else word for of, word in re.findall(r'complain(_of)?\(\s*rt,\s*"([^"]*)"', sources)}
     told |= set(re.findall(r'=> Some\("([^"]*)"\)', sources))
     yield Same("what is said on standard error", HELP, sorted(said), {SAYS: sorted(told)})
-    names = [row[0].strip("`") for row in rows(LANGUAGE, "\n## What is asked for by name")]
+    names = [row[0].strip("`") for row in rows(LANGUAGE, "\n## Extensions")]
     known = words("crates/sieve_profile/src/extension.rt")
     yield Same("the names that are asked for", LANGUAGE, names, {"the sources": known})
-    rules = [row[0].strip("`") for row in rows(LANGUAGE, "\n## Rules")]
+    rules = [row[0].strip("`") for row in rows(LANGUAGE, "\n## Faults")]
     yield Same("the rules, in order", LANGUAGE, rules, {"the sources": words("crates/sieve_table/src/rule.rt")})
-    errors = [word for row in rows(LANGUAGE, "\nAn error ends the run") for word in re.findall(r"`([a-z-]+)`", row[0])]
+    errors = [word for row in rows(LANGUAGE, "\n### Errors") for word in re.findall(r"`([a-z-]+)`", row[0])]
     yield Same("the errors of a run", LANGUAGE, sorted(errors), {"the sources": sorted(words("crates/sieve_effects/src/error.rt"))})
 
 

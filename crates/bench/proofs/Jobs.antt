@@ -4,10 +4,10 @@ use Rattle.std.proofs.Common.{◌≡◌, ℕ, ◌+◌, ◌<◌, Bool, true, fals
 use Rattle.std.proofs.lemmas.List.{drop_more}
 use Rattle.date_text.specs.Clock.{Clock}
 use Rattle.sieve_base.specs.declared.name.ScriptName.{ScriptName}
-use Rattle.bench.specs.Bench.{BenchState}
+use Rattle.bench.specs.Bench.{BenchState, Makes}
 use Rattle.bench.specs.Content.{Content, Edit, Sample, after, put_message, set_main, set_envelope, set_mailbox, set_mailboxes, Refuses, unless, script_refusal, message_refusal, main_refusal, envelope_refusal, mailbox_refusal, mailboxes_refusal, with_message}
 use Rattle.bench.specs.Edits.{clock_edits}
-use Rattle.bench.specs.Stale.{ids_where, stale_after, touches}
+use Rattle.bench.specs.Stale.{ids_where, touches}
 use Rattle.bench.specs.Test.{after_all, put_of, then_edit}
 use Rattle.bench.specs.declared.fault.EditFault.{EditFault}
 use Rattle.bench.specs.declared.fault.EditFault.TheVariants.{TooLarge, NoSuchScript, NameTaken, NoSuchMessage, Full, NoMemory}
@@ -34,7 +34,7 @@ still_refused NoMemory made edits refused = tt
 -- THE SCRIPTS
 
 -- a put of a script is refused only for its size, for want of room or for memory
-put_refused_for : (too_large full : Bool) (content : Content) (fault : EditFault)
+pub put_refused_for : (too_large full : Bool) (content : Content) (fault : EditFault)
     → Refuses (unless (if too_large then Some TooLarge else if full then Some Full else None) content) (Err fault)
     → Refused fault (unless (if too_large then Some TooLarge else if full then Some Full else None) content)
 put_refused_for true full content fault is = subst (λ f. Refused f (Err TooLarge)) (sym is) refl
@@ -56,10 +56,10 @@ put_next old new scripts i script all within is so_far put =
 
 -- where the next script is refused, so is one of all the scripts, for the same fault
 pub put_refused : (content : Content) (scripts : List TestScript) (i : ℕ) (script : TestScript) (fault : EditFault) (all : Result Content EditFault) → i < length scripts → script ≡ get_or scripts i script
-    → after_all content (map put_of (drop i scripts)) ≡ all → Refuses (after content (put_of script)) (Err fault) → Refused fault all
+    → after_all content (map put_of (drop i scripts)) ≡ all → Refused fault (after content (put_of script)) → Refused fault all
 put_refused content scripts i script fault all within is so_far refused =
     subst (Refused fault) (sym (puts_cut (Ok content) scripts i script within is) ∙ so_far)
-    (still_refused fault (after content (put_of script)) (map put_of (drop (i + 1) scripts)) (put_refused_for _ _ _ fault refused))
+    (still_refused fault (after content (put_of script)) (map put_of (drop (i + 1) scripts)) refused)
 
 -- THE MESSAGE
 
@@ -117,12 +117,11 @@ unfolding ids_where
 one_id test id sample is = rw is refl
 
 -- a message that is put where there is none is the only stale one
-pub first_put : (old new : BenchState) (id bytes : List ℕ) (outcome : Result Unit EditFault) → old.content.messages ≡ [] → OnOk outcome (after old.content (put_message id bytes) ≡ Ok new.content)
-    → OnOk outcome (new.stale ≡ stale_after old.content (put_message id bytes) old.stale new.content) → OnOk outcome (new.stale ≡ id ∷ [])
-first_put old new id bytes (Err fault) none ok stale = tt
-first_put old new id bytes (Ok done) none ok stale =
-    let all : with_message id bytes old.content.messages ≡ new.content.messages = ap (λ c. c.messages) (made_is (message_refusal old.content.messages id bytes) (record old.content { messages = with_message id bytes old.content.messages }) new.content ok) in
+pub first_put : (old new : BenchState) (id bytes : List ℕ) (outcome : Result Unit EditFault) → old.content.messages ≡ [] → OnOk outcome (Makes (put_message id bytes) old new) → OnOk outcome (new.stale ≡ id ∷ [])
+first_put old new id bytes (Err fault) none made = tt
+first_put old new id bytes (Ok done) none made =
+    let all : with_message id bytes old.content.messages ≡ new.content.messages = ap (λ c. c.messages) (made_is (message_refusal old.content.messages id bytes) (record old.content { messages = with_message id bytes old.content.messages }) new.content made.0) in
     let only : new.content.messages ≡ (id, record { octets = bytes; expected = None; addresses = None }) ∷ [] = sym all ∙ ap (with_message id bytes) none in
-    stale
+    made.1
     ∙ ap (ids_where (λ message. touches old.content (put_message id bytes) message || is_among message.0 old.stale)) only
     ∙ one_id (λ message. touches old.content (put_message id bytes) message || is_among message.0 old.stale) id (record { octets = bytes; expected = None; addresses = None }) (rw (same_id id) refl)

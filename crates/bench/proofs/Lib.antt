@@ -13,5 +13,6 @@ pub mod Rebuilt
 pub mod Refreshing
 pub mod Stales
 pub mod Texts
+pub mod Trying
 pub mod Within
 pub mod Writing

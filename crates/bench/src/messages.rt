@@ -71,7 +71,7 @@ pub(crate) fn put(
 ) -> Result<(), AllocError>
     ensures ok { OnOk result (messages.new.entries ≡ put_entry id message messages.old.entries) }
     ensures err { OnErr result (messages.new.entries ≡ messages.old.entries) }
-    ensures unique { IsUnique (pointwise nat_eq) messages.new }
+    ensures unique { OnOk result (IsUnique (pointwise nat_eq) messages.new) }
 {
     if messages.contains_key(&id) {
         renew(messages, &id, message);

@@ -1,5 +1,5 @@
 //! The scripts of a bench.
-ghost use Rattle.std.specs.Prelude.{◌≡◌, ◌≤◌, [], IfOk, length, nat_eq};
+ghost use Rattle.std.specs.Prelude.{◌≡◌, ◌≤◌, [], IfOk, length, true};
 ghost use Rattle.std.specs.BTreeMap.{is_at};
 ghost use Rattle.std.specs.List.{list_all};
 ghost use Rattle.std.specs.Map.{lookup};
@@ -55,8 +55,6 @@ impl Scripts {
     ghost use Rattle.bench.specs.Content.{text_at, with_script, without_script, with_renamed};
     ghost use Rattle.bench.specs.view.Scripts.{AreOf, script_at, texts_of};
     ghost use Rattle.bench.specs.view.Site.{ForgetsReaders};
-    ghost use Rattle.indexmap.specs.IndexMap.{IsUnique};
-    ghost use lib.Pointwise.{pointwise};
 
     /// No scripts, of a profile. Takes no memory.
     pub(crate) fn new(alloc: Global, profile: Profile) -> Scripts
@@ -120,11 +118,10 @@ impl Scripts {
             (ForgetsReaders name messages.old.entries messages.new.entries) }
         ensures err { OnErr result (self.new ≡ self.old) }
         ensures unmarked { OnErr result (messages.new.entries ≡ messages.old.entries) }
-        ensures unique { IsUnique (pointwise nat_eq) messages.new }
     {
         let entry = self.by_name.entry(name)?;
         forget_readers(messages, entry.key());
-        entry.insert_entry(script);
+        entry.insert_entry(script).into_mut();
         Ok(())
     }
 
@@ -154,7 +151,6 @@ impl Scripts {
             (ForgetsReaders name messages.old.entries messages.new.entries) }
         ensures err { OnErr result (self.new ≡ self.old) }
         ensures unmarked { OnErr result (messages.new.entries ≡ messages.old.entries) }
-        ensures unique { IsUnique (pointwise nat_eq) messages.new }
     {
         let script = Script::new(alloc, self.profile, text)?;
         self.keep(messages, name, script)
@@ -178,7 +174,6 @@ impl Scripts {
             (ForgetsReaders to messages.old.entries messages.new.entries) }
         ensures err { OnErr result (self.new ≡ self.old) }
         ensures unmarked { OnErr result (messages.new.entries ≡ messages.old.entries) }
-        ensures unique { IsUnique (pointwise nat_eq) messages.new }
     {
         let Some(script) = self.copied(alloc, from)? else {
             unreachable!("the script is there");

@@ -1,10 +1,10 @@
 -- Edits that are made while a line is read.
 use Rattle.std.proofs.Common.{◌≡◌, ◌⊎◌, inl, inr, Option, None, Some, Result, Ok, Err, IfErr, Bool, true, refl, sym, ap}
-use Rattle.bench.specs.Bench.{BenchState}
-use Rattle.bench.specs.Content.{Content, Edit, Answers, Refuses}
+use Rattle.bench.specs.Bench.{BenchState, Tries, TriesInPlace}
+use Rattle.bench.specs.Content.{Content, Edit, Answers, Refuses, after}
 use Rattle.bench.specs.declared.fault.EditFault.{EditFault}
 use Rattle.bench.specs.declared.fault.EditFault.TheVariants.{NoMemory}
-use Rattle.sievebench.specs.Session.{Demand, asks_question, asks_put, asks_edit, asks_report, edits, request_by}
+use Rattle.sievebench.specs.Session.{Demand, asks_question, asks_put, asks_edit, asks_report, edits, request_by, takes_memory}
 use Rattle.sievebench.specs.view.Progress.{Attempts}
 use Rattle.sievebench.specs.view.Task.{IsTried}
 
@@ -20,7 +20,14 @@ by_answer takes meaning (Ok done) answers = tt
 by_answer takes (Ok content) (Err fault) answers = absurd answers
 by_answer takes (Err refusal) (Err fault) answers = inl (ap Err (sym answers))
 
-pub ruleset trying = (by_call, by_answer)
+-- a session attempts an edit that the bench tries
+pub attempts : (edit : Edit) (outcome : Result Unit EditFault) (old new : BenchState) → takes_memory edit ≡ true → Tries edit outcome old new → Attempts edit outcome old new
+attempts edit outcome old new takes tries = (tries.0, tries.1, by_call (takes_memory edit) (after old.content edit) outcome takes tries.2)
+
+pub attempts_in_place : (edit : Edit) (outcome : Result Unit EditFault) (old new : BenchState) → TriesInPlace edit outcome old new → Attempts edit outcome old new
+attempts_in_place edit outcome old new tries = (tries.0, tries.1, by_answer (takes_memory edit) (after old.content edit) outcome tries.2)
+
+pub ruleset trying = (attempts, attempts_in_place, by_call, by_answer)
 
 -- the edit that was tried is what is asked for
 pub tried : (ask : Option Demand) (outcome : Result Unit EditFault) (old new : BenchState) → IsTried ask outcome old new → (edit : Edit) × (request_by ask ≡ (λ rest. edits edit rest)) × Attempts edit outcome old new

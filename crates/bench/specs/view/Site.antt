@@ -1,6 +1,9 @@
 -- What a bench holds that all messages are judged with.
-use Rattle.std.specs.Prelude.{◌≡◌, ℕ, List, Option, map, false}
+use Rattle.std.specs.Prelude.{◌≡◌, ℕ, List, Option, map, false, nat_eq}
+use Rattle.std.specs.List.{IsDistinct}
+use Rattle.std.specs.Map.{keys_of}
 use Rattle.std.specs.Option.{option_copied}
+use lib.Pointwise.{pointwise}
 use Rattle.sieve_base.specs.declared.name.ScriptName.{ScriptName}
 use Rattle.sieve_effects.specs.declared.envelope.Envelope.{Envelope}
 use Rattle.sieve_base.specs.Name.{name_eq}
@@ -21,10 +24,11 @@ site_as site = site_by (option_copied site.main) site.envelope.now site.scripts.
 abbrev pub with_scripts : Site → List (ScriptName × List ℕ) → Site
 with_scripts site scripts = record site { scripts = scripts }
 
--- Those messages are marked whose runs looked a name up. Each verdict that is kept stays due where the text at no other name changes.
+-- Those messages are marked whose runs looked a name up, and no two have one id. Each verdict that is kept stays due where the text at no other name changes.
 pub record ForgetsReaders (name : ScriptName) (old new : List (List ℕ × Entry)) : Type 0 where
   pub entries : new ≡ map (λ e. (e.0, unread name e.1)) old
   pub messages : messages_of new ≡ messages_of old
+  pub ids : IsDistinct (pointwise nat_eq) (keys_of new)
   pub due : (site : Site) (scripts : List (ScriptName × List ℕ))
       → ((other : ScriptName) → name_eq name other ≡ false → text_at site.scripts other ≡ text_at scripts other)
       → KeepsDue (verdict_by site) old → KeepsDue (verdict_by (with_scripts site scripts)) new

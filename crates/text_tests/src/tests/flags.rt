@@ -178,7 +178,10 @@ fn a_key_gives_its_pieces(rt: HostRuntime) -> Result<(), AllocError> {
     for (key, wanted) in rows {
         let mut told = Vec::new(rt.alloc());
         let mut left = *key;
-        while let Some((piece, rest)) = next_key(left) {
+        for _ in *key {
+            let Some((piece, rest)) = next_key(left) else {
+                break;
+            };
             push_ended(&mut told, piece, b'|')?;
             left = rest;
         }

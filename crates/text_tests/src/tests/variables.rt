@@ -112,9 +112,19 @@ fn strings_are_modified(rt: HostRuntime) -> Result<(), AllocError> {
     let parts = parts_of_text(alloc, b"${1}${0}${1}c${0}")?;
     let octets = values.modified_string(alloc, none, parts.as_slice())?;
     holds(&rt, b"cut", octets.len() == 4_096);
-    same(&rt, b"after the value", &octets[4_091..], b"bcaaa");
+    same(
+        &rt,
+        b"after the value",
+        octets.get(4_091..).unwrap_or(b""),
+        b"bcaaa",
+    );
     let octets = values.modified_string(alloc, upper, parts.as_slice())?;
-    same(&rt, b"in capitals", &octets[4_091..], b"BCAAA");
+    same(
+        &rt,
+        b"in capitals",
+        octets.get(4_091..).unwrap_or(b""),
+        b"BCAAA",
+    );
     let octets = values.modified_string(alloc, length, parts.as_slice())?;
     same(&rt, b"counted", &octets, b"8183");
     Ok(())

@@ -10,5 +10,6 @@ returns-clause-forgotten c =
     record {
       entries = marked;
       messages = ap messages_of marked ∙ messages-marked c.args.name.now c.args.messages.now.entries;
+      ids = c.retain.ensures.unique;
       due = λ site scripts alike kept. rw marked (due-marked c.a_verdict_depends_on_what_it_looked_up.ensures site scripts c.args.name.now c.args.messages.now.entries alike kept);
     }

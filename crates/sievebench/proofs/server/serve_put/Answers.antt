@@ -12,7 +12,7 @@ returns-in-Whole-Some-clause-goes g c = λ runs.
     put_replies c.args.count (edit_of c.args.subject) _ _ _ _ _ _ c.in-Whole-Some.ensures.taken
     (λ octets size kept.
     let same : c.in-Whole-Some.octets.items ≡ octets = rw c.in-Whole-Some.kept-is at kept in
-    rw (← same) (tried_replies _ c.keep.result _ _ runs c.keep.ensures)))
+    rw (← same) (tried_replies (edit_of c.args.subject c.in-Whole-Some.octets.items) c.keep.result c.args.bench.now c.keep.new.bench runs c.keep.ensures)))
 
 pub returns-in-Whole-None-clause-goes : goal.returns-in-Whole-None-clause-goes
 returns-in-Whole-None-clause-goes g c = λ runs.

@@ -1,5 +1,6 @@
-use Rattle.std.proofs.Common.{nat_eq}
+use Rattle.std.proofs.Common.{nat_eq, rules}
 use lib.Pointwise.{pointwise}
+use Rattle.bench.proofs.Entries.{entries}
 use Rattle.bench.proofs.Marks.{due-removed, stale-removed}
 use Rattle.bench.proofs.bench.Bench.remove_message.Goals as goal
 
@@ -7,5 +8,6 @@ pub invariant_of-self : goal.invariant_of-self
 invariant_of-self c =
     (rw c.remove_sought.ensures.entries (due-removed _ (pointwise nat_eq c.args.id.now) c.self.inside.messages.entries c.self.invariant.0), c.remove_sought.ensures.unique)
 
-pub returns-clause-stale : goal.returns-clause-stale
-returns-clause-stale c = rw (← c.self.view_is, c.remove_sought.ensures.entries) (stale-removed (pointwise nat_eq c.args.id.now) c.self.inside.messages.entries c.self.invariant.1)
+pub returns : goal.returns
+returns c =
+    ((search (rules, entries), rw (← c.self.view_is, c.remove_sought.ensures.entries) (stale-removed (pointwise nat_eq c.args.id.now) c.self.inside.messages.entries c.self.invariant.1)), tt, search (rules, entries))

@@ -1,4 +1,4 @@
-use Rattle.std.proofs.Common.{sym}
+use Rattle.std.proofs.Common.{rules, sym}
 use Rattle.bench.specs.Content.{without_script}
 use Rattle.bench.specs.Report.{verdict_by}
 use Rattle.bench.specs.view.Site.{site_by}
@@ -10,12 +10,18 @@ pub invariant_of-self : goal.invariant_of-self
 invariant_of-self c =
     let scripts = c.self.inside.scripts.scripts in (
       rw c.remove.ensures
-          (c.forget_readers.ensures.due (site_by c.self.inside.main c.self.inside.envelope c.self.inside.scripts) (without_script c.args.name.now scripts)
+          (c.forget_readers.ensures.forgotten.due (site_by c.self.inside.main c.self.inside.envelope c.self.inside.scripts) (without_script c.args.name.now scripts)
           (λ other apart. sym (text-without_script c.args.name.now other scripts apart)) c.self.invariant.0),
-      c.forget_readers.ensures.unique,
+      c.forget_readers.ensures.forgotten.ids,
     )
 
-pub returns-clause-stale : goal.returns-clause-stale
-returns-clause-stale c =
-    rw (← c.self.view_is, c.forget_readers.ensures.entries)
-    (stale-marked (verdict_by (site_by c.self.inside.main c.self.inside.envelope c.self.inside.scripts)) c.args.name.now c.self.inside.messages.entries c.self.invariant.0 c.self.invariant.1)
+pub returns : goal.returns
+returns c = (
+  (
+    rw (c.remove.ensures, c.forget_readers.ensures.forgotten.messages) (search rules),
+    rw (← c.self.view_is, c.forget_readers.ensures.forgotten.entries)
+        (stale-marked (verdict_by (site_by c.self.inside.main c.self.inside.envelope c.self.inside.scripts)) c.args.name.now c.self.inside.messages.entries c.self.invariant.0 c.self.invariant.1),
+  ),
+  tt,
+  search rules,
+)

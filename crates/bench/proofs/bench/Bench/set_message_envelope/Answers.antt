@@ -1,9 +1,11 @@
-use Rattle.std.proofs.Common.{Some}
+use Rattle.std.proofs.Common.{Some, rules}
+use Rattle.bench.proofs.Entries.{entries}
 use Rattle.bench.proofs.Marks.{due-readdressed, stale-readdressed}
 use Rattle.bench.proofs.bench.Bench.set_message_envelope.Goals as goal
 
 pub invariant_of-self : goal.invariant_of-self
-invariant_of-self c = (rw c.readdress.ensures.entries (due-readdressed _ c.args.id.now (Some c.args.addresses) c.self.inside.messages.entries c.self.invariant.0), c.readdress.ensures.unique)
+invariant_of-self c = (rw c.readdress.ensures.entries (due-readdressed _ c.args.id.now (Some (record { from = c.args.from; to = c.args.to })) c.self.inside.messages.entries c.self.invariant.0), c.readdress.ensures.unique)
 
-pub returns-clause-stale : goal.returns-clause-stale
-returns-clause-stale c = rw (← c.self.view_is, c.readdress.ensures.entries) (stale-readdressed c.args.id.now (Some c.args.addresses) c.self.inside.messages.entries c.self.invariant.1)
+pub returns : goal.returns
+returns c =
+    ((search (rules, entries), rw (← c.self.view_is, c.readdress.ensures.entries) (stale-readdressed c.args.id.now (Some (record { from = c.args.from; to = c.args.to })) c.self.inside.messages.entries c.self.invariant.1)), tt, search (rules, entries))

@@ -11,7 +11,7 @@ use Rattle.bench.proofs.bench.Bench.verdict.Goals as goal
 pub returns-in-Some-clause-due : goal.returns-in-Some-clause-due
 returns-in-Some-clause-due c =
     let found : lookup (pointwise nat_eq c.args.id.now) c.self.inside.messages.entries ≡ Some c.in-Some.entry.now = search rules in
-    rw (← c.self.view_is) (c.as_ref.ensures.value ∙ ap kept_of (sym found) ∙ kept_at (verdict_by (site_by c.self.inside.main c.self.inside.envelope c.self.inside.scripts)) c.args.id.now c.self.inside.messages.entries c.self.invariant.1 c.self.invariant.0)
+    rw (← c.self.view_is) (c.kept.ensures ∙ ap kept_of (sym found) ∙ kept_at (verdict_by (site_by c.self.inside.main c.self.inside.envelope c.self.inside.scripts)) c.args.id.now c.self.inside.messages.entries c.self.invariant.1 c.self.invariant.0)
 
 pub returns-in-Some-clause-ids : goal.returns-in-Some-clause-ids
 returns-in-Some-clause-ids c = rw (← c.self.view_is) (subst (λ ids. IsDistinct (pointwise nat_eq) ids) (sym (keys-messages c.self.inside.messages.entries)) c.self.invariant.1)
