@@ -41,22 +41,6 @@ fn empty_message(alloc: Global) -> Result<Message, Fail> {
     Ok(Message::new(alloc, Vec::new(alloc))?)
 }
 
-/// The outcome of a main script on a message.
-fn outcome_on(
-    alloc: Global,
-    shelf: &Shelf,
-    main: Option<&ScriptName>,
-    (envelope, message): (&Envelope, &Message),
-    meter: &mut Meter,
-) -> Result<Outcome, Fail> {
-    let mail = Mail {
-        message,
-        envelope,
-        own: None,
-    };
-    Ok(run(alloc, shelf, main, mail, meter)?)
-}
-
 /// The outcome of a main script on a message of no octets.
 pub(super) fn outcome_of(
     alloc: Global,
@@ -66,7 +50,12 @@ pub(super) fn outcome_of(
 ) -> Result<Outcome, Fail> {
     let envelope = envelope_of(alloc)?;
     let message = empty_message(alloc)?;
-    outcome_on(alloc, shelf, main, (&envelope, &message), meter)
+    let mail = Mail {
+        message: &message,
+        envelope: &envelope,
+        own: None,
+    };
+    Ok(run(alloc, shelf, main, mail, meter)?)
 }
 
 /// The actions of the script of `check_acting`.
