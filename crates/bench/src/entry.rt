@@ -127,10 +127,10 @@ impl EntryBox {
     }
 
     /// Runs the main script on the message if it is stale, and keeps the verdict.
-    pub(crate) fn refresh(
-        &mut self,
+    pub(crate) fn refresh<'x>(
+        &'x mut self,
         alloc: Global,
-        site: &Site<'_>,
+        site: &Site<'x>,
         meter: &mut Meter,
     ) -> Result<(), AllocError>
         ensures ok { OnOk result (self.new ≡ refreshed (verdict_by (site_as site.now)) self.old) }
@@ -140,10 +140,11 @@ impl EntryBox {
         ensures ran { OnErr result (meter.new ≡ next_run meter.old) }
     {
         if self.entry.kept.is_none() {
+            let own = self.entry.addresses.as_ref();
             let mail = Mail {
                 message: &self.entry.message,
                 envelope: site.envelope,
-                own: self.entry.addresses.as_ref(),
+                own,
             };
             let outcome = run(alloc, site.scripts, site.main, mail, meter)?;
             self.entry.kept = Some(outcome);
