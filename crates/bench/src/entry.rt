@@ -9,7 +9,7 @@ ghost use Rattle.bench.specs.view.Site.{site_as};
 
 use crate::site::Site;
 use sieve_base::{Octets, ScriptName};
-use sieve_run::{Addresses, Mail, Message, Meter, Outcome, run};
+use sieve_run::{Addresses, Message, Meter, Outcome, run};
 use std::alloc::{AllocError, Global};
 use std::marker::Model;
 
@@ -127,10 +127,10 @@ impl EntryBox {
     }
 
     /// Runs the main script on the message if it is stale, and keeps the verdict.
-    pub(crate) fn refresh<'x>(
-        &'x mut self,
+    pub(crate) fn refresh(
+        &mut self,
         alloc: Global,
-        site: &Site<'x>,
+        site: &Site<'_>,
         meter: &mut Meter,
     ) -> Result<(), AllocError>
         ensures ok { OnOk result (self.new ≡ refreshed (verdict_by (site_as site.now)) self.old) }
@@ -140,13 +140,15 @@ impl EntryBox {
         ensures ran { OnErr result (meter.new ≡ next_run meter.old) }
     {
         if self.entry.kept.is_none() {
-            let own = self.entry.addresses.as_ref();
-            let mail = Mail {
-                message: &self.entry.message,
-                envelope: site.envelope,
-                own,
-            };
-            let outcome = run(alloc, site.scripts, site.main, mail, meter)?;
+            let outcome = run(
+                alloc,
+                site.scripts,
+                site.main,
+                site.envelope,
+                self.entry.addresses.as_ref(),
+                &self.entry.message,
+                meter,
+            )?;
             self.entry.kept = Some(outcome);
         }
         Ok(())

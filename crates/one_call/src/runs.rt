@@ -4,7 +4,7 @@ use crate::entities;
 use crate::telling::{Host, mark, personal, prepared, tell_done, tell_outcome, tell_refused};
 use sieve_profile::{Extension, Profile};
 use sieve_run::{
-    Envelope, Found, Library, Mail, Message, Meter, Octets, Outcome, ScriptName, Shelf, run,
+    Envelope, Found, Library, Message, Meter, Octets, Outcome, ScriptName, Shelf, run,
 };
 use std::alloc::AllocError;
 use std::io;
@@ -92,13 +92,8 @@ fn run_shelf(rt: &impl Host, shelf: &Shelf, octets: &[u8]) -> io::Result<()> {
     let main = personal(rt, b"main")?;
     let envelope = envelope_of(rt)?;
     let octets = Vec::from_slice(rt.alloc(), octets)?;
-    let message = prepared(Message::new(rt.alloc(), octets))?;
-    let mail = Mail {
-        message: &message,
-        envelope: &envelope,
-        own: None,
-    };
-    tell_run(rt, shelf, &main, mail)
+    let mail = prepared(Message::new(rt.alloc(), octets))?;
+    tell_run(rt, shelf, &main, (&envelope, &mail))
 }
 
 fn envelope_of(rt: &impl Host) -> Result<Envelope, AllocError> {
@@ -112,10 +107,23 @@ fn envelope_of(rt: &impl Host) -> Result<Envelope, AllocError> {
 }
 
 /// Tells the verdict, and how many runs there were.
-fn tell_run(rt: &impl Host, shelf: &Shelf, main: &ScriptName, mail: Mail<'_>) -> io::Result<()> {
+fn tell_run(
+    rt: &impl Host,
+    shelf: &Shelf,
+    main: &ScriptName,
+    (envelope, mail): (&Envelope, &Message),
+) -> io::Result<()> {
     let mut meter = Meter::new();
     mark(rt);
-    let made = run(rt.alloc(), shelf, Some(main), mail, &mut meter);
+    let made = run(
+        rt.alloc(),
+        shelf,
+        Some(main),
+        envelope,
+        None,
+        mail,
+        &mut meter,
+    );
     mark(rt);
     match made {
         Ok(outcome) => tell_outcome(rt, &outcome)?,
@@ -137,15 +145,10 @@ pub(crate) fn ask_shelf(rt: &impl Host) -> io::Result<()> {
 /// The verdict where no script runs.
 fn outcome_of(rt: &impl Host) -> io::Result<Outcome> {
     let envelope = envelope_of(rt)?;
-    let message = prepared(Message::new(rt.alloc(), Vec::new(rt.alloc())))?;
-    let mail = Mail {
-        message: &message,
-        envelope: &envelope,
-        own: None,
-    };
+    let mail = prepared(Message::new(rt.alloc(), Vec::new(rt.alloc())))?;
     let shelf = Shelf::new(rt.alloc(), Profile::new());
     let mut meter = Meter::new();
-    Ok(run(rt.alloc(), &shelf, None, mail, &mut meter)?)
+    Ok(run(rt.alloc(), &shelf, None, &envelope, None, &mail, &mut meter)?)
 }
 
 /// How many actions and names there are, and whether the implicit keep stands, there is an error, and a text agrees.

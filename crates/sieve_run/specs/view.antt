@@ -4,5 +4,4 @@ pub mod Entry
 pub mod Found
 pub mod Include
 pub mod Left
-pub mod Mail
 pub mod Step

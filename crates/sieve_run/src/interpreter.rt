@@ -10,7 +10,6 @@ ghost use Rattle.sieve_base.specs.Limits.{action_limit, include_depth};
 ghost use Rattle.sieve_effects.specs.view.Delivery.{arrival_as};
 ghost use Rattle.sieve_effects.specs.view.Flow.{ending_by};
 ghost use Rattle.sieve_effects.specs.view.State.{state_of};
-ghost use Rattle.sieve_run.specs.view.Mail.{arrival_of};
 ghost use Rattle.sieve_run.specs.view.Step.{doing};
 
 use crate::including::find;
@@ -176,29 +175,24 @@ fn no_main(alloc: Global) -> Outcome
     }
 }
 
-/// What comes to be delivered.
-#[derive(Clone, Copy)]
-pub struct Mail<'a> {
-    /// The message.
-    pub message: &'a Message,
-    /// The envelope, the mailbox that `keep` stores into, and the mailboxes that there are beside it.
-    pub envelope: &'a Envelope,
-    /// The message's own addresses, where it has its own: they stand in place of those of the envelope.
-    pub own: Option<&'a Addresses>,
-}
-
-/// Runs the main script on a message, under the library's profile. The meter counts the run, also where memory runs out.
+/// Runs the main script on a message, under the library's profile. A message's own addresses stand in place of those of the envelope. The meter counts the run, also where memory runs out.
 #[tactic(auto, using(crate::proofs::Performing::by_code), unfolding(crate::specs::Run::outcome_of))]
 pub fn run<L: Library>(
     alloc: Global,
     lib: &L,
     main: Option<&ScriptName>,
-    mail: Mail<'_>,
+    envelope: &Envelope,
+    own: Option<&Addresses>,
+    message: &Message,
     meter: &mut Meter,
 ) -> Result<Outcome, AllocError>
-    ensures outcome { IfOk result (λ outcome. outcome
-        ≡ outcome_of (library_of (L.profile lib.now) (L.texts lib.now)) (option_copied main.entry)
-        (arrival_of (L.profile lib.now) mail.entry)) }
+    ensures outcome { IfOk result (λ outcome. outcome ≡ outcome_of (library_of (L.profile lib.now)
+        (L.texts lib.now)) (option_copied main.entry) (record {
+          message = message.now;
+          envelope = envelope.now;
+          own = option_copied own.entry;
+          profile = L.profile lib.now;
+        })) }
     ensures meter { meter.new ≡ next_run meter.old }
 {
     meter.count();
@@ -206,9 +200,9 @@ pub fn run<L: Library>(
         return Ok(no_main(alloc));
     };
     let arrival = Arrival {
-        message: mail.message,
-        envelope: mail.envelope,
-        own: mail.own,
+        message,
+        envelope,
+        own,
         profile: lib.profile(),
     };
     match find(lib, name) {

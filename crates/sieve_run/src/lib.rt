@@ -20,7 +20,7 @@ mod steps;
 mod turn;
 
 pub use including::find;
-pub use interpreter::{Mail, run};
+pub use interpreter::run;
 pub use library::{Found, Library};
 pub use lines::{write_action, write_error, write_implicit, write_origin, write_read};
 pub use match_text::FlagList;

@@ -1,17 +1,14 @@
 //! A caller of the libraries, which `docs/CALLING.md` shows: what becomes of a mail by one script.
 
-ghost use Rattle.std.specs.Prelude.{◌≡◌, ◌≤◌, [], ◌∷◌, IfOk, Some, length};
+ghost use Rattle.std.specs.Prelude.{◌≡◌, ◌≤◌, [], ◌∷◌, IfOk, None, Some, length};
 ghost use Rattle.sieve_base.specs.Limits.{name_limit};
 ghost use Rattle.sieve_run.specs.Library.{library_of};
 ghost use Rattle.sieve_run.specs.Run.{outcome_of};
 ghost use Rattle.sieve_run.specs.Shelf.{text_on};
-ghost use Rattle.sieve_run.specs.view.Mail.{arrival_of};
 
 use super::holds;
 use sieve_profile::Profile;
-use sieve_run::{
-    Action, Envelope, Mail, Message, Meter, Octets, Outcome, Place, ScriptName, Shelf, run,
-};
+use sieve_run::{Action, Envelope, Message, Meter, Octets, Outcome, Place, ScriptName, Shelf, run};
 use std::alloc::{AllocError, Global};
 use std::test::Fail;
 
@@ -21,17 +18,18 @@ pub(crate) fn verdict_of(
     profile: Profile,
     name: &ScriptName,
     text: &[u8],
-    mail: Mail<'_>,
+    envelope: &Envelope,
+    mail: &Message,
     meter: &mut Meter,
 ) -> Result<Outcome, AllocError>
     requires { length name.now.name ≤ name_limit }
     ensures { IfOk result (λ verdict. verdict
         ≡ outcome_of (library_of profile (text_on ((name.now, text.now) ∷ []))) (Some name.now)
-        (arrival_of profile mail.entry)) }
+        (record { message = mail.now; envelope = envelope.now; own = None; profile = profile })) }
 {
     let mut shelf = Shelf::new(alloc, profile);
     shelf.add(name, text)?;
-    run(alloc, &shelf, Some(name), mail, meter)
+    run(alloc, &shelf, Some(name), envelope, None, mail, meter)
 }
 
 /// Whether a script discards the mail of a sender with these octets.
@@ -44,14 +42,16 @@ fn discards(alloc: Global, text: &[u8], from: &[u8], octets: Vec<u8>) -> Result<
         mailboxes: Octets::from_vec(Vec::new(alloc)),
         clock: None,
     };
-    let message = Message::new(alloc, octets)?;
-    let mail = Mail {
-        message: &message,
-        envelope: &envelope,
-        own: None,
-    };
-    let mut meter = Meter::new();
-    let verdict = verdict_of(alloc, Profile::new(), &name, text, mail, &mut meter)?;
+    let mail = Message::new(alloc, octets)?;
+    let verdict = verdict_of(
+        alloc,
+        Profile::new(),
+        &name,
+        text,
+        &envelope,
+        &mail,
+        &mut Meter::new(),
+    )?;
     Ok(matches!(verdict.actions(), [Action::Discard]))
 }
 

@@ -6,8 +6,7 @@ ghost use Rattle.std.specs.Prelude.{◌≤◌, IfOk, length};
 use super::{holds, same};
 use sieve_profile::Profile;
 use sieve_run::{
-    Action, Envelope, ErrorKind, Mail, Message, Meter, Octets, Outcome, Place, ScriptName, Shelf,
-    run,
+    Action, Envelope, ErrorKind, Message, Meter, Octets, Outcome, Place, ScriptName, Shelf, run,
 };
 use std::alloc::{AllocError, Global};
 use std::process::Abort;
@@ -41,6 +40,17 @@ fn empty_message(alloc: Global) -> Result<Message, Fail> {
     Ok(Message::new(alloc, Vec::new(alloc))?)
 }
 
+/// The outcome of a main script on a message.
+fn outcome_on(
+    alloc: Global,
+    shelf: &Shelf,
+    main: Option<&ScriptName>,
+    (envelope, message): (&Envelope, &Message),
+    meter: &mut Meter,
+) -> Result<Outcome, Fail> {
+    Ok(run(alloc, shelf, main, envelope, None, message, meter)?)
+}
+
 /// The outcome of a main script on a message of no octets.
 pub(super) fn outcome_of(
     alloc: Global,
@@ -50,12 +60,7 @@ pub(super) fn outcome_of(
 ) -> Result<Outcome, Fail> {
     let envelope = envelope_of(alloc)?;
     let message = empty_message(alloc)?;
-    let mail = Mail {
-        message: &message,
-        envelope: &envelope,
-        own: None,
-    };
-    Ok(run(alloc, shelf, main, mail, meter)?)
+    outcome_on(alloc, shelf, main, (&envelope, &message), meter)
 }
 
 /// The actions of the script of `check_acting`.
