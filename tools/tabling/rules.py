@@ -10,7 +10,8 @@ HEAD = """\
 
 Made by `tools/tables`. Change a comment and run it again.
 
-A row for each section of an RFC that a comment names. A definition is in `specs/` of its crate, as `Module.name`, or the whole file `Module`. Code
+A row for each section of an RFC that a comment names, with the words of one such comment: the shortest, of those about that section alone where
+there are some. A definition is in `specs/` of its crate, as `Module.name`, or the whole file `Module`. Code
 is in `src/`: a function or a type, or the whole file `file.rt`. Tests are functions of the crates of tests, and files of `examples/rows`. The row
 "whole" has comments that name an RFC and no section of it. `tools/audit NAME` prints a definition with all that it stands on. What differs from a
 standard on purpose is in `LANGUAGE.md`.
@@ -21,6 +22,8 @@ CITED = re.compile(rf"RFC (?P<rfc>\d+)(?:, (?P<bare>\d+(?:\.\d+)+))?|\b(?:sectio
 # Comments of code, definitions and rows.
 MARKED = {".rt": re.compile(r"\s*(///?!?)\s?"), ".antt": re.compile(r"\s*(--)\s?")}
 ROWS = re.compile(r"(#|==)\s?")
+SENTENCES = re.compile(r"(?<=[.])\s+(?=[A-Z`])")
+BESIDE = re.compile(r"\s*\([^()]*\b(?:RFC|sections?|appendix)\b[^()]*\)")
 
 
 class Comment:
@@ -31,10 +34,11 @@ class Comment:
 
 
 class Cited:
-    """A section that something names: the RFC, the section or nothing, what kind of thing names it, its crate or nothing, and its name."""
+    """A section that something names: the RFC, the section or nothing, what kind of thing names it, its crate or nothing, its name, and the
+    sentence with the number of sections in it."""
 
-    def __init__(self, rfc, section, kind, crate, name):
-        self.rfc, self.section, self.kind, self.crate, self.name = rfc, section, kind, crate, name
+    def __init__(self, rfc, section, kind, crate, name, words, beside):
+        self.rfc, self.section, self.kind, self.crate, self.name, self.words, self.beside = rfc, section, kind, crate, name, words, beside
 
 
 def comments(lines, marked):
@@ -80,11 +84,13 @@ def cited(found, places, kind, crate, file):
     for it in found:
         at = bisect.bisect_right(starts, it.line) - 1
         name, whose = places[at][1:] if at >= 0 else (file, None)
-        for rfc, section in sections(it.text, last.get(whose)):
-            if rfc is None:
-                raise SystemExit(f"{crate}/{file}:{it.line}: a section of no RFC")
-            last[whose] = rfc
-            yield Cited(rfc, section, kind, crate, name)
+        for sentence in SENTENCES.split(it.text):
+            named = list(sections(sentence, last.get(whose)))
+            for rfc, section in named:
+                if rfc is None:
+                    raise SystemExit(f"{crate}/{file}:{it.line}: a section of no RFC")
+                last[whose] = rfc
+                yield Cited(rfc, section, kind, crate, name, BESIDE.sub("", sentence).rstrip(".;:"), len(named))
 
 
 def of_definitions(specs):
@@ -154,15 +160,25 @@ def page(index):
     """The text of the page."""
     rows = {}
     for it in all_cited(index):
-        kinds = rows.setdefault(it.rfc, {}).setdefault(it.section, {})
-        kinds.setdefault(it.kind, {}).setdefault(it.crate, {})[it.name] = True
+        rows.setdefault(it.rfc, {}).setdefault(it.section, []).append(it)
     parts = [HEAD]
     for rfc in sorted(rows):
-        parts.append(f"\n## RFC {rfc}\n\n| Section | Definitions | Code | Tests |\n|---|---|---|---|\n")
-        for section in sorted(rows[rfc], key=by_number):
-            cells = (cell(rows[rfc][section].get(kind, {})) for kind in ("definition", "code", "test"))
-            parts.append(f"| {section or 'whole'} | {' | '.join(cells)} |\n")
+        parts.append(f"\n## RFC {rfc}\n\n| Section | In words | Definitions | Code | Tests |\n|---|---|---|---|---|\n")
+        parts += [row(section, rows[rfc][section]) for section in sorted(rows[rfc], key=by_number)]
     return "".join(parts)
+
+
+def row(section, found):
+    """The row of a section."""
+    cells = (cell(it for it in found if it.kind == kind) for kind in ("definition", "code", "test"))
+    return f"| {' | '.join((section or 'whole', words(found), *cells))} |\n"
+
+
+def words(found):
+    """The words of the shortest comment of a definition or of code: of those about the section alone, where there are some."""
+    told = [it for it in found if it.kind != "test" and it.words and not it.words.isupper() and not it.words.startswith("RFC ")]
+    least = min(told, key=lambda it: (it.beside > 1, len(it.words)), default=None)
+    return least.words.replace("|", "\\|") if least else ""
 
 
 def by_number(section):
@@ -170,11 +186,9 @@ def by_number(section):
     return [(0, int(it), "") if it.isdigit() else (1, 0, it) for it in section.split(".") if it]
 
 
-def cell(crates):
+def cell(found):
     """The names of a cell, by crate."""
-    return "; ".join(f"{crate}: {names(found)}" if crate else names(found) for crate, found in crates.items())
-
-
-def names(found):
-    """Names in backquotes."""
-    return ", ".join(f"`{it}`" for it in found)
+    crates = {}
+    for it in found:
+        crates.setdefault(it.crate, {})[f"`{it.name}`"] = True
+    return "; ".join(f"{f'{crate}: ' if crate else ''}{', '.join(names)}" for crate, names in crates.items())
