@@ -46,7 +46,9 @@ def is_law(source):
 def calls(index, found):
     """The table of functions that aren't laws."""
     rows = [
-        f"| `{name_of(index, source, it)}` | {answer(source, it)} | {clauses(it)} | {says(source, it)} |\n" for source, it in found if not is_law(source)
+        f"| `{name_of(index, source, it)}` | {answer(source, it)} | {clauses(it)} | {says(source, it)} |\n"
+        for source, it in found
+        if not is_law(source)
     ]
     return ["\n| Function | Answers | Clauses | What it does |\n|---|---|---|---|\n", *rows] if rows else []
 

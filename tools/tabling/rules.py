@@ -18,7 +18,9 @@ standard on purpose is in `LANGUAGE.md`.
 """
 NUMBER = r"(?:[A-Z]\.)?\d+(?:\.\d+)*"
 LIST = rf"{NUMBER}(?:(?:, and |, | and | or | to ){NUMBER})*"
-CITED = re.compile(rf"RFC (?P<rfc>\d+)(?:, (?P<bare>\d+(?:\.\d+)+))?|\b(?:section|appendix) (?P<one>{NUMBER})|\b(?:sections|appendices) (?P<many>{LIST})")
+CITED = re.compile(
+    rf"RFC (?P<rfc>\d+)(?:, (?P<bare>\d+(?:\.\d+)+))?|\b(?:section|appendix) (?P<one>{NUMBER})|\b(?:sections|appendices) (?P<many>{LIST})"
+)
 # Comments of code, definitions and rows.
 MARKED = {".rt": re.compile(r"\s*(///?!?)\s?"), ".antt": re.compile(r"\s*(--)\s?")}
 ROWS = re.compile(r"(#|==)\s?")
