@@ -44,7 +44,15 @@ def differences(got, wanted):
     rest = ["nothing"] * abs(len(got) - len(wanted))
     pairs = zip([*got, *rest], [*wanted, *rest])
     lines = ((at, has, should) for at, (has, should) in enumerate(pairs, 1) if has != should)
-    return [f"line {at}: run tools/tables\n    it says  {has:.300}\n    should   {should:.300}" for at, has, should in lines]
+    return [f"line {at}: run tools/tables\n{beside(has, should)}" for at, has, should in lines]
+
+
+def beside(has, should):
+    """Two lines from shortly before the place where they differ."""
+    at = next((at for at, (a, b) in enumerate(zip(has, should)) if a != b), min(len(has), len(should)))
+    start = max(0, at - 60)
+    dots = "..." if start else ""
+    return f"    it says  {dots}{has[start:]:.200}\n    should   {dots}{should[start:]:.200}"
 
 
 class Promises(Reading):
@@ -53,11 +61,12 @@ class Promises(Reading):
     title, command = "promises with their contracts", PROVED.name
 
     def found(self, path):
-        """Names of nothing, or else the lines with other counts."""
+        """Rows that can't be read and names of nothing, or else the lines with other counts."""
         text = PROVED.read_text(encoding="utf-8")
         names = [name for row in promises.rows(text) for name in row]
         self.looked = len(names)
-        wrong = [why for why in map(self.unknown, names) if why]
+        unread = [f"this row has no contract with counts: {line}" for line in promises.unread(text)]
+        wrong = unread + [why for why in map(self.unknown, names) if why]
         return wrong or differences(text.split("\n"), promises.counted(audits.crates(), text).split("\n"))
 
     def unknown(self, name):

@@ -18,6 +18,12 @@ def rows(text):
     return [names(it[2]) for it in ROW.finditer(text)]
 
 
+def unread(text):
+    """The lines of tables of promises that are no such rows."""
+    tables = re.findall(r"^\| Promise \|.*\n\|[-|]*\n((?:\|.*\n)*)", text, re.M)
+    return [line for table in tables for line in table.splitlines() if not ROW.match(line)]
+
+
 def contract(index, name):
     """The unit of a contract or of one clause of it. Raises `Unknown` where that isn't what a name stands for."""
     unit = asked(index, name)
