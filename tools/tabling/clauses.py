@@ -130,7 +130,12 @@ def comment(text):
 
 
 def sentence(text):
-    """The first sentence of the documentation in a text, without links."""
+    """The first sentence of the documentation in a text."""
     words = " ".join(" ".join(comment(text)).split())
     first = SENTENCE.match(words)
-    return re.sub(r"\[(`[^`]*`)\](?:\([^)]*\))?", r"\1", first[0] if first else words).replace("|", "\\|")
+    return in_a_cell(first[0] if first else words)
+
+
+def in_a_cell(words):
+    """Words as they stand in a cell of a table, without links."""
+    return re.sub(r"\[(`[^`]*`)\](?:\([^)]*\))?", r"\1", words).replace("|", "\\|")

@@ -5,6 +5,8 @@ import re
 
 from auditing.specs import DECLARED, MARKS, SIGNED, pieces_of
 
+from .clauses import in_a_cell
+
 HEAD = """\
 # Sections of the standards, and what names them
 
@@ -180,7 +182,7 @@ def words(found):
     """The words of the shortest comment of a definition or of code: of those about the section alone, where there are some."""
     told = [it for it in found if it.kind != "test" and it.words and not it.words.isupper() and not it.words.startswith("RFC ")]
     least = min(told, key=lambda it: (it.beside > 1, len(it.words)), default=None)
-    return least.words.replace("|", "\\|") if least else ""
+    return in_a_cell(least.words) if least else ""
 
 
 def by_number(section):
