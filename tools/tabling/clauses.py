@@ -8,10 +8,10 @@ HEAD = """\
 
 Made by `tools/tables`. Change the sources and run it again.
 
-A name is one that `tools/audit` takes, and so is a name with a clause: `tools/audit Bench::report.ok`. An answer is the type that a function
-returns. "One unnamed" is a clause without a name, and `requires` begins what a caller has to know before the call. What a function does is the
-first sentence of its comment; "Takes no memory" stands after it where the comment says so. A function of a trait keeps its contract in each
-`impl` of the trait. A law does nothing: its contract speaks of definitions alone. Which of these promises matter to a reader is in `PROVED.md`.
+`tools/audit` takes each name, and each name with a clause: `tools/audit Bench::report.ok`. "Answers" has the type that a function returns.
+"One unnamed" is a clause without a name, and "requires" begins the conditions that a caller must meet. The last column has the first sentence
+of the comment, and "Takes no memory" if the comment says so. A function of a trait keeps its contract in each `impl` of the trait. A law does
+nothing: its contract speaks of definitions alone. `PROVED.md` has the promises that an auditor looks at first.
 """
 COUNTS = "no one two three four five six".split()
 SENTENCE = re.compile(r".*?[.](?=\s+[^a-z]|$)")

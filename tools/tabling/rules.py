@@ -12,11 +12,11 @@ HEAD = """\
 
 Made by `tools/tables`. Change a comment and run it again.
 
-A row for each section of an RFC that a comment names, with the words of one such comment: the shortest, of those about that section alone where
-there are some. A definition is in `specs/` of its crate, as `Module.name`, or the whole file `Module`. Code
-is in `src/`: a function or a type, or the whole file `file.rt`. Tests are functions of the crates of tests, and files of `examples/rows`. The row
-"whole" has comments that name an RFC and no section of it. `tools/audit NAME` prints a definition with all that it stands on. What differs from a
-standard on purpose is in `LANGUAGE.md`.
+Each section of an RFC that a comment names has a row. "In words" has the shortest comment of code or a definition that names it; comments about
+that section alone come first. A definition is in `specs/` of its crate: `Module.name`, or `Module` if the comment is at the top of the file. Code
+is in `src/`: a function, a type or a variant, or `file.rt` if the comment is at the top. Tests are functions in crates of tests, and files of
+`examples/rows`. The row "whole" is for comments that name an RFC and no section. `tools/audit NAME` prints a definition with all that it stands
+on. `LANGUAGE.md` lists the differences from the standards.
 """
 NUMBER = r"(?:[A-Z]\.)?\d+(?:\.\d+)*"
 LIST = rf"{NUMBER}(?:(?:, and |, | and | or | to ){NUMBER})*"
