@@ -14,8 +14,8 @@ pub mod laws;
 pub enum End {
     /// Well (section 6).
     Well = 0,
-    /// Badly | not well.
-    Badly = 1,
+    /// 1: badly | not well.
+    Badly,
 }
 
 impl End {
@@ -86,7 +86,7 @@ PAGES = {
 |---|---|---|
 | `it_ends` | `told` | It ends: RFC 1001 says so, and RFC 1002, appendix B.1. |
 
-| Numbered answer | Number | What it says |
+| Refusal or end | Number | What it says |
 |---|---|---|
 | `End::Well` | 0 | Well (section 6). |
 | `End::Badly` | 1 | Badly \\| not well. |

@@ -11,7 +11,8 @@ Made by `tools/tables`. Change the sources and run it again.
 `tools/audit` takes each name, and each name with a clause: `tools/audit Bench::report.ok`. "Answers" has the type that a function returns.
 "One unnamed" is a clause without a name, and "requires" begins the conditions that a caller must meet. The last column has the first sentence
 of the comment, and "Takes no memory" if the comment says so. A function of a trait keeps its contract in each `impl` of the trait. A law does
-nothing: its contract speaks of definitions alone. `PROVED.md` has the promises that an auditor looks at first.
+nothing: its contract speaks of definitions alone. A refusal or an end has its number, if the sources have one. `PROVED.md` has the promises that
+an auditor looks at first.
 """
 COUNTS = "no one two three four five six".split()
 SENTENCE = re.compile(r".*?[.](?=\s+[^a-z]|$)")
@@ -60,21 +61,28 @@ def laws(index, found):
 
 
 def refusals(index, crate, found):
-    """The table of the numbered answers of a crate's functions."""
-    answers = " ".join(answer(source, it) for source, it in found)
+    """The table of the refusals that a crate's functions answer, and of their other answers that have numbers."""
+    answers = "\n".join(answer(source, it) for source, it in found)
     rows = []
     for (owner, _), source in index.sources.items():
         for item in source.items.values():
             if owner == crate and item.kind == "enum" and re.search(rf"\b{item.name}\b", answers):
-                rows += [row for name, place in item.variants.items() for row in numbered(source, item, name, *place)]
-    return ["\n| Numbered answer | Number | What it says |\n|---|---|---|\n", *rows] if rows else []
+                numbers = [number(source, *place) for place in item.variants.values()]
+                if any(numbers) or re.search(rf"Result<.*, {item.name}>", answers):
+                    rows += [variant(source, item, *it) for it in zip(item.variants, numbers)]
+    return ["\n| Refusal or end | Number | What it says |\n|---|---|---|\n", *rows] if rows else []
 
 
-def numbered(source, item, name, start, end):
-    """The row of a variant that has a number."""
-    number = re.search(r"=\s*(\d+)\s*$", source.plain[start:end])
-    if number:
-        yield f"| `{item.name}::{name}` | {number[1]} | {sentence(source.text[start:end])} |\n"
+def number(source, start, end):
+    """The number of a variant: its own, or that with which its comment begins."""
+    own = re.search(r"=\s*(\d+)\s*$", source.plain[start:end]) or re.match(r"\s*/// (\d+): ", source.text[start:end])
+    return own[1] if own else ""
+
+
+def variant(source, item, name, number):
+    """The row of a variant."""
+    says = sentence(source.text[slice(*item.variants[name])]).removeprefix(f"{number}: ")
+    return f"| `{item.name}::{name}` | {number} | {says[:1].upper()}{says[1:]} |\n"
 
 
 def name_of(index, source, function):
