@@ -12,11 +12,11 @@ HEAD = """\
 
 Made by `tools/tables`. Change a comment and run it again.
 
-Each section of an RFC that a comment names has a row. "In words" has the shortest comment of code or a definition that names it; comments about
-that section alone come first. A definition is in `specs/` of its crate: `Module.name`, or `Module` if the comment is at the top of the file. Code
-is in `src/`: a function, a type or a variant, or `file.rt` if the comment is at the top. Tests are functions in crates of tests, and files of
-`examples/rows`. The row "whole" is for comments that name an RFC and no section. `tools/audit NAME` prints a definition with all that it stands
-on. `LANGUAGE.md` lists the differences from the standards.
+Each section of an RFC that a comment names has a row. "In words" has the shortest comment of code or a definition that names it: first those about
+that section alone, and last those of variants. A definition is in `specs/` of its crate: `Module.name`, or `Module` if the comment is at the top of
+the file. Code is in `src/`: a function, a type or a variant, or `file.rt` if the comment is at the top. Tests are functions in crates of tests, and
+files of `examples/rows`. The row "whole" is for comments that name an RFC and no section. `tools/audit NAME` prints a definition with all that it
+stands on. `LANGUAGE.md` lists the differences from the standards.
 """
 NUMBER = r"(?:[A-Z]\.)?\d+(?:\.\d+)*"
 LIST = rf"{NUMBER}(?:(?:, and |, | and | or | to ){NUMBER})*"
@@ -179,15 +179,20 @@ def row(section, found):
 
 
 def words(found):
-    """The words of the shortest comment of a definition or of code: of those about the section alone, where there are some."""
+    """The words of the shortest comment of a definition or of code: those about the section alone come first, and those of variants last."""
     told = [it for it in found if it.kind != "test" and it.words and not it.words.isupper() and not it.words.startswith("RFC ")]
-    least = min(told, key=lambda it: (it.beside > 1, len(it.words)), default=None)
+    least = min(told, key=lambda it: (it.beside > 1, is_variant(it.name), len(it.words)), default=None)
     return in_a_cell(least.words) if least else ""
 
 
 def by_number(section):
     """What sections go by: numbers before letters, and a whole RFC first."""
     return [(0, int(it), "") if it.isdigit() else (1, 0, it) for it in section.split(".") if it]
+
+
+def is_variant(name):
+    """Whether a name is that of a variant of a type."""
+    return "::" in name and name.rpartition("::")[2][:1].isupper()
 
 
 def cell(found):
