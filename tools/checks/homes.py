@@ -40,7 +40,7 @@ PLACES = {
     "MAX_MESSAGE": [
         (FORMATS, rf"\| a message \| {NUMBER} octets"),
         (FRONT, rf"`Message::new`, which refuses more than {NUMBER} octets"),
-        ("docs/PROVED.md", rf"`Message::new`: `TooLarge` exactly past {NUMBER} octets"),
+        ("docs/PROVED.md", rf"A message is refused exactly past {NUMBER} octets"),
         (HELP, rf"Limits: [^.]*?, {NUMBER} the mail"),
         (AMOUNTS, "MESSAGE_LIMIT"),
         (TOOL, "MESSAGE_LIMIT"),
@@ -100,6 +100,7 @@ PLACES = {
     "MAX_ACTIONS": [
         (LANGUAGE, rf"\| actions in a run \| {NUMBER} \|"),
         (SITE, rf"\| actions of several scripts \| {NUMBER} in each script \| {NUMBER} in all"),
+        ("docs/PROVED.md", rf"A verdict has at most {NUMBER} actions"),
         (FAULTS, rf"A run has {NUMBER} actions at most"),
     ],
     "MAX_LOCALS": [
@@ -116,22 +117,24 @@ PLACES = {
     ],
     "MAX_VALUE": [
         (LANGUAGE, rf"\| a variable's value \| {NUMBER} octets"),
-        ("docs/PROVED.md", rf"and then cut at {NUMBER} octets"),
+        ("docs/PROVED.md", rf"the value is cut at {NUMBER} octets"),
     ],
     "MAX_INCLUDE_DEPTH": [
         (LANGUAGE, rf"\| scripts that run below the main one \| {NUMBER} \|"),
+        ("docs/PROVED.md", rf"at most {NUMBER} include the running one"),
         (FAULTS, rf"{NUMBER} scripts below the main one run already"),
     ],
     "MAX_INCLUDES": [
         (LANGUAGE, rf"\| scripts entered below the main one \| {NUMBER} \|"),
         ("docs/PROVED.md", rf"A run runs the main script, and others {NUMBER} times at most"),
+        ("docs/PROVED.md", rf"A run enters at most {NUMBER} scripts besides the main one"),
         (FAULTS, rf"The run has entered {NUMBER} scripts below the main one"),
     ],
     "MAX_OPEN_BLOCKS": [(LANGUAGE, rf"\| blocks in one another; tests in one another \| {NUMBER};")],
     "MAX_TEST_DEPTH": [(LANGUAGE, rf"; tests in one another \| [^|]*; {NUMBER} \|")],
     "DEPTH_LIMIT": [
         (LANGUAGE, rf"\| entities in one another, with the message \| {NUMBER} \|"),
-        ("docs/PROVED.md", rf"in the order of the text, {NUMBER} in one another at most"),
+        ("docs/PROVED.md", rf"from outer to inner ones, {NUMBER} in one another at most"),
         (BODIES, "DEPTH"),
     ],
 }

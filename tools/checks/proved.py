@@ -1,33 +1,23 @@
-"""Whether `docs/PROVED.md`, `docs/RULES.md` and `docs/ADDING.md` name what there is, and the first each law and each clause with a name.
+"""Whether `docs/CLAUSES.md` and `docs/RULES.md` are what `tools/tables` makes, and whether `docs/PROVED.md` and `docs/ADDING.md` name what there is.
 
-In what is proved, names in parentheses are those of clauses, laws, definitions or ghost fields of the crate's sources; other names are
-words of its sources, or of another crate's. Of a rule, `Module.name` is a definition of that file, and the other names stand somewhere. What
-an addition takes has its places in the crate of its row, in words or in names of files, but for tests; other names stand somewhere. What isn't
-a name, as `i;ascii-casemap`, isn't looked for.
+In what is proved, each row names contracts, clauses or laws as `tools/audit` takes them, and says on how many definitions and lines they stand;
+other names are words of the sources or of the checks, or files. An addition has its places in the crate of its row, in words or in names of
+files, but for tests; other names stand somewhere. What isn't a name, as `i;ascii-casemap`, isn't looked for.
 """
 import pathlib
 import re
 
+from auditing.listing import Unknown
+from tabling import clauses, promises, rules
+
+from . import audits
 from .runs import Reading, some
 
 TOP = pathlib.Path(__file__).resolve().parent.parent.parent
-PROVED, RULES, ADDING = (TOP / "docs" / name for name in ("PROVED.md", "RULES.md", "ADDING.md"))
+PROVED, CLAUSES, RULES, ADDING = (TOP / "docs" / name for name in ("PROVED.md", "CLAUSES.md", "RULES.md", "ADDING.md"))
 NAME = r"[A-Za-z_][A-Za-z0-9_]*"
-# What declares a name that stands for something proved: in code a clause, a function or what is ghost, and a definition.
-DECLARED = rf"\b(?:ensures|fn|ghost(?: fn)?) ({NAME})|^(?:unfoldable |abbrev |pub |record )+(?!fn )({NAME})"
-# What defines a name: the first of a line of definitions.
-DEFINED = rf"^ *(?:pub |data |record |abbrev |unfoldable )*({NAME})"
-# A public function with its contract; a law does nothing.
-PUBLIC = r"^( *)pub fn \w+.*?\n\1\{\}?"
 # How files end.
 FILES = "rt|antt|py|md|tsv|rows|faults|sessions"
-TESTS = ("text_tests", "library_tests", "bench_tests")
-
-
-def sources(crate):
-    """The octets of a crate's code and definitions."""
-    folder = TOP / "crates" / crate
-    return text_of(path for part, end in (("src", "rt"), ("specs", "antt")) for path in sorted((folder / part).rglob(f"*.{end}")))
 
 
 def text_of(paths):
@@ -35,9 +25,56 @@ def text_of(paths):
     return "\n".join(path.read_text(encoding="utf-8") for path in paths)
 
 
-def names_in(text):
-    """The names between backquotes, each part of a path by itself."""
-    return [name for path in re.findall(rf"`({NAME}(?:::{NAME})*)`", text) for name in path.split("::")]
+class Made(Reading):
+    """Whether a page is what the tool makes of the sources. It looks at the rows."""
+
+    def __init__(self, path, made):
+        self.title, self.command, self.path, self.made = "what tools/tables makes", path.name, path, made
+
+    def found(self, path):
+        """The first line that is otherwise."""
+        got = self.path.read_text(encoding="utf-8").split("\n") if self.path.is_file() else []
+        wanted = self.made(audits.crates()).split("\n")
+        self.looked = sum(bool(re.match(r"\| [`\w]", line)) for line in wanted)
+        return differences(got, wanted)[:1]
+
+
+def differences(got, wanted):
+    """The lines of a page that are otherwise, each with what it should be."""
+    rest = ["nothing"] * abs(len(got) - len(wanted))
+    pairs = zip([*got, *rest], [*wanted, *rest])
+    lines = ((at, has, should) for at, (has, should) in enumerate(pairs, 1) if has != should)
+    return [f"line {at}: run tools/tables\n{beside(has, should)}" for at, has, should in lines]
+
+
+def beside(has, should):
+    """Two lines from shortly before the place where they differ."""
+    at = next((at for at, (a, b) in enumerate(zip(has, should)) if a != b), min(len(has), len(should)))
+    start = max(0, at - 60)
+    dots = "..." if start else ""
+    return f"    it says  {dots}{has[start:]:.200}\n    should   {dots}{should[start:]:.200}"
+
+
+class Promises(Reading):
+    """Whether each row of what is proved names contracts or laws that there are, and has their counts. It looks at these names."""
+
+    title, command = "promises with their contracts", PROVED.name
+
+    def found(self, path):
+        """Rows that can't be read and names of nothing, or else the lines with other counts."""
+        text = PROVED.read_text(encoding="utf-8")
+        names = [name for row in promises.rows(text) for name in row]
+        self.looked = len(names)
+        unread = [f"this row has no contract with counts: {line}" for line in promises.unread(text)]
+        wrong = unread + [why for why in map(self.unknown, names) if why]
+        return wrong or differences(text.split("\n"), promises.counted(audits.crates(), text).split("\n"))
+
+    def unknown(self, name):
+        """Why a name isn't that of a contract, if it isn't."""
+        try:
+            promises.contract(audits.crates(), name)
+        except Unknown as why:
+            return str(why)
 
 
 class Named(Reading):
@@ -52,55 +89,12 @@ class Named(Reading):
         return [f"nothing is called {name}" for name in dict.fromkeys(self.wanted) if name not in self.there]
 
 
-def of_claims():
-    """A part for each crate, one for the tests of calls, and one for the laws, each of which must be told."""
-    text = PROVED.read_text(encoding="utf-8")
-    claims, calls = text.split("\n## Each public call\n")[0], text.split("\n## ")[1]
-    crates = sorted(path.name for path in (TOP / "crates").iterdir() if path.is_dir())
-    texts = {crate: sources(crate) for crate in crates}
-    words = set(re.findall(NAME, "\n".join(texts.values())))
-    head, *parts = re.split(r"^\*\*`(.*)`\*\*$", claims, flags=re.M)
-    parts = dict(zip(parts[::2], parts[1::2]))
-    yield Named("a part for each library", [crate for crate in crates if (TOP / "crates" / crate / "specs").is_dir()], parts)
-    for crate, part in parts.items():
-        declared = {name for names in re.findall(DECLARED, texts.get(crate, ""), re.M) for name in names}
-        claimed = [name for inside in re.findall(r"\(((?:the law )?`[^()]*`)\)", part) for name in names_in(inside)]
-        yield Named(f"clauses of {crate}", claimed, declared)
-        yield Named(f"names of {crate}", names_in(part), words)
-        laws = TOP / "crates" / crate / "src/laws.rt"
-        if laws.is_file():
-            yield Named(f"laws of {crate}", re.findall(rf"^pub fn ({NAME})", laws.read_text(encoding="utf-8"), re.M), set(names_in(part)))
-    yield from some("each named clause of the libraries", of_clauses(parts, texts))
-    yield Named("the headline", names_in(head), words)
-    # The last cell of a row names tests and files of rows.
-    rows = [line.strip("| ").split(" | ")[-1] for line in calls.splitlines() if line.startswith("| `")]
-    tests = {name for crate in TESTS for name in re.findall(rf"fn ({NAME})", texts[crate])} | {path.name for path in (TOP / "examples/rows").iterdir()}
-    yield Named("tests of calls", [name for row in rows for name in re.findall(r"`([^`]*)`", row)], tests)
-    told = {name for row in calls.splitlines() if row.startswith("| `") for name in names_in(row.split(" | ")[0])}
-    yield Named("each call", told, words)
-
-
-def of_clauses(parts, texts):
-    """The clauses with a name of the public functions of each crate that has some: its part has them all."""
-    for crate, part in parts.items():
-        contracts = [it[0] for it in re.finditer(PUBLIC, texts.get(crate, ""), re.M | re.S) if not it[0].endswith("{}")]
-        named = [name for contract in contracts for name in re.findall(rf"^ *ensures ({NAME}) ", contract, re.M)]
-        if named:
-            yield Named(f"each named clause of {crate}", named, set(names_in(part)))
-
-
-def of_rules():
-    """The definitions that restate the rules, and all other names."""
-    text = RULES.read_text(encoding="utf-8")
-    files = [path for part in ("src", "specs", "proofs") for path in (TOP / "crates").glob(f"*/{part}/**/*") if path.suffix in (".rt", ".antt")]
-    words = set(re.findall(NAME, text_of(files + list((TOP / "tools/checks").glob("*.py"))))) | {path.name for path in (TOP / "examples/rows").iterdir()}
-    there = {}
-    for path in (path for path in files if "specs" in path.parts):
-        there.setdefault(path.stem, set()).update(re.findall(DEFINED, path.read_text(encoding="utf-8"), re.M))
-    definitions = re.findall(rf"`({NAME})\.({NAME})`", text)
-    yield Named("definitions", [f"{module}.{name}" for module, name in definitions if module[0].isupper()], {f"{module}.{name}" for module in there for name in there[module]}, RULES)
-    files = re.findall(r"`([a-z_]+\.(?:rows|faults|sessions))`", text)
-    yield Named("other names of rules", names_in(text) + files, words, RULES)
+def of_promises():
+    """The rows of what is proved, and all other names."""
+    yield Promises()
+    folders = [TOP, *(TOP / it for it in ("docs", "docs/man", "examples/rows", "tools", "tools/checks", "crates"))]
+    there = places(TOP / "crates") | places(TOP / "tools/checks") | {path.name for folder in folders for path in folder.iterdir()}
+    yield Named("other names of promises", parts_of_names(promises.ROW.sub("", PROVED.read_text(encoding="utf-8"))), there)
 
 
 def places(folder):
@@ -135,7 +129,8 @@ def parts_of_names(text):
 
 
 def of_documents():
-    """All three."""
-    yield from of_claims()
-    yield from of_rules()
+    """The pages that are made, the promises, and the additions."""
+    yield Made(CLAUSES, clauses.page)
+    yield Made(RULES, rules.page)
+    yield from of_promises()
     yield from of_additions()
