@@ -1,5 +1,5 @@
 """What the documents show: the lines of shell of `docs/FORMATS.md` that say how a session went, the contents of `docs/LANGUAGE.md`, the
-caller of `docs/CALLING.md`, and what `docs/SITE.md` shows of a first check, of what is expected of a mail and of what is reported then.
+caller of `docs/ARCHITECTURE.md`, and what `docs/SITE.md` shows of a first check, of what is expected of a mail and of what is reported then.
 """
 import pathlib
 import re
@@ -11,7 +11,7 @@ from .runs import Reading, Run, lines, put
 
 TOP = pathlib.Path(__file__).resolve().parent.parent.parent
 FORMATS, LANGUAGE = TOP / "docs/FORMATS.md", TOP / "docs/LANGUAGE.md"
-CALLING, CALLER = TOP / "docs/CALLING.md", TOP / "crates/library_tests/src/tests/caller.rt"
+ARCHITECTURE, CALLER = TOP / "docs/ARCHITECTURE.md", TOP / "crates/library_tests/src/tests/caller.rt"
 SITE, OFFICE, TOOL = TOP / "docs/SITE.md", TOP / "examples/site", TOP / "tools/sievebench-site"
 # What writes the session in the document's lines; here a file has it.
 MAKER = "tools/make-session --main main scripts mails"
@@ -84,7 +84,7 @@ def of_language():
 
 def of_calling():
     """The caller, which is proved where it stands."""
-    (shown,) = re.findall(r"```rust\n(.*?)```", CALLING.read_text(encoding="utf-8"), re.S)
+    (shown,) = re.findall(r"```rust\n(.*?)```", ARCHITECTURE.read_text(encoding="utf-8"), re.S)
     source = CALLER.read_text(encoding="utf-8")
     yield Shown("the caller", shown, source[source.find(shown) :][: len(shown)])
 
