@@ -119,8 +119,10 @@ def of_additions():
     for line in ADDING.read_text(encoding="utf-8").splitlines():
         listed = re.match(rf"- `({NAME})`[^`]*?: (.*)", line)
         if listed and listed[1] in crates:
-            for part, names in zip(("specs", "src", "proofs"), listed[2].split("; ")):
+            specs, src, proofs, *more = [*listed[2].split("; "), "", ""]
+            for part, names in (("specs", specs), ("src", src), ("proofs", proofs)):
                 lists.setdefault((listed[1], part), []).append(names)
+            others += more
         else:
             others.append(line)
     named = ((crate, part, parts_of_names("\n".join(names))) for (crate, part), names in lists.items())
