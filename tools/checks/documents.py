@@ -1,5 +1,6 @@
 """What the documents show: the lines of shell of `docs/FORMATS.md` that say how a session went, the contents of `docs/LANGUAGE.md`, the
-caller of `docs/ARCHITECTURE.md`, and what `docs/SITE.md` shows of a first check, of what is expected of a mail and of what is reported then.
+caller of `docs/ARCHITECTURE.md` and the lemmas that it lets other crates cite, and what `docs/SITE.md` shows of a first check, of what is
+expected of a mail and of what is reported then.
 """
 import pathlib
 import re
@@ -89,6 +90,19 @@ def of_calling():
     yield Shown("the caller", shown, source[source.find(shown) :][: len(shown)])
 
 
+def of_lemmas():
+    """The modules of proofs from which other crates cite lemmas."""
+    (said,) = re.findall(r"^\*\*Proofs\*\* (.*)", ARCHITECTURE.read_text(encoding="utf-8"), re.M)
+    groups = re.findall(r"((?:`\w+`(?:, )?)+) \(([^)]*)\)", said)
+    wanted = sorted((crate, module) for modules, of in groups for crate in re.findall(r"\w+", of) for module in re.findall(r"\w+", modules))
+    got = set()
+    for path in (it for it in (TOP / "crates").rglob("*") if it.suffix in (".rt", ".antt") and "out" not in it.parts):
+        own = path.relative_to(TOP / "crates").parts[0]
+        cited = re.findall(r"\bRattle\.(\w+)\.proofs\.(\w+)", path.read_text(encoding="utf-8"))
+        got |= {(crate, module) for crate, module in cited if crate != own and (TOP / "crates" / crate).is_dir()}
+    yield Shown("whose lemmas other crates cite", wanted, sorted(got))
+
+
 def of_first_checks(room):
     """The lines that lead to a first check, from filters and a mailbox and from a server of Dovecot's."""
     home = room / "home"
@@ -121,5 +135,6 @@ def of_documents(room):
     yield from of_failing(room)
     yield from of_language()
     yield from of_calling()
+    yield from of_lemmas()
     yield from of_first_checks(room)
     yield from of_site(room)
