@@ -110,8 +110,15 @@ def places(folder):
     return names | set(re.findall(NAME, text_of(files)))
 
 
+def declared_in(folder):
+    """What the files in a folder define or declare, and their names."""
+    code, terms = ([path for path in sorted(folder.rglob(f"*{end}")) if "out" not in path.parts] for end in (".rt", ".antt"))
+    items = re.findall(rf"\b(?:fn|struct|enum|const|trait|type) ({NAME})", text_of(code))
+    return {*items, *re.findall(DEFINED, text_of(terms), re.M), *(part for path in code + terms for part in (path.name, path.stem))}
+
+
 def of_additions():
-    """The lists of each crate: its definitions; its code; its proofs. And all other names."""
+    """The lists of each crate: its definitions; its code; its proofs. Each name is declared there. And all other names."""
     crates = {path.name: path for path in (TOP / "crates").iterdir() if path.is_dir()}
     pages = (path.name for folder in ("docs", "examples/rows") for path in (TOP / folder).iterdir())
     anywhere = set().union(*map(places, crates.values()), places(TOP / "tools/checks"), places(TOP / "tools/site"), ("docs", "tools", "checks", "tsv"), pages)
@@ -126,7 +133,7 @@ def of_additions():
         else:
             others.append(line)
     named = ((crate, part, parts_of_names("\n".join(names))) for (crate, part), names in lists.items())
-    yield from some("additions to crates", (Named(f"additions to {part} of {crate}", names, places(crates[crate] / part), ADDING) for crate, part, names in named if names))
+    yield from some("additions to crates", (Named(f"additions to {part} of {crate}", names, declared_in(crates[crate] / part), ADDING) for crate, part, names in named if names))
     yield Named("other names of additions", parts_of_names("\n".join(others)), anywhere | set(crates), ADDING)
 
 
