@@ -1,5 +1,6 @@
 """What the documents show: the lines of shell of `docs/FORMATS.md` that say how a session went, the contents of `docs/LANGUAGE.md`, the
-caller of `docs/CALLING.md`, and what `docs/SITE.md` shows of a first check, of what is expected of a mail and of what is reported then.
+caller of `docs/ARCHITECTURE.md` and the lemmas that it lets other crates cite, and what `docs/SITE.md` shows of a first check, of what is
+expected of a mail and of what is reported then.
 """
 import pathlib
 import re
@@ -11,7 +12,7 @@ from .runs import Reading, Run, lines, put
 
 TOP = pathlib.Path(__file__).resolve().parent.parent.parent
 FORMATS, LANGUAGE = TOP / "docs/FORMATS.md", TOP / "docs/LANGUAGE.md"
-CALLING, CALLER = TOP / "docs/CALLING.md", TOP / "crates/library_tests/src/tests/caller.rt"
+ARCHITECTURE, CALLER = TOP / "docs/ARCHITECTURE.md", TOP / "crates/library_tests/src/tests/caller.rt"
 SITE, OFFICE, TOOL = TOP / "docs/SITE.md", TOP / "examples/site", TOP / "tools/sievebench-site"
 # What writes the session in the document's lines; here a file has it.
 MAKER = "tools/make-session --main main scripts mails"
@@ -84,9 +85,22 @@ def of_language():
 
 def of_calling():
     """The caller, which is proved where it stands."""
-    (shown,) = re.findall(r"```rust\n(.*?)```", CALLING.read_text(encoding="utf-8"), re.S)
+    (shown,) = re.findall(r"```rust\n(.*?)```", ARCHITECTURE.read_text(encoding="utf-8"), re.S)
     source = CALLER.read_text(encoding="utf-8")
     yield Shown("the caller", shown, source[source.find(shown) :][: len(shown)])
+
+
+def of_lemmas():
+    """The modules of proofs from which other crates cite lemmas."""
+    (said,) = re.findall(r"^\*\*Proofs\*\* (.*)", ARCHITECTURE.read_text(encoding="utf-8"), re.M)
+    groups = re.findall(r"((?:`\w+`(?:, )?)+) \(([^)]*)\)", said)
+    wanted = sorted((crate, module) for modules, of in groups for crate in re.findall(r"\w+", of) for module in re.findall(r"\w+", modules))
+    got = set()
+    for path in (it for it in (TOP / "crates").rglob("*") if it.suffix in (".rt", ".antt") and "out" not in it.parts):
+        own = path.relative_to(TOP / "crates").parts[0]
+        cited = re.findall(r"\bRattle\.(\w+)\.proofs\.(\w+)", path.read_text(encoding="utf-8"))
+        got |= {(crate, module) for crate, module in cited if crate != own and (TOP / "crates" / crate).is_dir()}
+    yield Shown("whose lemmas other crates cite", wanted, sorted(got))
 
 
 def of_first_checks(room):
@@ -121,5 +135,6 @@ def of_documents(room):
     yield from of_failing(room)
     yield from of_language()
     yield from of_calling()
+    yield from of_lemmas()
     yield from of_first_checks(room)
     yield from of_site(room)

@@ -15,7 +15,7 @@ from .runs import Reading
 
 TOP = pathlib.Path(__file__).resolve().parent.parent.parent
 FORMATS, LANGUAGE, SITE = (f"docs/{name}.md" for name in ("FORMATS", "LANGUAGE", "SITE"))
-FAULTS, FRONT = "docs/faults.tsv", "docs/CALLING.md"
+FAULTS, FRONT = "docs/faults.tsv", "docs/ARCHITECTURE.md"
 HELP, OPTIONS = "crates/command_line/src/help.rt", "tools/site/sievebench_site/options.py"
 SOURCES, SAYS = "crates/sieve_base/src/limits.rt", "crates/sievebench_cli/src"
 AMOUNTS, BODIES, SITE_DATES, TOOL, CLOCK = "tools/checks/amounts.py", "tools/checks/bodies.py", "tools/checks/dates.py", "tools/site/sievebench_site/words.py", "tools/site/sievebench_site/clock.py"

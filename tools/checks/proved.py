@@ -104,21 +104,30 @@ def places(folder):
     return names | set(re.findall(NAME, text_of(files)))
 
 
+def declared_in(folder):
+    """What the files in a folder define or declare, and their names."""
+    code, terms = ([path for path in sorted(folder.rglob(f"*{end}")) if "out" not in path.parts] for end in (".rt", ".antt"))
+    items = re.findall(rf"\b(?:fn|struct|enum|const|trait|type) ({NAME})", text_of(code))
+    return {*items, *re.findall(DEFINED, text_of(terms), re.M), *(part for path in code + terms for part in (path.name, path.stem))}
+
+
 def of_additions():
-    """The rows of each crate, and all other names."""
-    crates = {path.name: places(path) for path in (TOP / "crates").iterdir() if path.is_dir()}
+    """The lists of each crate: its definitions; its code; its proofs. Each name is declared there. And all other names."""
+    crates = {path.name: path for path in (TOP / "crates").iterdir() if path.is_dir()}
     pages = (path.name for folder in ("docs", "examples/rows") for path in (TOP / folder).iterdir())
-    anywhere = set().union(*crates.values(), places(TOP / "tools/checks"), ("docs", "tools", "checks", "tsv"), pages)
-    rows, others = {}, []
+    anywhere = set().union(*map(places, crates.values()), places(TOP / "tools/checks"), places(TOP / "tools/site"), ("docs", "tools", "checks", "tsv"), pages)
+    lists, others = {}, []
     for line in ADDING.read_text(encoding="utf-8").splitlines():
-        first, *cells = re.split(r" \| ", line.strip("|"))
-        crate = re.match(rf" `({NAME})`", first)
-        if line.startswith("| ") and crate and crate[1] in crates:
-            rows.setdefault(crate[1], []).extend(cells[:-1])
-            others += cells[-1:]
+        listed = re.match(rf"- `({NAME})`[^`]*?: (.*)", line)
+        if listed and listed[1] in crates:
+            specs, src, proofs, *more = [*listed[2].split("; "), "", ""]
+            for part, names in (("specs", specs), ("src", src), ("proofs", proofs)):
+                lists.setdefault((listed[1], part), []).append(names)
+            others += more
         else:
             others.append(line)
-    yield from some("additions to crates", (Named(f"additions to {crate}", parts_of_names("\n".join(cells)), crates[crate], ADDING) for crate, cells in rows.items()))
+    named = ((crate, part, parts_of_names("\n".join(names))) for (crate, part), names in lists.items())
+    yield from some("additions to crates", (Named(f"additions to {part} of {crate}", names, declared_in(crates[crate] / part), ADDING) for crate, part, names in named if names))
     yield Named("other names of additions", parts_of_names("\n".join(others)), anywhere | set(crates), ADDING)
 
 
