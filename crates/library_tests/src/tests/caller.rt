@@ -1,4 +1,4 @@
-//! A caller of the libraries, which `docs/CALLING.md` shows: what becomes of a mail by one script.
+//! A caller of the libraries, which `docs/ARCHITECTURE.md` shows: what becomes of a mail by one script.
 
 ghost use Rattle.std.specs.Prelude.{◌≡◌, ◌≤◌, [], ◌∷◌, IfOk, None, Some, length};
 ghost use Rattle.sieve_base.specs.Limits.{name_limit};
