@@ -16,6 +16,8 @@ from .runs import Reading, some
 TOP = pathlib.Path(__file__).resolve().parent.parent.parent
 PROVED, CLAUSES, RULES, ADDING = (TOP / "docs" / name for name in ("PROVED.md", "CLAUSES.md", "RULES.md", "ADDING.md"))
 NAME = r"[A-Za-z_][A-Za-z0-9_]*"
+# What defines a name in a file of definitions or proofs.
+DEFINED = rf"^ *(?:pub |data |record |abbrev |unfoldable )*({NAME})"
 # How files end.
 FILES = "rt|antt|py|md|tsv|rows|faults|sessions"
 
@@ -92,7 +94,7 @@ class Named(Reading):
 def of_promises():
     """The rows of what is proved, and all other names."""
     yield Promises()
-    folders = [TOP, *(TOP / it for it in ("docs", "docs/man", "examples/rows", "tools", "tools/checks", "crates"))]
+    folders = [TOP, *(TOP / it for it in ("docs", "examples/rows", "tools", "tools/checks", "crates"))]
     there = places(TOP / "crates") | places(TOP / "tools/checks") | {path.name for folder in folders for path in folder.iterdir()}
     yield Named("other names of promises", parts_of_names(promises.ROW.sub("", PROVED.read_text(encoding="utf-8"))), there)
 
