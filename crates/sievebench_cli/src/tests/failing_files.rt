@@ -34,7 +34,8 @@ fn failing_status(
 fn check_failing(
     rt: &(impl AllocGlobal + Abort),
     words: &[&[u8]],
-    (folders, files): (Paths<'_>, Paths<'_>),
+    folders: &[(&str, Given<'_>)],
+    files: &[(&str, Given<'_>)],
     missing: ErrorKind,
     status: u8,
     errors: &str,
@@ -55,7 +56,7 @@ fn check_failing_folder(
     errors: &str,
 ) -> Result<(), Fail> {
     let words: [&[u8]; 6] = [b"x", b"test", b"--personal", b"p", b"a.sieve", b"m"];
-    check_failing(rt, &words, (folders, files), missing, 3, errors)
+    check_failing(rt, &words, folders, files, missing, 3, errors)
 }
 
 /// Compares runs of which a file or a folder fails in such a way while it is read, or when it is looked at.
@@ -63,7 +64,7 @@ fn check_named(rt: &(impl AllocGlobal + Abort), kind: ErrorKind) -> Result<(), F
     let words: [&[u8]; 3] = [b"sievebench", b"dump", b"c.sieve"];
     let files = [("c.sieve", failing(b"keep;", kind))];
     let told = "sievebench: cannot read \"c.sieve\"\n";
-    check_failing(rt, &words, (&[], &files), kind, 3, told)?;
+    check_failing(rt, &words, &[], &files, kind, 3, told)?;
     let stops = ("", whole(b"stop;"));
     let broken = [("p/", failing(b"a.sieve\0", kind))];
     let folder = "sievebench: cannot read \"p\"\n";
@@ -134,7 +135,8 @@ fn files_are_read_in_the_order_of_the_manual(rt: HostRuntime) -> Result<(), Fail
         check_failing(
             &rt,
             &words,
-            (&folders[..folder], &files[..file]),
+            &folders[..folder],
+            &files[..file],
             kind,
             3,
             errors.as_str(),
@@ -148,7 +150,7 @@ fn files_are_read_in_the_order_of_the_manual(rt: HostRuntime) -> Result<(), Fail
 fn a_read_without_memory_is_told(rt: HostRuntime) -> Result<(), Fail> {
     let words: [&[u8]; 4] = [b"x", b"test", b"a.sieve", b"m"];
     let told = "sievebench: out of memory\n";
-    check_failing(&rt, &words, (&[], &[]), ErrorKind::OutOfMemory, 4, told)
+    check_failing(&rt, &words, &[], &[], ErrorKind::OutOfMemory, 4, told)
 }
 
 /// A file is read to one octet past the limit, where this one fails.
@@ -158,7 +160,7 @@ fn large_files_are_refused(rt: HostRuntime) -> Result<(), Fail> {
     let words: [&[u8]; 3] = [b"x", b"dump", b"a"];
     let files = [("a", failing(large.as_slice(), ErrorKind::Other))];
     let told = "sievebench: too large \"a\"\n";
-    check_failing(&rt, &words, (&[], &files), ErrorKind::NotFound, 2, told)
+    check_failing(&rt, &words, &[], &files, ErrorKind::NotFound, 2, told)
 }
 
 /// A name of 1,025 octets and an end.
@@ -184,7 +186,8 @@ fn check_large(
     check_failing(
         rt,
         words,
-        (&folders, &files),
+        &folders,
+        &files,
         ErrorKind::NotFound,
         2,
         errors.as_str(),
