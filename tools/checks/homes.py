@@ -58,7 +58,6 @@ PLACES = {
     ],
     "MAX_ID": [
         (FORMATS, rf"\| a script's name, a message's id, an address of the envelope \| {NUMBER} octets"),
-        ("docs/DECISIONS.md", rf"no id is longer than {NUMBER} octets"),
     ],
     "MAX_ADDRESS": [
         (FORMATS, rf"\| a script's name, a message's id, an address of the envelope \| {NUMBER} octets"),

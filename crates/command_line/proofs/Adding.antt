@@ -13,7 +13,7 @@ pub one_more : (old : Command) (argument : Arg) (new : Command) (rule : Rule) �
 one_more old argument new rule added is local =
     (added.shape local ∙ ap (with_rule (app_of old)) is, added.globals ∙ ap (λ (b : Bool). (out-Command old).has_globals || b) local ∙ or-false _)
 
--- a command with two arguments more, one behind the other
+-- a command with two arguments more, one after the other
 pub two_more : (old between new : Command) (first second : Rule) → HasMore old (first ∷ []) between → HasMore between (second ∷ []) new
     → HasMore old (first ∷ second ∷ []) new
 two_more old between new first second one two = (two.0 ∙ ap (λ a. with_rule a second) one.0, two.1 ∙ one.1)

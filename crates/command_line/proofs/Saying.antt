@@ -1,4 +1,4 @@
--- The names of several words, one word behind the other.
+-- The names of several words, one word after the other.
 use Rattle.std.proofs.Common.{◌≡◌, List, [], ◌∷◌, ◌++◌, Option, Some, None, Ok, Err, ap}
 use Rattle.clap.specs.Walk.{Text}
 use Rattle.sieve_profile.specs.Extension.{extension_named}

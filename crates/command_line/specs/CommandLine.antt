@@ -181,7 +181,7 @@ clock_cut word (Some place) = clock_named (take place word) (drop place word)
 abbrev pub clock_of : Text → Option Clock
 clock_of word = clock_cut word (position is_sign word)
 
--- a clock, or the word that tells none
+-- a clock, or the word that names none
 abbrev pub clock_or : Text → Option Clock → Result (Option Clock) Text
 clock_or word None = Err word
 clock_or word (Some clock) = Ok (Some clock)
@@ -191,13 +191,13 @@ abbrev pub clock_in : Option Text → Result (Option Clock) Text
 clock_in None = Ok None
 clock_in (Some word) = clock_or word (clock_of word)
 
--- the clock that a job's words say, or the word that tells none
+-- the clock that a job's words say, or the word that names none
 abbrev pub clock_said : Job → Result (Option Clock) Text
 clock_said job.Session = Ok None
 clock_said (job.Dump script) = Ok None
 clock_said (job.Test words) = clock_in words.clock
 
--- the profile that is said has each name that the job needs, and this word of the job tells no clock
+-- the profile that is said has each name that the job needs, and this word of the job names no clock
 abbrev pub HasBadClock : Result Profile Text → Option Job → Text → Type 0
 HasBadClock (Ok profile) (Some asked) word = (allows profile asked ≡ true) × (clock_said asked ≡ Err word)
 HasBadClock (Ok profile) None word = ⊥
@@ -219,7 +219,7 @@ IsFaultFor kind (BadClock word) = ⊥
 IsFaultFor kind (Usage help text) = (kind ≢ OutOfMemory) × (help ≡ is_help kind)
 
 -- The refusal is for one of these mistakes, or is the help that was asked for. Where there is none, it is for the name that is said in place of a
--- profile; and where one is said, because it lacks a name that the job needs, or for the word that tells no clock.
+-- profile; and where one is said, because it lacks a name that the job needs, or for the word that names no clock.
 abbrev pub IsRefusalFor : Kinds → Result Profile Text → Option Job → UsageFault → Type 0
 IsRefusalFor kinds said asked NoMemory = Unit {0}
 IsRefusalFor kinds said asked (UnknownName name) = (kinds ≡ []) × (said ≡ Err name)
@@ -237,7 +237,7 @@ IsUnknown unknown NeedsDate = ⊥
 IsUnknown unknown (BadClock word) = ⊥
 IsUnknown unknown (Usage help text) = ⊥
 
--- the fault for a word that tells no clock
+-- the fault for a word that names no clock
 abbrev pub IsBadClock : Text → UsageFault → Type 0
 IsBadClock bad NoMemory = Unit {0}
 IsBadClock bad (UnknownName name) = ⊥
@@ -246,7 +246,7 @@ IsBadClock bad NeedsDate = ⊥
 IsBadClock bad (BadClock word) = word ≡ bad
 IsBadClock bad (Usage help text) = ⊥
 
--- the answer is that clock, or is for the word that tells none
+-- the answer is that clock, or is for the word that names none
 abbrev pub SaysClock : Result (Option Clock) Text → Result (Option Clock) UsageFault → Type 0
 SaysClock said (Ok clock) = said ≡ Ok clock
 SaysClock said (Err NoMemory) = Unit {0}
@@ -257,7 +257,7 @@ SaysClock said (Err (BadClock word)) = said ≡ Err word
 SaysClock said (Err (Usage help text)) = ⊥
 
 -- the answer has the profile that is said, which has each name that the job needs, and the clock that the job says; or is for the name that is said
--- in place of a profile, for one that it lacks, or for the word that tells no clock
+-- in place of a profile, for one that it lacks, or for the word that names no clock
 abbrev pub SaysOf : Result Profile Text → Job → Result CommandLine UsageFault → Type 0
 SaysOf said asked (Ok line) = (said ≡ Ok (profile_as line.profile)) × (allows (profile_as line.profile) asked ≡ true) × (clock_said asked ≡ Ok line.clock)
 SaysOf said asked (Err NoMemory) = Unit {0}

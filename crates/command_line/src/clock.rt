@@ -35,7 +35,7 @@ fn clock_of(word: &[u8]) -> Option<Clock>
     }
 }
 
-// The fault of a word that tells no clock.
+// The fault of a word that names no clock.
 fn bad_clock(alloc: Global, word: &str) -> UsageFault
     ensures { IsBadClock word.now result }
 {
@@ -58,7 +58,7 @@ fn clock_in(alloc: Global, word: &Option<Argument>) -> Result<Option<Clock>, Usa
     }
 }
 
-/// The clock that a job's words say, or the fault of the word that tells none.
+/// The clock that a job's words say, or the fault of the word that names none.
 pub(crate) fn clock_said(alloc: Global, job: &Job) -> Result<Option<Clock>, UsageFault>
     ensures { SaysClock (clock_said job.now) result }
 {

@@ -1,4 +1,4 @@
-//! The program's command line, as `clap` is told of it.
+//! The program's command line, as `clap` sees it.
 
 ghost use Rattle.std.specs.Prelude.{◌≡◌, IfOk, codes, false};
 ghost use Rattle.clap.specs.Words.{app_of, new_app, shape_of, with_subcommand};

@@ -269,7 +269,7 @@ fn profile_met<'a>(matches: &'a ArgMatches<'_>) -> Result<Profile, &'a str>
 /// What the words ask for. The first word is the program's name, as in `std::env::args`.
 /// `Usage` is for a mistake in the words, or for the help that they ask for; `UnknownName` is for the first name of a `--with` by which nothing
 /// is known, where there is no other mistake; where there is none else, `NeedsMailbox` is for a list of mailboxes without the name `mailbox`, then
-/// `NeedsDate` for a clock without the name `date`, and then `BadClock` for the word of a clock that isn't one; `NoMemory` is for want of memory.
+/// `NeedsDate` for a clock without the name `date`, and then `BadClock` for the word of a clock that isn't one; `NoMemory` is when out of memory.
 pub fn command_of<'a, S: AsStr>(alloc: Global, words: &'a [S]) -> Result<CommandLine, UsageFault>
     // The job is the one that the words name.
     ensures ok { IfOk result (λ line. named_job (map S.text words.entry.now) ≡ Some line.job) }
@@ -280,7 +280,7 @@ pub fn command_of<'a, S: AsStr>(alloc: Global, words: &'a [S]) -> Result<Command
     ensures allowed { IfOk result (λ line. allows (profile_as line.profile) line.job ≡ true) }
     // The clock is the one that the job says.
     ensures clock { IfOk result (λ line. clock_said line.job ≡ Ok line.clock) }
-    // Words that name a job which says no bad clock, and say a profile which has each name that the job needs, are refused only for want of memory.
+    // Words that name a job which says no bad clock, and say a profile which has each name that the job needs, are refused only when out of memory.
     ensures named { (asked : Job) (profile : Profile) (clock : Option clocks.Clock)
         → named_job (map S.text words.entry.now) ≡ Some asked
         → said_profile (map S.text words.entry.now) ≡ Ok profile → allows profile asked ≡ true

@@ -79,7 +79,7 @@ further s = length s.word + length (inside_written s.inside) + 3
 abbrev pub pieces_of : List ℕ → List TextPiece
 pieces_of text = scan.pieces_of sequence_at further text
 
--- a text with its encoded characters replaced, or nothing where one isn't a character
+-- a text with its encoded characters replaced, or nothing where one isn't a character (RFC 5228, section 2.4.2.4)
 abbrev pub characters_replaced : List ℕ → Option (List ℕ)
 characters_replaced text = octets_of_pieces (pieces_of text)
 

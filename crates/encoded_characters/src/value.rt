@@ -37,7 +37,7 @@ fn character(digits: &[u8]) -> Option<char>
     char::from_u32(number)
 }
 
-// Adds the octet of one digit or of two, and tells whether there is one.
+// Adds the octet of one digit or of two, and says whether there is one.
 fn push_octet(octets: &mut Vec<u8>, digits: &[u8]) -> Result<bool, AllocError>
     ensures { IfOk result (λ pushed. if_right pushed octets.new.items
         ≡ grown octets.old.items (octets_of_digits true digits.now)) }
@@ -49,7 +49,7 @@ fn push_octet(octets: &mut Vec<u8>, digits: &[u8]) -> Result<bool, AllocError>
     Ok(true)
 }
 
-// Adds the character whose number the digits are, in UTF-8, and tells whether there is one.
+// Adds the character whose number the digits are, in UTF-8, and says whether there is one.
 fn push_character(octets: &mut Vec<u8>, digits: &[u8]) -> Result<bool, AllocError>
     ensures { IfOk result (λ pushed. if_right pushed octets.new.items
         ≡ grown octets.old.items (octets_of_digits false digits.now)) }
@@ -62,7 +62,7 @@ fn push_character(octets: &mut Vec<u8>, digits: &[u8]) -> Result<bool, AllocErro
     Ok(true)
 }
 
-// Adds what digits stand for, and tells whether they stand for something.
+// Adds what digits stand for, and says whether they stand for something.
 fn push_digits(octets: &mut Vec<u8>, hex: bool, digits: &[u8]) -> Result<bool, AllocError>
     ensures { IfOk result (λ pushed. if_right pushed octets.new.items
         ≡ grown octets.old.items (octets_of_digits hex digits.now)) }
@@ -74,7 +74,7 @@ fn push_digits(octets: &mut Vec<u8>, hex: bool, digits: &[u8]) -> Result<bool, A
     }
 }
 
-/// Adds what a sequence stands for, and tells whether it stands for something.
+/// Adds what a sequence stands for, and says whether it stands for something.
 pub(crate) fn push_sequence(
     octets: &mut Vec<u8>,
     sequence: &EncodedSequence<'_>,

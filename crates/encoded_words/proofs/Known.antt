@@ -48,7 +48,7 @@ same_meaning profile word lacks =
 abbrev is_low : ℕ → Bool
 is_low character = nat_lt character 55296
 
--- no character of a table is a surrogate, or lies behind them
+-- no character of a table is a surrogate, or lies after them
 table_low : (codepage : Codepage) → list_all is_low (table_of codepage) ≡ true
 unfolding table_of
 table_low Windows1250 = refl

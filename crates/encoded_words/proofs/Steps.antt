@@ -41,7 +41,7 @@ octet_step done next c None whole is so_far = so_far
 octet_step done next c (Some more) whole is so_far =
     ap (λ one. Some (one ++ more)) is ∙ ap Some (append_assoc done (c ∷ []) more) ∙ so_far
 
--- octets are the first one and what stands behind it
+-- octets are the first one and what stands after it
 pub first_and_behind : (octets : List ℕ) → 1 ≤ length octets → get_or octets 0 0 ∷ take (length octets - 1) (drop 1 octets) ≡ octets
 first_and_behind [] some = absurd (omega arith)
 first_and_behind (c ∷ octets) some = ap (λ behind. c ∷ behind) (take_all (length (c ∷ octets) - 1) octets (omega arith))
@@ -77,7 +77,7 @@ decoded_at profile (c ∷ rest) meant word n some is means count =
     pieces-sequence (replaced_at profile) further c rest (record { word = word; octets = meant }) (ap (with_meaning profile) (sym is) ∙ ap (by_meaning word) (sym means))
     ∙ ap (λ n. replaced word meant ∷ pieces_of profile (drop n (c ∷ rest))) same
 
--- octets that stand for themselves, and the pieces behind them
+-- octets that stand for themselves, and the pieces after them
 abbrev pub in_front : List ℕ → List ValuePiece → List ValuePiece
 in_front octets pieces = map octet octets ++ pieces
 
@@ -103,7 +103,7 @@ all_alone profile left plain ended is =
     ∙ ap (λ one. in_front left (pieces_of profile one)) (drop_of_length-le left ended)
     ∙ append-nil (map octet left)
 
--- octets in front of the first `=`
+-- octets before the first `=`
 
 sign_here : (c : ℕ) (rest : List ℕ) → (c == octet_of "=") ≡ false → None ≡ word_at (c ∷ rest)
 unfolding word_at

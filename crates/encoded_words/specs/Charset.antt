@@ -76,7 +76,7 @@ in_utf8 (Tabled codepage) octets = tabled (table_of codepage) octets
 abbrev pub octets_in : EncodedWord → Option (List ℕ)
 octets_in word = if is_b word.letter then b_octets word.text else q_octets word.text
 
--- what a word stands for, if it can be decoded
+-- what a word stands for, if it can be decoded (RFC 2047, sections 2 and 5)
 unfoldable pub meaning : Profile → EncodedWord → Option (List ℕ)
 meaning profile word = option_and_then (λ charset. option_and_then (in_utf8 charset) (octets_in word)) (charset_named profile word.charset)
 
@@ -86,5 +86,6 @@ or_same octets None = octets
 or_same octets (Some text) = text
 
 -- octets in UTF-8 where all of them are right in a charset of that name, and that one is known; and else as they are
+-- (RFC 5173, section 5.2)
 unfoldable pub text_in : Profile → (charset : List ℕ) → List ℕ → List ℕ
 text_in profile charset octets = or_same octets (option_and_then (λ found. in_utf8 found octets) (charset_named profile charset))

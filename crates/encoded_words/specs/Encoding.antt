@@ -8,6 +8,7 @@ use Rattle.sieve_base.specs.Hex.{hex_octet}
 use Rattle.sieve_base.specs.Octet.{octet_of}
 
 -- B is base64 (RFC 4648, section 4), with its padding and with zeros in the bits that are left over
+-- (RFC 2047, section 4.1; RFC 4648, section 4)
 unfoldable pub b_octets : List ℕ → Option (List ℕ)
 b_octets text = result_ok (decode_of standard text)
 
@@ -15,11 +16,11 @@ b_octets text = result_ok (decode_of standard text)
 abbrev pub plain_octet : ℕ → ℕ
 plain_octet c = if c == octet_of "_" then octet_of " " else c
 
--- an octet in front of others, if there are any
+-- an octet before others, if there are any
 abbrev pub octet_before : ℕ → Option (List ℕ) → Option (List ℕ)
 octet_before c octets = option_map (λ behind. c ∷ behind) octets
 
--- In Q `_` is a space, and `=` with two hexadecimal digits is the octet of that number.
+-- In Q `_` is a space, and `=` with two hexadecimal digits is the octet of that number (RFC 2047, section 4.2).
 unfoldable pub q_octets : List ℕ → Option (List ℕ)
 q_octets [] = Some []
 q_octets (c ∷ []) = if c == octet_of "=" then None else Some (plain_octet c ∷ [])

@@ -9,14 +9,14 @@ use Rattle.encoded_words.specs.Word.{is_letter, is_word_octet}
 abbrev pub run_len : List ℕ → ℕ
 run_len octets = prefix_len is_word_octet octets
 
--- how many octets are read as a text behind a charset: those behind `?`, a letter and `?`
+-- how many octets are read as a text after a charset: those after `?`, a letter and `?`
 abbrev pub text_len : List ℕ → ℕ
 text_len [] = 0
 text_len (q ∷ []) = 0
 text_len (q ∷ letter ∷ []) = 0
 text_len (q ∷ letter ∷ r ∷ rest) = if q == octet_of "?" && (is_letter letter && r == octet_of "?") then run_len rest else 0
 
--- how many octets a try in front reads as a charset: those behind `=?`
+-- how many octets a try in front reads as a charset: those after `=?`
 abbrev pub charset_read : List ℕ → ℕ
 charset_read [] = 0
 charset_read (c ∷ []) = 0

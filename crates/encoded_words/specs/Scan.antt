@@ -14,17 +14,17 @@ use Rattle.encoded_words.specs.Word.{EncodedWord, is_letter, is_word_octet}
 abbrev pub run : List ℕ → List ℕ
 run octets = take_while is_word_octet octets
 
--- what stands behind them
+-- what stands after them
 abbrev pub behind_run : List ℕ → List ℕ
 behind_run octets = drop (prefix_len is_word_octet octets) octets
 
--- a word, by what stands behind its text: `?=`
+-- a word, by what stands after its text: `?=`
 abbrev pub word_before : EncodedWord → List ℕ → Option EncodedWord
 word_before word [] = None
 word_before word (q ∷ []) = None
 word_before word (q ∷ e ∷ rest) = if q == octet_of "?" && e == octet_of "=" then Some word else None
 
--- a word, by its charset and what stands behind that: `?`, a letter, `?` and a text
+-- a word, by its charset and what stands after that: `?`, a letter, `?` and a text
 abbrev pub word_behind : (charset rest : List ℕ) → Option EncodedWord
 word_behind charset [] = None
 word_behind charset (q ∷ []) = None
@@ -34,7 +34,7 @@ word_behind charset (q ∷ letter ∷ r ∷ rest) =
     then word_before (record { charset = charset; letter = letter; text = run rest }) (behind_run rest)
     else None
 
--- the word with which octets begin, whether or not it can be decoded
+-- the word with which octets begin, whether or not it can be decoded (RFC 2047, section 2)
 unfoldable pub word_at : List ℕ → Option EncodedWord
 word_at [] = None
 word_at (c ∷ []) = None

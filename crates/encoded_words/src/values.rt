@@ -25,7 +25,7 @@ fn are_blank(octets: &[u8]) -> bool
     octets.iter().all(|octet| is_blank(*octet))
 }
 
-// Adds what a word stands for, and the octets in front of it. Behind a word, spaces and tabs alone are dropped.
+// Adds what a word stands for, and the octets before it. After a word, spaces and tabs alone are dropped.
 fn push_word(
     octets: &mut Vec<u8>,
     behind_word: bool,
@@ -41,7 +41,7 @@ fn push_word(
     octets.extend_from_slice(meant)
 }
 
-// How many octets stand in front of the first `=`. No word begins among them.
+// How many octets stand before the first `=`. No word begins among them.
 fn before_sign(value: &[u8]) -> usize
     ensures within { result ≤ length value.now }
     ensures alone { (profile : profiles.Profile) → map octet (take result value.now)
@@ -56,7 +56,7 @@ fn before_sign(value: &[u8]) -> usize
 fn replaced(alloc: Global, profile: Profile, value: &[u8]) -> Result<Option<Vec<u8>>, AllocError>
     ensures is { IfOk result
         (λ found. octets_of found ≡ replaced_of (profile_as profile) value.now) }
-    // A value in which no word of a known charset is written takes no memory, so want of it is never answered.
+    // A value in which no word of a known charset is written takes no memory, so it is never out of memory.
     ensures unknown { has_known (profile_as profile) value.now ≡ false → IsOk result }
 {
     let mut octets = Vec::new(alloc);

@@ -52,7 +52,7 @@ fn run_len(octets: &[u8]) -> usize
         .count()
 }
 
-// Cuts behind the octets of a charset or a text that stand in front.
+// Cuts after the octets of a charset or a text that stand in front.
 #[tactic(auto, using(crate::proofs::Steps::run_len))]
 fn cut_run(octets: &[u8]) -> (&[u8], &[u8])
     ensures run { result.0.now ≡ run octets.now }
@@ -65,7 +65,7 @@ fn cut_run(octets: &[u8]) -> (&[u8], &[u8])
 // The word with which the octets begin, whether or not it can be decoded.
 //
 // Trying each place of a value takes time linear in its length. A charset and a text are whole runs of octets of words: one ends
-// where such octets do, and one begins behind a `?`. A run behind `=?` is the charset of one word at most, and one behind `B?` or
+// where such octets do, and one begins after a `?`. A run after `=?` is the charset of one word at most, and one after `B?` or
 // `Q?` the text of one at most. So each octet is read twice at most, in all tries together.
 #[tactic(auto, unfolding(crate::specs::Scan::word_at))]
 pub(crate) fn word_at(octets: &[u8]) -> Option<EncodedWord<'_>>

@@ -136,7 +136,7 @@ in_two (suc n) (x ∷ xs) = ap (λ l. x ∷ l) (in_two n xs)
 pub union_behind : (a flags : List (List ℕ)) (n : ℕ) → n ≤ length flags → All (λ flag. has_flag a flag ≡ true) (take n flags) → flag_union a (drop n flags) ≡ flag_union a flags
 union_behind a flags n within known = sym (union_known a (take n flags) (drop n flags) known) ∙ ap (flag_union a) (in_two n flags)
 
--- where a list has the first n flags of a slice, its union with the flags behind these is its union with all
+-- where a list has the first n flags of a slice, its union with the flags after these is its union with all
 pub union_slice : (a flags items : List (List ℕ)) (n : ℕ) → items ≡ flags → n ≤ length flags → All (λ flag. has_flag a flag ≡ true) (take n flags)
     → flag_union a (take (length items - n) (drop n items)) ≡ flag_union a flags
 union_slice a flags items n are within known =

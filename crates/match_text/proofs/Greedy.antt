@@ -1,4 +1,4 @@
--- The least fit goes from star to star: each segment behind a star stands at its first place, the last one at the end.
+-- The least fit goes from star to star: each segment after a star stands at its first place, the last one at the end.
 use Rattle.std.proofs.Common.{◌≡◌, ℕ, zero, suc, ◌+◌, ◌<◌, ◌≤◌, Bool, true, false, ◌&&◌, ◌==◌, cond, List, [], ◌∷◌, ◌++◌, length, take, drop, Option, None, Some, refl, sym, ◌∙◌, ap, subst, arith}
 use Rattle.std.specs.Option.{option_and_then, option_map, option_or}
 use Rattle.std.proofs.lemmas.Bool.{and_parts, eqb-false, eqb-true, false≢true}
@@ -34,7 +34,7 @@ ones (Star ∷ segment) = ones segment
 ones (Literal b ∷ segment) = ones segment
 ones (Question ∷ segment) = 1 ∷ ones segment
 
--- the lengths of the `?` of the segment in front, and behind them the least fit of the items from the first star on
+-- the lengths of the `?` of the segment in front, and after them the least fit of the items from the first star on
 abbrev segment_rest : List Item → List ℕ → Option (List ℕ)
 segment_rest items text =
     behind (ones (before_star items)) (least_fit octet (from_star items) (drop (length (before_star items)) text))
@@ -108,7 +108,7 @@ star_fit-first r rest here is settled (x ∷ text) =
 
 -- SEGMENTS BEHIND A STAR
 
--- the lengths of the `?` of a segment of n items, and behind them the least fit of the items behind this segment
+-- the lengths of the `?` of a segment of n items, and after them the least fit of the items after this segment
 abbrev rest_of : (front : List ℕ) (n : ℕ) → List Item → List ℕ → Option (List ℕ)
 rest_of front n items text = behind front (least_fit octet items (drop n text))
 
@@ -138,7 +138,7 @@ least_fit-star-drop : (items : List Item) (m : ℕ) (text : List ℕ) → least_
 unfolding least_fit
 least_fit-star-drop items m text is = star_fit-drop (least_fit octet items) m text is
 
--- behind a segment, a star that fits nowhere fits nowhere further on
+-- after a segment, a star that fits nowhere fits nowhere further on
 star_settled : (front : List ℕ) (n : ℕ) (items : List Item) (text : List ℕ) (p : ℕ) → rest_of front n (Star ∷ items) text ≡ None → rest_of front n (Star ∷ items) (drop p text) ≡ None
 star_settled front n items text p is = ap (behind front)
     (ap (least_fit octet (Star ∷ items)) (drop_swap n p text)
@@ -174,7 +174,7 @@ last_settled front segment text p stands is =
     let len = length-drop (length segment) text in
     absurd (nothing_left front (drop (length segment) text) (omega arith) is)
 
--- a star takes up to the place of the segment behind it
+-- a star takes up to the place of the segment after it
 star_fit-place : (r : List ℕ → Option (List ℕ)) (front : List ℕ) (segment after : List Item) → IsStarred after → ((text : List ℕ) → r text ≡ cond (begins segment text) (rest_of front (length segment) after text) None) → (text : List ℕ) → star_fit r text ≡ placed (rest_of front (length segment) after) text (place_of segment after text)
 star_fit-place r front segment [] starred is text = star_fit-first r (rest_of front (length segment) []) (ends segment)
     (λ t. is t ∙ last_begins front segment t (length segment == length t) (begins segment t) refl refl)
@@ -222,7 +222,7 @@ captures_of-segment items text value =
     ∙ map_cond (λ lengths. taken items lengths value) (begins (before_star items) text) (segment_rest items text)
     ∙ ap (λ r. cond (begins (before_star items) text) r None) (captured-segment items value (least_fit octet (from_star items) (drop (length (before_star items)) text)))
 
--- what a star and the `?` of the segment behind it take
+-- what a star and the `?` of the segment after it take
 abbrev pub step_texts : (segment : List Item) (value : List ℕ) (p : ℕ) → List (List ℕ)
 step_texts segment value p = take p value ∷ questions segment (drop p value)
 

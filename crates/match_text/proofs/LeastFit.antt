@@ -15,7 +15,7 @@ record IsLeast (P : List ℕ → Type 0) (lengths : List ℕ) : Type 0 where
 abbrev Answers : (List ℕ → Type 0) → Option (List ℕ) → Type 0
 Answers P r = MatchOption r ((lengths : List ℕ) → P lengths → ⊥) (IsLeast P)
 
--- the lengths fit a star in front of items, where P says what fits these
+-- the lengths fit a star before items, where P says what fits these
 abbrev StarFits : (List ℕ → List ℕ → Type 0) → List ℕ → List ℕ → Type 0
 StarFits P value [] = ⊥
 StarFits P value (n ∷ lengths) = (n ≤ length value) × P (drop n value) lengths

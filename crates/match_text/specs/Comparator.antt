@@ -22,12 +22,12 @@ collation_named name =
     if pointwise nat_eq (codes "i;ascii-casemap") name then Some Casemap else
     if pointwise nat_eq (codes "i;ascii-numeric") name then Some Numeric else None
 
--- equal lengths, and equal octets after folding
+-- equal lengths, and equal octets after folding (RFC 5228, section 2.7.1)
 pub record Same (fold : ℕ → ℕ) (a b : List ℕ) : Type 0 where
   pub equal_lengths : length a ≡ length b
   pub equal_octets : (i : ℕ) → i < length a → fold (slice_index a i) ≡ fold (slice_index b i)
 
--- some slice of the value is the same as the key
+-- some slice of the value is the same as the key (RFC 5228, section 2.7.1)
 pub record IsPart (fold : ℕ → ℕ) (value key : List ℕ) : Type 0 where
   pub start : ℕ
   pub end : ℕ

@@ -37,7 +37,7 @@ is_flag text = is_system_flag text || is_keyword text
 abbrev pub has_flag : List (List ℕ) → List ℕ → Bool
 has_flag flags flag = list_any (same ascii_casemap flag) flags
 
--- whether a member of the list is equal to a key, by what tells that two texts are equal
+-- whether a member of the list is equal to a key, by what decides that two texts are equal
 abbrev pub has_key : (List ℕ → List ℕ → Bool) → List (List ℕ) → List ℕ → Bool
 has_key equal flags key = list_any (λ flag. equal flag key) flags
 
@@ -54,7 +54,7 @@ unfoldable pub distinct : List (List ℕ) → List (List ℕ)
 distinct [] = []
 distinct (flag ∷ flags) = flag ∷ flags_without (distinct flags) (flag ∷ [])
 
--- the first, and behind them those of the second that aren't there yet
+-- the first, and after them those of the second that aren't there yet
 unfoldable pub flag_union : (first second : List (List ℕ)) → List (List ℕ)
 flag_union first second = first ++ flags_without (distinct second) first
 

@@ -29,7 +29,7 @@ abbrev pub number_of_digits : List ℕ → Option ℕ
 number_of_digits [] = None
 number_of_digits (b ∷ rest) = Some (decimal_from 0 (b ∷ rest))
 
--- the number that a text stands for: that of its first digits
+-- the number that a text stands for: that of its first digits (RFC 4790, section 9.1.1)
 abbrev pub number_of : List ℕ → Option ℕ
 number_of text = number_of_digits (first_digits text)
 

@@ -9,7 +9,7 @@ use Rattle.match_text.specs.declared.pattern.Item.TheVariants.{Star, Question, L
 -- PATTERNS (RFC 5228, section 2.7.1)
 
 -- What an octet of a pattern is: a `*`, a `?` or an octet that stands for itself, as each octet does that a `\` protects. A `\`
--- that protects the octet behind it is nothing by itself.
+-- that protects the octet after it is nothing by itself.
 abbrev pub item_at : (protected : Bool) → ℕ → Option Item
 item_at protected b =
     if protected then Some (Literal b) else
@@ -69,7 +69,7 @@ abbrev pub one_more : List ℕ → List ℕ
 one_more [] = []
 one_more (n ∷ lengths) = suc n ∷ lengths
 
--- the least fit of a `*` in front of items whose least fits are known: it takes nothing, or if it can't, then one octet more
+-- the least fit of a `*` before items whose least fits are known: it takes nothing, or if it can't, then one octet more
 abbrev pub star_fit : (List ℕ → Option (List ℕ)) → List ℕ → Option (List ℕ)
 star_fit behind [] = option_map (λ lengths. 0 ∷ lengths) (behind [])
 star_fit behind (x ∷ value) =
@@ -109,7 +109,7 @@ TakeInTurn fold (Star ∷ items) value [] = ⊥
 TakeInTurn fold (Star ∷ items) value (text ∷ texts) =
     (rest : List ℕ) × ((value ≡ text ++ rest) × TakeInTurn fold items rest texts)
 
--- What the wildcards of a pattern take under the least fit, behind the whole value; nothing where no fit exists.
+-- What the wildcards of a pattern take under the least fit, after the whole value; nothing where no fit exists.
 unfoldable pub matched : (fold : ℕ → ℕ) → (value pattern : List ℕ) → Option (List (List ℕ))
 matched fold value pattern =
     option_map (λ lengths. value ∷ taken (items_of pattern) lengths value) (least_fit fold (items_of pattern) value)

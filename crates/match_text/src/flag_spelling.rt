@@ -57,7 +57,7 @@ fn are_flag_octets(text: &[u8]) -> bool
     text.iter().all(|octet| is_flag_octet(*octet))
 }
 
-// The first piece of a text, and what stands behind the space that ends it, where one does.
+// The first piece of a text, and what stands after the space that ends it, where one does.
 pub(crate) fn next_piece(text: &[u8]) -> (&[u8], Option<&[u8]>)
     ensures pieces { pieces text.now ≡ result.0.now ∷ pieces_behind result.1 }
     ensures shorter { IfSome result.1 (λ rest. length rest.now < length text.now) }
@@ -69,7 +69,7 @@ pub(crate) fn next_piece(text: &[u8]) -> (&[u8], Option<&[u8]>)
     }
 }
 
-/// The first flag of a text, and what stands behind it (RFC 5232, section 2). Takes no memory.
+/// The first flag of a text, and what stands after it (RFC 5232, section 2). Takes no memory.
 pub fn next_flag(text: &[u8]) -> Option<(&[u8], &[u8])>
     ensures some { IfSome result (λ found. flags_in text.now ≡ found.0.now ∷ flags_in found.1.now) }
     ensures shorter { IfSome result (λ found. length found.1.now < length text.now) }
@@ -90,7 +90,7 @@ pub fn next_flag(text: &[u8]) -> Option<(&[u8], &[u8])>
     }
 }
 
-// The flag that a text without a space is, if it is one, and nothing behind it.
+// The flag that a text without a space is, if it is one, and nothing after it.
 fn last_flag(piece: &[u8]) -> Option<(&[u8], &[u8])>
     requires { pieces piece.now ≡ piece.now ∷ [] }
     ensures some { IfSome result

@@ -207,7 +207,7 @@ impl FlagList {
     }
 
     /// Adds the flags of another list that aren't there yet (RFC 5232, section 3.2). The first of them, as many as `known`, are there
-    /// and aren't looked at. Where memory is refused, those in front of some place have been added. Takes no memory where all are there.
+    /// and aren't looked at. Where memory is refused, those before some place have been added. Takes no memory where all are there.
     pub fn add(&mut self, alloc: Global, flags: &FlagList, known: usize) -> Result<(), AllocError>
         requires within { known ≤ length flags.now }
         requires known { All (λ flag. has_flag self.old flag ≡ true) (take known flags.now) }
@@ -219,7 +219,7 @@ impl FlagList {
     {
         let known = self.first_missing(flags, known);
         let added = insert_each(alloc, &mut self.flags, &flags.flags.as_slice()[known..]);
-        // The set tells here that no two of them are the same.
+        // The set says here that no two of them are the same.
         let _count = self.flags.len();
         added
     }
@@ -246,7 +246,7 @@ impl FlagList {
         flags.len()
     }
 
-    /// Adds the flags of a text that aren't there yet (RFC 5232, sections 2 and 3.2). Where memory is refused, those in front of some place
+    /// Adds the flags of a text that aren't there yet (RFC 5232, sections 2 and 3.2). Where memory is refused, those before some place
     /// have been added. Takes no memory where all are there.
     pub fn add_text(&mut self, alloc: Global, text: &[u8]) -> Result<(), AllocError>
         ensures union { OnOk result (self.new ≡ flag_union self.old (flags_in text.now)) }
@@ -256,7 +256,7 @@ impl FlagList {
             → IsOk result }
     {
         let added = insert_text(alloc, &mut self.flags, text);
-        // The set tells here that no two of them are the same.
+        // The set says here that no two of them are the same.
         let _count = self.flags.len();
         added
     }
@@ -297,7 +297,7 @@ fn has_number(flags: &[Flag], key: &[u8]) -> bool
 fn list_of(flags: IndexSet<Flag>) -> FlagList
     ensures { result ≡ flags.keys }
 {
-    // The set tells here that no two of them are the same.
+    // The set says here that no two of them are the same.
     let _count = flags.len();
     FlagList { flags }
 }
@@ -377,7 +377,7 @@ pub fn flags_of_texts(alloc: Global, texts: &[CowSlice<'_, u8>]) -> Result<FlagL
     Ok(list_of(flags))
 }
 
-/// The flags of `a`, and behind them those of `b` that aren't there yet (RFC 5232, section 3.2).
+/// The flags of `a`, and after them those of `b` that aren't there yet (RFC 5232, section 3.2).
 #[tactic(auto, using(crate::proofs::FlagLists::union_copies))]
 pub fn union(alloc: Global, a: &FlagList, b: &FlagList) -> Result<FlagList, AllocError>
     ensures { IfOk result (λ list. list ≡ flag_union a.now b.now) }

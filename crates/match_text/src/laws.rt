@@ -19,7 +19,7 @@ ghost use Rattle.match_text.specs.declared.relation.Relation.{Relation};
 ghost use Rattle.match_text.specs.declared.relation.Relation.TheVariants.{Eq, Ge, Gt, Le, Lt, Ne};
 ghost use Rattle.match_text.specs.declared.room.KeyKind.TheVariants.{Part, Pattern, Whole};
 
-/// Whether two texts are the same, and whether one is part of the other, is told exactly (`:is` and `:contains` of RFC 5228,
+/// Whether two texts are the same, and whether one is part of the other, is decided exactly (`:is` and `:contains` of RFC 5228,
 /// section 2.7.1). No octets at all are part of every value, the empty one too.
 pub fn sameness_is_decided()
     ensures same { (fold : ℕ → ℕ) (a b : List ℕ) → (same fold a b ≡ true) ↔ Same fold a b }

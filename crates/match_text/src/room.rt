@@ -15,7 +15,7 @@ pub enum KeyKind {
     Pattern,
 }
 
-/// How many octets of a value are left for the rest of a key. It tells of a key that comes in pieces whether it can match the value,
+/// How many octets of a value are left for the rest of a key. It says of a key that comes in pieces whether it can match the value,
 /// so that a key which can't is never put together.
 #[derive(Clone, Copy)]
 pub struct Room {

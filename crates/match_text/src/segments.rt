@@ -47,8 +47,8 @@ pub(crate) fn begins(segment: &[Item], text: &[u8]) -> bool
     true
 }
 
-/// The place of a segment that stands behind a star: its first place in the text, or the one at the end of the text where
-/// nothing stands behind the segment.
+/// The place of a segment that stands after a star: its first place in the text, or the one at the end of the text where
+/// nothing stands after the segment.
 pub(crate) fn place_of(
     alloc: Global,
     segment: &[Item],

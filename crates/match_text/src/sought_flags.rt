@@ -34,7 +34,7 @@ pub fn flag_keys_of_texts<'a>(
     Ok(found)
 }
 
-/// The first piece of a key of a test that has octets, and what stands behind it: what a key that isn't empty stands for, one after
+/// The first piece of a key of a test that has octets, and what stands after it: what a key that isn't empty stands for, one after
 /// another (RFC 5232, section 4). Takes no memory.
 pub fn next_key(key: &[u8]) -> Option<(&[u8], &[u8])>
     ensures some { IfSome result
@@ -58,7 +58,7 @@ pub fn next_key(key: &[u8]) -> Option<(&[u8], &[u8])>
     }
 }
 
-// The piece that a text without a space is, if it has octets, and nothing behind it.
+// The piece that a text without a space is, if it has octets, and nothing after it.
 fn last_key(piece: &[u8]) -> Option<(&[u8], &[u8])>
     requires { pieces piece.now ≡ piece.now ∷ [] }
     ensures some { IfSome result

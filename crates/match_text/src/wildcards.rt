@@ -52,10 +52,10 @@ impl<'v> Captures<'v> {
 /// `:matches` (RFC 5228, section 2.7.1; RFC 5229, section 3.2).
 ///
 /// In a pattern `*` stands for any octets or none, `?` for one octet, and any other octet for those equal to it. `\` takes its
-/// meaning from the octet behind it, and at the end of the pattern it stands for itself. The first wildcard takes as little as
+/// meaning from the octet after it, and at the end of the pattern it stands for itself. The first wildcard takes as little as
 /// it can, then the second, and so on.
 ///
-/// A match takes memory in the octets of the value and of the pattern, and fails only for want of it. Its time is linear in both,
+/// A match takes memory in the octets of the value and of the pattern, and fails only when out of it. Its time is linear in both,
 /// however many stars there are, but for octets between two stars with a `?` among them: these are tried at each place, which
 /// takes at worst as many steps as the product of their number and the value's.
 pub fn matches<'v, C: Comparator>(
@@ -113,7 +113,7 @@ fn captured_texts<'v>(
 }
 
 // Adds what a star takes of the value up to a place, and then what the `?` of the segment that stands there take; what
-// stands behind the segment, of the text and of the value.
+// stands after the segment, of the text and of the value.
 fn take_star<'t, 'v>(
     texts: &mut Vec<&'v [u8]>,
     place: usize,
@@ -136,7 +136,7 @@ fn take_star<'t, 'v>(
     take_segment(texts, segment, text_left, value_left)
 }
 
-// Adds what the `?` of a segment take of the value, which begins with it; what stands behind the segment, of the text and
+// Adds what the `?` of a segment take of the value, which begins with it; what stands after the segment, of the text and
 // of the value.
 fn take_segment<'t, 'v>(
     texts: &mut Vec<&'v [u8]>,
@@ -156,7 +156,7 @@ fn take_segment<'t, 'v>(
     Ok((text_left, value_left))
 }
 
-// Adds what the `?` of a segment take of the value, which begins with it; what stands behind the segment.
+// Adds what the `?` of a segment take of the value, which begins with it; what stands after the segment.
 fn push_questions<'v>(
     texts: &mut Vec<&'v [u8]>,
     segment: &[Item],

@@ -28,7 +28,7 @@ is_separator octet = octet == octet_of "+"
 abbrev pub user_in : List ℕ → List ℕ
 user_in local_part = before_first is_separator local_part
 
--- the detail in a local part: what stands behind its first separator, if it has one (RFC 5233, section 4)
+-- the detail in a local part: what stands after its first separator, if it has one (RFC 5233, section 4)
 abbrev pub detail_in : List ℕ → Option (List ℕ)
 detail_in local_part = if list_any is_separator local_part then Some (after_first is_separator local_part) else None
 
@@ -74,20 +74,20 @@ mark_in inside.DomainLiteral is_protected in_angle is_last b = mark.Literal
 abbrev pub mark_at : Surroundings → (is_last : Bool) → ℕ → Mark
 mark_at spot is_last b = mark_in spot.inside spot.is_protected spot.in_angle is_last b
 
--- what is open behind an octet that stands outside of these
+-- what is open after an octet that stands outside of these
 abbrev pub opened_by : ℕ → Inside
 opened_by b =
     if b == octet_of "\"" then inside.QuotedString else
     if b == octet_of "(" then inside.Comment 1 else
     if b == octet_of "[" then inside.DomainLiteral else inside.Nothing
 
--- what is open behind an octet that stands in so many comments in one another (RFC 5322, section 3.2.2)
+-- what is open after an octet that stands in so many comments in one another (RFC 5322, section 3.2.2)
 abbrev pub comment_behind : (depth : ℕ) → ℕ → Inside
 comment_behind depth b =
     if b == octet_of "(" then inside.Comment (depth + 1) else
     if b == octet_of ")" then (if nat_le depth 1 then inside.Nothing else inside.Comment (depth - 1)) else inside.Comment depth
 
--- what is open behind an octet that isn't protected
+-- what is open after an octet that isn't protected
 abbrev pub inside_behind : Inside → ℕ → Inside
 inside_behind inside.Nothing b = opened_by b
 inside_behind inside.QuotedString b = if b == octet_of "\"" then inside.Nothing else inside.QuotedString
@@ -101,14 +101,14 @@ is_protecting inside.QuotedString = true
 is_protecting (inside.Comment depth) = true
 is_protecting inside.DomainLiteral = true
 
--- whether an angle is open behind an octet; one in a quoted string, a comment or a literal opens and closes none
+-- whether an angle is open after an octet; one in a quoted string, a comment or a literal opens and closes none
 abbrev pub angle_behind : Inside → (in_angle : Bool) → ℕ → Bool
 angle_behind inside.Nothing in_angle b = if b == octet_of "<" then true else if b == octet_of ">" then false else in_angle
 angle_behind inside.QuotedString in_angle b = in_angle
 angle_behind (inside.Comment depth) in_angle b = in_angle
 angle_behind inside.DomainLiteral in_angle b = in_angle
 
--- what is open behind an octet; one that is protected opens and closes nothing
+-- what is open after an octet; one that is protected opens and closes nothing
 abbrev pub surroundings_behind : Surroundings → ℕ → Surroundings
 surroundings_behind spot b = record {
   inside = if spot.is_protected then spot.inside else inside_behind spot.inside b;
@@ -197,7 +197,7 @@ is_quoted mark.Literal = false
 abbrev pub is_gap : Marked → Bool
 is_gap m = is_white m.octet && not (is_quoted m.mark)
 
--- the first octet behind such white space is an `@`
+-- the first octet after such white space is an `@`
 abbrev pub begins_route : List Marked → Bool
 begins_route [] = false
 begins_route (m ∷ ms) = if is_gap m then begins_route ms else is_free (octet_of "@") m
@@ -234,7 +234,7 @@ address_marks piece = filter stays (in_first_angle (without_comments (without_gr
 abbrev pub octets_of : List Marked → List ℕ
 octets_of marked = map (λ m. m.octet) marked
 
--- an address with a local part and a domain where both have octets, and else with neither
+-- an address with a local part and a domain where both have octets, and else with neither (RFC 5322, section 3.4.1)
 abbrev pub divided : (all local_part domain : List ℕ) → AddrSpec
 divided all [] domain = record { all = all; local_part = None; domain = None }
 divided all (b ∷ bs) [] = record { all = all; local_part = None; domain = None }

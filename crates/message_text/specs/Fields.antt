@@ -74,7 +74,7 @@ fields_of message = map field_of (field_groups message)
 abbrev pub names_of : List ℕ → List (List ℕ)
 names_of message = map (λ field. field.name) (fields_of message)
 
--- the values of the fields, in order
+-- the values of the fields, in order (RFC 5322, section 2.2.3)
 abbrev pub values_of : List ℕ → List (List ℕ)
 values_of message = map (λ field. field.value) (fields_of message)
 
@@ -110,7 +110,7 @@ IsUnknown profile message i = slice_get (map (has_known profile) (values_of mess
 abbrev pub is_field_named : List ℕ → Field → Bool
 is_field_named name field = same ascii_casemap field.name name
 
--- field i is the first of that name at or behind a place
+-- field i is the first of that name at or after a place
 pub record IsNextNamed (fields : List Field) (name : List ℕ) (start i : ℕ) : Type 0 where
   pub behind : start ≤ i
   pub within : i < length fields

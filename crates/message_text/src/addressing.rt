@@ -18,11 +18,11 @@ pub enum AddressPart {
     All,
     /// What stands before the `@` that divides it: `:localpart`.
     Local,
-    /// What stands behind that `@`: `:domain`.
+    /// What stands after that `@`: `:domain`.
     Domain,
     /// What stands before the first `+` of the local part, or all of it (RFC 5233, section 4): `:user`.
     User,
-    /// What stands behind that `+` (RFC 5233, section 4): `:detail`.
+    /// What stands after that `+` (RFC 5233, section 4): `:detail`.
     Detail,
 }
 
@@ -88,7 +88,7 @@ fn detail_in(local: &[u8]) -> Option<&[u8]>
 /// Where nothing is left, there is no address. The last `@` outside of quoted strings and literals
 /// stands between local part and domain, if there are octets on both sides.
 ///
-/// The reading takes memory for the marks of all octets and for the addresses, and fails only for want of it.
+/// The reading takes memory for the marks of all octets and for the addresses, and fails only when out of it.
 pub fn addresses(alloc: Global, value: &[u8]) -> Result<Vec<Address>, AllocError>
     ensures { IfOk result (λ found. found.items ≡ addresses_of value.now) }
 {
@@ -136,7 +136,7 @@ fn dividing_at(marks: &[Marked]) -> Option<usize>
     Some(behind - 1)
 }
 
-// The place behind the last free `@`, or 0 where there is none.
+// The place after the last free `@`, or 0 where there is none.
 fn behind_last_at(marks: &[Marked]) -> usize
     ensures { IsBehindLast (is_free (octet_of "@")) marks.now result }
 {

@@ -109,7 +109,7 @@ fn opened_by(octet: u8) -> Inside
     }
 }
 
-// What is open behind an octet of so many comments in one another.
+// What is open after an octet of so many comments in one another.
 fn comment_behind(depth: usize, octet: u8) -> Inside
     requires { depth + 1 < 2 ^ 64 }
     ensures { result ≡ spec.comment_behind depth octet }
@@ -122,7 +122,7 @@ fn comment_behind(depth: usize, octet: u8) -> Inside
     }
 }
 
-// What is open behind an octet that isn't protected.
+// What is open after an octet that isn't protected.
 fn inside_behind(inside: Inside, octet: u8) -> Inside
     requires { depth_of inside + 1 < 2 ^ 64 }
     ensures { result ≡ spec.inside_behind inside octet }
@@ -143,7 +143,7 @@ fn is_protecting(inside: Inside) -> bool
     !matches!(inside, Inside::Nothing)
 }
 
-// Whether an angle is open behind an octet.
+// Whether an angle is open after an octet.
 fn angle_behind(inside: Inside, in_angle: bool, octet: u8) -> bool
     ensures { result ≡ spec.angle_behind inside in_angle octet }
 {
@@ -157,7 +157,7 @@ fn angle_behind(inside: Inside, in_angle: bool, octet: u8) -> bool
     }
 }
 
-// The place behind an octet.
+// The place after an octet.
 fn surroundings_behind(spot: Surroundings, octet: u8) -> Surroundings
     requires { depth_of spot.inside + 1 < 2 ^ 64 }
     ensures spot { result ≡ spec.surroundings_behind spot octet }

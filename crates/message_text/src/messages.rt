@@ -107,14 +107,14 @@ impl Message {
         &octets[span.start..span.name_end]
     }
 
-    /// The place of the first field of that name at or behind place `start`, or nothing where no further field has
+    /// The place of the first field of that name at or after place `start`, or nothing where no further field has
     /// it. Names ignore the case of ASCII (RFC 5228, section 2.4.2.2). Takes no memory.
     pub fn next_named(&self, name: &FieldName<'_>, start: usize) -> Option<usize>
         ensures some { IfSome result (spec.IsNextNamed (spec.fields_of self.now) name.now start) }
         ensures none { IfNone result ((k : ℕ) → start ≤ k → k < length (spec.fields_of self.now)
             → slice_get (map (spec.is_field_named name.now) (spec.fields_of self.now)) k
             ≡ Some false) }
-        // A search can go on behind the place.
+        // A search can go on after the place.
         ensures countable { IfSome result (λ i. i < 2 ^ 64 - 1) }
     {
         next_named(self.octets.as_slice(), &self.fields, name, start)

@@ -23,7 +23,7 @@ pub fn name_hash(name: &[u8]) -> u32
 
 /// A name of fields to look for. It is any octets, of which those that can't name a field name none.
 ///
-/// A name is prepared once, and then tells most fields of other names without their octets.
+/// A name is prepared once, and then tells most other names apart without their octets.
 #[derive(Clone, Drop)]
 pub struct FieldName<'a> {
     octets: &'a [u8],
@@ -77,7 +77,7 @@ pub(crate) fn is_named(octets: &[u8], span: FieldSpan, name: &FieldName<'_>) -> 
         && is::<AsciiCasemap>(&octets[span.start..span.name_end], name.octets)
 }
 
-/// The place of the first field of that name at or behind `start`.
+/// The place of the first field of that name at or after `start`.
 pub(crate) fn next_named(
     octets: &[u8],
     spans: &[FieldSpan],

@@ -56,7 +56,7 @@ fn is_gap(marked: Marked) -> bool
     is_white(marked.octet) && !matches!(marked.mark, Mark::Quoted)
 }
 
-// Whether the first octet behind white space is an `@`.
+// Whether the first octet after white space is an `@`.
 fn begins_route(inside: &[Marked]) -> bool
     ensures { result ≡ spec.begins_route inside.now }
 {

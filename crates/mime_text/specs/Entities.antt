@@ -63,7 +63,7 @@ held_type = record { main = codes "message"; sub = codes "rfc822"; boundary = No
 abbrev pub unknown_type : ContentType
 unknown_type = record { main = codes "application"; sub = codes "octet-stream"; boundary = None; charset = None }
 
--- the type where no field says one: in a digest a message
+-- the type where no field says one: in a digest a message (RFC 2045, section 5.2; RFC 2046, section 5.1.5)
 abbrev pub default_type : (in_digest : Bool) → ContentType
 default_type in_digest = if in_digest then held_type else plain_type
 
@@ -143,7 +143,7 @@ given_by leaf encoding octets = content encoding octets
 abbrev pub entity_of : (in_digest : Bool) → (text : List ℕ) → Entity
 entity_of in_digest text = record { type = type_of in_digest text; given = given_by (shape_of (type_of in_digest text)) (encoding_of text) (content_of text) }
 
--- the texts of the entities directly in one
+-- the texts of the entities directly in one (RFC 2046, section 5.2.1)
 abbrev pub inner_texts : Shape → (octets : List ℕ) → List (List ℕ)
 inner_texts (multipart is_digest (Some boundary)) octets = part_texts (content_cut boundary octets)
 inner_texts (multipart is_digest None) octets = []

@@ -21,7 +21,7 @@ encoding_named name =
     else if is_identity name then Some Identity
     else None
 
--- the encoding that a value says, which is a token, if it is known
+-- the encoding that a value says, which is a token, if it is known (RFC 2045, section 6.1)
 abbrev pub encoding_in : List ℕ → Option TransferEncoding
 encoding_in value = option_and_then (λ marks. option_and_then encoding_named (token_in marks)) (marks_of value)
 

@@ -35,13 +35,13 @@ pub(crate) fn make_verdicts(bench: &mut Bench, meter: &mut Meter) -> io::Result<
     prepared(bench.report(meter, &mut Counted::new(io::sink())))
 }
 
-/// Tells the report, what it answers, and how many runs there were.
+/// Prints the report, what it answers, and how many runs there were.
 pub(crate) fn tell_report(rt: &impl Print, bench: &mut Bench, meter: &mut Meter) -> io::Result<()> {
     let answer = bench.report(meter, &mut Counted::new(io::writer(rt)));
     tell_reported(rt, answer, meter)
 }
 
-/// Tells what a report answered, and how many runs there were.
+/// Prints what a report answered, and how many runs there were.
 pub(crate) fn tell_reported(
     rt: &impl Print,
     answer: Result<(), ReportFault>,

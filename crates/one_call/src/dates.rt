@@ -25,7 +25,7 @@ pub(crate) fn call(rt: &impl Host, word: &str, given: [&[u8]; 3]) -> io::Result<
     }
 }
 
-/// Tells a part of the date of a field's value, as a zone shows it, or `none`.
+/// Prints a part of the date of a field's value, as a zone shows it, or `none`.
 pub(crate) fn show_date(rt: &impl Host, [value, zone, part]: [&[u8]; 3]) -> io::Result<()> {
     match date_in(value) {
         Some(moment) => show(rt, &moment, zone, part),
@@ -33,7 +33,7 @@ pub(crate) fn show_date(rt: &impl Host, [value, zone, part]: [&[u8]; 3]) -> io::
     }
 }
 
-/// Tells a part of what a clock shows in its zone, or `none`.
+/// Prints a part of what a clock shows in its zone, or `none`.
 pub(crate) fn show_clock(rt: &impl Host, [digits, zone, part]: [&[u8]; 3]) -> io::Result<()> {
     match clock_named(digits, zone) {
         Some(clock) => show(rt, &clock.moment(), zone, part),
@@ -41,7 +41,7 @@ pub(crate) fn show_clock(rt: &impl Host, [digits, zone, part]: [&[u8]; 3]) -> io
     }
 }
 
-/// Tells a part of a moment, where the words name a zone and a part.
+/// Prints a part of a moment, where the words name a zone and a part.
 fn show(rt: &impl Host, moment: &Moment, zone: &[u8], part: &[u8]) -> io::Result<()> {
     let (Some(zone), Some(part)) = (zone_named(zone), DatePart::named(part)) else {
         return println!(rt; "none");

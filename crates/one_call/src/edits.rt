@@ -10,7 +10,7 @@ use sieve_run::Meter;
 use std::io;
 use std::io::ErrorKind;
 
-/// What an edit answered, unless memory was refused in front of it.
+/// What an edit answered, unless memory was refused before it.
 type Edited = io::Result<Result<(), EditFault>>;
 
 const KEEPS: &[u8] =
@@ -30,7 +30,7 @@ pub(crate) fn call(rt: &impl Host, word: &str) -> io::Result<()> {
     call_on(rt, word, &mut bench)
 }
 
-/// Tells the answer, the report behind it, and how many runs there were.
+/// Prints the answer, the report after it, and how many runs there were.
 fn call_on(rt: &impl Host, word: &str, bench: &mut Bench) -> io::Result<()> {
     let mut meter = Meter::new();
     make_verdicts(bench, &mut meter)?;

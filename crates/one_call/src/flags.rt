@@ -21,7 +21,7 @@ pub(crate) fn read(rt: &impl Host) -> io::Result<()> {
     tell_list(rt, answer)
 }
 
-/// Tells a list, or that it was refused.
+/// Prints a list, or that it was refused.
 fn tell_list(rt: &impl Print, made: Result<FlagList, AllocError>) -> io::Result<()> {
     match made {
         Ok(flags) => tell_flags(rt, &flags),
@@ -54,7 +54,7 @@ pub(crate) fn take_away(rt: &impl Host) -> io::Result<()> {
     tell_list(rt, answer)
 }
 
-/// Behind the answer stands the list: where memory was refused, some flags may have been added.
+/// After the answer stands the list: where memory was refused, some flags may have been added.
 pub(crate) fn add(rt: &impl Host, others: &[u8]) -> io::Result<()> {
     let mut first = flags_of(rt.alloc(), FIRST)?;
     let second = flags_of(rt.alloc(), others)?;
@@ -65,7 +65,7 @@ pub(crate) fn add(rt: &impl Host, others: &[u8]) -> io::Result<()> {
     tell_flags(rt, &first)
 }
 
-/// Behind the answer stands the list: where memory was refused, some flags may have been added.
+/// After the answer stands the list: where memory was refused, some flags may have been added.
 pub(crate) fn add_text(rt: &impl Host, text: &[u8]) -> io::Result<()> {
     let mut first = flags_of(rt.alloc(), FIRST)?;
     mark(rt);
@@ -75,7 +75,7 @@ pub(crate) fn add_text(rt: &impl Host, text: &[u8]) -> io::Result<()> {
     tell_flags(rt, &first)
 }
 
-/// Whether a flag is there, where one stood that is taken out, and the list behind that.
+/// Whether a flag is there, where one stood that is taken out, and the list after that.
 pub(crate) fn ask(rt: &impl Host) -> io::Result<()> {
     let mut flags = flags_of(rt.alloc(), FIRST)?;
     mark(rt);

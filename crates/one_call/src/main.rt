@@ -1,7 +1,7 @@
-//! Makes one call of the libraries, on an input that is fixed, and tells what it answered and what it left.
+//! Makes one call of the libraries, on an input that is fixed, and says what it answered and what it left.
 //!
-//! The first word names the call: a function or a method, with what it is made on behind a `/` where several words name it, or a type, for
-//! what is asked of it without taking memory. Without a word all of them are told. `tools/check` refuses each request for memory in turn. After
+//! The first word names the call: a function or a method, with what it is made on after a `/` where several words name it, or a type, for
+//! what is asked of it without taking memory. Without a word all of them are printed. `tools/check` refuses each request for memory in turn. After
 //! `date` a field's value, a zone and a part may stand, after `clock` its seconds, its zone and a part, and after `tokens` a text as
 //! pairs of hexadecimal digits, in place of the fixed input.
 #![tactic(auto)]
@@ -33,7 +33,7 @@ fn main(rt: HostRuntime) -> ExitCode {
     }
 }
 
-/// Makes the call. Where memory is refused in front of it, says so.
+/// Makes the call. Where memory is refused before it, says so.
 fn run(rt: &(impl Env + Host)) -> io::Result<()> {
     match call_named(rt) {
         Err(e) if e.kind() == ErrorKind::OutOfMemory => println!(rt; "prepare: no memory"),

@@ -49,7 +49,7 @@ fn report_twice(rt: &impl Host, bench: &mut Bench) -> io::Result<()> {
     tell_report(rt, bench, &mut meter)
 }
 
-/// Reports, and tells the answer.
+/// Reports, and says the answer.
 fn report(rt: &impl Host, bench: &mut Bench, meter: &mut Meter) -> io::Result<()> {
     let mut writer = Counted::new(io::writer(rt));
     mark(rt);
@@ -120,7 +120,7 @@ fn job_of(rt: &impl Host) -> Result<TestJob, AllocError> {
     })
 }
 
-/// Serves a session of two edits. How it ended stands behind its replies, and then what it left.
+/// Serves a session of two edits. How it ended stands after its replies, and then what it left.
 pub(crate) fn serve(rt: &impl Host) -> io::Result<()> {
     let mut bench = Bench::new(rt.alloc())?;
     serve_on(rt, &mut bench)
@@ -155,7 +155,7 @@ pub(crate) fn read_words(rt: &impl Host, words: &[&str]) -> io::Result<()> {
     }
 }
 
-/// Tells the job that words name.
+/// Prints the job that words name.
 fn tell_job(rt: &impl Print, job: &Job) -> io::Result<()> {
     match job {
         Job::Test(words) => tell_test(rt, words),
@@ -163,7 +163,7 @@ fn tell_job(rt: &impl Print, job: &Job) -> io::Result<()> {
     }
 }
 
-/// Tells the words of a test.
+/// Prints the words of a test.
 fn tell_test(rt: &impl Print, words: &TestWords) -> io::Result<()> {
     println!(rt; "{} {}", words.script.as_str(), words.mail.as_str())?;
     tell_argument(rt, &words.from)?;
@@ -171,7 +171,7 @@ fn tell_test(rt: &impl Print, words: &TestWords) -> io::Result<()> {
     tell_argument(rt, &words.mailbox)
 }
 
-/// Tells the value of an option, where it is given.
+/// Prints the value of an option, where it is given.
 fn tell_argument(rt: &impl Print, value: &Option<Argument>) -> io::Result<()> {
     match value {
         Some(value) => println!(rt; "{}", value.as_str()),

@@ -46,7 +46,7 @@ pub(crate) const FAILS: &[u8] = b"require \"include\"; discard; include \"lib\";
 
 pub(crate) const BAD: &[u8] = b"keep;\nredirect \"nobody\";";
 
-/// Puts a text in place of one with a fault. What is there stands behind the answer.
+/// Puts a text in place of one with a fault. What is there stands after the answer.
 pub(crate) fn add(rt: &impl Host) -> io::Result<()> {
     let mut shelf = Shelf::new(rt.alloc(), Profile::new());
     let main = personal(rt, b"main")?;
@@ -58,7 +58,7 @@ pub(crate) fn add(rt: &impl Host) -> io::Result<()> {
     tell_found(rt, &shelf.find(&main))
 }
 
-/// Tells what a name has.
+/// Prints what a name has.
 pub(crate) fn tell_found(rt: &impl Print, found: &Found<'_>) -> io::Result<()> {
     match found {
         Found::Missing => println!(rt; "missing"),
@@ -106,7 +106,7 @@ fn envelope_of(rt: &impl Host) -> Result<Envelope, AllocError> {
     })
 }
 
-/// Tells the verdict, and how many runs there were.
+/// Prints the verdict, and how many runs there were.
 fn tell_run(
     rt: &impl Host,
     shelf: &Shelf,

@@ -96,7 +96,7 @@ pub(crate) fn read(rt: &impl Host, text: &[u8]) -> io::Result<()> {
     }
 }
 
-/// Tells each command, and each of its block.
+/// Prints each command, and each of its block.
 fn tell_script(rt: &impl Print, script: &ParsedScript) -> io::Result<()> {
     for command in script.commands() {
         tell_command(rt, command)?;
@@ -109,7 +109,7 @@ fn tell_script(rt: &impl Print, script: &ParsedScript) -> io::Result<()> {
     Ok(())
 }
 
-/// Tells a command's line and name, and how many arguments and tests it has.
+/// Prints a command's line and name, and how many arguments and tests it has.
 fn tell_command(rt: &impl Print, command: &Command) -> io::Result<()> {
     let tests = match &command.tests {
         Tests::None => 0,
@@ -191,7 +191,7 @@ pub(crate) fn dump(rt: &impl Host) -> io::Result<()> {
     tell_end(rt, end)
 }
 
-/// Tells how a test or a dump ended.
+/// Prints how a test or a dump ended.
 pub(crate) fn tell_end(rt: &impl Print, end: TestEnd) -> io::Result<()> {
     match end {
         TestEnd::NoMemory => tell_refused(rt),

@@ -1,4 +1,4 @@
-//! What is told of a call: marks on standard error around it, and on standard output what it answered and left. Telling takes no memory.
+//! What is printed of a call: marks on standard error around it, and on standard output what it answered and left. Printing takes no memory.
 
 ghost use Rattle.std.specs.Prelude.{◌≤◌, IfOk, length};
 
@@ -14,13 +14,13 @@ pub(crate) trait Host: AllocGlobal + Print + Eprint {}
 
 impl<R: AllocGlobal + Print + Eprint> Host for R {}
 
-/// A mark in front of a call or behind it: what is asked for between two is the call's. It is one write, and nothing else is written to
+/// A mark before a call or after it: what is asked for between two is the call's. It is one write, and nothing else is written to
 /// standard error.
 pub(crate) fn mark(rt: &impl Eprint) {
     let _ = rt.eprint("-\n");
 }
 
-/// What is made in front of a call. All of it is sound, so it is refused for memory alone.
+/// What is made before a call. All of it is sound, so it is refused for memory alone.
 pub(crate) fn prepared<T, E: Drop>(made: Result<T, E>) -> io::Result<T> {
     match made {
         Ok(value) => Ok(value),
@@ -36,12 +36,12 @@ pub(crate) fn personal(rt: &impl Host, name: &[u8]) -> Result<ScriptName, AllocE
     Ok(ScriptName::new(Place::Personal, Vec::from_slice(rt.alloc(), name)?))
 }
 
-/// Tells that memory was refused.
+/// Prints that memory was refused.
 pub(crate) fn tell_refused(rt: &impl Print) -> io::Result<()> {
     println!(rt; "no memory")
 }
 
-/// Tells that something is done.
+/// Prints that something is done.
 pub(crate) fn tell_done(rt: &impl Print, done: Result<(), AllocError>) -> io::Result<()> {
     match done {
         Ok(()) => println!(rt; "ok"),
@@ -60,17 +60,17 @@ pub(crate) fn end_line(rt: &impl Print, done: Result<(), WriteFault>) -> io::Res
     println!(rt)
 }
 
-/// Tells a line of pieces.
+/// Prints a line of pieces.
 pub(crate) fn tell(rt: &impl Print, pieces: &[Piece<'_>]) -> io::Result<()> {
     end_line(rt, write_pieces(pieces, &mut Counted::new(io::writer(rt))))
 }
 
-/// Tells octets, in quotes.
+/// Prints octets, in quotes.
 pub(crate) fn tell_octets(rt: &impl Print, octets: &[u8]) -> io::Result<()> {
     tell(rt, &[Piece::Quoted(octets)])
 }
 
-/// Tells octets that may be borrowed, or that they were refused.
+/// Prints octets that may be borrowed, or that they were refused.
 pub(crate) fn tell_value(
     rt: &impl Print,
     value: Result<CowSlice<'_, u8>, AllocError>,
@@ -81,7 +81,7 @@ pub(crate) fn tell_value(
     }
 }
 
-/// Tells a verdict as a report does, but for the spaces in front of its lines.
+/// Prints a verdict as a report does, but for the spaces before its lines.
 pub(crate) fn tell_outcome(rt: &impl Print, outcome: &Outcome) -> io::Result<()> {
     let mut writer = Counted::new(io::writer(rt));
     for action in outcome.actions() {

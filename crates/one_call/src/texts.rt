@@ -82,7 +82,7 @@ pub(crate) fn match_pattern(rt: &impl Host) -> io::Result<()> {
     }
 }
 
-/// Tells what each wildcard took, the whole in front.
+/// Prints what each wildcard took, the whole in front.
 fn tell_captures(rt: &impl Print, captures: &Captures<'_>) -> io::Result<()> {
     for k in 0..=captures.count() {
         tell_octets(rt, captures.get(k))?;

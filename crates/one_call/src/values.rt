@@ -41,7 +41,7 @@ fn tell_name(rt: &impl Print, place: &[u8], name: &[u8]) -> io::Result<()> {
     tell(rt, &[Piece::Raw(place), Piece::Raw(name)])
 }
 
-/// What the variable holds stands behind the answer.
+/// What the variable holds stands after the answer.
 pub(crate) fn set(rt: &impl Host) -> io::Result<()> {
     let mut values = Values::new(rt.alloc());
     let variable = Variable::named(rt.alloc(), NAME)?;

@@ -20,7 +20,7 @@ const WORDS: &str =
     Bench::new report test_bench session command_of command_of/mistake \
     report/kept verdict code status_of";
 
-/// Tells each word.
+/// Prints each word.
 pub(crate) fn tell(rt: &impl Print) -> io::Result<()> {
     for word in WORDS.split_whitespace() {
         println!(rt; "{word}")?;

@@ -7,7 +7,7 @@ use Rattle.std.proofs.lemmas.List.{drop_more, take_more, take_all}
 use Rattle.sieve_base.specs.Limits.{line_limit}
 use Rattle.session_text.specs.SessionLine.{cut_line, in_front, without_cr, first_line, line_from, is_long_so_far}
 
--- a cut with these octets in front of its line
+-- a cut with these octets before its line
 abbrev behind : List ℕ → List ℕ × List ℕ → List ℕ × List ℕ
 behind front cut = (front ++ cut.0, cut.1)
 
@@ -38,7 +38,7 @@ none_at b bs more true later none = absurd (apart _ (empty_line bs) refl none)
 none_at b bs more false later none =
     ap (option_map (in_front b)) (later (mapped_none b (cut_line bs) none)) ∙ behind_both b bs (cut_line more)
 
--- where octets have no LF, they stand in front of the line that is cut from what follows them
+-- where octets have no LF, they stand before the line that is cut from what follows them
 pub cut_line-none : (bs more : List ℕ) → cut_line bs ≡ None → cut_line (bs ++ more) ≡ option_map (behind bs) (cut_line more)
 cut_line-none [] more none = behind_nothing (cut_line more)
 cut_line-none (b ∷ bs) more none = none_at b bs more (eqb b (octet_of "\n")) (cut_line-none bs more) none
@@ -63,7 +63,7 @@ some_at b bs more true line rest later found =
     ap (λ l. Some (l, bs ++ more)) same ∙ ap (λ t. Some (line, t ++ more)) left
 some_at b bs more false line rest later found = mapped_some b more (cut_line bs) (cut_line (bs ++ more)) line rest later found
 
--- where octets have an LF, what follows them stands behind what follows the line
+-- where octets have an LF, what follows them stands after what follows the line
 pub cut_line-some : (bs more line rest : List ℕ) → cut_line bs ≡ Some (line, rest) → cut_line (bs ++ more) ≡ Some (line, rest ++ more)
 cut_line-some [] more line rest found = absurd (apart _ _ found refl)
 cut_line-some (b ∷ bs) more line rest found = some_at b bs more (eqb b (octet_of "\n")) line rest (cut_line-some bs more) found

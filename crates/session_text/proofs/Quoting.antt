@@ -19,7 +19,7 @@ octet_value b small =
     let low : b % 16 < 16 = omega arith in
     rw (digit_value (b / 16) high) (rw (digit_value (b % 16) low) (ap Some (omega arith)))
 
--- a quote or a backslash behind a backslash stands for itself
+-- a quote or a backslash after a backslash stands for itself
 escaped_back : (b : ℕ) (rest : List ℕ) → (eqb b (octet_of "\"") || eqb b (octet_of "\\")) ≡ true → quoted_value (octet_of "\\" ∷ b ∷ rest) ≡ behind b (quoted_value rest)
 unfolding quoted_value escaped_value
 escaped_back b rest is = rw is refl

@@ -41,7 +41,7 @@ opens rest = omega arith
 closes : Passes inside (octet_of "\"" ∷ []) outside
 closes rest = omega arith
 
--- an octet behind a backslash neither ends the quotes nor stands between words
+-- an octet after a backslash neither ends the quotes nor stands between words
 escape_passes : (b : ℕ) → Passes inside (octet_of "\\" ∷ b ∷ []) inside
 escape_passes b rest = omega arith
 
@@ -97,7 +97,7 @@ word_some : (word : List ℕ) → IsWord word → 0 < length word
 word_some word (inl bare) = bare.some
 word_some word (inr made) = rw made.1 (quoted_some made.0)
 
--- a word in front of nothing or of a space is the first word of the line
+-- a word before nothing or of a space is the first word of the line
 word_in_front : (word rest : List ℕ) → IsWord word → piece_length outside rest ≡ 0 → line_words (word ++ rest) ≡ word ∷ line_words rest
 word_in_front word rest is none =
     let size : length word ≡ piece_length outside (word ++ rest) = omega (arith, word_passes word is rest, none) in

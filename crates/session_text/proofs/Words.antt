@@ -10,12 +10,12 @@ pub line_words-space : (bs : List ℕ) → line_words (octet_of " " ∷ bs) ≡ 
 unfolding line_words
 line_words-space bs = refl
 
--- a space in front of words is passed over
+-- a space before words is passed over
 pub line_words-drop : (line : List ℕ) (i : ℕ) → i < length line → get_or line i 0 ≡ octet_of " " → line_words (drop (i + 1) line) ≡ line_words (drop i line)
 line_words-drop line i within is =
     sym (ap line_words (drop_more line i 0 within) ∙ ap (λ b. line_words (b ∷ drop (i + 1) line)) is ∙ line_words-space (drop (i + 1) line))
 
--- the pieces behind the first: those of what is behind a space
+-- the pieces after the first: those of what is after a space
 abbrev behind_space : List ℕ → List (List ℕ)
 behind_space [] = []
 behind_space (b ∷ bs) = pieces_from outside bs
@@ -29,7 +29,7 @@ piece_length-within quoting (b ∷ bs) = by_gap (is_gap quoting b) refl (piece_l
     by_gap true is later = rw is (omega arith)
     by_gap false is later = rw is (omega (arith, later))
 
--- the pieces of a line are the first one, and those behind it
+-- the pieces of a line are the first one, and those after it
 pieces_from-first : (quoting : Quoting) (line : List ℕ) → pieces_from quoting line ≡ take (piece_length quoting line) line ∷ behind_space (drop (piece_length quoting line) line)
 pieces_from-first quoting [] = refl
 pieces_from-first quoting (b ∷ bs) = by_gap (is_gap quoting b) refl (pieces_from-first (quoting_behind quoting b) bs)
@@ -38,7 +38,7 @@ pieces_from-first quoting (b ∷ bs) = by_gap (is_gap quoting b) refl (pieces_fr
     by_gap true is later = rw is refl
     by_gap false is later = rw is (ap (grow_first b) later)
 
--- what is behind a piece begins with a space, which changes no word
+-- what is after a piece begins with a space, which changes no word
 behind_piece : (quoting : Quoting) (line : List ℕ) → filter is_word (behind_space (drop (piece_length quoting line) line)) ≡ line_words (drop (piece_length quoting line) line)
 unfolding line_words
 behind_piece quoting [] = refl

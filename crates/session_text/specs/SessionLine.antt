@@ -13,7 +13,7 @@ use Rattle.sieve_base.specs.Limits.{line_limit}
 use Rattle.sieve_base.specs.Hex.{hex_octet}
 use Rattle.sieve_base.specs.Octet.{octet_of, is_digit, is_printable, is_visible}
 
--- a line with an octet in front of it, and what follows
+-- a line with an octet before it, and what follows
 abbrev pub in_front : ℕ → List ℕ × List ℕ → List ℕ × List ℕ
 in_front b (line, rest) = (b ∷ line, rest)
 
@@ -40,7 +40,7 @@ first_line stream = line_from stream (cut_line stream)
 abbrev pub ended_line : List ℕ × List ℕ → List ℕ × List ℕ
 ended_line (line, rest) = (without_cr line, rest)
 
--- the first line of octets that others may follow, and what is behind it, where its LF is among them
+-- the first line of octets that others may follow, and what is after it, where its LF is among them
 unfoldable pub line_so_far : List ℕ → Option (List ℕ × List ℕ)
 line_so_far read = option_map ended_line (cut_line read)
 
@@ -48,13 +48,13 @@ line_so_far read = option_map ended_line (cut_line read)
 abbrev pub is_long_so_far : List ℕ → Bool
 is_long_so_far read = nat_lt line_limit (length (without_cr read))
 
--- where an octet of a line stands: outside quotes, inside them, or behind a backslash there
+-- where an octet of a line stands: outside quotes, inside them, or after a backslash there
 pub data Quoting : Type 0 where
   outside : Quoting
   inside : Quoting
   escaped : Quoting
 
--- where the octet behind an octet stands
+-- where the octet after an octet stands
 abbrev pub quoting_behind : Quoting → ℕ → Quoting
 quoting_behind outside b = if b == octet_of "\"" then inside else outside
 quoting_behind inside b = if b == octet_of "\"" then outside else if b == octet_of "\\" then escaped else inside
@@ -92,7 +92,7 @@ line_words line = filter is_word (pieces_from outside line)
 abbrev pub is_bare : ℕ → Bool
 is_bare b = is_visible b && not (b == octet_of "\"") && not (b == octet_of "\\")
 
--- an octet in front of others
+-- an octet before others
 abbrev pub behind : ℕ → Option (List ℕ) → Option (List ℕ)
 behind b rest = option_map (λ bs. b ∷ bs) rest
 
@@ -101,12 +101,12 @@ nothing_more [] = Some []
 nothing_more (b ∷ bs) = None
 
 unfoldable mutual
-  -- the octets that a quoted word stands for, behind its first quote: the next one ends it, and nothing may follow
+  -- the octets that a quoted word stands for, after its first quote: the next one ends it, and nothing may follow
   pub quoted_value : List ℕ → Option (List ℕ)
   quoted_value [] = None
   quoted_value (b ∷ bs) = if b == octet_of "\"" then nothing_more bs else if b == octet_of "\\" then escaped_value bs else behind b (quoted_value bs)
 
-  -- what stands behind a backslash: a quote, a backslash, or x and two hexadecimal digits
+  -- what stands after a backslash: a quote, a backslash, or x and two hexadecimal digits
   pub escaped_value : List ℕ → Option (List ℕ)
   escaped_value [] = None
   escaped_value (b ∷ bs) = if b == octet_of "\"" || b == octet_of "\\" then behind b (quoted_value bs) else if b == octet_of "x" then hex_octets bs else None
@@ -150,7 +150,7 @@ is_text text word = pointwise nat_eq word text
 abbrev pub place_of : List ℕ → Option Place
 place_of word = if is_text (codes "personal") word then Some Personal else if is_text (codes "global") word then Some Global else None
 
--- the value of digits, behind digits of that value
+-- the value of digits, after digits of that value
 abbrev pub value_after : ℕ → List ℕ → Option ℕ
 value_after n [] = Some n
 value_after n (b ∷ bs) = if is_digit b then value_after (10 * n + (b - octet_of "0")) bs else None
@@ -277,7 +277,7 @@ lone_command word words =
     else if is_text (codes "report") word then alone report words
     else value_command word words
 
--- the command of a first word, and the words behind it
+-- the command of a first word, and the words after it
 abbrev pub command_by : List ℕ → List (List ℕ) → Option SessionCommand
 command_by word words =
     if is_text (codes "script") word then script_command words

@@ -25,11 +25,11 @@ pub(crate) enum Quoting {
     Outside,
     /// Inside quotes.
     Inside,
-    /// Behind a backslash inside quotes.
+    /// After a backslash inside quotes.
     Escaped,
 }
 
-/// Where the octet behind an octet stands.
+/// Where the octet after an octet stands.
 fn quoting_behind(quoting: Quoting, octet: u8) -> Quoting
     ensures { quoting_as result ≡ quoting_behind (quoting_as quoting) octet }
 {
@@ -72,7 +72,7 @@ fn word_len(line: &[u8]) -> usize
     line.len()
 }
 
-/// The first word of a line, and what is behind it.
+/// The first word of a line, and what is after it.
 pub(crate) fn next_word(line: &[u8]) -> Option<(&[u8], &[u8])>
     ensures { MatchOption result (line_words line.now ≡ [])
         (λ cut. line_words line.now ≡ cut.0.now ∷ line_words cut.1.now) }

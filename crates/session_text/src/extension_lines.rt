@@ -9,7 +9,7 @@ use crate::session_line::{SessionCommand, is_over, is_text, last_count, last_val
 use crate::word::Word;
 use date_text::{Clock, clock_named};
 
-/// What `message-envelope ID FROM TO` asks for, behind its first word.
+/// What `message-envelope ID FROM TO` asks for, after its first word.
 fn message_envelope_command(line: &[u8]) -> Option<SessionCommand<'_>>
     ensures { option_map command_as result
         ≡ spec.message_envelope_command (spec.line_words line.now) }

@@ -72,7 +72,7 @@ fn read_behind<R: Source>(buffer: &mut [u8], from: usize, reader: &mut R) -> io:
     reader.read_some(&mut buffer[from..])
 }
 
-/// Moves the octets between two places of a buffer to its front, and makes one read behind them.
+/// Moves the octets between two places of a buffer to its front, and makes one read after them.
 fn refill<R: Source>(
     buffer: &mut [u8],
     start: usize,
@@ -102,7 +102,7 @@ impl Input {
     ghost use Rattle.session_text.specs.view.Filled.{MatchFilled};
 
     /// Nothing is read yet, and `turns` reads may be made. A buffer of 65,536 octets is allocated, which never grows.
-    /// An error is want of memory.
+    /// An error is out of memory.
     pub fn new(alloc: Global, turns: u64) -> Result<Input, AllocError>
         ensures { IfOk result
             (λ input. input ≡ record { pending = []; turns = turns; ended = false }) }
@@ -133,7 +133,7 @@ impl Input {
         self.start += count;
     }
 
-    /// Makes one read, behind the octets that are not used, of which there must be room for one more.
+    /// Makes one read, after the octets that are not used, of which there must be room for one more.
     fn read_once<R: Source>(&mut self, reader: &mut R) -> io::Result<usize>
         requires room { length self.old.pending < capacity }
         requires turn { 0 < self.old.turns }
@@ -169,7 +169,7 @@ impl Input {
         }
     }
 
-    /// Reads more octets behind those that are not used, of which there must be room for one more. A read that was
+    /// Reads more octets after those that are not used, of which there must be room for one more. A read that was
     /// interrupted is tried again, at most 1,000 times in a row, and each try counts as a read. None is
     /// made, and nothing changes, where one has come to the end.
     #[tactic(auto, using(crate::proofs::Reading::reading))]

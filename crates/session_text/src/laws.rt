@@ -13,7 +13,7 @@ pub fn a_quoted_word_stands_for_its_octets()
         → word_value (quoted octets) ≡ Some octets }
 {}
 
-/// The words of a line that is made of words, bare or in the quoted form that reports print, with one space or more between each two and any in front and behind, are these words.
+/// The words of a line that is made of words, bare or in the quoted form that reports print, with one space or more between each two and any in front and after, are these words.
 pub fn words_stand_between_spaces()
     ensures joined { (words : List (List ℕ)) → All IsWord words
         → line_words (joined words) ≡ words }

@@ -109,8 +109,8 @@ impl Line {
 
     /// The next line of the input, which reads as much as it takes to find its end, and uses nothing. An LF ends a
     /// line, and so does the end of the input; a CR before the LF is no part of the line. A line that is too long is
-    /// told as soon as that is known, whether its end has been read or not. Nothing is read where the octets that are
-    /// read and not used tell the line already, by its LF or by being too many, nor behind the end of the input.
+    /// reported as soon as that is known, whether its end has been read or not. Nothing is read where the octets that are
+    /// read and not used tell the line already, by its LF or by being too many, nor after the end of the input.
     #[tactic(auto, using(crate::proofs::Reading::reading))]
     pub fn next<R: Source>(input: &mut Input, reader: &mut R) -> Line
         requires known { Knows input.old (R.remaining reader.old) }

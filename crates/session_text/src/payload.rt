@@ -48,7 +48,7 @@ fn room_for(alloc: Global, count: usize, keep: bool) -> Option<Vec<u8>>
 
 /// Uses the next `count` octets of the input, and keeps a copy of them where `keep` is true. Where memory is refused for
 /// the copy, the octets are used all the same, and none are kept; nor are they where it is false. Nothing is read where
-/// all of them are read already, nor behind the end of the input.
+/// all of them are read already, nor after the end of the input.
 #[tactic(auto, using(crate::proofs::Taking::taking, crate::proofs::Reading::reading))]
 pub fn take_octets<R: Source>(
     alloc: Global,

@@ -182,7 +182,7 @@ pub(crate) fn last_value(line: &[u8]) -> Option<Word<'_>>
     if is_over(line) { Word::new(word) } else { None }
 }
 
-/// What `script PLACE NAME N` asks for, behind its first word.
+/// What `script PLACE NAME N` asks for, after its first word.
 fn script_command(line: &[u8]) -> Option<SessionCommand<'_>>
     ensures { option_map command_as result ≡ spec.script_command (spec.line_words line.now) }
 {
@@ -193,7 +193,7 @@ fn script_command(line: &[u8]) -> Option<SessionCommand<'_>>
     Some(SessionCommand::Script { place, name, count })
 }
 
-/// What `message ID N` asks for, behind its first word.
+/// What `message ID N` asks for, after its first word.
 fn message_command(line: &[u8]) -> Option<SessionCommand<'_>>
     ensures { option_map command_as result ≡ spec.message_command (spec.line_words line.now) }
 {
@@ -203,7 +203,7 @@ fn message_command(line: &[u8]) -> Option<SessionCommand<'_>>
     Some(SessionCommand::Message { id, count })
 }
 
-/// What `expect ID N` asks for, behind its first word.
+/// What `expect ID N` asks for, after its first word.
 fn expect_command(line: &[u8]) -> Option<SessionCommand<'_>>
     ensures { option_map command_as result ≡ spec.expect_command (spec.line_words line.now) }
 {
@@ -213,7 +213,7 @@ fn expect_command(line: &[u8]) -> Option<SessionCommand<'_>>
     Some(SessionCommand::Expect { id, count })
 }
 
-/// What `rename PLACE NAME PLACE NAME` asks for, behind its first word.
+/// What `rename PLACE NAME PLACE NAME` asks for, after its first word.
 fn rename_command(line: &[u8]) -> Option<SessionCommand<'_>>
     ensures { option_map command_as result ≡ spec.rename_command (spec.line_words line.now) }
 {
@@ -229,7 +229,7 @@ fn rename_command(line: &[u8]) -> Option<SessionCommand<'_>>
     })
 }
 
-/// What `envelope FROM TO` asks for, behind its first word.
+/// What `envelope FROM TO` asks for, after its first word.
 fn envelope_command(line: &[u8]) -> Option<SessionCommand<'_>>
     ensures { option_map command_as result ≡ spec.envelope_command (spec.line_words line.now) }
 {
@@ -239,7 +239,7 @@ fn envelope_command(line: &[u8]) -> Option<SessionCommand<'_>>
     Some(SessionCommand::Envelope { from, to })
 }
 
-/// What `main PLACE NAME` asks for, behind its first word.
+/// What `main PLACE NAME` asks for, after its first word.
 fn main_command(line: &[u8]) -> Option<SessionCommand<'_>>
     ensures { option_map command_as result ≡ spec.main_command (spec.line_words line.now) }
 {
@@ -247,7 +247,7 @@ fn main_command(line: &[u8]) -> Option<SessionCommand<'_>>
     Some(SessionCommand::Main { place, name })
 }
 
-/// What `drop-script PLACE NAME` asks for, behind its first word.
+/// What `drop-script PLACE NAME` asks for, after its first word.
 fn drop_script_command(line: &[u8]) -> Option<SessionCommand<'_>>
     ensures { option_map command_as result ≡ spec.drop_script_command (spec.line_words line.now) }
 {
@@ -255,7 +255,7 @@ fn drop_script_command(line: &[u8]) -> Option<SessionCommand<'_>>
     Some(SessionCommand::DropScript { place, name })
 }
 
-/// What `dump PLACE NAME` asks for, behind its first word.
+/// What `dump PLACE NAME` asks for, after its first word.
 fn dump_command(line: &[u8]) -> Option<SessionCommand<'_>>
     ensures { option_map command_as result ≡ spec.dump_command (spec.line_words line.now) }
 {
@@ -290,7 +290,7 @@ fn print_command<'a>(word: &[u8], line: &'a [u8]) -> Option<SessionCommand<'a>>
     }
 }
 
-/// What a line with a place and a name behind its first word asks for.
+/// What a line with a place and a name after its first word asks for.
 fn name_command<'a>(word: &[u8], line: &'a [u8]) -> Option<SessionCommand<'a>>
     ensures { option_map command_as result ≡ spec.name_command word.now (spec.line_words line.now) }
 {
@@ -303,7 +303,7 @@ fn name_command<'a>(word: &[u8], line: &'a [u8]) -> Option<SessionCommand<'a>>
     }
 }
 
-/// What a line with one word behind its first asks for.
+/// What a line with one word after its first asks for.
 fn value_command<'a>(word: &[u8], line: &'a [u8]) -> Option<SessionCommand<'a>>
     ensures { option_map command_as result
         ≡ spec.value_command word.now (spec.line_words line.now) }

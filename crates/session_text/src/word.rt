@@ -25,18 +25,18 @@ fn are_bare(octets: &[u8]) -> bool
     octets.iter().all(|octet| is_bare(*octet))
 }
 
-/// What a quoted word has next, behind its first quote.
+/// What a quoted word has next, after its first quote.
 #[derive(Drop)]
 pub(crate) enum Next<'a> {
     /// The end of the word.
     End,
-    /// An octet, and what is behind it.
+    /// An octet, and what is after it.
     Octet { octet: u8, rest: &'a [u8] },
     /// Nothing that there is.
     Wrong,
 }
 
-/// What is behind a backslash and an `x`.
+/// What is after a backslash and an `x`.
 #[tactic(auto, unfolding(crate::specs::SessionLine::hex_octets))]
 fn next_hex(rest: &[u8]) -> Next<'_>
     ensures { MatchNext result ⊥ (λ octet left. (hex_octets rest.now ≡ behind octet
@@ -51,7 +51,7 @@ fn next_hex(rest: &[u8]) -> Next<'_>
     }
 }
 
-/// What is behind a backslash.
+/// What is after a backslash.
 #[tactic(auto, unfolding(crate::specs::SessionLine::escaped_value))]
 fn next_escaped(rest: &[u8]) -> Next<'_>
     ensures { MatchNext result ⊥ (λ octet left. (escaped_value rest.now ≡ behind octet
@@ -70,7 +70,7 @@ fn next_escaped(rest: &[u8]) -> Next<'_>
     }
 }
 
-/// What a quoted word has next, behind its first quote.
+/// What a quoted word has next, after its first quote.
 #[tactic(auto, unfolding(crate::specs::SessionLine::quoted_value))]
 fn next_octet(rest: &[u8]) -> Next<'_>
     ensures { MatchNext result (quoted_value rest.now ≡ Some [])
@@ -93,7 +93,7 @@ fn next_octet(rest: &[u8]) -> Next<'_>
     }
 }
 
-/// Whether the octets behind a quote make a quoted word.
+/// Whether the octets after a quote make a quoted word.
 fn is_quoted(word: &[u8]) -> bool
     ensures { result ≡ is_some (quoted_value word.now) }
 {
@@ -107,7 +107,7 @@ fn is_quoted(word: &[u8]) -> bool
     }
 }
 
-/// A copy of the octets that a quoted word stands for, behind its first quote.
+/// A copy of the octets that a quoted word stands for, after its first quote.
 fn copied_quoted(alloc: Global, word: &[u8]) -> Result<Vec<u8>, AllocError>
     requires { is_some (quoted_value word.now) ≡ true }
     ensures { IfOk result (λ octets. quoted_value word.now ≡ Some octets.items) }
@@ -126,7 +126,7 @@ fn copied_quoted(alloc: Global, word: &[u8]) -> Result<Vec<u8>, AllocError>
     }
 }
 
-/// The octets that a quoted word stands for, behind its first quote, where they are `N` at most.
+/// The octets that a quoted word stands for, after its first quote, where they are `N` at most.
 fn short_quoted<const N: usize>(word: &[u8]) -> Option<ArrayVec<u8, N>>
     requires { is_some (quoted_value word.now) ≡ true }
     ensures short { IfSome result (λ octets. quoted_value word.now ≡ Some octets.items) }
@@ -184,7 +184,7 @@ impl<'a> Word<'a> {
         }
     }
 
-    /// A copy of the octets that it stands for. An error is want of memory.
+    /// A copy of the octets that it stands for. An error is out of memory.
     #[tactic(auto, unfolding(crate::specs::SessionLine::word_value))]
     pub fn copied(&self, alloc: Global) -> Result<Octets, AllocError>
         ensures { IfOk result (λ octets. octets ≡ self.now) }

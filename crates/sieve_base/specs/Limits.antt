@@ -61,11 +61,11 @@ mailboxes_limit = 1048576
 abbrev pub action_limit : ℕ
 action_limit = 32
 
--- how many scripts may include one another below the main script (RFC 6609, section 3.1: two at least)
+-- how many scripts may include one another below the main script (RFC 6609, sections 3.1 and 3.2: two at least)
 abbrev pub include_depth : ℕ
 include_depth = 10
 
--- the most includes that a run enters (RFC 6609, section 3.1, leaves it open)
+-- the most includes that a run enters (RFC 6609, sections 3.1 and 3.2, leave it open)
 abbrev pub include_limit : ℕ
 include_limit = 256
 

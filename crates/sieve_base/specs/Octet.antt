@@ -21,7 +21,7 @@ is_digit octet = is_between (octet_of "0") (octet_of "9") octet
 abbrev pub is_blank : ℕ → Bool
 is_blank octet = octet == octet_of " " || octet == octet_of "\t"
 
--- white space: a space, a tab, a CR or an LF (RFC 5228, section 8.1; RFC 5322, section 3.2.2)
+-- white space: a space, a tab, a CR or an LF (RFC 5228, sections 2.2 and 8.1; RFC 5322, section 3.2.2)
 abbrev pub is_white : ℕ → Bool
 is_white octet = octet == octet_of " " || (octet == octet_of "\t" || (octet == octet_of "\r" || (octet == octet_of "\n")))
 

@@ -10,7 +10,7 @@ use Rattle.sieve_base.specs.Name.{place_word}
 use Rattle.sieve_base.specs.Hex.{hex_digit}
 use Rattle.sieve_base.specs.Octet.{octet_of}
 
--- how an octet stands between quotes: `"` and `\` behind a `\`, an octet that isn't a visible character of ASCII or a space as \x and two digits
+-- how an octet stands between quotes: `"` and `\` after a `\`, an octet that isn't a visible character of ASCII or a space as \x and two digits
 abbrev pub octet_spelling : ℕ → List ℕ
 octet_spelling octet =
     if octet == octet_of "\"" || octet == octet_of "\\" then octet_of "\\" ∷ octet ∷ []

@@ -50,7 +50,7 @@ pub fn begins_name(octet: u8) -> bool
     octet.is_ascii_alphabetic() || octet == b'_'
 }
 
-/// Whether an identifier goes on with the octet: a letter, a digit or `_` (RFC 5228, section 8.1).
+/// Whether an identifier continues with the octet: a letter, a digit or `_` (RFC 5228, section 8.1).
 #[inline]
 pub fn is_name_octet(octet: u8) -> bool
     ensures { result ≡ is_name_octet octet }

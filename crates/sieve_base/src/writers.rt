@@ -141,7 +141,7 @@ fn write_spelled<W: Sink>(bytes: &[u8], writer: &mut W) -> Result<(), WriteFault
     Ok(())
 }
 
-/// Writes the octets between quotes: `"` and `\` behind a `\`, octets outside 32 to 126 as `\x` and
+/// Writes the octets between quotes: `"` and `\` after a `\`, octets outside 32 to 126 as `\x` and
 /// two hexadecimal digits in lower case.
 #[tactic(auto, using(crate::proofs::Writing::writing), unfolding(crate::specs::Writers::quoted))]
 pub fn write_quoted<W: Sink>(bytes: &[u8], writer: &mut W) -> Result<(), WriteFault>

@@ -11,14 +11,14 @@ module _ {A : Type 0} where
   drop_one_more : (xs ys : List A) (i : ℕ) → drop i xs ≡ drop i ys → drop (i + 1) xs ≡ drop (i + 1) ys
   drop_one_more xs ys i left = sym (drop-drop 1 i xs) ∙ ap (drop 1) left ∙ drop-drop 1 i ys
 
-  -- the items behind a place are the old ones where the one at the place is changed
+  -- the items after a place are the old ones where the one at the place is changed
   pub left_behind : (now old : List A) (i : ℕ) (new : A) → IsLeft i now old → IsLeft (i + 1) (set now i new) old
   left_behind now old i new is = record {
     count = length-set now i new ∙ is.count;
     left = drop-set-lt (i + 1) now i new (omega arith) ∙ drop_one_more now old i is.left;
   }
 
-  -- the old items from a place on are the one that is at the place and those behind it
+  -- the old items from a place on are the one that is at the place and those after it
   pub was_there : (now old : List A) (i : ℕ) (x : A) → i < length old → x ≡ get_or now i x → IsLeft i now old → drop i old ≡ x ∷ drop (i + 1) old
   was_there now old i x below there is =
       let count = is.count in
@@ -39,7 +39,7 @@ module _ {A B : Type 0} (see : A → B) where
       ∙ sym (append_assoc (map see (take i now)) (see new ∷ []) (Q rest))
       ∙ ap (λ l. l ++ Q rest) (sym (ap (map see) (take_more_set now i new (omega (arith, count, below))) ∙ map-append see (take i now) (new ∷ [])))
 
-  -- behind the last item all are changed
+  -- after the last item all are changed
   pub whole_end : (P : List A → List B) (now old : List A) (i : ℕ) (whole : List B) → length old ≤ i → IsLeft i now old → P [] ≡ [] → whole ≡ map see (take i now) ++ P (drop i old) → map see now ≡ whole
   whole_end P now old i whole ended is none so_far =
       let count = is.count in

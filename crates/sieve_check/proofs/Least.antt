@@ -46,7 +46,7 @@ passed_over element rule rules rest breach is (here found) =
 passed_over element rule rules rest breach is (later none behind) =
     later (ap (λ d. breach_if d (line_of element) rule ++ broken_by element rules) is ∙ none) behind
 
--- with a rule in front of others, the first breach is by this rule, or is found by the others
+-- with a rule before others, the first breach is by this rule, or is found by the others
 at_rule : (element : Element) (rule : Rule) (rules : List Rule) (rest : List Breach) (breach : Breach) (does : Bool) → breaks element rule ≡ does
     → slice_get ((breach_if does (line_of element) rule ++ broken_by element rules) ++ rest) 0 ≡ Some breach
     → (slice_get (broken_by element rules ++ rest) 0 ≡ Some breach → Finding element rules rest breach)
@@ -60,7 +60,7 @@ finding : (element : Element) (rules : List Rule) (rest : List Breach) (breach :
 finding element [] rest breach first = later refl first
 finding element (rule ∷ rules) rest breach first = at_rule element rule rules rest breach (breaks element rule) refl first (finding element rules rest breach)
 
--- with an element in front of others, the breach that is found at it, or else the least of the others, is the least
+-- with an element before others, the breach that is found at it, or else the least of the others, is the least
 in_front : (element : Element) (behind : List Element) (breach : Breach) → Finding element all_rules (breaches_in behind) breach
     → (slice_get (breaches_in behind) 0 ≡ Some breach → IsLeast behind breach) → IsLeast (element ∷ behind) breach
 unfolding breaches_in breaches_at

@@ -90,7 +90,7 @@ module _ (line : ℕ) (condition : Condition) (ending : Block) (chain : Chain) (
     no_branch = λ not. refl;
   }
 
-  -- a command that stands where it may agrees with its marks, in front of commands that agree with theirs
+  -- a command that stands where it may agrees with its marks, before commands that agree with theirs
   at_command : (r : Option CommandReading) (follows_if : Bool) (ts : Tests) → Stands follows_if r ts ending → marks (block_commands ending) ≡ block_marks ending → Agrees (may_go_on r) chain all
       → Agrees follows_if (chain_with_command r line condition (block_commands ending) chain) ((own_marks r line condition ++ block_marks ending) ++ all)
   at_command None follows_if ts stands inner so = absurd stands

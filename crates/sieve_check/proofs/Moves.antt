@@ -1,4 +1,4 @@
--- The context behind a command of a kind.
+-- The context after a command of a kind.
 use Rattle.std.proofs.Common.{◌≡◌, Bool, ◌&&◌, List, Some, ap, ◌∙◌}
 use Rattle.sieve_syntax.specs.Tree.{Argument}
 use Rattle.sieve_check.specs.Context.{Context, allows_else, behind_kind, is_require, naming_said, required_behind}

@@ -1,4 +1,4 @@
--- A command's names are added around the cut of its arguments: those that are set before it, and those that are declared behind it.
+-- A command's names are added around the cut of its arguments: those that are set before it, and those that are declared after it.
 use Rattle.std.proofs.Common.{◌≡◌, ℕ, Bool, true, false, ◌&&◌, List, [], ◌∷◌, map, drop, Option, refl, sym, ap, ◌∙◌}
 use Rattle.std.specs.Prelude.{if◌then◌else◌}
 use Rattle.sieve_syntax.specs.Tree as syntax
@@ -65,7 +65,7 @@ module _ (context : Context) (names : List (List ℕ)) where
       ap (λ x. x ∷ parted_labelled also_set (drop 1 labels) args) (argument_alike (first_role labels) a)
       ∙ ap (λ l. parted_argument context (first_role labels) a ∷ l) (arguments_alike (drop 1 labels) args)
 
--- arguments are cut alike before and behind the names that they set
+-- arguments are cut alike before and after the names that they set
 pub cut_alike : (context : Context) (scope : Scope) (labels : List Label) (args : List syntax.Argument) → scope ≡ assigning_arguments context.scope labels args
     → parted_labelled (record context { scope = scope }) labels args ≡ parted_labelled context labels args
 cut_alike context scope labels args set =
@@ -128,7 +128,7 @@ module _ (context : Context) where
       ap (λ d. declaring_arguments d (drop 1 labels) (map octets_argument (parted_labelled context (drop 1 labels) args))) (argument_declared declared (first_role labels) a)
       ∙ arguments_declared (declaring_argument declared (first_role labels) a) (drop 1 labels) args
 
-  -- arguments declare the same names before and behind their cut
+  -- arguments declare the same names before and after their cut
   pub declared_alike : (declared : List (List ℕ)) (labels : List Label) (args : List syntax.Argument) (cut : List arguments.Argument) → map argument_of cut ≡ parted_labelled context labels args
       → declaring_arguments declared labels (map seen.argument_of cut) ≡ declaring_arguments declared labels args
   declared_alike declared labels args cut made =

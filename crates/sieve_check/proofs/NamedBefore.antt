@@ -31,7 +31,7 @@ Goes done own (the_test context name line args ts ∷ es) = (context.scope.assig
 Goes done own (the_text context role text ∷ es) = (context.scope.assigned ≡ set_by done) × Goes done own es
 Goes done own (the_number value line ∷ es) = Goes done own es
 
--- the elements of one command go on in front of elements that go on
+-- the elements of one command go on before elements that go on
 module _ (done own : List Mention) (context : Context) (so : context.scope.assigned ≡ set_by done) where
   texts_go : (ts : List Text) (role : Option Role) (es : List Element) → Goes done own es → Goes done own (text_elements context role ts ++ es)
   texts_go [] role es goes = goes
@@ -84,14 +84,14 @@ module _ (done own : List Mention) (context : Context) (so : context.scope.assig
         subst (Goes done own) (sym (append_assoc (test_elements context t) (test_list_elements context ts) es))
         (test_goes t (test_list_elements context ts ++ es) (test_list_goes ts es goes))
 
--- a scope is what stands behind these names at the start of a script
+-- a scope is what stands after these names at the start of a script
 abbrev Behind : Scope → List Mention → Type 0
 Behind scope names = scope ≡ behind_mentions no_names names
 
 behind_more : (scope next : Scope) (names more : List Mention) → Behind scope names → next ≡ behind_mentions scope more → Behind next (names ++ more)
 behind_more scope next names more so is = is ∙ ap (λ s. behind_mentions s more) so ∙ sym (in_turn names more no_names)
 
--- elements go on behind these names, whichever of them are those of the last command
+-- elements go on after these names, whichever of them are those of the last command
 abbrev GoesOn : List Mention → List Element → Type 0
 GoesOn names es = (done own : List Mention) → done ++ own ≡ names → Goes done own es
 
@@ -174,14 +174,14 @@ here_goes (the_number value line) es front done own stands goes = tt
 more_mentions : (front : List Element) (e : Element) (names : List Mention) → mentions_in front ≡ names → mentions_in (front ++ e ∷ []) ≡ names ++ element_mentions e
 more_mentions front e names all = flat_map-append element_mentions front (e ∷ []) ∙ ap (λ l. l ++ (element_mentions e ++ [])) all ∙ ap (λ l. names ++ l) (append-nil (element_mentions e))
 
--- `front` and a command behind it stand before the elements of that command
+-- `front` and a command after it stand before the elements of that command
 command_stands : (front : List Element) (done own : List Mention) (context : Context) (name : List ℕ) (line : ℕ) (args : List Argument) (ts : Tests) (ending : Block) → StandsBefore done own front
     → StandsBefore (done ++ own) (command_mentions context.profile context.required (known_command context.profile name) args) (front ++ the_command context name line args ts ending ∷ [])
 command_stands front done own context name line args ts ending stands =
     let e = the_command context name line args ts ending in
     record { all = more_mentions front e (done ++ own) stands.all; old = ap mentions_in (before_push is_command e front true refl) ∙ stands.all }
 
--- `front` and an element behind it that is no command stand before the elements of the same command
+-- `front` and an element after it that is no command stand before the elements of the same command
 other_stands : (front : List Element) (done own : List Mention) (e : Element) → is_command e ≡ false → element_mentions e ≡ [] → StandsBefore done own front → StandsBefore done own (front ++ e ∷ [])
 other_stands front done own e other none stands = record {
   all = more_mentions front e (done ++ own) stands.all ∙ ap (λ l. (done ++ own) ++ l) none ∙ append-nil (done ++ own);

@@ -285,7 +285,7 @@ alike scope a b is = ap (is_free scope) (same_names a b is)
 abbrev with_set : Scope → List ℕ → Scope
 with_set scope name = record scope { assigned = scope.assigned ++ name ∷ [] }
 
--- behind a name that is set, another name is fresh exactly where it was fresh before
+-- after a name that is set, another name is fresh exactly where it was fresh before
 fresh_behind_set : (scope : Scope) (name other : List ℕ) → is_fresh (with_set scope name) other ≡ (not (same name other) && is_fresh scope other)
 fresh_behind_set scope name other =
     ap (λ b. not (is_among (folded_name other) scope.declared) && not b) (any_append (same other) scope.assigned (name ∷ []))
@@ -348,7 +348,7 @@ fresh_without scope now name names agree =
 -- WHAT MENTIONS SET
 
 module _ (scope : Scope) (name : List ℕ) (ms : List Mention) (below : (s : Scope) → (behind_mentions s ms).assigned ≡ s.assigned ++ filter (is_fresh s) (set_by ms)) where
-  -- the scope behind a name that is written to be set, by whether it is an identifier, and whether it is fresh
+  -- the scope after a name that is written to be set, by whether it is an identifier, and whether it is fresh
   abbrev now_set : Bool → Bool → Scope
   now_set i f = if i && f then with_set scope name else scope
 

@@ -157,7 +157,7 @@ tests_read_of k labels args =
     one_inner (tests_of_reading (tests.test_reading_by k labels args)) (test_row k).tests
     (of_each every_test.enum tt (λ k. sameb inners.the_type (tests_of_reading (tests.test_reading_by k labels args)) (test_row k).tests) refl k)
 
--- which tests, whether a block, whether an `if` before it, and whether a branch may go on behind it
+-- which tests, whether a block, whether an `if` before it, and whether a branch may go on after it
 abbrev says_so : CommandKind → CommandReading → Bool
 says_so k r =
     sameb inners.the_type (needs_of r).tests (command_row k).tests
@@ -229,7 +229,7 @@ module _ (context : Context) where
   command_is_read within None args ts ending unbroken = absurd (never_both (unbroken UnknownCommand))
   command_is_read within (Some kind) args ts ending unbroken = known_command_is_read within kind (is_known_row context.profile (command_row kind)) args ts ending unbroken
 
-  -- a branch may go on behind a command that is known exactly where the command is read as one that it may go on behind
+  -- a branch may go on after a command that is known exactly where the command is read as one that it may go on after
   known_goes_on : (kind : CommandKind) (known : Bool) (written : List syntax.Argument) (ts : syntax.Tests) (ending : syntax.Block) (args : List Argument) → command_breaks context (if known then Some kind else None) written ts ending UnknownCommand ≡ false
       → (behind_kind context (if known then Some kind else None) written).follows_if ≡ may_go_on (Some (commands.command_kind_reading kind args))
   known_goes_on kind false written ts ending args unbroken = absurd (never_both unbroken)

@@ -161,7 +161,7 @@ module _ (p q : Profile) (same : is_known p ≡ is_known q) where
   set : (x : Context) → x.profile ≡ q → under q x ≡ x
   set x is = ap (λ r. record x { profile = r }) (sym is)
 
-  -- what stands behind a command
+  -- what stands after a command
   kind_again : (c : Context) (k : Option CommandKind) (args : List Argument) → behind_kind (under p c) k args ≡ under p (behind_kind (under q c) k args)
   kind_again c None args = refl
   kind_again c (Some kind) args = ap (λ labels. record (behind_kind (under p c) (Some kind) args) { scope = naming_said c.required c.scope labels args }) (labels_again (command_row kind) args)

@@ -1,4 +1,4 @@
--- What is required behind the `require` commands at the top of a script is what they name.
+-- What is required after the `require` commands at the top of a script is what they name.
 use Rattle.std.proofs.Common.{◌≡◌, suc, ◌+◌, Bool, true, false, cond, ◌&&◌, List, [], ◌∷◌, ◌++◌, take, ℕ, Option, None, Some, refl, sym, ap, ◌∙◌, subst, arith, append_assoc, drop}
 use Rattle.std.proofs.lemmas.List.Elements.{All-append, All-cons, All-nil}
 use Rattle.std.specs.List.{All, prefix_len, take_while}
@@ -76,7 +76,7 @@ module _ (r : Required) where
 
   -- COMMANDS BEHIND THE REQUIRES
 
-  -- behind a command that is no `require` at the top, no more is required
+  -- after a command that is no `require` at the top, no more is required
   kind_requires_none : (context : Context) (k : Option CommandKind) (args : List Argument) → (context.leads && requires_kind k) ≡ false → context.required ≡ r → ((behind_kind context k args).leads ≡ false) × ((behind_kind context k args).required ≡ r)
   kind_requires_none context None args other same = (refl, same)
   kind_requires_none context (Some kind) args other same = (other, ap (λ b. if b then requiring_arguments context.required args else context.required) other ∙ same)
@@ -123,7 +123,7 @@ never : (b : Bool) → (b && false) ≡ false
 never true = refl
 never false = refl
 
--- behind a `require` at the top, what its strings name is required too
+-- after a `require` at the top, what its strings name is required too
 kind_requires : (context : Context) (k : Option CommandKind) (args : List Argument) → context.leads ≡ true → requires_kind k ≡ true → ((behind_kind context k args).leads ≡ true) × ((behind_kind context k args).required ≡ requiring_arguments context.required args)
 kind_requires context None args leads is = absurd (not_both is)
 kind_requires context (Some kind) args leads is =
@@ -135,7 +135,7 @@ unfolding behind_block
 block_requires r no_block context so = so
 block_requires r (block ns) context so = so
 
--- what is required behind a `require`
+-- what is required after a `require`
 node_requires : (n : Node) (context : Context) → context.leads ≡ true → is_require_command context.profile n ≡ true → ((behind context n).leads ≡ true) × ((behind context n).required ≡ requiring_command context.required n)
 unfolding behind
 node_requires (node name line args ts ending) context leads is = block_requires (requiring_arguments context.required args) ending (behind_kind context (known_command context.profile name) args) (kind_requires context (known_command context.profile name) args leads is)

@@ -45,14 +45,14 @@ cons_in e es = refl
 pub one_in : (e : Element) → breaches_in (e ∷ []) ≡ breaches_at e
 one_in e = cons_in e [] ∙ ap (λ bs. breaches_at e ++ bs) none_in ∙ append-nil (breaches_at e)
 
--- an element in front of others has the first breach, or has none, and the breaches are those of the others
+-- an element before others has the first breach, or has none, and the breaches are those of the others
 pub first_stops : (e : Element) (es : List Element) (fault : CheckFault) → IsFirst (breaches_at e) fault → IsFirst (breaches_in (e ∷ es)) fault
 first_stops e es fault h = subst (λ bs. IsFirst bs fault) (sym (cons_in e es)) (first_of _ _ fault h)
 
 pub first_passes : (e : Element) (es : List Element) → breaches_at e ≡ [] → breaches_in (e ∷ es) ≡ breaches_in es
 first_passes e es none = cons_in e es ∙ ap (λ bs. bs ++ breaches_in es) none
 
--- elements in front of others have the first breach, or have none, and the breaches are those of the others
+-- elements before others have the first breach, or have none, and the breaches are those of the others
 pub front_stops : (xs ys : List Element) (fault : CheckFault) → IsFirst (breaches_in xs) fault → IsFirst (breaches_in (xs ++ ys)) fault
 front_stops xs ys fault h = subst (λ bs. IsFirst bs fault) (sym (in_turn xs ys)) (first_of _ _ fault h)
 
@@ -62,7 +62,7 @@ front_passes xs ys none = in_turn xs ys ∙ ap (λ bs. bs ++ breaches_in ys) non
 pub finds_past : {A : Type 0} (xs ys : List Element) (answer : Result A CheckFault) → breaches_in xs ≡ [] → FindsIn ys answer → FindsIn (xs ++ ys) answer
 finds_past xs ys answer none h = subst (λ bs. Finds bs answer) (sym (front_passes xs ys none)) h
 
--- a rule in front of others is the first that is broken, or one of the others is
+-- a rule before others is the first that is broken, or one of the others is
 rule_first : (broken : Rule → Bool) (line : ℕ) (rule : Rule) (rules : List Rule) (does : Bool) (first : Rule) → broken rule ≡ does → (if does then Some rule else find broken rules) ≡ Some first → (find broken rules ≡ Some first → slice_get (breaches_by broken line rules) 0 ≡ Some (record { line = line; rule = first }))
     → slice_get (breach_if does line rule ++ breaches_by broken line rules) 0 ≡ Some (record { line = line; rule = first })
 rule_first broken line rule rules true first is found below = ap (λ r. Some (record { line = line; rule = r })) (one_of rule first found)

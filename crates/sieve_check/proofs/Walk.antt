@@ -1,4 +1,4 @@
--- The walk over tests and commands: what is found in them, and what stands behind them.
+-- The walk over tests and commands: what is found in them, and what stands after them.
 use Rattle.std.proofs.Common.{◌≡◌, List, [], ◌∷◌, ◌++◌, map, None, Some, refl, sym, ap, ◌∙◌, subst}
 use Rattle.std.specs.declared.vec.Vec.{Vec}
 use Rattle.std.specs.declared.alloc.Global.{Global}

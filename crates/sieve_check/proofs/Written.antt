@@ -32,7 +32,7 @@ in_turn xs ys v w first second =
     ∙ ap (λ l. filter writes_element v ++ l) second
     ∙ sym (filter-append writes_element v w)
 
--- elements that are written stay so with words behind that write none
+-- elements that are written stay so with words after that write none
 before_close : (xs : List Element) (v w : List Symbol) → filter writes_element w ≡ [] → AreWritten xs v → AreWritten xs (v ++ w)
 before_close xs v w none same =
     same

@@ -49,7 +49,7 @@ row_breaks lacking row shapes ts ends_by_block BadTag = has_bad_tag (labels_of r
 row_breaks lacking row shapes ts ends_by_block BadArguments = has_bad_arguments row shapes ts ends_by_block
 row_breaks lacking row shapes ts ends_by_block rule = false
 
--- a command of a row: `misplaced` says whether it is a `require` in a wrong place, and `alone` whether it goes on with an `if` that isn't there
+-- a command of a row: `misplaced` says whether it is a `require` in a wrong place, and `alone` whether it continues an `if` that isn't there
 -- (RFC 5228, sections 3.1 and 3.2)
 abbrev pub kind_breaks : (misplaced alone lacking : Bool) → Row → List Shape → Tests → (ends_by_block : Bool) → Rule → Bool
 kind_breaks misplaced alone lacking row shapes ts ends_by_block RequirePlace = misplaced
@@ -70,7 +70,7 @@ abbrev pub test_breaks : Context → Option TestKind → List Argument → Tests
 test_breaks context None args ts rule = unknown_breaks rule
 test_breaks context (Some kind) args ts rule = row_breaks (use_lacks context.profile context.required (test_row kind) args) (test_row kind) (known_shapes context.profile (test_row kind).tags args) ts false rule
 
--- a string that has no reference in it is known before the script runs
+-- a string that has no reference in it is known before the script runs (RFC 5228, sections 5.1 and 5.4)
 abbrev pub is_known : Required → Option Role → List ℕ → Bool
 is_known required role octets = not (takes_references required role && has_reference octets)
 

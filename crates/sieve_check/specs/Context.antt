@@ -41,7 +41,7 @@ pub record Context : Type 0 where
   pub leads : Bool
   -- an `if` or `elsif` stands directly before it in its block (RFC 5228, section 3.1)
   pub follows_if : Bool
-  -- what the requires at the top of the script name that stand before it; behind them that is all that is required (RFC 5228,
+  -- what the requires at the top of the script name that stand before it; after them that is all that is required (RFC 5228,
   -- section 3.2)
   pub required : Required
   -- it is a string of a test that finds parts of values, by `:contains` or `:matches` (RFC 5228, section 2.7.1)
@@ -60,19 +60,19 @@ is_require kind = same_command kind Require
 abbrev pub allows_else : CommandKind → Bool
 allows_else kind = same_command kind If || same_command kind Elsif
 
--- elsif and else go on with what an if began
+-- elsif and else continue with what an if began
 abbrev pub continues_if : CommandKind → Bool
 continues_if kind = same_command kind Elsif || same_command kind Else
 
--- what is required behind a command with such arguments: a `require` at the top adds what it names
+-- what is required after a command with such arguments: a `require` at the top adds what it names
 abbrev pub required_behind : Context → CommandKind → List Argument → Required
 required_behind context kind args = if context.leads && is_require kind then requiring_arguments context.required args else context.required
 
--- the names of a scope behind the arguments of a command, by what their strings say
+-- the names of a scope after the arguments of a command, by what their strings say
 abbrev pub naming_said : Required → Scope → List Label → List Argument → Scope
 naming_said required scope labels args = naming_arguments scope labels (said_arguments required labels args)
 
--- the context behind a command of a kind, with its arguments, and before its block
+-- the context after a command of a kind, with its arguments, and before its block
 abbrev pub behind_kind : Context → Option CommandKind → List Argument → Context
 behind_kind context None args = record context { leads = false; follows_if = false }
 behind_kind context (Some kind) args = record {
@@ -89,16 +89,16 @@ abbrev pub inside : Context → Context
 inside context = record context { leads = false; follows_if = false }
 
 unfoldable mutual
-  -- the context behind a whole command
+  -- the context after a whole command
   pub behind : Context → Node → Context
   behind context (node name line args ts ending) = behind_block (behind_kind context (known_command context.profile name) args) ending
 
-  -- the context behind a block, in which variables may be set and declared
+  -- the context after a block, in which variables may be set and declared
   pub behind_block : Context → Block → Context
   behind_block context no_block = context
   behind_block context (block ns) = record context { scope = (behind_nodes (inside context) ns).scope }
 
-  -- the context behind commands in turn
+  -- the context after commands in turn
   pub behind_nodes : Context → Nodes → Context
   behind_nodes context end_nodes = context
   behind_nodes context (more_nodes n ns) = behind_nodes (behind context n) ns

@@ -1,5 +1,5 @@
 -- The names of variables that a script's text writes, in order, and those of them that are set (RFC 5229, section 4; RFC 6609, section
--- 3.4.1): told from the names that are written, all of them, and not from those that are set so far.
+-- 3.4.1): found from the names that are written, all of them, and not from those that are set so far.
 use Rattle.std.specs.Prelude.{◌≡◌, ⊤, ℕ, Bool, true, false, not, List, [], ◌∷◌, ◌++◌, map, drop, Option, Some, None, if◌then◌else◌}
 use Rattle.std.specs.List.{before_last, filter, flat_map}
 use Rattle.std.specs.Str.{str_eq_ignore_ascii_case}
@@ -53,7 +53,7 @@ abbrev pub without_name : List ℕ → List (List ℕ) → List (List ℕ)
 without_name name names = filter (λ other. not (str_eq_ignore_ascii_case name other)) names
 
 -- The variables of the script that such mentions set, as they are first written. An identifier that is written to be set is one of them,
--- and then come those that the rest sets, but for it. Behind a declaration come those that the rest sets, but for what is declared.
+-- and then come those that the rest sets, but for it. After a declaration come those that the rest sets, but for what is declared.
 abbrev pub set_by : List Mention → List (List ℕ)
 set_by [] = []
 set_by (sets name ∷ rest) = if is_identifier name then name ∷ without_name name (set_by rest) else set_by rest
@@ -79,8 +79,8 @@ is_command (the_number value line) = false
 
 -- BEFORE A PLACE
 
--- Where a command stands behind these elements, and where its tests and strings do, those variables are set that are by the names written
--- before the command. So what the command names itself counts behind it alone.
+-- Where a command stands after these elements, and where its tests and strings do, those variables are set that are by the names written
+-- before the command. So what the command names itself counts after it alone.
 abbrev pub HasSetBefore : (before : List Element) → Element → Type 0
 HasSetBefore before (the_command context name line args ts ending) = context.scope.assigned ≡ set_by (mentions_in before)
 HasSetBefore before (the_test context name line args ts) = context.scope.assigned ≡ set_by (mentions_in (before_last is_command before))

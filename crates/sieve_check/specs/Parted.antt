@@ -67,7 +67,7 @@ abbrev mutual
   parted_test_list context (syntax.more_tests t ts) = more_tests (parted_test context t) (parted_test_list context ts)
 
 abbrev mutual
-  -- a command: its arguments and its tests are cut by what stands before it, and its block by what stands behind them
+  -- a command: its arguments and its tests are cut by what stands before it, and its block by what stands after them
   pub parted_node : Context → syntax.Node → Node
   parted_node context (syntax.node name line args ts ending) = node name line (parted_said context (command_labels context.profile (known_command context.profile name) args) args) (parted_tests context ts) (parted_block (behind_kind context (known_command context.profile name) args) ending)
 

@@ -76,7 +76,7 @@ abbrev pub Stands : (follows_if : Bool) → Option CommandReading → Tests → 
 Stands follows_if None ts ending = ⊥
 Stands follows_if (Some r) ts ending = (tests_fit (needs_of r).tests ts ≡ true) × (block_fits (needs_of r).block (has_block ending) ≡ true) × ((needs_of r).behind_if ≡ true → follows_if ≡ true)
 
--- whether a branch may go on behind it
+-- whether a branch may go on after it
 abbrev pub may_go_on : Option CommandReading → Bool
 may_go_on None = false
 may_go_on (Some reading.reads_if) = true

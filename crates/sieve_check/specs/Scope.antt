@@ -77,6 +77,6 @@ assigning_arguments scope labels (a ∷ args) = assigning_arguments (assigning_a
 abbrev pub with_declared : Scope → List Label → List Argument → Scope
 with_declared scope labels args = record scope { declared = declaring_arguments scope.declared labels args }
 
--- the names of a scope behind the arguments of a command
+-- the names of a scope after the arguments of a command
 abbrev pub naming_arguments : Scope → List Label → List Argument → Scope
 naming_arguments scope labels args = with_declared (assigning_arguments scope labels args) labels args

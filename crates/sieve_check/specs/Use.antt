@@ -55,12 +55,12 @@ is_tag (Own slot) = false
 is_tag (InSlot slot) = false
 is_tag Unfit = false
 
--- a tag stands behind a positional argument, and so behind the first of these
+-- a tag stands after a positional argument, and so after the first of these
 abbrev pub has_late_tag : List Label → Bool
 has_late_tag [] = false
 has_late_tag (label ∷ labels) = if is_positional_label label then list_any is_tag labels else has_late_tag labels
 
--- a tag of the kind of the first stands behind it
+-- a tag of the kind of the first stands after it
 abbrev pub is_repeated : Label → List Label → Bool
 is_repeated (Tagged taken) labels = list_any (is_of_kind (tag_row taken).kind) labels
 is_repeated OtherTag labels = false
@@ -73,7 +73,7 @@ abbrev pub has_repeated : List Label → Bool
 has_repeated [] = false
 has_repeated (label ∷ labels) = is_repeated label labels || has_repeated labels
 
--- a tag that isn't taken, two of one kind, or one behind a positional argument
+-- a tag that isn't taken, two of one kind, or one after a positional argument
 abbrev pub has_bad_tag : List Label → Bool
 has_bad_tag labels = list_any is_other_tag labels || (has_repeated labels || has_late_tag labels)
 

@@ -38,7 +38,7 @@ fn is_misplaced(context: Context<'_>, kind: CommandKind) -> bool
     is_require(kind) && !context.spot.leads
 }
 
-/// Whether an `elsif` or `else` goes on with nothing.
+/// Whether an `elsif` or `else` continues with nothing.
 fn stands_alone(context: Context<'_>, kind: CommandKind) -> bool
     ensures { result ≡ (continues_if kind && not (context_as context.entry).follows_if) }
 {
@@ -114,8 +114,8 @@ fn check_command_head(
     }
 }
 
-/// Cuts what the strings of arguments say by what stands before their command, and goes on behind them. Names that are set are read before the
-/// cut, which makes variables of them; names that are declared count behind it, and stay literals.
+/// Cuts what the strings of arguments say by what stands before their command, and goes on after them. Names that are set are read before the
+/// cut, which makes variables of them; names that are declared count after it, and stay literals.
 fn cut_and_name(
     alloc: Global,
     spot: Spot,

@@ -126,7 +126,7 @@ pub(crate) fn is_require(kind: CommandKind) -> bool
     kind == CommandKind::Require
 }
 
-/// Whether a command goes on with what an `if` began.
+/// Whether a command continues with what an `if` began.
 pub(crate) fn continues_if(kind: CommandKind) -> bool
     ensures { result ≡ spec.continues_if kind }
 {
@@ -140,7 +140,7 @@ fn allows_else(kind: CommandKind) -> bool
     kind == CommandKind::If || kind == CommandKind::Elsif
 }
 
-/// Whether only requires stand behind a command of this kind, where only requires stand before it or others too.
+/// Whether only requires stand after a command of this kind, where only requires stand before it or others too.
 fn leads_behind(leads: bool, kind: CommandKind) -> bool
     ensures { result ≡ (leads && spec.is_require kind) }
 {
@@ -161,7 +161,7 @@ impl Spot {
         }
     }
 
-    /// At the start of a block behind this.
+    /// At the start of a block after this.
     pub(crate) fn inside(self) -> Spot
         ensures { (scope : ScopeState) → at_spot result scope ≡ spec.inside (at_spot self scope) }
     {
@@ -172,7 +172,7 @@ impl Spot {
         }
     }
 
-    /// What is required behind a command of this kind with these arguments.
+    /// What is required after a command of this kind with these arguments.
     fn required_behind(self, kind: CommandKind, args: &[Argument]) -> Required
         ensures { (scope : ScopeState) → required_as result
             ≡ spec.required_behind (at_spot self scope) kind (map argument_of args.now) }
@@ -184,7 +184,7 @@ impl Spot {
         }
     }
 
-    /// Behind a command of this kind with these arguments.
+    /// After a command of this kind with these arguments.
     pub(crate) fn behind_kind(self, kind: CommandKind, args: &[Argument]) -> Spot
         ensures { (scope : ScopeState) → at_spot result (spec.naming_said
             (required_as self.required) scope (known_labels (profile_as self.profile)

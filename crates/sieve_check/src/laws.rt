@@ -87,7 +87,7 @@ pub fn what_is_required_is_named_at_the_top()
 {}
 
 /// The variables that a text sets are the identifiers that it writes to set them, each once and as it is first written, but for those that
-/// it declares before: names ignore the case of ASCII (RFC 5229, sections 3 and 4; RFC 6609, section 3.4.1). So it is behind a
+/// it declares before: names ignore the case of ASCII (RFC 5229, sections 3 and 4; RFC 6609, section 3.4.1). So it is after a
 /// text, and before each command, test and string of a script, wherever it stands: there those variables are set that are by the commands
 /// before its own.
 pub fn what_is_written_to_be_set_is_set()

@@ -15,7 +15,7 @@ pub(crate) fn first_role(labels: &[Label]) -> Option<Role>
     }
 }
 
-/// The labels behind the first.
+/// The labels after the first.
 pub(crate) fn behind_first(labels: &[Label]) -> &[Label]
     ensures { result.now ≡ drop 1 labels.now }
 {

@@ -78,7 +78,7 @@ fn check_test(alloc: Global, context: Context<'_>, test: &mut Test) -> Result<()
     Ok(())
 }
 
-/// Checks the tests behind arguments. Answers them with their strings cut.
+/// Checks the tests after arguments. Answers them with their strings cut.
 #[cycle(check_tests)]
 #[tactic(auto, unfolding(crate::specs::Element::tests_elements))]
 pub(crate) fn check_tests(

@@ -110,7 +110,7 @@ fn has_other_tag(labels: &[Label]) -> bool
     labels.iter().any(|label| is_other_tag(*label))
 }
 
-/// Whether a tag stands behind a positional argument.
+/// Whether a tag stands after a positional argument.
 fn has_late_tag(labels: &[Label]) -> bool
     ensures { result ≡ spec.has_late_tag labels.now }
 {
@@ -141,7 +141,7 @@ fn has_kind(kind: TagKind, labels: &[Label]) -> bool
     labels.iter().any(|label| is_of_kind(kind, *label))
 }
 
-/// Whether a tag of the kind of the first stands behind it.
+/// Whether a tag of the kind of the first stands after it.
 fn is_repeated(first: Label, behind: &[Label]) -> bool
     ensures { result ≡ spec.is_repeated first behind.now }
 {
@@ -165,7 +165,7 @@ fn has_repeated(labels: &[Label]) -> bool
     false
 }
 
-/// Whether there is a tag that isn't taken, two of one kind, or one behind a positional argument.
+/// Whether there is a tag that isn't taken, two of one kind, or one after a positional argument.
 pub(crate) fn has_bad_tag(labels: &[Label]) -> bool
     ensures { result ≡ spec.has_bad_tag labels.now }
 {

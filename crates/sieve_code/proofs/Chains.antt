@@ -22,11 +22,11 @@ pub record GoesBefore (tail behind : Tail) (walk : Walk) : Type 0 where
   pub ends : Ends tail behind
   pub goes : Goes tail walk
 
--- what is put in front of a tail does what commands do
+-- what is put before a tail does what commands do
 pub record IsBlock (before : Tail → Tail) (cs : Commands) : Type 0 where
   pub at : (behind : Tail) (next : Walk) → Goes behind next → GoesBefore (before behind) behind (commands_walk cs next)
 
--- a tail with branches in front does what a chain does, and what is behind it
+-- a tail with branches in front does what a chain does, and what is after it
 pub record IsChain (b : Branches) (chain : Chain) (behind : Tail) (next : Walk) : Type 0 where
   pub rest : GoesBefore b.behind_branches behind (commands_walk chain.rest next)
   pub branch : GoesBefore b.with_branch b.behind_branches (commands_walk chain.otherwise (commands_walk chain.rest next))
@@ -41,7 +41,7 @@ plain_chain tail cs behind next g = record {
   alone = λ _. refl;
 }
 
--- a tail that does what a branch does, in front of what is behind the branches, does what the chain does that the branch is in front of
+-- a tail that does what a branch does, before what is after the branches, does what the chain does that the branch is before
 branch_chain : (tail : Tail) (cs : Commands) (b : Branches) (chain : Chain) (behind : Tail) (next : Walk) → IsChain b chain behind next → GoesBefore tail b.behind_branches (commands_walk cs (commands_walk chain.rest next)) → IsChain (record { has_branch = true; with_branch = tail; behind_branches = b.behind_branches }) (record { otherwise = cs; rest = chain.rest }) behind next
 branch_chain tail cs b chain behind next c g = record {
   rest = c.rest;
@@ -52,7 +52,7 @@ branch_chain tail cs b chain behind next c g = record {
     apart : true ≡ false → ⊥
     apart e = cc
 
--- a stop or a return in front of a tail ends its walk, and a command that acts in front of a tail acts before what the tail does
+-- a stop or a return before a tail ends its walk, and a command that acts before a tail acts before what the tail does
 stops_before : (tail behind : Tail) (walk : Walk) → GoesBefore tail behind walk → GoesBefore (stop_op ∷ tail) behind by_stop
 stops_before tail behind walk g = record {
   ends = ends_more stop_op tail behind g.ends;
@@ -73,7 +73,7 @@ acts_before leaf line tail behind walk g = record {
 
 -- BRANCHES
 
--- behind a block, what is done next is what is behind the branches
+-- after a block, what is done next is what is after the branches
 past_goes : (has : Bool) (w r behind : Tail) (other after : Walk) → Goes r after → GoesBefore w r other → (has ≡ false → w ≡ r) → GoesBefore (past_branches (record { has_branch = has; with_branch = w; behind_branches = r })) w after
 past_goes true w r behind other after rest branch alone = record {
   ends = ends_more (jump_op (length r)) w w (ends_self w);
@@ -84,7 +84,7 @@ past_goes false w r behind other after rest branch alone = record {
   goes = subst (λ t. Goes t after) (sym (alone refl)) rest;
 }
 
--- a branch with a test does its block or what the other branches do, and then what is behind them
+-- a branch with a test does its block or what the other branches do, and then what is after them
 test_branch : (first inner : Tail → Tail) (condition : Condition) (cs : Commands) (b : Branches) (chain : Chain) (behind : Tail) (next : Walk) → IsConditionCode first condition → IsBlock inner cs → IsChain b chain behind next → GoesBefore (branch_before first inner b) b.with_branch (condition_walk condition (commands_walk cs (commands_walk chain.rest next)) (commands_walk chain.otherwise (commands_walk chain.rest next)))
 test_branch first inner condition cs b chain behind next f i c =
     let after = commands_walk chain.rest next in

@@ -10,7 +10,7 @@ use Rattle.sieve_code.specs.Operation.{set_op, invert_op, test_op, jump_if_op}
 use Rattle.sieve_code.specs.Walk.{Walk, condition_walk}
 use Rattle.sieve_code.proofs.Tails.{Walks, Ends, Forward, ends_self, ends_more, ends_trans, walks_sets, walks_inverts, walks_asks, walks_jumps_if, forward_plain, forward_jumps_if, landed}
 
--- what is put in front of a tail asks what a condition asks, and goes on in the tail with its truth in the register
+-- what is put before a tail asks what a condition asks, and goes on in the tail with its truth in the register
 pub record IsConditionCode (before : Tail → Tail) (c : Condition) : Type 0 where
   pub ends : (behind : Tail) → Ends (before behind) behind
   pub forward : (behind : Tail) → Forward behind → Forward (before behind)

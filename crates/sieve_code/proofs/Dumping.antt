@@ -23,7 +23,7 @@ unfolding string_text
 string_none [] none = refl
 string_none (p ∷ ps) none = absurd (omega (arith, none))
 
--- what is written of a string with parts is its first part without a mark, and the others behind their marks
+-- what is written of a string with parts is its first part without a mark, and the others after their marks
 pub string_some : (parts : List Part) (part : Part) → 0 < length parts → part ≡ get_or parts 0 part → part_text part ++ flat_map marked_part (drop 1 parts) ≡ string_text parts
 unfolding string_text
 string_some [] part some is = absurd (omega (arith, some))
@@ -40,7 +40,7 @@ string_front front parts part some is =
     ∙ ap (λ ps. front ++ (part_text part ++ flat_map marked_part ps)) (take_rest parts 1)
     ∙ ap (λ t. front ++ t) (string_some parts part some is)
 
--- of no strings nothing is written, and of others the first without a mark, and the others behind their marks
+-- of no strings nothing is written, and of others the first without a mark, and the others after their marks
 pub strings_none : (front : List ℕ) (strings : List (List Part)) → length strings ≤ 0 → front ≡ front ++ separated (codes ", ") string_text strings
 strings_none front [] none = sym (append-nil front)
 strings_none front (s ∷ ss) none = absurd (omega (arith, none))

@@ -24,7 +24,7 @@ lists_none lists =
     ap (λ (s : List (List Part)). record { strings = s; ends = lists.ends ++ [] }) (append-nil lists.strings)
     ∙ ap (λ (e : List ℕ). record { strings = lists.strings; ends = e }) (append-nil lists.ends)
 
--- with nothing more behind it a pool is what it is
+-- with nothing more after it a pool is what it is
 pub plus_none : (p : Pool) → plus p no_pool ≡ p
 plus_none p =
     ap (λ (s : List (List Part)). record (plus p no_pool) { strings = s }) (append-nil p.strings)
@@ -173,7 +173,7 @@ variable_kept p q place target below kept = record {
 abbrev said : PackedVacation → List Part → (subject from : Option (List Part)) → (addresses : Option (List (List Part))) → (handle : Option (List Part)) → Vacation
 said packed reason subject from addresses handle = record { reason = reason; days = packed.days; subject = subject; from = from; addresses = addresses; mime = packed.mime; handle = handle }
 
--- its strings and its list are kept one behind another
+-- its strings and its list are kept one after another
 module _ (p q r s t u : Pool) (packed : PackedVacation) (reason : List Part) (subject from : Option (List Part)) (addresses : Option (List (List Part))) (handle : Option (List Part)) where
   pub said_kept :
       Kept p q (λ x. get_or x.strings packed.reason []) reason → Kept q r (λ x. given_string x packed.subject) subject
@@ -188,7 +188,7 @@ module _ (p q r s t u : Pool) (packed : PackedVacation) (reason : List Part) (su
 
 -- OPERATIONS
 
--- what operations are in a pool, they are in all with more behind it
+-- what operations are in a pool, they are in all with more after it
 abbrev pub Stays : Pool → List Op → Type 0
 Stays pool ops = Keeps pool (λ p. map (op_in p) ops) (map (op_in pool) ops)
 
@@ -237,7 +237,7 @@ module _ (p q : Pool) (ops : List Op) (grows : Grows p q) (stays : Stays p ops) 
   stays_grown = λ more. let r = grows more in ap (λ x. map (op_in x) ops) r.1 ∙ stays r.0 ∙ sym ops_grown
 
 module _ (p q : Pool) (ops ops' : List Op) (op : Op) (o : Operation) (kept : Kept p q (λ r. op_in r op) o) (stays : Stays p ops) (is : ops' ≡ op ∷ ops) where
-  -- with an operation in front of them whose places are kept, operations are it and then what they were
+  -- with an operation before them whose places are kept, operations are it and then what they were
   pub ops_more : map (op_in q) ops' ≡ o ∷ map (op_in p) ops
   ops_more =
       ap (map (op_in q)) is

@@ -56,7 +56,7 @@ same_target n same front op rest r left le f =
     ∙ ap (λ t. walk_from (placed t) n (length (front ++ op ∷ take k rest)) r) whole
     ∙ same (front ++ op ∷ take k rest) (drop k rest) r (forward_drop k rest f)
 
--- one operation does the same at its place in the code as in front of its tail
+-- one operation does the same at its place in the code as before its tail
 same_step : (n : ℕ) → Same n → (front : Tail) (op : Operation) (rest : Tail) (r : Bool) → Forward (op ∷ rest) → step (walk_from (placed (front ++ op ∷ rest)) n) (Some (put (length (front ++ op ∷ rest)) op)) (length front) r ≡ tail_step (tail_walk n) (op ∷ rest) r
 same_step n same front (set_op truth) rest r f = same_next n same front (set_op truth) rest truth f.1
 same_step n same front invert_op rest r f = same_next n same front invert_op rest (not r) f.1
@@ -98,7 +98,7 @@ code_walks tree =
     ∙ same_walk (length tail) [] tail false goes.forward
     ∙ goes.walks.by (length tail) (omega arith) false
 
--- a jump in front of a tail has its target behind itself, counted from the end of the code
+-- a jump before a tail has its target after itself, counted from the end of the code
 jump_at : (count : ℕ) (op : Operation) (rest : Tail) → Forward (op ∷ rest) → (target : ℕ) → target_of (put count op) ≡ Some target → (left : ℕ) × (target ≡ count - left) × (left < length (op ∷ rest))
 jump_at count (set_op truth) rest f target is = absurd cc
 jump_at count invert_op rest f target is = absurd cc
@@ -112,7 +112,7 @@ jump_at count return_op rest f target is = absurd cc
 same_op : (op other : Operation) (target : ℕ) → Some other ≡ Some op → target_of op ≡ Some target → target_of other ≡ Some target
 same_op op other target is has = let e : other ≡ op = cc in ap target_of e ∙ has
 
--- a jump at a place in a tail has its target behind that place, counted from the end of the code
+-- a jump at a place in a tail has its target after that place, counted from the end of the code
 jump_forward : (count : ℕ) (tail : Tail) → Forward tail → (place : ℕ) (op : Operation) (target : ℕ) → slice_get (map (put count) tail) place ≡ Some op → target_of op ≡ Some target → (left : ℕ) × (target ≡ count - left) × (left + place < length tail)
 jump_forward count [] f place op target is has = absurd cc
 jump_forward count (o ∷ rest) f zero op target is has =

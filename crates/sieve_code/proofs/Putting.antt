@@ -1,4 +1,4 @@
--- What single steps of the compiler put in front of a tail.
+-- What single steps of the compiler put before a tail.
 use Rattle.std.proofs.Common.{◌≡◌, ℕ, suc, ◌+◌, ◌-◌, ◌<◌, ◌≤◌, Bool, true, false, not, nat_lt, List, [], ◌∷◌, ◌++◌, length, length-append, length-drop, map, get_or, drop, if◌then◌else◌, Option, Some, None, Result, IfOk, OnOk, refl, sym, ap, ◌∙◌, subst, arith}
 use Rattle.std.proofs.lemmas.List.{append-nil, append_assoc, at_drop_all, at_drop_more}
 use borrow.Author.Tests.{ltb-true, ltb-false}
@@ -81,7 +81,7 @@ not_below n = by_test (nat_lt n n) refl
 pub one_fewer : {X : Type 0} (now left : List X) (x : X) → now ≡ left ++ x ∷ [] → length now ≡ length left + 1
 one_fewer now left x is = ap length is ∙ length-append left (x ∷ [])
 
--- what a step that succeeds puts in front of a tail may be said as anything that is equal to it
+-- what a step that succeeds puts before a tail may be said as anything that is equal to it
 pub on_ok_along : {T E X : Type 0} (r : Result T E) (a b c : X) → b ≡ c → OnOk r (a ≡ b) → OnOk r (a ≡ c)
 on_ok_along r a b c same h = subst (λ x. OnOk r (a ≡ x)) same h
 
@@ -174,7 +174,7 @@ some_left list i follows is holds = let lt : i + 1 < length list = ltb-true (i +
 none_left : (list : List one_tests.Test) (i : ℕ) (follows : Bool) → follows ≡ nat_lt (i + 1) (length list) → follows ≡ false → length (drop (i + 1) list) ≤ 0
 none_left list i follows is fails = let le : length list ≤ i + 1 = ltb-false (i + 1) (length list) (sym is ∙ fails) in omega (arith, le, length-drop (i + 1) list)
 
--- a test of a list, put in front of the tests behind it, makes the tests from that one on
+-- a test of a list, put before the tests after it, makes the tests from that one on
 pub list_put : (truth : Bool) (list : List one_tests.Test) (i : ℕ) (t : one_tests.Test) (behind others new : Tail) (follows : Bool) → i < length list → t ≡ get_or list i t → follows ≡ nat_lt (i + 1) (length list) → others ≡ list_before truth (list_on (drop (i + 1) list)) behind → new ≡ test_before (test_of t) (if follows then jump_if_op truth (length behind) ∷ others else others) → new ≡ list_before truth (list_on (drop i list)) behind
 list_put truth list i t behind others new follows below is more before after =
     after
@@ -192,11 +192,11 @@ made has w r = record { has_branch = has; with_branch = w; behind_branches = r }
 pub length_last : (count : ℕ) (tail : Tail) → count ≤ length tail → length (last count tail) ≡ count
 length_last count tail le = omega (arith, length-drop (length tail - count) tail)
 
--- what a block goes on with: a jump past the branches where one follows, and else the tail itself
+-- what a block continues with: a jump past the branches where one follows, and else the tail itself
 pub past : (front : TailFront) (tail : Tail) → front.behind ≤ length tail → past_branches (branches_as front tail) ≡ (if front.has_branch then jump_op front.behind ∷ tail else tail)
 past front tail le = ap (λ n. if front.has_branch then jump_op n ∷ tail else tail) (length_last front.behind tail le)
 
--- where no branch is at the front of a tail, and all of the tail is behind the branches, its branches are none
+-- where no branch is at the front of a tail, and all of the tail is after the branches, its branches are none
 pub alone : (front : TailFront) (tail : Tail) → front.has_branch ≡ false → front.behind ≡ length tail → branches_as front tail ≡ no_branch tail
 alone front tail none all =
     ap (λ h. made h tail (last front.behind tail)) none
@@ -225,7 +225,7 @@ block_at_ends (node name line args ts ending) = block_ends ending
 pub branch_at_ends : (n : Node) (b : Branches) → Ends (branch_at n b) b.with_branch
 branch_at_ends n b = branch_ends (first_at n) (block_at n) b (first_at_ends n) (block_at_ends n)
 
--- an `else` puts its block in front of what is behind the branches, which stays as it was
+-- an `else` puts its block before what is after the branches, which stays as it was
 pub last_branch : (n : Node) (count : ℕ) (old kept new : Tail) → count ≤ length old → kept ≡ last count old → new ≡ block_at n kept → made true new (last count new) ≡ made true (block_at n (last count old)) (last count old)
 last_branch n count old kept new le keeps puts =
     let behind = last count old in
@@ -291,7 +291,7 @@ commands_first : (c : commands.Command) (list : List commands.Command) (behind :
 unfolding nodes_before
 commands_first c list behind = refl
 
--- a command of a list, put in front of the commands behind it, makes the commands from that one on
+-- a command of a list, put before the commands after it, makes the commands from that one on
 pub command_listed : (list : List commands.Command) (i : ℕ) (c : commands.Command) (behind : Tail) (now new : Branches) → i < length list → c ≡ get_or list i c → now ≡ branches_on (drop (i + 1) list) behind → new ≡ node_before (node_of c) now → new ≡ branches_on (drop i list) behind
 command_listed list i c behind now new below is so after =
     after

@@ -1,4 +1,4 @@
--- What is put in front of a tail ends with the tail.
+-- What is put before a tail ends with the tail.
 use Rattle.std.proofs.Common.{ℕ, Bool, true, false, ◌∷◌, length, Option, Some, None}
 use Rattle.sieve_reading.specs.Reading as reading
 use Rattle.sieve_reading.specs.Reading.{CommandReading}
@@ -9,7 +9,7 @@ use Rattle.sieve_code.specs.Operation.{jump_op, jump_if_op, act_op, stop_op, ret
 use Rattle.sieve_code.proofs.Tails.{Ends, ends_self, ends_more, ends_trans}
 use Rattle.sieve_code.proofs.Conditions.{first_code}
 
--- a tail with branches in front: it ends with what is behind them, which ends with another tail
+-- a tail with branches in front: it ends with what is after them, which ends with another tail
 pub record Apart (b : Branches) (behind : Tail) : Type 0 where
   pub rest : Ends b.behind_branches behind
   pub branch : Ends b.with_branch b.behind_branches

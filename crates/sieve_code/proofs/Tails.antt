@@ -34,7 +34,7 @@ pub record Ends (tail behind : Tail) : Type 0 where
   pub front : Tail
   pub split : tail ≡ front ++ behind
 
--- each jump of a tail goes to an operation behind the jump, or to the end
+-- each jump of a tail goes to an operation after the jump, or to the end
 abbrev pub Forward : Tail → Type 0
 Forward [] = Unit {0}
 Forward (op ∷ rest) = ((left : ℕ) → target_of op ≡ Some left → left ≤ length rest) × Forward rest

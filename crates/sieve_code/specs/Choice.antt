@@ -15,13 +15,13 @@ Tail = List Operation
 
 -- TESTS
 
--- the others of a list of tests, which stand in front of `behind`: before them a jump past the last one, where the test in front
+-- the others of a list of tests, which stand before `behind`: before them a jump past the last one, where the test in front
 -- of them comes to that truth
 abbrev pub joint : Bool → TestList → Tail → Tail → Tail
 joint truth end_tests behind others = others
 joint truth (more_tests t ts) behind others = jump_if_op truth (length behind) ∷ others
 
--- A test in front of a tail, where `all` and `any` are the tests in it, joined, and `first` is the first of them. A test that
+-- A test before a tail, where `all` and `any` are the tests in it, joined, and `first` is the first of them. A test that
 -- isn't read as anything, which no checked script has, is false.
 abbrev pub reading_before : Option TestReading → (all any first : Tail → Tail) → Tail → Tail
 reading_before None all any first behind = set_op false ∷ behind
@@ -33,12 +33,12 @@ reading_before (Some reads_any) all any first behind = any behind
 reading_before (Some reads_not) all any first behind = first (invert_op ∷ behind)
 
 unfoldable mutual
-  -- the operations of a test in front of a tail
+  -- the operations of a test before a tail
   pub test_before : Test → Tail → Tail
   test_before (test name line args ts) behind =
       reading_before (test_reading (test name line args ts)) (tests_before false ts) (tests_before true ts) (first_before ts) behind
 
-  -- the operations of all tests: behind each but the last, a jump past the last one where it comes to that truth; without a test, the
+  -- the operations of all tests: after each but the last, a jump past the last one where it comes to that truth; without a test, the
   -- other truth
   pub tests_before : Bool → Tests → Tail → Tail
   tests_before truth no_tests behind = set_op (not truth) ∷ behind
@@ -59,7 +59,7 @@ unfoldable mutual
 
 -- COMMANDS
 
--- A tail from some command on: whether a branch `elsif` or `else` stands there, the tail with it, and the tail behind such
+-- A tail from some command on: whether a branch `elsif` or `else` stands there, the tail with it, and the tail after such
 -- branches. Where there is none, both are one tail.
 pub record Branches : Type 0 where
   pub has_branch : Bool
@@ -69,7 +69,7 @@ pub record Branches : Type 0 where
 abbrev pub no_branch : Tail → Branches
 no_branch tail = record { has_branch = false; with_branch = tail; behind_branches = tail }
 
--- what stands behind a block: where a branch follows, a jump past the branches
+-- what stands after a block: where a branch follows, a jump past the branches
 abbrev pub past_branches : Branches → Tail
 past_branches branches = if branches.has_branch then jump_op (length branches.behind_branches) ∷ branches.with_branch else branches.with_branch
 
@@ -77,7 +77,7 @@ past_branches branches = if branches.has_branch then jump_op (length branches.be
 abbrev pub branch_before : (first inner : Tail → Tail) → Branches → Tail
 branch_before first inner branches = first (jump_if_op false (length branches.with_branch) ∷ inner (past_branches branches))
 
--- a command in front of a tail, with its first test and its block; one that isn't read as anything, which no checked script
+-- a command before a tail, with its first test and its block; one that isn't read as anything, which no checked script
 -- has, gives nothing
 abbrev pub command_before : Option CommandReading → ℕ → (first inner : Tail → Tail) → Branches → Branches
 command_before None line first inner branches = no_branch branches.behind_branches
@@ -115,6 +115,6 @@ placed tail = map (targeting (λ left. length tail - left)) tail
 abbrev pub code_of : List Node → List Operation
 code_of tree = placed (tail_of tree)
 
--- each jump's target is behind its place, and at most one past the last operation
+-- each jump's target is after its place, and at most one past the last operation
 abbrev pub AllGoForward : List Operation → Type 0
 AllGoForward code = (place target : ℕ) (op : Operation) → slice_get code place ≡ Some op → target_of op ≡ Some target → (place < target) × (target ≤ length code)

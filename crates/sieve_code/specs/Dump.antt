@@ -23,7 +23,7 @@ use Rattle.sieve_variables.specs.declared.modifier.LetterCase.TheVariants as let
 use Rattle.sieve_variables.specs.declared.modifier.Modifiers.{Modifiers}
 use Rattle.sieve_code.specs.Operation.{Operation, set_op, invert_op, test_op, jump_op, jump_if_op, act_op, stop_op, return_op}
 
--- the texts of items in order, each but the first behind a mark
+-- the texts of items in order, each but the first after a mark
 abbrev pub separated : {X : Type 0} → List ℕ → (X → List ℕ) → List X → List ℕ
 separated mark text [] = []
 separated mark text (x ∷ xs) = text x ++ flat_map (λ y. mark ++ text y) xs
@@ -51,7 +51,7 @@ string_text (part ∷ parts) = separated (codes "+") part_text (part ∷ parts)
 unfoldable pub list_text : List (List Part) → List ℕ
 list_text strings = codes "[" ++ separated (codes ", ") string_text strings ++ codes "]"
 
--- the word of a match type; behind that of `:value` or `:count` stands the relation (RFC 5231, section 4)
+-- the word of a match type; after that of `:value` or `:count` stands the relation (RFC 5231, section 4)
 abbrev pub match_word : MatchType → List ℕ
 match_word Is = codes "is"
 match_word Contains = codes "contains"
@@ -79,7 +79,7 @@ comparing_words test comparison = test ++ codes " " ++ match_word comparison.mat
 unfoldable pub address_words : List ℕ → Comparison → AddressPart → List ℕ
 address_words test comparison part = comparing_words test comparison ++ (codes " " ++ address_part_word part)
 
--- strings in brackets behind a space
+-- strings in brackets after a space
 unfoldable pub further_list : List (List Part) → List ℕ
 further_list strings = codes " " ++ list_text strings
 
@@ -94,7 +94,7 @@ zone_words local_zone = codes " local"
 zone_words original_zone = codes " original"
 zone_words (named_zone zone) = codes " zone " ++ string_text zone
 
--- a string behind a space
+-- a string after a space
 unfoldable pub further_string : List Part → List ℕ
 further_string string = codes " " ++ string_text string
 
@@ -127,7 +127,7 @@ ask_text (under_ask limit) = codes "size under " ++ decimal limit
 ask_text (mailboxes_ask names) = codes "mailboxexists " ++ list_text names
 ask_text duplicate_ask = codes "duplicate"
 
--- a string behind a command's word
+-- a string after a command's word
 unfoldable pub worded_text : List ℕ → List Part → List ℕ
 worded_text word string = word ++ string_text string
 
@@ -149,7 +149,7 @@ copy_word copy = given_word copy (codes " copy")
 unfoldable pub create_word : Bool → List ℕ
 create_word create = given_word create (codes " create")
 
--- a string behind a word, where it is given
+-- a string after a word, where it is given
 unfoldable pub given_string_text : List ℕ → Option (List Part) → List ℕ
 given_string_text word None = []
 given_string_text word (Some string) = word ++ string_text string
@@ -166,7 +166,7 @@ store_words settings = filing_words settings ++ copy_word settings.copy
 unfoldable pub stored_text : Settings → List ℕ
 stored_text settings = stored_flags settings.flags ++ store_words settings
 
--- what a command says beside, behind its word
+-- what a command says beside, after its word
 unfoldable pub worded_settings : List ℕ → Settings → List ℕ
 worded_settings word settings = word ++ stored_text settings
 
@@ -181,11 +181,11 @@ first_word None = []
 first_word (Some letter_case.Lower) = codes " lowerfirst"
 first_word (Some letter_case.Upper) = codes " upperfirst"
 
--- modifiers behind the variable
+-- modifiers after the variable
 unfoldable pub modifier_words : Modifiers → List ℕ
 modifier_words modifiers = case_word modifiers.letter_case ++ first_word modifiers.first_letter ++ given_word modifiers.quote_wildcard (codes " quotewildcard") ++ given_word modifiers.length (codes " length") ++ codes " "
 
--- a variable behind a word
+-- a variable after a word
 unfoldable pub worded_variable : List ℕ → Variable → List ℕ
 worded_variable word variable = word ++ scope_word variable ++ name_of variable ++ codes ")"
 
@@ -228,7 +228,7 @@ sending_words vacation = days_words vacation.days ++ given_string_text (codes " 
 unfoldable pub further_words : Vacation → List ℕ
 further_words vacation = addresses_words vacation.addresses ++ mime_word vacation.mime ++ given_string_text (codes " handle ") vacation.handle
 
--- all that, behind the command's word
+-- all that, after the command's word
 unfoldable pub vacation_words : List ℕ → Vacation → List ℕ
 vacation_words word vacation = word ++ sending_words vacation ++ further_words vacation
 
@@ -249,7 +249,7 @@ leaf_text (include_leaf place once optional name) = include_words place once opt
 leaf_text (vacation_leaf vacation) = vacation_text vacation
 leaf_text (reject_leaf how reason) = reject_text how reason
 
--- a command's line behind what it does
+-- a command's line after what it does
 abbrev pub at_line : ℕ → List ℕ
 at_line line = codes " @" ++ decimal line
 

@@ -32,7 +32,7 @@ pub record Pool : Type 0 where
 abbrev pub no_pool : Pool
 no_pool = record { strings = []; lists = no_lists; names = no_lists; targets = []; scripts = []; tests = []; settings = []; vacations = []; dates = [] }
 
--- with more behind each
+-- with more after each
 abbrev pub plus : Pool → Pool → Pool
 plus pool more = record {
   strings = pool.strings ++ more.strings;
@@ -108,15 +108,15 @@ no_date = record { zone = zone.Local; field = nowhere; part = nowhere }
 abbrev pub date_packed_in : Pool → ℕ → PackedDate
 date_packed_in pool place = slice_index_or pool.dates place no_date
 
--- A pool with more behind it, whatever stands behind that.
+-- A pool with more after it, whatever stands after that.
 abbrev pub Grows : Pool → Pool → Type 0
 Grows old new = (more : Pool) → (rest : Pool) × (plus new more ≡ plus old rest)
 
--- what is found in a pool and in all with more behind it
+-- what is found in a pool and in all with more after it
 abbrev pub Keeps : {X : Type 0} → Pool → (Pool → X) → X → Type 0
 Keeps pool find x = (more : Pool) → find (plus pool more) ≡ x
 
--- a pool with more behind it than before, where something is found
+-- a pool with more after it than before, where something is found
 pub record Kept {X : Type 0} (old new : Pool) (find : Pool → X) (x : X) : Type 0 where
   pub grows : Grows old new
   pub keeps : Keeps new find x

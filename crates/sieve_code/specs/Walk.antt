@@ -28,7 +28,7 @@ condition_walk (negated c) held failed = condition_walk c failed held
 condition_walk (both c d) held failed = condition_walk c (condition_walk d held failed) failed
 condition_walk (either c d) held failed = condition_walk c held (condition_walk d held failed)
 
--- commands, and the walk behind them
+-- commands, and the walk after them
 unfoldable pub commands_walk : Commands → Walk → Walk
 commands_walk no_commands next = next
 commands_walk (script.stops rest) next = by_stop
@@ -85,7 +85,7 @@ pub data Met : Type 0 where
   met_ask : (ask : Ask) → Met
   met_leaf : (leaf : Leaf) (line : ℕ) → Met
 
--- how a walk ends: at the end, by `stop`, by `return`, for want of an answer, or with its operations used up
+-- how a walk ends: at the end, by `stop`, by `return`, for lack of an answer, or with its operations used up
 pub data End : Type 0 where
   ended : End
   stopped : End

@@ -22,7 +22,7 @@ use sieve_effects::{BodyOp, FieldNames, SettingsOp, SourceOp, Strings, VacationO
 use sieve_reading::{Comparison, MatchType};
 use sieve_variables::{Part, Variable};
 
-/// The code of a checked script. It starts at the first operation and ends behind the last. Each jump goes forward, and at most
+/// The code of a checked script. It starts at the first operation and ends after the last. Each jump goes forward, and at most
 /// to the end; and what it does is what the script does that it was compiled from.
 #[derive(Drop)]
 pub struct Code {

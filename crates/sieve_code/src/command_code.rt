@@ -22,7 +22,7 @@ use std::alloc::{AllocError, Global};
 pub(crate) struct TailFront {
     /// Whether a branch `elsif` or `else` stands there.
     has_branch: bool,
-    /// How many operations stand behind such branches.
+    /// How many operations stand after such branches.
     behind: usize,
 }
 
@@ -46,7 +46,7 @@ fn drop_branches(front: TailFront, tail: &mut Tail) -> TailFront
     without_branch(tail)
 }
 
-/// Puts an operation in front of a tail, in the place of the branches there, which no `if` opens.
+/// Puts an operation before a tail, in the place of the branches there, which no `if` opens.
 fn put_alone(op: Op, front: TailFront, tail: &mut Tail) -> Result<TailFront, AllocError>
     requires { is_plain op ≡ true }
     ensures within { IfOk result (λ new. new.behind ≤ length tail.new) }
@@ -58,7 +58,7 @@ fn put_alone(op: Op, front: TailFront, tail: &mut Tail) -> Result<TailFront, All
     Ok(without_branch(tail))
 }
 
-/// Puts the operation of a command of a line in front of a tail, in the place of the branches there, which no `if` opens.
+/// Puts the operation of a command of a line before a tail, in the place of the branches there, which no `if` opens.
 fn put_act(
     leaf: Leaf,
     line: u32,
@@ -74,7 +74,7 @@ fn put_act(
     Ok(without_branch(tail))
 }
 
-/// Puts a jump past the branches in front of a tail where a branch stands there.
+/// Puts a jump past the branches before a tail where a branch stands there.
 #[tactic(auto, using(crate::proofs::Putting::past))]
 fn put_past(front: TailFront, tail: &mut Tail) -> Result<(), AllocError>
     requires { front.behind ≤ length tail.old }
@@ -98,7 +98,7 @@ fn reading_of(alloc: Global, name: &CommandName, args: Vec<Argument>) -> Option<
     }
 }
 
-/// Puts commands in front of a tail.
+/// Puts commands before a tail.
 #[cycle(command_code)]
 pub(crate) fn put_commands(
     alloc: Global,
@@ -118,7 +118,7 @@ pub(crate) fn put_commands(
     Ok(())
 }
 
-/// Puts a command in front of a tail.
+/// Puts a command before a tail.
 #[cycle(command_code)]
 fn put_command(
     alloc: Global,
@@ -170,7 +170,7 @@ fn put_command(
     }
 }
 
-/// Puts the test and the block of an `if` or `elsif` in front of a tail.
+/// Puts the test and the block of an `if` or `elsif` before a tail.
 #[cycle(command_code)]
 fn put_branch(
     alloc: Global,

@@ -61,7 +61,7 @@ fn write_create<W: Sink>(settings: &SettingsOp<'_>, writer: &mut W) -> Result<()
     write_out(given_word(settings.create, b" create"), writer)
 }
 
-/// Writes a string behind a word, where it is given.
+/// Writes a string after a word, where it is given.
 #[tactic(auto, unfolding(crate::specs::Dump::given_string_text))]
 pub(crate) fn write_given_string<W: Sink>(
     word: &[u8],

@@ -65,7 +65,7 @@ fn write_part<'x, W: Sink>(
     }
 }
 
-/// Writes parts behind another.
+/// Writes parts after another.
 #[tactic(auto, using(sieve_base::proofs::Writing::writing_items), unfolding(crate::specs::view::Marked::marked_part))]
 fn write_marked_parts<W: Sink>(parts: &[Part], writer: &mut W) -> Result<(), WriteFault>
     ensures { Writes W.contents W.fault_count result writer.old writer.new
@@ -95,7 +95,7 @@ pub(crate) fn write_string<W: Sink>(
     }
 }
 
-/// Writes the strings behind the first.
+/// Writes the strings after the first.
 fn write_marked_strings<W: Sink>(strings: &Strings<'_>, writer: &mut W) -> Result<(), WriteFault>
     ensures { Writes W.contents W.fault_count result writer.old writer.new
         (flat_map marked_string (drop 1 strings.now)) }
@@ -138,7 +138,7 @@ pub(crate) fn write_list<W: Sink>(
     write_out(b"]", writer)
 }
 
-/// Writes strings in brackets behind a space.
+/// Writes strings in brackets after a space.
 #[tactic(auto, unfolding(crate::specs::Dump::further_list))]
 pub(crate) fn write_further_list<W: Sink>(
     strings: &Strings<'_>,

@@ -178,7 +178,7 @@ fn write_hasflag<W: Sink>(
     write_internal_list(variables, writer)
 }
 
-/// Writes a string behind a space.
+/// Writes a string after a space.
 #[tactic(auto, unfolding(crate::specs::Dump::further_string))]
 fn write_further_string<W: Sink>(string: &[Part], writer: &mut W) -> Result<(), WriteFault>
     ensures { Writes W.contents W.fault_count result writer.old writer.new

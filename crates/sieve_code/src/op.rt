@@ -153,11 +153,11 @@ pub enum Op {
     },
     /// Sets it to whether the message came before (RFC 7352, section 3).
     Duplicate,
-    /// Goes on so many operations in front of the end.
+    /// Goes on so many operations before the end.
     Jump(usize),
-    /// Goes on there where the register is false, and else behind this operation.
+    /// Goes on there where the register is false, and else after this operation.
     JumpIfFalse(usize),
-    /// Goes on there where the register is true, and else behind this operation.
+    /// Goes on there where the register is true, and else after this operation.
     JumpIfTrue(usize),
     /// Stores into the mailbox of the delivery (RFC 5228, section 4.3).
     Keep {

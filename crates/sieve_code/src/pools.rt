@@ -37,7 +37,7 @@ pub(crate) struct Pools {
     pub(crate) dates: Vec<PackedDate>,
 }
 
-/// The number of items as the place of the next. 4,294,967,295 and more are answered as want of memory.
+/// The number of items as the place of the next. 4,294,967,295 and more are answered as out of memory.
 fn place_of(len: usize) -> Result<u32, AllocError>
     ensures is { IfOk result (λ place. place ≡ len) }
     ensures given { IfOk result (λ place. place < 4294967295) }

@@ -14,7 +14,7 @@ use std::collections::VecDeque;
 use std::marker::Model;
 
 /// The operations from some place to the end of the code. A jump in it has for its target how many operations there are from
-/// the target to the end, so that what is put in front of it changes nothing in it. Contracts see the list of operations.
+/// the target to the end, so that what is put before it changes nothing in it. Contracts see the list of operations.
 #[derive(Drop)]
 pub(crate) struct Tail {
     ops: VecDeque<Op>,
@@ -62,7 +62,7 @@ impl Tail {
         Ok(())
     }
 
-    /// Puts the operation of a test that asks in front. An error, which is want of memory, leaves no operations.
+    /// Puts the operation of a test that asks in front. An error, which is out of memory, leaves no operations.
     pub(crate) fn put_ask(&mut self, ask: Ask) -> Result<(), AllocError>
         ensures { OnOk result (self.new ≡ test_op (ask_as ask) ∷ self.old) }
     {
@@ -78,7 +78,7 @@ impl Tail {
         }
     }
 
-    /// Puts the operation of a command of a line in front. An error, which is want of memory, leaves no operations.
+    /// Puts the operation of a command of a line in front. An error, which is out of memory, leaves no operations.
     pub(crate) fn put_act(&mut self, leaf: Leaf, line: u32) -> Result<(), AllocError>
         ensures { OnOk result (self.new ≡ act_op (leaf_as leaf) line ∷ self.old) }
     {

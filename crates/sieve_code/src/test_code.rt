@@ -35,7 +35,7 @@ fn jump_if(truth: bool, target: usize) -> Op
     }
 }
 
-/// Puts a jump in front of a tail where other tests follow there.
+/// Puts a jump before a tail where other tests follow there.
 fn put_joint(follows: bool, truth: bool, end: usize, tail: &mut Tail) -> Result<(), AllocError>
     ensures { OnOk result
         (tail.new ≡ (if follows then jump_if_op truth end ∷ tail.old else tail.old)) }
@@ -58,7 +58,7 @@ fn reading_of(alloc: Global, name: &TestName, args: Vec<Argument>) -> Option<Tes
     }
 }
 
-/// Puts a test in front of a tail.
+/// Puts a test before a tail.
 #[cycle(test_code)]
 fn put_test(alloc: Global, test: Test, tail: &mut Tail) -> Result<(), AllocError>
     ensures { OnOk result (tail.new ≡ test_before (test_of test) tail.old) }
@@ -83,7 +83,7 @@ fn put_test(alloc: Global, test: Test, tail: &mut Tail) -> Result<(), AllocError
     }
 }
 
-/// Puts all tests in front of a tail, with jumps past the last one where one comes to that truth.
+/// Puts all tests before a tail, with jumps past the last one where one comes to that truth.
 #[cycle(test_code)]
 fn put_tests(alloc: Global, truth: bool, tests: Tests, tail: &mut Tail) -> Result<(), AllocError>
     ensures { OnOk result (tail.new ≡ tests_before truth (tests_of tests) tail.old) }
@@ -95,7 +95,7 @@ fn put_tests(alloc: Global, truth: bool, tests: Tests, tail: &mut Tail) -> Resul
     }
 }
 
-/// Puts the tests of a list in front of a tail.
+/// Puts the tests of a list before a tail.
 #[cycle(test_code)]
 fn put_list(alloc: Global, truth: bool, list: Vec<Test>, tail: &mut Tail) -> Result<(), AllocError>
     ensures { OnOk result
@@ -115,7 +115,7 @@ fn put_list(alloc: Global, truth: bool, list: Vec<Test>, tail: &mut Tail) -> Res
     Ok(())
 }
 
-/// Puts the first of the tests in front of a tail.
+/// Puts the first of the tests before a tail.
 #[cycle(test_code)]
 pub(crate) fn put_first(alloc: Global, tests: Tests, tail: &mut Tail) -> Result<(), AllocError>
     ensures { OnOk result (tail.new ≡ first_before (tests_of tests) tail.old) }

@@ -96,6 +96,7 @@ conflict_of performed there =
     if is_rejection performed && not (goes_with_rejections there) || is_rejection there && not (goes_with_rejections performed) then Some ConflictingActions else None
 
 -- the error of an action that is performed where some are there: that of the first in its way
+-- (RFC 5230, section 4.7; RFC 5429, section 2.4)
 abbrev pub conflict_among : Action → List Action → Option ErrorKind
 conflict_among performed [] = None
 conflict_among performed (there ∷ actions) = option_or (conflict_of performed there) (conflict_among performed actions)
@@ -118,7 +119,7 @@ with_room action actions =
     if list_any (same_action action) actions then joined (map (joined_with action) actions) else
     if nat_lt (length actions) action_limit then entered (actions ++ action ∷ []) else refused TooManyActions
 
--- where nothing stands in its way
+-- where nothing stands in its way (RFC 5228, sections 2.10.1, 2.10.3 and 2.10.4)
 abbrev pub with_action : Action → List Action → Performed
 with_action action actions = unless (conflict_among action actions) (with_room action actions)
 
@@ -142,6 +143,7 @@ abbrev pub cancelled_by : Deed → RunState → Bool
 cancelled_by deed state = not deed.leaves_keep || state.cancelled
 
 -- a new action is entered by its command; one that joined others leaves them with the commands that entered them
+-- (RFC 5228, section 2.10.2; RFC 3894, section 3; RFC 5230, section 4.7)
 abbrev pub ends_with : Delivery → ℕ → Deed → Performed → RunState → Ending
 ends_with delivery line deed (entered actions) state = goes_on (record state { actions = actions; origins = state.origins ++ origin_at delivery line ∷ []; cancelled = cancelled_by deed state })
 ends_with delivery line deed (joined actions) state = goes_on (record state { actions = actions; cancelled = cancelled_by deed state })

@@ -16,7 +16,7 @@ local_zone_of None = east 0
 local_zone_of (Some clock) = clock.zone
 
 -- The zone in which a date is shown that was written in some zone. A text that is not a sign and four digits, of which the minutes are
--- up to 59, names none.
+-- up to 59, names none (RFC 5260, section 4.1).
 abbrev pub zone_for : Values → Option Clock → (written : Zone) → DateZone → Option Zone
 zone_for values clock written local_zone = Some (local_zone_of clock)
 zone_for values clock written original_zone = Some written

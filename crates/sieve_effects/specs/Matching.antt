@@ -152,11 +152,11 @@ pairs_of values keys = flat_map (pairs_with keys) values
 abbrev pub is_inbox : List ℕ → Bool
 is_inbox name = str_eq_ignore_ascii_case (codes "INBOX") name
 
--- whether a mailbox of that name is there: the INBOX, the one that mail is kept in, and each that is listed
+-- whether a mailbox of that name is there: the INBOX, the one that mail is kept in, and each that is listed (RFC 5490, section 3.1)
 abbrev pub has_mailbox : Envelope → List ℕ → Bool
 has_mailbox envelope name = is_inbox name || list_any (pointwise nat_eq name) (envelope.mailbox ∷ mailbox_names envelope.mailboxes)
 
--- whether a field of that name is there (RFC 5228, section 5.5)
+-- whether a field of that name is there (RFC 5228, sections 2.4.2.2 and 5.5)
 abbrev pub has_field : List Field → List ℕ → Bool
 has_field fields name = list_any (is_field_named name) fields
 
@@ -165,7 +165,7 @@ abbrev pub first_some : {X Y : Type 0} → (X → Option Y) → List X → Optio
 first_some f [] = None
 first_some f (x ∷ xs) = option_or (f x) (first_some f xs)
 
--- what the first pair that matches gives (RFC 5229, section 3.2)
+-- what the first pair that matches gives (RFC 5228, sections 2.7.2 and 5.7; RFC 5229, section 3.2)
 abbrev pub first_match : Comparison → List Pair → Option (List (List ℕ))
 first_match comparison pairs = first_some (λ pair. match_of comparison pair.value pair.key) pairs
 
@@ -210,7 +210,7 @@ sets_matched (body_values transform) = false
 abbrev pub with_found_in : ValueSource → MatchType → Option (List (List ℕ)) → Values → Values
 with_found_in source match_type found values = if sets_matched source then with_found match_type found values else values
 
--- the variables behind what a test asks
+-- the variables behind what a test asks (RFC 5229, section 3.2)
 unfoldable pub values_behind : Delivery → RunState → Ask → Values
 values_behind delivery state (compares source comparison keys) = with_found_in source comparison.match_type (match_found delivery state source comparison keys) state.values
 values_behind delivery state (exists_ask names) = state.values

@@ -26,7 +26,7 @@ not_both e = cc
 abbrev behind_one : Option Shape → List Slot → Expected
 behind_one before slots = record { awaited = taken_by before; slots = slots }
 
--- the slots that are left behind one more argument
+-- the slots that are left after one more argument
 abbrev slots_past : Option Shape → List Slot → Shape → List Slot
 slots_past before slots looks = (expected_behind (behind_one before slots) looks).slots
 

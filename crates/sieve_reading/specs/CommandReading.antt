@@ -96,7 +96,7 @@ vacation_by labels args = vacation_leaf (record {
   handle = given_text (in_role role.Handle labels args);
 })
 
--- what `reject` and `ereject` do (RFC 5429, section 2)
+-- what `reject` and `ereject` do (RFC 5429, sections 2, 2.1 and 2.2)
 abbrev pub reject_by : Rejection → List Label → List Argument → Leaf
 reject_by how labels args = reject_leaf how (text_in (in_role role.Text labels args))
 

@@ -53,7 +53,7 @@ label_at expected shape.Text = value_label expected.awaited expected.slots shape
 label_at expected shape.Texts = value_label expected.awaited expected.slots shape.Texts
 label_at expected shape.Number = value_label expected.awaited expected.slots shape.Number
 
--- what is expected behind it
+-- what is expected after it
 abbrev pub expected_behind : Expected → Shape → Expected
 expected_behind expected (shape.Tag None) = record { awaited = None; slots = expected.slots }
 expected_behind expected (shape.Tag (Some taken)) = record { awaited = (tag_row taken).takes; slots = expected.slots }
@@ -66,7 +66,7 @@ abbrev pub labels_from : Expected → List Shape → List Label
 labels_from expected [] = []
 labels_from expected (looks ∷ shapes) = label_at expected looks ∷ labels_from (expected_behind expected looks) shapes
 
--- the positional arguments that are still to come behind them
+-- the positional arguments that are still to come after them
 abbrev pub slots_left : Expected → List Shape → List Slot
 slots_left expected [] = expected.slots
 slots_left expected (looks ∷ shapes) = slots_left (expected_behind expected looks) shapes

@@ -55,7 +55,7 @@ abbrev pub before_at : List Shape → ℕ → Option Shape
 before_at shapes zero = None
 before_at shapes (suc place) = slice_get shapes place
 
--- the positional ones of arguments, behind one or at the beginning
+-- the positional ones of arguments, after one or at the beginning
 abbrev pub positional_behind : (before : Option Shape) → List Shape → List Shape
 positional_behind before [] = []
 positional_behind before (looks ∷ shapes) = if is_positional before looks then looks ∷ positional_behind (Some looks) shapes else positional_behind (Some looks) shapes

@@ -102,7 +102,7 @@ pub data TestReading : Type 0 where
   reads_any : TestReading
   reads_not : TestReading
 
--- a command apart from its test and its block: it opens a chain of branches, goes on with one, or ends it (RFC 5228, section
+-- a command apart from its test and its block: it opens a chain of branches, continues with one, or ends it (RFC 5228, section
 -- 3.1), ends the run (section 3.3) or its script (RFC 6609, section 3.3), does nothing, or acts
 pub data CommandReading : Type 0 where
   reads_if : CommandReading

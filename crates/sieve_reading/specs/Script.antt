@@ -71,12 +71,12 @@ branch_condition (c ∷ cs) = c
 -- COMMANDS
 
 -- Commands from some place on: what the branches `elsif` and `else` that stand there do where no branch before them was
--- taken, and the commands behind these branches.
+-- taken, and the commands after these branches.
 pub record Chain : Type 0 where
   pub otherwise : Commands
   pub rest : Commands
 
--- a command in front of others; one that isn't read as anything, which no faultless script has, does nothing
+-- a command before others; one that isn't read as anything, which no faultless script has, does nothing
 abbrev pub chain_with_command : Option CommandReading → ℕ → Condition → Commands → Chain → Chain
 chain_with_command None line condition inner chain = record { otherwise = no_commands; rest = chain.rest }
 chain_with_command (Some reading.reads_if) line condition inner chain = record { otherwise = no_commands; rest = chooses condition inner chain.otherwise chain.rest }

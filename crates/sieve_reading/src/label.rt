@@ -124,7 +124,7 @@ impl<'a> Expected<'a> {
         }
     }
 
-    /// What is expected behind the next positional argument.
+    /// What is expected after the next positional argument.
     fn past_slot(self) -> Expected<'a>
         ensures { expected_as result
             ≡ record { awaited = None; slots = drop 1 (expected_as self.entry).slots } }
@@ -136,7 +136,7 @@ impl<'a> Expected<'a> {
         }
     }
 
-    /// What is expected behind an argument of that shape (RFC 5228, section 2.6).
+    /// What is expected after an argument of that shape (RFC 5228, section 2.6).
     pub fn behind(self, shape: Shape) -> Expected<'a>
         ensures { expected_as result ≡ expected_behind (expected_as self.entry) shape }
     {

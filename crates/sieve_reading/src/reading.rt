@@ -302,7 +302,7 @@ pub enum Leaf {
 pub enum CommandReading {
     /// The first branch of a chain (RFC 5228, section 3.1).
     If,
-    /// A branch behind another, with a test (RFC 5228, section 3.1).
+    /// A branch after another, with a test (RFC 5228, section 3.1).
     Elsif,
     /// The last branch of a chain (RFC 5228, section 3.1).
     Else,

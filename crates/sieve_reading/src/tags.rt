@@ -53,7 +53,7 @@ impl Tags {
         tags
     }
 
-    /// The tags with another behind them, which counts where it is the first of its kind.
+    /// The tags with another after them, which counts where it is the first of its kind.
     fn with(self, tag: Tag) -> Tags
         ensures { tags_as result
             ≡ (λ kind. first_or (tags_as self kind) (tag_at kind (Tagged tag))) }

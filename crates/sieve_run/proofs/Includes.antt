@@ -99,14 +99,14 @@ looks_present find depth delivery name optional line ops old new there has is no
     ap (enters find depth delivery name ops) (noted ∙ ap (λ b. record old { reads = with_read name b old.reads }) (is ∙ sym (has_text (found_at find name) ops has)))
     ∙ by_found_code find depth delivery name optional line (found_at find name) ops (looked_up name (found_at find name) old) has
 
--- how the including script goes on behind the included one, by how that ended
+-- how the including script goes on after the included one, by how that ended
 pub resumes : (before : Values) (flow : Flow) (s : RunState) → ending_by (resumed_by flow) (resuming before s) ≡ resumed before (ending_by flow s)
 resumes before GoesOn s = refl
 resumes before Returned s = refl
 resumes before Stopped s = refl
 resumes before (Failed error) s = refl
 
--- running the code of an included script and going on behind it is what entering it does
+-- running the code of an included script and going on after it is what entering it does
 pub enters_by : (find : ScriptName → Lookup) (depth : ℕ) (delivery : Delivery) (name : ScriptName) (ops : List Operation) (old begun ended after : RunState) (flow back : Flow) → begun ≡ entering name old
     → doing (act_of find depth (inside name delivery)) (inside name delivery) (code_walk ops (length ops)) begun ≡ ending_by flow ended → back ≡ resumed_by flow → after ≡ resuming old.values ended → ending_by back after ≡ enters find depth delivery name ops old
 enters_by find depth delivery name ops old begun ended after flow back is_begun runs is_back is_after =

@@ -1,4 +1,4 @@
--- What is left of a text behind a front, and what its lines say.
+-- What is left of a text after a front, and what its lines say.
 use Rattle.std.proofs.Common.{◌≡◌, ◌≢◌, ◌↔◌, ℕ, ◌+◌, ◌<◌, ◌≤◌, Bool, true, false, not, IsTrue, ◌==◌, ◌&&◌, if◌then◌else◌, nat_eq, List, [], ◌∷◌, ◌++◌, length, drop, take, get_or, Option, None, Some, MatchOption, refl, sym, ap, ◌∙◌, arith}
 use Rattle.std.proofs.lemmas.Bool.{eq-eqb, eqb-true, ne_eqb}
 use Rattle.std.proofs.lemmas.Bool.Decides.{Decides-eqb}
@@ -44,7 +44,7 @@ pub skip_nothing : (text : List ℕ) → behind_front [] text ≡ Some text
 unfolding behind_front
 skip_nothing text = refl
 
--- a front leaves of a text that begins with it what is behind it, and a text of which a front leaves something begins with the front
+-- a front leaves of a text that begins with it what is after it, and a text of which a front leaves something begins with the front
 found : (front left : List ℕ) → behind_front front (front ++ left) ≡ Some left
 unfolding behind_front
 found [] left = refl
@@ -75,7 +75,7 @@ prefix_is front text answer is = by answer (strip_prefix_is Decides-eqb text fro
 
 -- ITEMS IN TURN
 
--- the texts of the items from a place on are the text of the item there, and those of the items behind it
+-- the texts of the items from a place on are the text of the item there, and those of the items after it
 cut : {X : Type 0} (f : X → List ℕ) (xs : List X) (i : ℕ) (x : X) → i < length xs → x ≡ get_or xs i x → flat_map f (drop i xs) ≡ f x ++ flat_map f (drop (i + 1) xs)
 cut f xs i x within is = ap (flat_map f) (drop_more xs i x within) ∙ ap (λ y. f y ++ flat_map f (drop (i + 1) xs)) (sym is)
 
@@ -89,7 +89,7 @@ pub no_item : {X : Type 0} (f : X → List ℕ) (xs : List X) (i : ℕ) (x : X) 
 no_item f xs i x text all within is so_far none =
     sym (skip_none (f x) (flat_map f (drop (i + 1) xs)) text none) ∙ ap (λ front. behind_front front text) (sym (cut f xs i x within is)) ∙ so_far
 
--- the items behind the one at a place leave, of what that one leaves, what all items leave; where it leaves nothing, all leave nothing
+-- the items after the one at a place leave, of what that one leaves, what all items leave; where it leaves nothing, all leave nothing
 pub next_at : {X : Type 0} (f : X → List ℕ) (xs : List X) (i : ℕ) (d : X) (text left all : List ℕ) → i < length xs
     → behind_front (flat_map f (drop i xs)) text ≡ behind_front (flat_map f xs) all → behind_front (f (get_or xs i d)) text ≡ Some left → behind_front (flat_map f (drop (i + 1) xs)) left ≡ behind_front (flat_map f xs) all
 next_at f xs i d text left all within so_far some =

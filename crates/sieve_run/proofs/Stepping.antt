@@ -29,7 +29,7 @@ one_more : {n turn : ℕ} → turn < n → n - turn ≡ suc (n - (turn + 1))
 one_more below = omega arith
 
 module _ (act : Acts) (delivery : Delivery) where
-  -- going on at the place behind an operation is going on at the next place, with the same truth in the register
+  -- going on at the place after an operation is going on at the next place, with the same truth in the register
   on_behind : (go : ℕ → Bool → Walk) (truth : Bool) (behind place : ℕ) (s : RunState) → behind ≡ place + 1 → doing act delivery (go (place + 1) truth) s ≡ doing act delivery (go behind truth) s
   on_behind go truth behind place s is = ap (λ b. doing act delivery (go b truth) s) (sym is)
 
@@ -37,7 +37,7 @@ module _ (act : Acts) (delivery : Delivery) where
   by_answer true f s = refl
   by_answer false f s = refl
 
-  -- a test that comes to a truth, and leaves a state, goes on at the place behind with that truth in the register
+  -- a test that comes to a truth, and leaves a state, goes on at the place after with that truth in the register
   pub asks_steps : (ask : Ask) (truth : Bool) (behind : ℕ) (register : Bool) (old new : RunState) → truth ≡ truth_of delivery old ask → new ≡ behind_test delivery ask old → StepsTo act delivery (test_op ask) behind register old (Next behind truth) new
   unfolding perform
   asks_steps ask truth behind register old new is moves = record {
@@ -124,7 +124,7 @@ module _ (act : Acts) (delivery : Delivery) where
     at_none zero place register s is = ap (λ o. doing act delivery (at_limit o) s) is
     at_none (suc n) place register s is = ap (λ o. doing act delivery (walk.step (walk_from ops n) o place register) s) is
 
-    -- the walk ends behind the last operation
+    -- the walk ends after the last operation
     pub past_end : (n place : ℕ) (register : Bool) (s : RunState) → length ops ≤ place → doing act delivery (walk_from ops n place register) s ≡ goes_on s
     past_end n place register s past = at_none n place register s (slice_get_past ops place past)
 

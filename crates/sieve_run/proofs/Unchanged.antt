@@ -12,7 +12,7 @@ use Rattle.sieve_run.specs.Run.{SetsMatched, Answer, and_then, answer_of, also, 
 use Rattle.sieve_effects.specs.State.{RunState}
 use Rattle.sieve_variables.specs.Value.{with_matched}
 
--- a state behind two matches in turn is the one before them but for what a match gave
+-- a state after two matches in turn is the one before them but for what a match gave
 again : (state between next : RunState) → SetsMatched state between → SetsMatched between next → SetsMatched state next
 again state between next first second =
     (second.0, second.1 ∙ ap {A = RunState} (λ s. record s { values = with_matched second.0 s.values }) first.1)
@@ -61,12 +61,12 @@ decide_keeps delivery (both c d) state =
 decide_keeps delivery (either c d) state =
     or_else_keeps (decide (answer_of delivery) c state).truth (decide (answer_of delivery) d) state (decide (answer_of delivery) c state).state (decide_keeps delivery d) (decide_keeps delivery c state)
 
--- nothing behind a stop is run
+-- nothing after a stop is run
 pub stop_ends : (ask : Ask → RunState → Answer) (act : Leaf → ℕ → RunState → Ending) (rest : Commands) (behind : RunState → Ending) (state : RunState) → and_then (exec ask act (stops rest) state) behind ≡ stopped state
 unfolding exec
 stop_ends ask act rest behind state = refl
 
--- nothing behind a return is run
+-- nothing after a return is run
 pub return_ends : (ask : Ask → RunState → Answer) (act : Leaf → ℕ → RunState → Ending) (rest : Commands) (behind : RunState → Ending) (state : RunState) → and_then (exec ask act (returns rest) state) behind ≡ returned state
 unfolding exec
 return_ends ask act rest behind state = refl

@@ -4,6 +4,6 @@ use Rattle.std.specs.List.{IsDistinct}
 use Rattle.sieve_effects.specs.declared.action.Action.{Action}
 use Rattle.sieve_effects.specs.Act.{same_action}
 
--- no action is one with an action behind it
+-- no action is one with an action after it
 abbrev pub AreDistinct : List Action → Type 0
 AreDistinct actions = IsDistinct same_action actions

@@ -15,14 +15,14 @@ use Rattle.sieve_effects.specs.declared.response.Response.{Response}
 use Rattle.sieve_reading.specs.Reading.{rejection_word}
 use Rattle.sieve_run.specs.Verdict.{Verdict}
 
--- a text behind a space, and texts so
+-- a text after a space, and texts so
 abbrev pub spaced_word : List ℕ → List ℕ
 spaced_word text = codes " " ++ quoted text
 
 abbrev pub spaced_words : List (List ℕ) → List ℕ
 spaced_words texts = flat_map spaced_word texts
 
--- a text behind a word, where it is given
+-- a text after a word, where it is given
 abbrev pub given_words : List ℕ → Option (List ℕ) → List ℕ
 given_words word None = []
 given_words word (Some text) = word ++ quoted text
@@ -31,7 +31,7 @@ given_words word (Some text) = word ++ quoted text
 unfoldable pub worded_text : List ℕ → List ℕ → List ℕ
 worded_text word text = word ++ quoted text
 
--- a word and texts, each behind a space
+-- a word and texts, each after a space
 unfoldable pub worded_texts : List ℕ → List (List ℕ) → List ℕ
 worded_texts word texts = word ++ spaced_words texts
 
@@ -70,7 +70,7 @@ sending_words response = days_words response.days ++ given_words (codes " subjec
 unfoldable pub further_words : Response → List ℕ
 further_words response = addresses_words response.addresses ++ mime_word response.mime ++ given_words (codes " handle ") response.handle
 
--- the line of a response
+-- the line of a response (RFC 5230, section 4)
 unfoldable pub response_line : Response → List ℕ
 response_line response = worded_text (codes "vacation ") response.reason ++ sending_words response ++ further_words response
 
@@ -115,7 +115,7 @@ verdict_lines mailbox verdict = map action_line verdict.actions ++ (implicit_lin
 abbrev pub read_lines : Verdict → List (List ℕ)
 read_lines verdict = map read_line verdict.reads
 
--- Whether a text has these lines and no others. A line of a text ends before an LF and a CR directly before that; nothing behind the last LF is
+-- Whether a text has these lines and no others. A line of a text ends before an LF and a CR directly before that; nothing after the last LF is
 -- no line.
 abbrev pub says : List ℕ → List (List ℕ) → Bool
 says text wanted = pointwise (pointwise nat_eq) (lines text) wanted

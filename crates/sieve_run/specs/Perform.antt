@@ -19,7 +19,7 @@ perform ask act (acted leaf line next) state = and_then (act leaf line state) (p
 
 -- WITH A LIST OF ANSWERS
 
--- the answers from one of two walks, and those behind a command that didn't end the run
+-- the answers from one of two walks, and those after a command that didn't end the run
 abbrev pub chosen_answers : Bool → (RunState → List Bool) → (RunState → List Bool) → RunState → List Bool
 chosen_answers true held otherwise state = held state
 chosen_answers false held otherwise state = otherwise state

@@ -25,7 +25,7 @@ and_then (failed error state) next = failed error state
 
 -- TESTS
 
--- the truth of a test, and the state behind it
+-- the truth of a test, and the state after it
 pub record Answer : Type 0 where
   pub truth : Bool
   pub state : RunState
@@ -62,7 +62,7 @@ decide ask (either c d) state = or_else (decide ask c state).truth (decide ask d
 
 -- COMMANDS
 
--- the block of two that a truth chooses
+-- the block of two that a truth chooses (RFC 5228, section 3.1)
 abbrev pub chosen : Bool → (RunState → Ending) → (RunState → Ending) → RunState → Ending
 chosen true block otherwise state = block state
 chosen false block otherwise state = otherwise state
@@ -109,7 +109,7 @@ looked_up name lookup state = record state { reads = with_read name (is_there lo
 abbrev pub entering : ScriptName → RunState → RunState
 entering name state = record state { entered = state.entered ++ name ∷ []; values = begun_values state.values }
 
--- the state behind an included script, in which the variables of the including one stand again
+-- the state after an included script, in which the variables of the including one stand again (RFC 6609, section 3.4)
 abbrev pub resuming : Values → RunState → RunState
 resuming before state = record state { values = resumed_values before state.values }
 
@@ -140,7 +140,7 @@ include_of find delivery enter name once optional line state =
     if once && is_script name state.entered then goes_on state else
     if is_running name delivery then fails_at delivery line RecursiveInclude state else includes find delivery enter name optional line state
 
--- what an include does where scripts may still include one another so deep
+-- what an include does where scripts may still include one another so deep (RFC 6609, section 3.2)
 unfoldable pub included : (ScriptName → Lookup) → (depth : ℕ) → Delivery → ScriptName → (once optional : Bool) → ℕ → RunState → Ending
 included find zero delivery name once optional line state = include_of find delivery None name once optional line state
 included find (suc depth) delivery name once optional line state =
@@ -162,7 +162,7 @@ abbrev pub implicit_of : RunState → Option (List (List ℕ))
 implicit_of state = if state.cancelled then None else Some state.flags
 
 -- In the main script a return is the end (RFC 6609, section 3.3). After an error no action is taken, and the implicit keep stands
--- (RFC 5228, section 2.10.6), without flags.
+-- (RFC 5228, section 2.10.6), without flags (RFC 5228, section 2.10.2).
 abbrev pub verdict_of : Ending → Verdict
 verdict_of (goes_on state) = record { actions = state.actions; origins = state.origins; implicit = implicit_of state; error = None; reads = state.reads }
 verdict_of (returned state) = record { actions = state.actions; origins = state.origins; implicit = implicit_of state; error = None; reads = state.reads }

@@ -92,14 +92,14 @@ pub(crate) fn skip_pieces<'a>(text: &'a [u8], pieces: &[Piece<'_>]) -> Option<&'
     Some(left)
 }
 
-/// What follows a text behind a space.
+/// What follows a text after a space.
 pub(crate) fn skip_spaced<'a>(text: &'a [u8], word: &[u8]) -> Option<&'a [u8]>
     ensures { option_copied result ≡ behind_front (spec.spaced_word word.now) text.now }
 {
     skip_pieces(text, &[Piece::Raw(b" "), Piece::Quoted(word)])
 }
 
-/// What follows flags, each behind a space.
+/// What follows flags, each after a space.
 #[tactic(auto, using(crate::proofs::Left::left))]
 fn skip_flags<'a>(text: &'a [u8], flags: &FlagList) -> Option<&'a [u8]>
     ensures { option_copied result ≡ behind_front (spec.spaced_words flags.now) text.now }
@@ -142,7 +142,7 @@ fn skip_create(text: &[u8], create: bool) -> Option<&[u8]>
     skip_octets(text, word)
 }
 
-/// What follows a text behind a word, where it is given.
+/// What follows a text after a word, where it is given.
 pub(crate) fn skip_given<'a>(
     text: &'a [u8],
     word: &[u8],
@@ -227,7 +227,7 @@ fn skip_error<'a>(text: &'a [u8], error: &RunError) -> Option<&'a [u8]>
     )
 }
 
-/// Whether nothing is left behind the octets of a line.
+/// Whether nothing is left after the octets of a line.
 fn is_whole(left: Option<&[u8]>) -> bool
     ensures { result ≡ is_whole (option_copied left.entry) }
 {

@@ -90,7 +90,7 @@ pub(crate) fn is_there(found: &Found<'_>) -> bool
     }
 }
 
-/// How the including script goes on behind one that ended so.
+/// How the including script goes on after one that ended so.
 pub(crate) fn resumed(flow: Flow) -> Flow
     ensures { result ≡ resumed_by flow }
 {

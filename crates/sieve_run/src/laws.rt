@@ -18,8 +18,8 @@ ghost use Rattle.sieve_run.specs.Run as spec;
 ghost use Rattle.sieve_effects.specs.State.{RunState};
 ghost use Rattle.sieve_base.specs.declared.name.ScriptName as names;
 
-/// Commands behind a `stop` change nothing, whatever they are, whatever tests ask and whatever commands that act do, be they behind it in
-/// its own block or behind that (RFC 5228, section 3.3).
+/// Commands after a `stop` change nothing, whatever they are, whatever tests ask and whatever commands that act do, be they after it in
+/// its own block or after that (RFC 5228, section 3.3).
 #[tactic(auto, using(crate::proofs::Unchanged::stop_ends))]
 pub fn stop_ends_the_commands()
     ensures { (ask : Ask → RunState → spec.Answer) (act : Leaf → ℕ → RunState → Ending)
@@ -27,7 +27,7 @@ pub fn stop_ends_the_commands()
         → spec.and_then (spec.exec ask act (stops rest) state) behind ≡ stopped state }
 {}
 
-/// Commands behind a `return` change nothing either (RFC 6609, section 3.3).
+/// Commands after a `return` change nothing either (RFC 6609, section 3.3).
 #[tactic(auto, using(crate::proofs::Unchanged::return_ends))]
 pub fn return_ends_the_commands()
     ensures { (ask : Ask → RunState → spec.Answer) (act : Leaf → ℕ → RunState → Ending)

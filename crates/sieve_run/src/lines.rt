@@ -8,14 +8,14 @@ use match_text::FlagList;
 use sieve_base::{Octets, Piece, ScriptName, Sink, WriteFault, write_out, write_pieces};
 use sieve_effects::{Action, Filing, Origin, RunError};
 
-/// Writes a text behind a space.
+/// Writes a text after a space.
 pub(crate) fn write_spaced<W: Sink>(text: &[u8], writer: &mut W) -> Result<(), WriteFault>
     ensures { Writes W.contents W.fault_count result writer.old writer.new (spaced_word text.now) }
 {
     write_pieces(&[Piece::Raw(b" "), Piece::Quoted(text)], writer)
 }
 
-/// Writes flags, each behind a space.
+/// Writes flags, each after a space.
 #[tactic(auto, using(sieve_base::proofs::Writing::writing_items))]
 fn write_flags<W: Sink>(flags: &FlagList, writer: &mut W) -> Result<(), WriteFault>
     ensures { Writes W.contents W.fault_count result writer.old writer.new
@@ -73,7 +73,7 @@ fn write_create<W: Sink>(create: bool, writer: &mut W) -> Result<(), WriteFault>
     write_out(word, writer)
 }
 
-/// Writes a text behind a word, where it is given.
+/// Writes a text after a word, where it is given.
 pub(crate) fn write_given<W: Sink>(
     word: &[u8],
     text: &Option<Octets>,
@@ -103,7 +103,7 @@ fn write_store<W: Sink>(
     write_filing(filing, writer)
 }
 
-/// Writes the line of an action, without what stands before and behind it in a report. An error comes from the writer alone.
+/// Writes the line of an action, without what stands before and after it in a report. An error comes from the writer alone.
 #[tactic(auto, unfolding(crate::specs::Lines::action_line))]
 pub fn write_action<W: Sink>(action: &Action, writer: &mut W) -> Result<(), WriteFault>
     ensures { Writes W.contents W.fault_count result writer.old writer.new
@@ -125,7 +125,7 @@ pub fn write_action<W: Sink>(action: &Action, writer: &mut W) -> Result<(), Writ
     }
 }
 
-/// Writes the line of the implicit keep with its flags, without what stands before and behind it in a report. An error comes from the
+/// Writes the line of the implicit keep with its flags, without what stands before and after it in a report. An error comes from the
 /// writer alone.
 #[tactic(auto, unfolding(crate::specs::Lines::implicit_line))]
 pub fn write_implicit<W: Sink>(
@@ -139,7 +139,7 @@ pub fn write_implicit<W: Sink>(
     write_mailbox_line(b"implicit ", mailbox, flags, writer)
 }
 
-/// Writes the line of an error, without what stands before and behind it in a report. An error comes from the writer alone.
+/// Writes the line of an error, without what stands before and after it in a report. An error comes from the writer alone.
 #[tactic(auto, unfolding(crate::specs::Lines::error_line))]
 pub fn write_error<W: Sink>(error: &RunError, writer: &mut W) -> Result<(), WriteFault>
     ensures { Writes W.contents W.fault_count result writer.old writer.new (error_line error.now) }
@@ -175,7 +175,7 @@ pub fn write_origin<W: Sink>(origin: &Origin, writer: &mut W) -> Result<(), Writ
     )
 }
 
-/// Writes the line of a looked-up name, without what stands before and behind it in a report. An error comes from the writer alone.
+/// Writes the line of a looked-up name, without what stands before and after it in a report. An error comes from the writer alone.
 #[tactic(auto, unfolding(crate::specs::Lines::read_line))]
 pub fn write_read<W: Sink>(
     name: &ScriptName,

@@ -20,7 +20,7 @@ fn skip_days(text: &[u8], days: Option<u64>) -> Option<&[u8]>
     }
 }
 
-/// What follows texts, each behind a space.
+/// What follows texts, each after a space.
 #[tactic(auto, using(crate::proofs::Left::left))]
 fn skip_texts<'a>(text: &'a [u8], texts: &Texts) -> Option<&'a [u8]>
     ensures { option_copied result ≡ behind_front (spec.spaced_words texts.now) text.now }
@@ -32,7 +32,7 @@ fn skip_texts<'a>(text: &'a [u8], texts: &Texts) -> Option<&'a [u8]>
     Some(left)
 }
 
-/// What follows a word and texts, each behind a space.
+/// What follows a word and texts, each after a space.
 #[tactic(auto, using(crate::proofs::Left::left), unfolding(crate::specs::Lines::worded_texts))]
 fn skip_worded_texts<'a>(text: &'a [u8], word: &[u8], texts: &Texts) -> Option<&'a [u8]>
     ensures { option_copied result ≡ behind_front (spec.worded_texts word.now texts.now) text.now }

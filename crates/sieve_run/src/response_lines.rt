@@ -19,7 +19,7 @@ fn write_days<W: Sink>(days: Option<u64>, writer: &mut W) -> Result<(), WriteFau
     }
 }
 
-/// Writes texts, each behind a space.
+/// Writes texts, each after a space.
 #[tactic(auto, using(sieve_base::proofs::Writing::writing_items))]
 fn write_texts<W: Sink>(texts: &Texts, writer: &mut W) -> Result<(), WriteFault>
     ensures { Writes W.contents W.fault_count result writer.old writer.new
@@ -31,7 +31,7 @@ fn write_texts<W: Sink>(texts: &Texts, writer: &mut W) -> Result<(), WriteFault>
     Ok(())
 }
 
-/// Writes a word and texts, each behind a space.
+/// Writes a word and texts, each after a space.
 #[tactic(auto, using(sieve_base::proofs::Writing::writing), unfolding(crate::specs::Lines::worded_texts))]
 fn write_worded_texts<W: Sink>(word: &[u8], texts: &Texts, writer: &mut W) -> Result<(), WriteFault>
     ensures { Writes W.contents W.fault_count result writer.old writer.new

@@ -83,7 +83,7 @@ pub(crate) fn execute<L: Library>(
     Ok(Flow::GoesOn)
 }
 
-/// Carries out an operation of code, where this is the place behind it.
+/// Carries out an operation of code, where this is the place after it.
 #[cycle(execute)]
 #[tactic(auto, using(crate::proofs::Stepping::stop_steps, crate::proofs::Stepping::return_steps))]
 fn carry_out<L: Library>(

@@ -14,7 +14,7 @@ pub(crate) struct Turn<'a> {
     pub(crate) delivery: &'a Delivery<'a>,
     /// The code that the operation is one of.
     pub(crate) code: &'a Code,
-    /// The place behind the operation.
+    /// The place after the operation.
     pub(crate) behind: usize,
     /// The truth in the register.
     pub(crate) register: bool,
@@ -36,7 +36,7 @@ pub(crate) fn proceed(register: bool, place: usize) -> Step
     Step::Next { place, register }
 }
 
-/// The step after a command that ended so, where this is the place behind its operation's.
+/// The step after a command that ended so, where this is the place after its operation's.
 fn step_after(flow: Flow, behind: usize, register: bool) -> Step
     ensures { result ≡ step_after flow behind register }
 {

@@ -11,7 +11,7 @@ use Rattle.sieve_syntax.specs.declared.token.TokenKind.TheVariants.{Bad}
 use Rattle.sieve_syntax.proofs.Longest.{IsFound, longest_at-found}
 use Rattle.sieve_syntax.proofs.Spelling.{step_white, step_token, step_bad, step_end, unique_from}
 
--- where white space stands at the place, the tokens go on from the place behind it
+-- where white space stands at the place, the tokens go on from the place after it
 pub goes_white : (text : List ℕ) (from place n : ℕ) (rest : List ℕ) → rest ≡ drop place text → white_at rest ≡ Some n → GoesTo text from place → GoesTo text from (place + n)
 goes_white text from place n rest e w so = record { goes = λ more h. so.goes more (step_white text place n more (ap white_at (sym e) ∙ w) h) }
 

@@ -45,7 +45,7 @@ line_short (c ∷ cs) (suc n) h =
     by_cases (c == octet_of "\n") (λ b. suc n < (if b then 1 else suc (line_length cs)) → (if b then 1 else suc (line_length (take n cs))) ≡ suc n)
     (λ e less. absurd (omega arith)) (λ e less. ap suc (line_short cs n (omega arith))) h
 
--- in front of a line's last octet stands no LF
+-- before a line's last octet stands no LF
 line_bare : (xs : List ℕ) (n : ℕ) → n < line_length xs → list_any (λ c. c == octet_of "\n") (take n xs) ≡ false
 unfolding line_length
 line_bare [] n h = absurd (omega arith)

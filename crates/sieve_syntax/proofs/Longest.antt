@@ -200,7 +200,7 @@ name_colon : (rest : List ℕ) → name_length (octet_of ":" ∷ rest) ≡ 0
 unfolding name_length
 name_colon rest = refl
 
--- the name in front of the colon has three octets behind its first
+-- the name before the colon has three octets after its first
 text_name : (c : ℕ) (cs : List ℕ) → IsTextColon (c ∷ cs) → name_length cs ≡ 3
 text_name c cs h =
     let tail : cs ≡ h.e ∷ h.x ∷ h.u ∷ octet_of ":" ∷ h.rest = (let is = h.is in cc) in

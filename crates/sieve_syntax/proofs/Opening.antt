@@ -131,7 +131,7 @@ either_plain c a b p q e =
     by_cases (c == a) (λ t. (c == a) ≡ t → (t || (c == b)) ≡ true → (c == octet_of "\n") ≡ false)
     (λ x f g. ap (λ y. y == octet_of "\n") (eqb-true c a f) ∙ p) (λ x f g. ap (λ y. y == octet_of "\n") (eqb-true c b g) ∙ q) refl e
 
--- behind `text:` the first line goes on
+-- after `text:` the first line goes on
 text_line : (t e x u c : ℕ) (cs : List ℕ) → spells_text t e x u ≡ true → (c == octet_of ":") ≡ true → line_length (t ∷ e ∷ x ∷ u ∷ c ∷ cs) ≡ suc (suc (suc (suc (suc (line_length cs)))))
 text_line t e x u c cs symbol colon =
     let three = and_right (t == octet_of "t" || (t == octet_of "T")) _ symbol in

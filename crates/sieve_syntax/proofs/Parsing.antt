@@ -134,7 +134,7 @@ module _ (depth room : ℕ) where
   -- THE MACHINE AND THE TOKENS OF A TEXT
 
   module _ (text : List ℕ) where
-    -- where tokens lead from one state to another, what is read behind them is read from the other state
+    -- where tokens lead from one state to another, what is read after them is read from the other state
     read-run : (xs ys : List Token) (s t : ParserState) → run depth room s (symbols_of text xs) ≡ Some t → read depth room text s (xs ++ ys) ≡ read depth room text t ys
     unfolding run read
     read-run [] ys s t e = let same : s ≡ t = cc in ap (λ x. read depth room text x ys) same
@@ -180,7 +180,7 @@ module _ (depth room : ℕ) where
         let clash : Some b.0 ≡ None = sym some ∙ none in
         cc
 
-    -- no tree writes the tokens where the state behind them is not whole
+    -- no tree writes the tokens where the state after them is not whole
     part_stops : (tokens : List Token) (s : ParserState) → run depth room start (symbols_of text tokens) ≡ Some s → whole s ≡ None → (tree : List Node) → WritesSymbols depth room tree (symbols_of text tokens) → ⊥
     unfolding whole
     part_stops tokens s e f tree h =

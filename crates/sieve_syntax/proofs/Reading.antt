@@ -67,7 +67,7 @@ module _ (depth room : ℕ) where
       ∙ read_arguments o ls (with_argument h a) more ws are.1
       ∙ ap (λ xs. run depth room (in_arguments o ls (record { name = h.name; line = h.line; args = xs })) ws) (append_assoc h.args (a ∷ []) more)
 
-  -- behind arguments, a symbol that may end a command or a test ends it without tests
+  -- after arguments, a symbol that may end a command or a test ends it without tests
   pub read_no_tests : (o : Outer) (ls : List Level) (h : Head) (ws : List Symbol) → EndsFirst ws → run depth room (in_arguments o ls h) ws ≡ closed depth room o ls h no_tests ws
   unfolding run step closed
   read_no_tests o ls h [] ends = absurd ends
@@ -82,13 +82,13 @@ module _ (depth room : ℕ) where
   closed_one o ls g h ts [] = refl
   closed_one o ls g h ts (w ∷ ws) = refl
 
-  -- an identifier behind arguments begins a test inside the command or the test, where there is depth
+  -- an identifier after arguments begins a test inside the command or the test, where there is depth
   enter_one : (o : Outer) (ls : List Level) (h : Head) (name : List ℕ) (line : ℕ) (ws : List Symbol) → length ls < depth → run depth room (in_arguments o ls h) (identifier name line ∷ ws) ≡ run depth room (in_arguments o (for_one h ∷ ls) (bare_head name line)) ws
   unfolding run step
   enter_one o ls h name line ws fits =
       ap (λ b. elim (if b then Some (in_arguments o (for_one h ∷ ls) (bare_head name line)) else None) as (λ x. Option ParserState) [ Some next ↦ run depth room next ws | None ↦ None ]) (lt-ltb (length ls) depth fits)
 
-  -- an opening parenthesis behind arguments begins a list of tests, where there is depth
+  -- an opening parenthesis after arguments begins a list of tests, where there is depth
   enter_list : (o : Outer) (ls : List Level) (h : Head) (ws : List Symbol) → length ls < depth → run depth room (in_arguments o ls h) (open_parenthesis ∷ ws) ≡ run depth room (before_test o (for_list h [] ∷ ls)) ws
   unfolding run step
   enter_list o ls h ws fits =

@@ -40,7 +40,7 @@ read-end : (text : List ℕ) (s : ParserState) (o : Option (List Node)) → whol
 unfolding read
 read-end text s o e = ap (λ x. elim x as (λ z. Result (List Node) ℕ) [ Some tree ↦ Ok tree | None ↦ Err (line_at text (length text)) ]) e
 
--- behind a token that the state takes, the next state gives what the text means
+-- after a token that the state takes, the next state gives what the text means
 pub next_means : (text : List ℕ) (s next : ParserState) (place : ℕ) (token : Token) (behind : Cursor) → IsNext text place token behind → step test_depth block_room s (symbol_of text token) ≡ Some next → Means text s place → Means text next behind.place
 next_means text s next place token behind is e so more h = sym (read-next text s next token more e) ∙ so (token ∷ more) (is.goes more h)
 

@@ -75,7 +75,7 @@ pub comment-end : (xs : List ℕ) (i : ℕ) → length xs ≤ i → shifted i (c
 unfolding comment_length
 comment-end xs i h = ap (shifted i) (at_drop_all comment_length xs i h)
 
--- the length of the rest of a quoted string, behind a backslash or not
+-- the length of the rest of a quoted string, after a backslash or not
 abbrev pub string_length : Bool → List ℕ → Option ℕ
 string_length true xs = protected_length xs
 string_length false xs = quoted_length xs
@@ -101,7 +101,7 @@ unfolding quoted_length
 string-end xs i true h = ap (shifted i) (at_drop_all protected_length xs i h)
 string-end xs i false h = ap (shifted i) (at_drop_all quoted_length xs i h)
 
--- the length of the lines up to a dot alone, by the first of these lines and those behind it
+-- the length of the lines up to a dot alone, by the first of these lines and those after it
 pub dot-more : (xs : List ℕ) (i : ℕ) → i < length xs → shifted i (dot_length (lines_of (drop i xs))) ≡
     (if is_dot_line (take (line_length (drop i xs)) (drop i xs)) then Some (i + line_length (drop i xs))
     else shifted (i + line_length (drop i xs)) (dot_length (lines_of (drop (i + line_length (drop i xs)) xs))))

@@ -28,7 +28,7 @@ module _ {V : Type 0} (view : List Part → V) where
   pub seen_test : (t : one_tests.Test) → test_of view t ≡ test t.name t.line (map (argument_of view) t.args.items) (tests_of view t.tests)
   seen_test t = test_folds.fold_out-Test (Tests V) (Test V) tests_step (test_step view) t
 
-  -- the tests behind arguments, by whether they are none, one or a list
+  -- the tests after arguments, by whether they are none, one or a list
   pub seen_none : (ts : test_variants.the_data) → ts ≡ test_variants.None → tests_of view ts ≡ no_tests
   seen_none ts is = ap (tests_of view) is ∙ none_seen
 

@@ -43,7 +43,7 @@ unfoldable mutual
   written_test_list end_tests = close_parenthesis ∷ []
   written_test_list (more_tests t ts) = written_test t ++ written_test_rest ts
 
-  -- the other tests of such a list, each behind a comma
+  -- the other tests of such a list, each after a comma
   pub written_test_rest : TestList → List Symbol
   written_test_rest end_tests = close_parenthesis ∷ []
   written_test_rest (more_tests t ts) = comma ∷ written_test t ++ written_test_rest ts

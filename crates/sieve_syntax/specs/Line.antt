@@ -8,7 +8,7 @@ unfoldable pub line_length : List ℕ → ℕ
 line_length [] = 0
 line_length (c ∷ cs) = if c == octet_of "\n" then 1 else suc (line_length cs)
 
--- an octet in front of the first line
+-- an octet before the first line
 abbrev pub on_first : ℕ → List (List ℕ) → List (List ℕ)
 on_first c [] = (c ∷ []) ∷ []
 on_first c (line ∷ lines) = (c ∷ line) ∷ lines

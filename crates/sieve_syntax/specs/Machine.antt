@@ -31,15 +31,15 @@ pub record Outer : Type 0 where
 pub data ParserState : Type 0 where
   -- between two commands
   between : Outer → ParserState
-  -- behind an identifier or an argument
+  -- after an identifier or an argument
   in_arguments : Outer → List Level → Head → ParserState
   -- in a list of strings, where a string has to come
   before_string : Outer → List Level → Head → List Text → ParserState
-  -- in a list of strings, behind a string
+  -- in a list of strings, after a string
   after_string : Outer → List Level → Head → List Text → ParserState
   -- in a list of tests, where a test has to come
   before_test : Outer → List Level → ParserState
-  -- behind a list of tests
+  -- after a list of tests
   after_tests : Outer → List Level → Head → Tests → ParserState
 
 abbrev pub bare_head : List ℕ → ℕ → Head
@@ -60,19 +60,19 @@ after_node o n = record { blocks = o.blocks; done = o.done ++ n ∷ [] }
 abbrev pub inside_block : Outer → Head → Tests → Outer
 inside_block o h ts = record { blocks = record { done = o.done; head = h; tests = ts } ∷ o.blocks; done = [] }
 
--- a symbol behind a command with all its arguments and tests
+-- a symbol after a command with all its arguments and tests
 unfoldable pub after_command : ℕ → Outer → Head → Tests → Symbol → Option ParserState
 after_command room o h ts semicolon = Some (between (after_node o (node_with h ts no_block)))
 after_command room o h ts open_brace = if nat_lt (length o.blocks) room then Some (between (inside_block o h ts)) else None
 after_command room o h ts _ = None
 
--- a symbol behind a test in a list of tests
+-- a symbol after a test in a list of tests
 unfoldable pub after_listed : Outer → List Level → Head → List Test → Symbol → Option ParserState
 after_listed o ls h listed comma = Some (before_test o (for_list h listed ∷ ls))
 after_listed o ls h listed close_parenthesis = Some (after_tests o ls h (test_list (tests listed)))
 after_listed o ls h listed _ = None
 
--- a symbol behind a command or a test with all its arguments and tests: a test that stands alone ends with what it is in
+-- a symbol after a command or a test with all its arguments and tests: a test that stands alone ends with what it is in
 unfoldable pub close : ℕ → Outer → List Level → Head → Tests → Symbol → Option ParserState
 close room o [] h ts w = after_command room o h ts w
 close room o (for_one g ∷ ls) h ts w = close room o ls g (one_test (test_with h ts)) w

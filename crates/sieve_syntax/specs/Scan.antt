@@ -16,13 +16,13 @@ unfoldable pub name_length : List ℕ → ℕ
 name_length [] = 0
 name_length (c ∷ cs) = if is_name_octet c then suc (name_length cs) else 0
 
--- how many octets of a number begin a text, behind its first digit
+-- how many octets of a number begin a text, after its first digit
 unfoldable pub number_length : List ℕ → ℕ
 number_length [] = 0
 number_length (c ∷ cs) = if is_digit c then suc (number_length cs) else (if is_unit c then 1 else 0)
 
 unfoldable mutual
-  -- how many octets a quoted string has, behind its first quotation mark
+  -- how many octets a quoted string has, after its first quotation mark
   pub quoted_length : List ℕ → Option ℕ
   quoted_length [] = None
   quoted_length (c ∷ cs) = if c == octet_of "\\" then option_map suc (protected_length cs) else (if c == octet_of "\"" then Some 1 else option_map suc (quoted_length cs))
@@ -50,7 +50,7 @@ opening_stop (c ∷ cs) =
     else (if c == octet_of "#" then Some (line_length (c ∷ cs))
     else None))
 
--- how many octets end the first line of a multi-line string, with the blanks in front of them
+-- how many octets end the first line of a multi-line string, with the blanks before them
 unfoldable pub opening_end : List ℕ → Option ℕ
 opening_end [] = None
 opening_end (c ∷ cs) = if is_blank c then option_map suc (opening_end cs) else opening_stop (c ∷ cs)
@@ -70,7 +70,7 @@ unfoldable pub name_at : List ℕ → Option (TokenKind × ℕ)
 name_at [] = None
 name_at (c ∷ cs) = elim (multi_line_length (lines_of (c ∷ cs))) [ Some n ↦ Some (kinds.MultiLine, n) | None ↦ Some (kinds.Identifier, suc (name_length cs)) ]
 
--- a tag, behind its colon
+-- a tag, after its colon
 unfoldable pub tag_at : List ℕ → Option (TokenKind × ℕ)
 tag_at [] = None
 tag_at (c ∷ cs) = if begins_name c then Some (kinds.Tag, suc (suc (name_length cs))) else None

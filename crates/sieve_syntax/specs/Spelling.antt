@@ -37,7 +37,7 @@ unfoldable mutual
   ends_quoted [] = false
   ends_quoted (c ∷ cs) = if c == octet_of "\\" then ends_protected cs else (if c == octet_of "\"" then is_none cs else ends_quoted cs)
 
-  -- the rest of a quoted string behind a backslash
+  -- the rest of a quoted string after a backslash
   pub ends_protected : List ℕ → Bool
   ends_protected [] = false
   ends_protected (c ∷ cs) = ends_quoted cs

@@ -17,7 +17,7 @@ mutual
   pub data Test (S : Type 0) : Type 0 where
     test : (name : List ℕ) (line : ℕ) (args : List (Argument S)) (tests : Tests S) → Test S
 
-  -- the tests behind arguments: none, one, or a list in parentheses
+  -- the tests after arguments: none, one, or a list in parentheses
   pub data Tests (S : Type 0) : Type 0 where
     no_tests : Tests S
     one_test : Test S → Tests S

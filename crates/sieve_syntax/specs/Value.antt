@@ -8,7 +8,7 @@ use Rattle.sieve_syntax.specs.Line.{lines_of, is_dot_line}
 abbrev pub unit_of : ℕ → ℕ
 unit_of octet = if octet == octet_of "K" || (octet == octet_of "k") then 1024 else (if octet == octet_of "M" || (octet == octet_of "m") then 1048576 else 1073741824)
 
--- the digits of a number in base 10 behind those that gave n, times its unit
+-- the digits of a number in base 10 after those that gave n, times its unit
 unfoldable pub number_from : ℕ → List ℕ → ℕ
 number_from n [] = n
 number_from n (c ∷ cs) = if is_digit c then number_from (10 * n + (c - octet_of "0")) cs else n * unit_of c
@@ -27,7 +27,7 @@ unfoldable pub with_cr : Bool → List ℕ → List ℕ
 with_cr after_cr [] = []
 with_cr after_cr (c ∷ cs) = line_end after_cr c ++ with_cr (c == octet_of "\r") cs
 
--- whether a backslash protects the octet behind it, which one that is protected itself doesn't
+-- whether a backslash protects the octet after it, which one that is protected itself doesn't
 abbrev pub is_protector : Bool → ℕ → Bool
 is_protector protected c = (c == octet_of "\\") && not protected
 
@@ -56,7 +56,7 @@ between_quotes symbol = slice_range symbol 1 (length symbol - 1)
 unfoldable pub quoted_octets : List ℕ → List ℕ
 quoted_octets symbol = unprotected (with_cr false (between_quotes symbol))
 
--- a dot in front of a line that begins with two is removed (RFC 5228, section 2.4.2)
+-- a dot before a line that begins with two is removed (RFC 5228, section 2.4.2)
 unfoldable pub without_dot : List ℕ → List ℕ
 without_dot [] = []
 without_dot (c ∷ []) = c ∷ []
@@ -67,6 +67,6 @@ unfoldable pub dot_lines : List (List ℕ) → List ℕ
 dot_lines [] = []
 dot_lines (line ∷ lines) = if is_dot_line line then [] else with_cr false (without_dot line) ++ dot_lines lines
 
--- a multi-line string: its lines behind the first (RFC 5228, section 2.4.2)
+-- a multi-line string: its lines after the first (RFC 5228, section 2.4.2)
 unfoldable pub multi_line_octets : List ℕ → List ℕ
 multi_line_octets symbol = dot_lines (drop 1 (lines_of symbol))

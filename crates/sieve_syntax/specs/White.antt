@@ -13,7 +13,7 @@ unfoldable pub comment_length : List ℕ → Option ℕ
 comment_length [] = None
 comment_length (c ∷ cs) = if (c == octet_of "*") && begins_with (octet_of "/") cs then Some 2 else option_map suc (comment_length cs)
 
--- the rest of a bracket comment behind its first octet
+-- the rest of a bracket comment after its first octet
 unfoldable pub bracket_comment : List ℕ → Option ℕ
 bracket_comment [] = None
 bracket_comment (c ∷ cs) = if c == octet_of "*" then option_map suc (comment_length cs) else None

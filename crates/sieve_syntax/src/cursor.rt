@@ -39,7 +39,7 @@ fn advance(text: &[u8], cursor: Cursor, count: usize) -> Cursor
     }
 }
 
-/// The cursor behind the white space.
+/// The cursor after the white space.
 fn skip_white(text: &[u8], cursor: Cursor) -> Cursor
     requires { IsCursor text.now cursor }
     ensures is { IsCursor text.now result }
@@ -54,7 +54,7 @@ fn skip_white(text: &[u8], cursor: Cursor) -> Cursor
     cursor
 }
 
-/// The next token, and the cursor behind it; or `None` where white space alone is left.
+/// The next token, and the cursor after it; or `None` where white space alone is left.
 pub(crate) fn next_token(text: &[u8], cursor: Cursor) -> Option<(Token, Cursor)>
     requires { IsCursor text.now cursor }
     ensures { MatchOption result (SpellsFrom text.now cursor.place [])
@@ -73,7 +73,7 @@ pub(crate) fn next_token(text: &[u8], cursor: Cursor) -> Option<(Token, Cursor)>
     }
 }
 
-/// The token of so many octets at the cursor, and the cursor behind it.
+/// The token of so many octets at the cursor, and the cursor after it.
 #[tactic(auto, unfolding(crate::specs::Scan::token_at))]
 fn make_token(text: &[u8], cursor: Cursor, kind: TokenKind, count: usize) -> (Token, Cursor)
     requires is { IsCursor text.now cursor }

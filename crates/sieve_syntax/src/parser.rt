@@ -103,7 +103,7 @@ fn read_commands(alloc: Global, text: &[u8]) -> Result<Vec<Command>, SyntaxFault
     finish(text, outer, state)
 }
 
-/// The state behind a token of the text.
+/// The state after a token of the text.
 fn read_token(
     alloc: Global,
     text: &[u8],

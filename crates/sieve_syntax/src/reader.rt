@@ -51,15 +51,15 @@ pub(crate) struct Outer {
 pub(crate) enum ParserState {
     /// Between two commands.
     Between,
-    /// Behind an identifier or an argument.
+    /// After an identifier or an argument.
     Arguments(Head),
     /// In a list of strings, where a string has to come.
     BeforeString(Head, Vec<Text>),
-    /// In a list of strings, behind a string.
+    /// In a list of strings, after a string.
     AfterString(Head, Vec<Text>),
     /// In a list of tests, where a test has to come.
     BeforeTest,
-    /// Behind a list of tests.
+    /// After a list of tests.
     AfterTests(Head, Tests),
 }
 

@@ -22,7 +22,7 @@ fn name_length(rest: &[u8]) -> usize
     rest.len()
 }
 
-/// How many octets of a number begin the text, behind its first digit.
+/// How many octets of a number begin the text, after its first digit.
 #[tactic(auto, using(crate::proofs::Steps::number_steps))]
 fn number_length(rest: &[u8]) -> usize
     ensures value { result ≡ number_length rest.now }
@@ -36,7 +36,7 @@ fn number_length(rest: &[u8]) -> usize
     rest.len()
 }
 
-/// How many octets a quoted string has, behind its first quotation mark.
+/// How many octets a quoted string has, after its first quotation mark.
 #[tactic(auto, using(crate::proofs::Steps::string_steps))]
 fn quoted_length(rest: &[u8]) -> Option<usize>
     ensures value { result ≡ quoted_length rest.now }
@@ -69,7 +69,7 @@ fn name_or_text(rest: &[u8]) -> Option<(TokenKind, usize)>
     }
 }
 
-/// A tag, behind its colon.
+/// A tag, after its colon.
 #[tactic(auto, unfolding(crate::specs::Scan::tag_at))]
 fn tag(rest: &[u8]) -> Option<(TokenKind, usize)>
     ensures { result ≡ tag_at rest.now }

@@ -21,7 +21,7 @@ use std::mem;
 /// Why a token wasn't taken.
 #[derive(Clone, Copy, PartialEq, Eq)]
 pub(crate) enum Stop {
-    /// No script goes on with it.
+    /// No script continues with it.
     Fault,
     NoMemory,
 }
@@ -42,7 +42,7 @@ impl From<AllocError> for Stop {
     }
 }
 
-/// The state behind a symbol that stands between commands.
+/// The state after a symbol that stands between commands.
 #[tactic(auto, unfolding(crate::specs::Machine::step))]
 fn between(alloc: Global, outer: &mut Outer, symbol: Symbol) -> Result<ParserState, Stop>
     ensures { (view : View) → Advances view outer.new result (step test_depth block_room
@@ -71,7 +71,7 @@ fn make_head(alloc: Global, name: SmallOctets, line: u32) -> Head
     }
 }
 
-/// Adds a command behind those before it. The first asks for room for one: most blocks have no more, and a vector that grows has
+/// Adds a command after those before it. The first asks for room for one: most blocks have no more, and a vector that grows has
 /// room for four.
 fn add_command(done: &mut Vec<Command>, command: Command) -> Result<(), Stop>
     ensures ok { OnOk result (done.new.items ≡ done.old.items ++ command ∷ []) }
@@ -105,7 +105,7 @@ fn close_block(alloc: Global, outer: &mut Outer) -> Result<ParserState, Stop>
 /// How many arguments are given room one by one. Few commands and tests have more of them.
 const FEW_ARGUMENTS: usize = 4;
 
-/// Behind one more argument of a head.
+/// After one more argument of a head.
 fn behind_argument(head: Head, argument: Argument) -> Result<ParserState, Stop>
     ensures { (view : View) (outer : Outer) → Advances view outer result
         (Some (Machine.in_arguments (outer_value view outer) (levels_value view outer.levels.items)
@@ -119,7 +119,7 @@ fn behind_argument(head: Head, argument: Argument) -> Result<ParserState, Stop>
     Ok(ParserState::Arguments(head))
 }
 
-/// Behind an identifier or an argument: one more argument, a test, a list of tests, or the end.
+/// After an identifier or an argument: one more argument, a test, a list of tests, or the end.
 #[tactic(auto, unfolding(crate::specs::Machine::step))]
 fn in_arguments(
     alloc: Global,
@@ -213,7 +213,7 @@ fn before_string(
     }
 }
 
-/// In a list of strings, behind a string: a comma or the end of the list.
+/// In a list of strings, after a string: a comma or the end of the list.
 #[tactic(auto, unfolding(crate::specs::Machine::step))]
 fn after_string(head: Head, items: Vec<Text>, symbol: Symbol) -> Result<ParserState, Stop>
     ensures { (view : View) (outer : Outer) → Advances view outer result (step test_depth block_room
@@ -248,7 +248,7 @@ fn before_test(alloc: Global, symbol: Symbol) -> Result<ParserState, Stop>
     }
 }
 
-/// Behind a command or a test with all its arguments and tests: its end, and the end of each test that it ends.
+/// After a command or a test with all its arguments and tests: its end, and the end of each test that it ends.
 #[tactic(auto, unfolding(crate::specs::Machine::close))]
 fn close(
     alloc: Global,
@@ -277,7 +277,7 @@ fn close(
     }
 }
 
-/// Behind a test in a list of tests: a comma or the end of the list.
+/// After a test in a list of tests: a comma or the end of the list.
 #[tactic(auto, unfolding(crate::specs::Machine::after_listed))]
 fn close_in_list(
     alloc: Global,
@@ -303,7 +303,7 @@ fn close_in_list(
     }
 }
 
-/// Behind a command with all its arguments and tests: a semicolon or a block.
+/// After a command with all its arguments and tests: a semicolon or a block.
 #[tactic(auto, unfolding(crate::specs::Machine::after_command))]
 fn close_command(
     alloc: Global,

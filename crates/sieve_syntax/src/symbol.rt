@@ -28,7 +28,7 @@ pub(crate) enum Symbol {
     Bad,
 }
 
-/// The symbol of a token of a text. The only refusal is want of memory.
+/// The symbol of a token of a text. The only refusal is out of memory.
 #[tactic(auto, unfolding(crate::specs::Symbol::symbol_at))]
 pub(crate) fn read_symbol(alloc: Global, text: &[u8], token: Token) -> Result<Symbol, AllocError>
     requires line { token.line < 4294967296 }

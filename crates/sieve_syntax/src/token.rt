@@ -53,7 +53,7 @@ pub(crate) fn last_line(text: &[u8]) -> u64
 }
 
 /// The tokens of a text, in their order. At each place the longest spelling is taken. Where neither white space nor a
-/// spelling begins, one bad token takes the rest of the text. The only refusal is want of memory.
+/// spelling begins, one bad token takes the rest of the text. The only refusal is out of memory.
 pub fn tokens(alloc: Global, text: &[u8]) -> Result<Vec<Token>, AllocError>
     // The tokens spell the text.
     ensures spelled { IfOk result (λ found. Spells found.items text.now) }

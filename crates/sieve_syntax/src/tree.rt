@@ -39,7 +39,7 @@ pub struct Test {
     pub tests: Tests,
 }
 
-/// The tests that stand behind the arguments of a command or a test.
+/// The tests that stand after the arguments of a command or a test.
 #[derive(Drop)]
 #[cycle(tests)]
 pub enum Tests {

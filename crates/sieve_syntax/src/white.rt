@@ -30,7 +30,7 @@ fn comment_length(rest: &[u8]) -> Option<usize>
     None
 }
 
-/// How many octets a bracket comment has behind its first octet.
+/// How many octets a bracket comment has after its first octet.
 #[tactic(auto, using(crate::proofs::Longest::comment_bounds, crate::proofs::Longest::bracket_bounds), unfolding(crate::specs::White::bracket_comment))]
 fn bracket_comment(rest: &[u8]) -> Option<usize>
     ensures value { result ≡ bracket_comment rest.now }

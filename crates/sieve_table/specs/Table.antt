@@ -39,7 +39,7 @@ pub record Row : Type 0 where
   pub front : Option Slot
   -- the positional arguments in order (RFC 5228, section 2.6.1)
   pub slots : List Slot
-  -- the tests behind them (RFC 5228, sections 2.5 and 2.5.1)
+  -- the tests after them (RFC 5228, sections 2.5 and 2.5.1)
   pub tests : Inner
   -- whether the command ends by a block, and not by a semicolon (RFC 5228, sections 2.8 and 2.9)
   pub has_block : Bool
@@ -52,7 +52,7 @@ pub record TagRow : Type 0 where
   pub name : List ℕ
   -- two of one kind don't stand together
   pub kind : TagKind
-  -- the argument that it takes itself, directly behind it
+  -- the argument that it takes itself, directly after it
   pub takes : Option Slot
   -- what has to be required for it
   pub needs : Option Capability
@@ -274,7 +274,7 @@ tests = every test_kinds.enum tt
 abbrev pub all_tags : List Tag
 all_tags = every tag_kinds.enum tt
 
--- the command of that name
+-- the command of that name (RFC 5228, section 2.1)
 unfoldable pub command_named : List ℕ → Option CommandKind
 command_named written = find (λ kind. is_named (command_row kind).name written) commands
 

@@ -19,7 +19,7 @@ pub fn rules_go_by_their_numbers()
     ensures all { length all_rules ≡ 20 }
 {}
 
-/// Behind a string of a `require`, what was required still is, and what the string names, and nothing else.
+/// After a string of a `require`, what was required still is, and what the string names, and nothing else.
 #[tactic(auto, using(crate::proofs::Naming::named_is_required))]
 pub fn what_is_named_is_required()
     ensures { (required : Required) (name : List ℕ) (capability : Capability)

@@ -143,7 +143,7 @@ pub struct TagRow {
     /// The tag's identifier without the colon, in lower case.
     pub name: &'static [u8],
     pub kind: TagKind,
-    /// The argument that the tag takes itself, directly behind it.
+    /// The argument that the tag takes itself, directly after it.
     pub takes: Option<Slot>,
     /// What has to be required where it is given.
     pub needs: Option<Capability>,

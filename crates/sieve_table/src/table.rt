@@ -92,7 +92,7 @@ pub enum TestKind {
 /// A tag that there is.
 #[derive(Clone, Copy, PartialEq, Eq)]
 pub enum Tag {
-    /// `:comparator`, which takes the string behind it (RFC 5228, section 2.7.3).
+    /// `:comparator`, which takes the string after it (RFC 5228, section 2.7.3).
     Comparator,
     /// `:is` (RFC 5228, section 2.7.1).
     Is,
@@ -130,7 +130,7 @@ pub enum Tag {
     QuoteWildcard,
     /// `:length` (RFC 5229, section 4.1.1).
     Length,
-    /// `:flags`, which takes the list behind it (RFC 5232, section 5).
+    /// `:flags`, which takes the list after it (RFC 5232, section 5).
     Flags,
     /// `:personal` (RFC 6609, section 3.2).
     Personal,

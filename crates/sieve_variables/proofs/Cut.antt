@@ -12,7 +12,7 @@ use Rattle.sieve_variables.specs.Scan.{before_brace, further, if_legal, inside_a
 use Rattle.sieve_variables.proofs.Words.{dotted-words_of, dotted_inside, legal_octets, legal_some, not_brace, words_of-dotted}
 use Rattle.sieve_base.proofs.Both.{first_of_both, last_of_both}
 
--- what stands in front of the first `}`
+-- what stands before the first `}`
 
 pub before_brace-is : (inside rest : List ℕ) → list_all is_inside inside ≡ true → before_brace (inside ++ octet_of "}" ∷ rest) ≡ Some inside
 unfolding before_brace
@@ -24,7 +24,7 @@ before_brace-is (c ∷ cs) rest is =
     ∙ ap (λ b. cond b (option_map (λ inside. c ∷ inside) (before_brace (cs ++ octet_of "}" ∷ rest))) None) here
     ∙ ap (option_map (λ inside. c ∷ inside)) behind
 
--- a text begins with what stands inside a reference and the `}` behind it
+-- a text begins with what stands inside a reference and the `}` after it
 abbrev EndsIn : List ℕ → List ℕ → Type 0
 EndsIn text inside = text ≡ inside ++ octet_of "}" ∷ drop (suc (length inside)) text
 
@@ -97,7 +97,7 @@ inside_at-begins [] inside is = absurd cc
 inside_at-begins (c ∷ []) inside is = absurd cc
 inside_at-begins (c ∷ d ∷ rest) inside is = sign_step c d rest inside (c == octet_of "$" && d == octet_of "{") refl is
 
--- what stands behind the reference with which a text begins
+-- what stands after the reference with which a text begins
 abbrev behind : List ℕ → List ℕ → List ℕ
 behind inside text = drop (suc (length inside)) (drop 2 text)
 

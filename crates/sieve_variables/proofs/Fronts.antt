@@ -17,7 +17,7 @@ take_front (suc n) (c ∷ x) r = ap (λ (l : List ℕ). c ∷ l) (take_front n x
 pub length-take_most : (n k : ℕ) (b x : List ℕ) → length b ≤ n → k ≡ n - length b → length (b ++ take k x) ≤ n
 length-take_most n k b x within is = omega (arith, within, is, length-append b (take k x), length-take k x)
 
--- behind octets that stay within a limit, what goes past it doesn't count
+-- after octets that stay within a limit, what goes past it doesn't count
 pub front_more : (n k : ℕ) (b x r : List ℕ) → length b ≤ n → k ≡ n - length b → take n (b ++ (take k x ++ r)) ≡ take n (b ++ (x ++ r))
 front_more n k [] x r within left = let whole : k ≡ n = omega (arith, left) in ap (λ j. take n (take j x ++ r)) whole ∙ take_front n x r
 front_more zero k (c ∷ b) x r within left = absurd (omega (arith, within))

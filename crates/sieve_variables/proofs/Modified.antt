@@ -119,7 +119,7 @@ cut-first (suc n) (Some one) (c ∷ cs) = refl
 pub cut-cased : (n : ℕ) (case first : Option LetterCase) (value : List ℕ) → take n (with_first first (with_case case value)) ≡ with_first first (with_case case (take n value))
 cut-cased n case first value = cut-first n first (with_case case value) ∙ ap (with_first first) (cut-case n case value)
 
--- equal fronts stay equal with an octet in front of them
+-- equal fronts stay equal with an octet before them
 front-cons : (c k : ℕ) (a b : List ℕ) → ((m : ℕ) → m ≤ k → take m a ≡ take m b) → (n : ℕ) → n ≤ suc k → take n (c ∷ a) ≡ take n (c ∷ b)
 front-cons c k a b all zero within = refl
 front-cons c k a b all (suc n) within = ap (λ (l : List ℕ). c ∷ l) (all n (omega arith))

@@ -12,7 +12,7 @@ far_row : parts_of_text (codes "${123456}") ≡ match_part (octet_of "d") ∷ []
 unfolding before_brace inside_at pieces_from
 far_row = refl
 
--- a reference in another namespace joins what stands in front of it, and not what stands behind it
+-- a reference in another namespace joins what stands before it, and not what stands after it
 kept_row : parts_of_text (codes "x${a.b}y") ≡ literal (codes "x${a.b}") ∷ literal (codes "y") ∷ []
 unfolding before_brace inside_at pieces_from
 kept_row = refl

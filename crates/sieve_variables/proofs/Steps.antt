@@ -64,7 +64,7 @@ unfolding pieces_from
 passed_all p [] found all ended is = or_false found all is
 passed_all p (c ∷ rest) found all ended is = absurd (omega arith)
 
--- parts with octets in front of them
+-- parts with octets before them
 abbrev pub in_front : List ℕ → List Part → List Part
 in_front [] parts = parts
 in_front (c ∷ octets) parts = octet_before c (in_front octets parts)
@@ -123,7 +123,7 @@ shared_in_front : (octets namespace name : List ℕ) (parts : List Part) (b : Bo
 shared_in_front octets namespace name parts true own = in_front-variable octets (global_variable (folded_name name)) parts
 shared_in_front octets namespace name parts false own = absurd (false≢true (sym own))
 
--- a part that isn't in another namespace stands behind the literal of the octets in front of it
+-- a part that isn't in another namespace stands after the literal of the octets before it
 own_in_front : (octets : List ℕ) (words : List (List ℕ)) (parts : List Part) → 0 < length words → is_foreign (reference words) ≡ false
     → in_front octets (part_of_words words ∷ parts) ≡ literal_part octets ++ part_of_words words ∷ parts
 own_in_front octets [] parts some own = absurd (omega arith)

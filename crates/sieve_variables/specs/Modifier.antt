@@ -40,7 +40,7 @@ with_quotes true value = flat_map quoted_wildcard value
 abbrev pub goes_on : ℕ → Bool
 goes_on c = nat_le 128 c && nat_lt c 192
 
--- the number of characters, of text in UTF-8
+-- the number of characters, of text in UTF-8 (RFC 5229, section 4.1.1)
 abbrev pub character_count : List ℕ → ℕ
 character_count value = length (filter (λ c. not (goes_on c)) value)
 

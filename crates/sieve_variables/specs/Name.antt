@@ -15,13 +15,13 @@ abbrev pub is_number : List ℕ → Bool
 is_number [] = false
 is_number (c ∷ cs) = is_digit c && list_all is_digit cs
 
--- what digits stand for in base 10, behind those that gave n
+-- what digits stand for in base 10, after those that gave n
 abbrev pub decimal_from : ℕ → List ℕ → ℕ
 decimal_from n [] = n
 decimal_from n (c ∷ cs) = decimal_from (10 * n + (c - octet_of "0")) cs
 
 -- The number of a match variable, by its decimal value. All past the limit are refused alike (RFC 5229, section 6), so they
--- count as the first of them.
+-- count as the first of them (RFC 5229, section 3.2).
 abbrev pub index_of : List ℕ → ℕ
 index_of digits = min (decimal_from 0 digits) (match_limit + 1)
 

@@ -29,15 +29,15 @@ part_of_words (name ∷ []) = if is_identifier name then local_part (folded_name
 part_of_words (namespace ∷ name ∷ []) = if is_shared namespace name then global_part (folded_name name) else literal (written (namespace ∷ name ∷ []))
 part_of_words (namespace ∷ word ∷ next ∷ words) = literal (written (namespace ∷ word ∷ next ∷ words))
 
--- an octet in front of parts: octets in a row are one literal
+-- an octet before parts: octets in a row are one literal
 abbrev pub octet_before : ℕ → List Part → List Part
 octet_before c [] = literal (c ∷ []) ∷ []
 octet_before c (literal octets ∷ parts) = literal (c ∷ octets) ∷ parts
 octet_before c (variable_part variable ∷ parts) = literal (c ∷ []) ∷ variable_part variable ∷ parts
 octet_before c (match_part index ∷ parts) = literal (c ∷ []) ∷ match_part index ∷ parts
 
--- The parts that pieces make. A reference that stands as it is written is a literal of its own: octets behind it
--- begin another, and only those directly in front of it join it.
+-- The parts that pieces make. A reference that stands as it is written is a literal of its own: octets after it
+-- begin another, and only those directly before it join it.
 abbrev pub grouped : List TextPiece → List Part
 grouped [] = []
 grouped (sequence words ∷ pieces) = part_of_words words ∷ grouped pieces

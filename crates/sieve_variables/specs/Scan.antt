@@ -22,7 +22,7 @@ is_inside c = is_name_octet c || is_dot c
 abbrev pub words_of : List ℕ → List (List ℕ)
 words_of inside = slice_split is_dot inside
 
--- what stands in front of the first `}`, where only octets of words and dots do
+-- what stands before the first `}`, where only octets of words and dots do
 unfoldable pub before_brace : List ℕ → Option (List ℕ)
 before_brace [] = None
 before_brace (c ∷ rest) = if c == octet_of "}" then Some [] else if is_inside c then option_map (λ inside. c ∷ inside) (before_brace rest) else None

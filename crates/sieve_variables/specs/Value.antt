@@ -36,7 +36,7 @@ with_own own values = record values { locals = own.locals; matched = own.matched
 abbrev pub begun_values : Values → Values
 begun_values values = with_own (record { locals = []; matched = [] }) values
 
--- the values behind it: the including script has its own again (RFC 6609, section 3.4)
+-- the values after it: the including script has its own again (RFC 6609, section 3.4)
 abbrev pub resumed_values : (before ended : Values) → Values
 resumed_values before ended = with_own (own_of before) ended
 
@@ -76,7 +76,7 @@ is_set (global_variable name) values = is_set_under name values.globals
 abbrev pub has_room_under : List ℕ → List (List ℕ × List ℕ) → Bool
 has_room_under name variables = is_set_under name variables || nat_lt (length variables) global_limit
 
--- whether a variable can be set: those of a script have been counted before it runs
+-- whether a variable can be set: those of a script have been counted before it runs (RFC 5229, section 6; RFC 6609, section 3.4)
 abbrev pub has_room_for : Variable → Values → Bool
 has_room_for (local_variable name) values = true
 has_room_for (global_variable name) values = has_room_under name values.globals
@@ -85,11 +85,11 @@ has_room_for (global_variable name) values = has_room_under name values.globals
 abbrev pub with_held : List ℕ → List ℕ → List (List ℕ × List ℕ) → List (List ℕ × List ℕ)
 with_held name value variables = ordered.insert_entry (pointwise nat_eq) variables name value
 
--- the values with a variable set
+-- the values with a variable set (RFC 5229, section 4)
 abbrev pub with_variable : Variable → List ℕ → Values → Values
 with_variable (local_variable name) value values = record values { locals = with_held name value values.locals }
 with_variable (global_variable name) value values = record values { globals = with_held name value values.globals }
 
--- the values with what a match gave
+-- the values with what a match gave (RFC 5229, section 3.2)
 abbrev pub with_matched : List (List ℕ) → Values → Values
 with_matched matched values = record values { matched = matched }

@@ -8,7 +8,7 @@ pub data Variable : Type 0 where
   local_variable : (name : List ℕ) → Variable
   global_variable : (name : List ℕ) → Variable
 
--- the variable of a name that a command or a test has: behind `global.` it is one that scripts share (RFC 6609, section 3.4.2)
+-- the variable of a name that a command or a test has: after `global.` it is one that scripts share (RFC 6609, section 3.4.2)
 abbrev pub variable_named : List ℕ → Variable
 variable_named name = if is_global_name name then global_variable (folded_name (drop (length global_prefix) name)) else local_variable (folded_name name)
 

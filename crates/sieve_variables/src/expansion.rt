@@ -12,7 +12,7 @@ use std::alloc::{AllocError, Global};
 use std::borrow::CowSlice;
 
 impl Values {
-    /// How many octets the parts of a string stand for. More than a number holds are want of memory.
+    /// How many octets the parts of a string stand for. More than a number holds are out of memory.
     fn joined_len(&self, parts: &[Part]) -> Result<usize, AllocError>
         ensures { IfOk result (λ len. len ≡ length (text_value self.now parts.now)) }
     {

@@ -86,7 +86,7 @@ fn push_quoted(quoted: &mut Vec<u8>, octet: u8) -> Result<(), AllocError>
     Ok(())
 }
 
-/// The value with a `\` in front of what `:matches` takes for more than itself (RFC 5229, section 4.1.2).
+/// The value with a `\` before what `:matches` takes for more than itself (RFC 5229, section 4.1.2).
 fn quoted(alloc: Global, value: &[u8]) -> Result<Vec<u8>, AllocError>
     ensures { IfOk result (λ octets. octets.items ≡ flat_map quoted_wildcard value.now) }
 {

@@ -30,7 +30,7 @@ pub fn folded(alloc: Global, name: &[u8]) -> Result<SmallOctets, AllocError>
     Ok(octets)
 }
 
-/// Whether an identifier goes on with each of the octets.
+/// Whether an identifier continues with each of the octets.
 fn are_name_octets(octets: &[u8]) -> bool
     ensures { result ≡ list_all is_name_octet octets.now }
 {
@@ -55,7 +55,7 @@ pub fn is_global_name(name: &[u8]) -> bool
     GLOBAL_PREFIX.eq_ignore_ascii_case(prefix) && is_identifier(rest)
 }
 
-/// What stands behind `global.` in the name of a variable that scripts share.
+/// What stands after `global.` in the name of a variable that scripts share.
 pub(crate) fn global_name(name: &[u8]) -> Option<&[u8]>
     ensures { MatchOption result (is_global_name name.now ≡ false) (λ rest.
         (is_global_name name.now ≡ true) × (rest.now ≡ drop (length global_prefix) name.now)) }

@@ -80,7 +80,7 @@ impl Parts {
         }
     }
 
-    /// Moves the parts behind others. Takes memory where these have too little room.
+    /// Moves the parts after others. Takes memory where these have too little room.
     pub fn append_to(self, parts: &mut Vec<Part>) -> Result<(), AllocError>
         ensures { OnOk result (parts.new.items ≡ parts.old.items ++ self) }
     {

@@ -135,7 +135,7 @@ fn is_inside(octet: u8) -> bool
     is_name_octet(octet) || is_dot(octet)
 }
 
-// Cuts at the first dot: the first word, and what stands behind the dot.
+// Cuts at the first dot: the first word, and what stands after the dot.
 fn cut(inside: &[u8]) -> Option<(&[u8], &[u8])>
     ensures words { MatchOption result (spec.words_of inside.now ≡ inside.now ∷ [])
         (λ cut. spec.words_of inside.now ≡ cut.0.now ∷ spec.words_of cut.1.now) }
@@ -241,7 +241,7 @@ fn part_inside(alloc: Global, inside: &[u8]) -> Result<Part, AllocError>
     }
 }
 
-// Adds a reference behind octets that stand for themselves; `written` is both.
+// Adds a reference after octets that stand for themselves; `written` is both.
 fn push_reference(
     alloc: Global,
     parts: &mut Parts,

@@ -67,7 +67,7 @@ impl Variable {
         })
     }
 
-    /// The variable of a name that a command or a test has: behind `global.`, in any case, it is one that scripts share (RFC
+    /// The variable of a name that a command or a test has: after `global.`, in any case, it is one that scripts share (RFC
     /// 6609, section 3.4.2).
     pub fn named(alloc: Global, name: &[u8]) -> Result<Variable, AllocError>
         ensures { IfOk result (λ variable. variable ≡ variable_named name.now) }

@@ -17,7 +17,7 @@ use Rattle.sievebench.specs.declared.status.SessionEnd.TheVariants as ends
 
 -- WHAT FOLLOWS A COMMAND IS SHORTER
 
--- fewer than n octets are left behind what is asked for
+-- fewer than n octets are left after what is asked for
 abbrev LeavesFewer : ℕ → Request → Type 0
 LeavesFewer n over = Unit {0}
 LeavesFewer n unreadable = Unit {0}
@@ -79,7 +79,7 @@ edit_replies edit takes (Ok content) old =
     (codes "ok\n", record old { bench = record { content = content; stale = stale_after old.bench.content edit old.bench.stale content } }, inl (refl, (refl, refl, refl)))
 edit_replies edit takes (Err fault) old = (refusal_line fault, old, (inl refl, refl))
 
--- a bench behind a report, and the runs
+-- a bench after a report, and the runs
 abbrev reported : Served → Served
 reported old = record { bench = record old.bench { stale = [] }; runs = runs_after (length old.bench.stale) old.runs }
 

@@ -35,7 +35,7 @@ unreadable_ends (Some xs) = (refl, refl)
 
 -- WHAT FOLLOWS A COMMAND DOESN'T MATTER TO IT
 
--- the octets in front of what is left ask for a command, whatever follows them
+-- the octets before what is left ask for a command, whatever follows them
 abbrev Alone : (List ℕ → Request) → Served → List ℕ → List ℕ → Served → List ℕ → Type 0
 Alone request old unused reply new left = (used : List ℕ) × (unused ≡ used ++ left) × ((more : List ℕ) → Step old (request (used ++ more)) reply new more)
 
@@ -107,7 +107,7 @@ cut_line_break old None rest written pending same cut = tt
 cut_line_break old (Some xs) None written pending same cut = absurd same
 cut_line_break old (Some xs) (Some ys) written pending same cut = (pending, sym same, rw cut.0 (rw cut.1 refl), Appends-nil written, refl)
 
--- the octets begin with the line `front`, and ask for what this line asks for with the octets behind it
+-- the octets begin with the line `front`, and ask for what this line asks for with the octets after it
 abbrev pub Begins : Profile → List ℕ → Option Demand → Option (List ℕ) → Option (List ℕ) → Type 0
 Begins profile front ask None behind = Unit {0}
 Begins profile front ask (Some xs) None = ⊥
@@ -169,7 +169,7 @@ cut_served front ask old new (Some xs) (Some ys) before after' begins cut = (cut
 
 -- OCTETS WITH OTHERS BEHIND THEM
 
--- where the first octets have a line that has ended, all of them have that line, and what follows is behind it
+-- where the first octets have a line that has ended, all of them have that line, and what follows is after it
 abbrev KeepsCut : List ℕ → Option (List ℕ × List ℕ) → Option (List ℕ × List ℕ) → Type 0
 KeepsCut more None all = Unit {0}
 KeepsCut more (Some cut) all = all ≡ Some (cut.0, cut.1 ++ more)
@@ -184,7 +184,7 @@ cut_kept (b ∷ bs) more = by_octet (eqb b (octet_of "\n")) (cut_line bs) (cut_l
     by_octet false None all kept = tt
     by_octet false (Some cut) all kept = ap (option_map (in_front b)) kept
 
--- what a line asks for with octets behind it, it asks for with more octets behind these
+-- what a line asks for with octets after it, it asks for with more octets after these
 line_and_more : (profile : Profile) (old new : Served) (front rest more reply left : List ℕ) → Step old (request_at profile (front, rest)) reply new left
     → Step old (request_at profile (front, rest ++ more)) reply new (left ++ more)
 line_and_more profile old new front rest more reply left = by_limit (nat_lt line_limit (length front))

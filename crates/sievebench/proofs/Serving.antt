@@ -76,14 +76,14 @@ ended contents fault_count w w' request wanted (ways.Ends end) old unused reply 
     rw both.0 (due _ _ (end_written request wanted old unused (contents w) (contents w') reply asked both.1.text_appended))
 ended contents fault_count w w' request wanted (ways.Ends end) old unused reply P R due (inr failed) asked = rw failed.0 (end_cut contents fault_count w w' request wanted old unused reply asked failed.1)
 
--- what a reply tells of the writer's faults
+-- what a reply says of the writer's faults
 pub answer_faults : {T : Type 0} (contents : T → Option (List ℕ)) (fault_count : T → ℕ) (w w' : T) (way : Progress) (reply : List ℕ) (P R : Type 0)
     → Continues way (Wrote contents fault_count w w' reply) (WroteFront contents fault_count w w' reply)
     → MatchProgress way (fault_count w ≤ fault_count w') P (HasRisen (fault_count w) (fault_count w')) R
 answer_faults contents fault_count w w' ways.Continues reply P R said = said.faults_kept
 answer_faults contents fault_count w w' (ways.Ends end) reply P R said = rw said.0 said.1.fault_counted
 
--- what a last reply tells of the writer's faults
+-- what a last reply says of the writer's faults
 pub end_faults : {T : Type 0} (contents : T → Option (List ℕ)) (fault_count : T → ℕ) (w w' : T) (wanted : SessionEnd) (way : Progress) (reply : List ℕ) (P Q R : Type 0)
     → MatchFault wanted P (HasRisen (fault_count w) (fault_count w')) R → EndsBy wanted way (Wrote contents fault_count w w' reply) (WroteFront contents fault_count w w' reply)
     → MatchProgress way Q P (HasRisen (fault_count w) (fault_count w')) R
@@ -187,11 +187,11 @@ unkept_replies subject count old octets size = by_flag (nat_lt (limit_of subject
 
 -- COUNTED OCTETS
 
--- a put with enough octets behind it is an edit
+-- a put with enough octets after it is an edit
 enough : (count : ℕ) (rest : List ℕ) (edit : List ℕ → Edit) → count ≤ length rest → with_octets count rest edit ≡ edits (edit (take count rest)) (drop count rest)
 enough count rest edit within = grind (arith, nat_tests)
 
--- a put with too few octets behind it is cut off
+-- a put with too few octets after it is cut off
 pub short : (count : ℕ) (edit : List ℕ → Edit) (rest : List ℕ) → length rest < count → with_octets count rest edit ≡ truncated
 short count edit rest less = grind (arith, nat_tests)
 

@@ -62,7 +62,7 @@ demand_of (no_message_envelope id) = asks_edit (clear_message_envelope id)
 demand_of (clock time) = asks_edit (set_clock time)
 demand_of no_clock = asks_edit clear_clock
 
--- what a line asks for with the octets behind it; a line of no command says nothing that there is
+-- what a line asks for with the octets after it; a line of no command says nothing that there is
 abbrev pub request_by : Option Demand → List ℕ → Request
 request_by None rest = unreadable
 request_by (Some (asks_question question)) rest = asks question rest
@@ -177,7 +177,7 @@ ReportRefused old new = (new.bench.content ≡ old.bench.content) × RefusedAmon
 abbrev pub Moves : Served → Served → Type 0
 Moves old new = ((edit : Edit) × (content : Content) × (after old.bench.content edit ≡ Ok content) × Made edit content old new) ⊎ (Reported old new ⊎ ReportRefused old new)
 
--- Edits and reports in turn, and nothing else: what became of a bench and of the runs, also where no device tells which octets it gave or took.
+-- Edits and reports in turn, and nothing else: what became of a bench and of the runs, also where no device says which octets it gave or took.
 pub data Moved (old : Served) : Served → Type 0 where
   unmoved : Moved old old
   moved : (mid new : Served) → Moved old mid → Moves mid new → Moved old new
@@ -192,7 +192,7 @@ Step old (asks question rest) reply new left =
 Step old (edits edit rest) reply new left = Replies edit (takes_memory edit) (after old.bench.content edit) old reply new × (left ≡ rest)
 Step old (reports rest) reply new left = (((reply ≡ report_text old.bench.content) × Reported old new) ⊎ ((reply ≡ refusal_line NoMemory) × ReportRefused old new)) × (left ≡ rest)
 
--- some commands in turn, each what the octets then ask for: their replies, what is after them, and the octets behind them
+-- some commands in turn, each what the octets then ask for: their replies, what is after them, and the octets after them
 pub data Steps (request : Profile → List ℕ → Request) (old : Served) (stream : List ℕ) : List ℕ → Served → List ℕ → Type 0 where
   none_yet : Steps request old stream [] old stream
   one_more : (replies reply : List ℕ) (mid new : Served) (rest left : List ℕ) → Steps request old stream replies mid rest → Step mid (request (profile_of mid) rest) reply new left → Steps request old stream (replies ++ reply) new left
@@ -246,7 +246,7 @@ IsFront old stream text = (back : List ℕ) × (end : SessionEnd) × (new : Serv
 
 -- OVER DEVICES
 
--- The whole session is carried out, and its text written, where the reader tells which octets it has.
+-- The whole session is carried out, and its text written, where the reader says which octets it has.
 abbrev pub SessionFrom : SessionEnd → Served → Option (List ℕ) → Option (List ℕ) → Served → Option (List ℕ) → Type 0
 SessionFrom end old None before new after = ⊤
 SessionFrom end old (Some stream) before new after = (text : List ℕ) × SessionText old stream text end new × Appends before after text
@@ -283,7 +283,7 @@ MatchFault ends.Write P Q R = Q
 MatchFault ends.NoMemory P Q R = ⊤
 MatchFault ends.TurnLimit P Q R = R
 
--- There are no more turns than octets that were read and faults that were counted of the reader, where it tells what it has left. A
+-- There are no more turns than octets that were read and faults that were counted of the reader, where it says what it has left. A
 -- count that stands at the greatest u64 counts no more.
 abbrev pub TurnsAreSpent : ℕ → Option (List ℕ) → Option (List ℕ) → ℕ → ℕ → Type 0
 TurnsAreSpent turns None left faults faults' = ⊤

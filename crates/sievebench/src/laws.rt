@@ -12,8 +12,8 @@ pub fn a_cut_session_is_the_front_of_one()
         → IsFront old stream text }
 {}
 
-/// A session of which no more could be read has carried out the first commands of a session over what was read and anything behind it,
-/// with their replies and the bench that they leave, and such a session goes on with what was left and what is behind it. So what it has
+/// A session of which no more could be read has carried out the first commands of a session over what was read and anything after it,
+/// with their replies and the bench that they leave, and such a session continues with what was left and what is after it. So what it has
 /// written is a front of the text of such a session.
 pub fn a_broken_session_is_the_front_of_one()
     ensures steps { (old new : Served) (read text more : List ℕ)

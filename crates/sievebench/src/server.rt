@@ -146,7 +146,7 @@ fn serve_put<R: Source, W: Sink>(
     }
 }
 
-/// Passes over the octets behind a command whose words are forgotten, and replies.
+/// Passes over the octets after a command whose words are forgotten, and replies.
 #[tactic(auto, using(crate::proofs::Serving::serving))]
 fn serve_forgotten<R: Source, W: Sink>(
     alloc: Global,
@@ -361,7 +361,7 @@ pub fn session<R: Source, W: Sink>(
     ensures moves { spec.Moved (spec.served bench.old meter.old) (spec.served bench.new meter.new) }
     // At the end of the input none of the octets is unread.
     ensures end { spec.AtLastEnd result (IsAtEnd (R.remaining reader.new)) }
-    // A fault is told only where the device counted one, and the end of the turns only where all were taken, no more than octets were given and faults counted.
+    // A fault is reported only where the device counted one, and the end of the turns only where all were taken, no more than octets were given and faults counted.
     ensures faults { spec.MatchFault result (HasRisen (R.fault_count reader.old)
         (R.fault_count reader.new)) (HasRisen (W.fault_count writer.old) (W.fault_count writer.new))
         (spec.ReadsAreMade turns (R.call_count reader.old) (R.call_count reader.new)

@@ -7,7 +7,7 @@ use bench::TestEnd;
 /// How a session ended.
 #[derive(Clone, Copy, Debug, PartialEq, Eq)]
 pub enum SessionEnd {
-    /// The input ended behind a whole command.
+    /// The input ended after a whole command.
     Done = 0,
     /// A line was no command.
     Syntax = 1,

@@ -8,7 +8,7 @@ pub(crate) fn complain(rt: &impl Eprint, complaint: &str) {
     let _ = eprintln!(rt; "sievebench: {complaint}");
 }
 
-/// Says what is wrong with a file, or with another word of the command line: its octets stand behind, in quotes.
+/// Says what is wrong with a file, or with another word of the command line: its octets stand after, in quotes.
 pub(crate) fn complain_of(rt: &(impl AllocGlobal + Eprint), complaint: &str, word: &[u8]) {
     match quoted(rt.alloc(), word) {
         Some(word) => {

@@ -5,7 +5,7 @@ use std::io::{ErrorKind, Read};
 use std::rt::Files;
 use std::{fs, io, str};
 
-/// What a script's file is named behind its script's name.
+/// What a script's file is named after its script's name.
 pub(crate) const SCRIPT_END: &str = ".sieve";
 
 /// Why files could not be read.

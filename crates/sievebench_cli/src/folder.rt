@@ -58,7 +58,7 @@ fn read_script<R: Files + AllocGlobal>(
     Ok(())
 }
 
-/// The names of a folder's files, with a NUL behind each.
+/// The names of a folder's files, with a NUL after each.
 fn listing_of<R: Files + AllocGlobal>(rt: &R, folder: &str) -> io::Result<Vec<u8>> {
     let path = with_slash(rt.alloc(), folder)?;
     let mut reader = BufReader::with_capacity(
@@ -71,7 +71,7 @@ fn listing_of<R: Files + AllocGlobal>(rt: &R, folder: &str) -> io::Result<Vec<u8
     Ok(listing)
 }
 
-/// A path with a slash behind it, so that a symbolic link to a folder is followed.
+/// A path with a slash after it, so that a symbolic link to a folder is followed.
 fn with_slash(alloc: Global, path: &str) -> Result<String, AllocError> {
     let mut with_slash = String::from_str(alloc, path)?;
     if !path.is_empty() && !path.ends_with('/') {

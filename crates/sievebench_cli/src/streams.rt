@@ -20,7 +20,7 @@ pub(crate) struct Output<W> {
 pub(crate) type Held<W> = BufWriter<Output<W>>;
 
 impl<W: Write + Drop> Output<W> {
-    /// Holds the octets for an output together. An error is want of memory.
+    /// Holds the octets for an output together. An error is out of memory.
     pub(crate) fn held(alloc: Global, device: W) -> io::Result<Held<W>> {
         let output = Output {
             device,

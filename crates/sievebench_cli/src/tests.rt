@@ -11,7 +11,7 @@ mod program;
 use std::fmt::Debug;
 use std::process::Abort;
 
-/// What is compared, and a number that tells its row from others.
+/// What is compared, and a number that tells its row apart from others.
 type At<'a> = (&'a str, usize);
 
 /// Asserts what must hold of a row.

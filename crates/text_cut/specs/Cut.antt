@@ -1,5 +1,5 @@
 -- A text that is cut from the left into sequences and single octets. What a sequence is, how it is written and when it is
--- legal, is told by who cuts.
+-- legal, is said by who cuts.
 use Rattle.std.specs.Prelude.{◌≡◌, ℕ, List, [], ◌∷◌, ◌++◌}
 
 -- a piece of a text: a sequence, or an octet

@@ -63,7 +63,7 @@ fn a_clock_is_set_and_taken_away(rt: HostRuntime) -> Result<(), Fail> {
     check_clock(&rt, &mut bench)
 }
 
-/// No line tells of it under a profile without the name.
+/// No line says of it under a profile without the name.
 #[test]
 fn a_clock_without_the_name_is_not_told(rt: HostRuntime) -> Result<(), Fail> {
     let mut bench = Bench::new(rt.alloc())?;

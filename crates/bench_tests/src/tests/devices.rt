@@ -192,7 +192,7 @@ fn check_refused_line(
     Ok(())
 }
 
-/// Octets behind `count` spaces.
+/// Octets after `count` spaces.
 fn behind_spaces(alloc: Global, count: usize, octets: &[u8]) -> Result<Vec<u8>, AllocError> {
     let mut line = vec![in alloc; b' '; count]?;
     line.extend_from_slice(octets)?;

@@ -64,7 +64,7 @@ pub(super) const LASTING: &[ErrorKind] = &[
     ErrorKind::Uncategorized,
 ];
 
-/// The calls at which a device fails: so many in a row, behind so many at which it works.
+/// The calls at which a device fails: so many in a row, after so many at which it works.
 #[derive(Clone, Copy)]
 pub(super) struct Failures {
     pub before: u64,
@@ -107,7 +107,7 @@ impl Read for Faltering<'_> {
     }
 }
 
-/// What must come of a session: its row in a message, its end, what it writes, the report of the bench behind it, and how many reads and
+/// What must come of a session: its row in a message, its end, what it writes, the report of the bench after it, and how many reads and
 /// faults are counted.
 #[derive(Clone, Copy)]
 struct Outcome<'a> {
@@ -206,12 +206,12 @@ fn a_read_that_fails_ends_the_session(rt: HostRuntime) -> Result<(), Fail> {
     check_each_read(&rt, "a reset", ErrorKind::ConnectionReset)?;
     check_each_read(&rt, "a read that would block", ErrorKind::WouldBlock)?;
     check_each_read(&rt, "an unexpected end", ErrorKind::UnexpectedEof)?;
-    // There is no read behind that of the end.
+    // There is no read after that of the end.
     let run = (72, 1, TURNS, 71, SessionEnd::Done, 72, 0);
     check_run(&rt, ("no reset", ErrorKind::ConnectionReset), run)
 }
 
-/// Compares sessions of which one read fails in some way, be it any but an interruption, each behind one more read.
+/// Compares sessions of which one read fails in some way, be it any but an interruption, each after one more read.
 fn check_lasting(rt: &(impl AllocGlobal + Abort)) -> Result<(), Fail> {
     for (place, kind) in LASTING.iter().enumerate() {
         let before = place as u64;
@@ -265,8 +265,8 @@ fn reads_run_out_among_interruptions_too(rt: HostRuntime) -> Result<(), Fail> {
     )
 }
 
-/// What is cut: so many reads fail behind the last octet, so many may be made, and how that ends, what is written, how many reads are
-/// made behind the last octet, and how many faults there are.
+/// What is cut: so many reads fail after the last octet, so many may be made, and how that ends, what is written, how many reads are
+/// made after the last octet, and how many faults there are.
 type Cut<'a> = (u64, u64, SessionEnd, &'a [u8], u64, u64);
 
 /// Serves octets of three commands and a put that is cut, and compares.
@@ -324,7 +324,7 @@ fn a_put_that_is_cut_puts_nothing(rt: HostRuntime) -> Result<(), Fail> {
     )
 }
 
-/// Serves octets that come at once, where the read behind so many fails, and compares.
+/// Serves octets that come at once, where the read after so many fails, and compares.
 fn check_at_once<'a>(
     rt: &(impl AllocGlobal + Abort),
     octets: &[u8],

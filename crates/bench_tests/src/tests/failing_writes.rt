@@ -192,7 +192,7 @@ fn calls_of(alloc: Global, output: Output, piece: usize) -> Result<u64, Fail> {
     Ok(calls_on(alloc, &mut bench, output, balking))
 }
 
-/// Writes an output to writers that fail once, at each call in turn and at the one behind the last.
+/// Writes an output to writers that fail once, at each call in turn and at the one after the last.
 fn check_each_call(
     rt: &(impl AllocGlobal + Abort),
     output: Output,
@@ -243,7 +243,7 @@ fn a_write_that_fails_in_any_other_way_is_the_last(rt: HostRuntime) -> Result<()
     check_lasting(&rt)
 }
 
-/// An output, and how many interruptions there are behind how many octets.
+/// An output, and how many interruptions there are after how many octets.
 type Interrupted = (Output, u64, u64, Written);
 
 /// Writes outputs an octet a call, with interruptions, and compares.

@@ -8,7 +8,7 @@ use std::io::{ErrorKind, Write};
 use std::process::Abort;
 use std::test::Fail;
 
-/// Edits as a session's octets, how many runs the report behind them makes, and its text.
+/// Edits as a session's octets, how many runs the report after them makes, and its text.
 type Step<'a> = (&'a [u8], u64, &'a [u8]);
 
 /// Two messages, and a main script that includes another for the first of them, as far as that is there.
@@ -129,7 +129,7 @@ fn check_puts(rt: &(impl AllocGlobal + Abort), bench: &mut Bench) -> Result<(), 
     )
 }
 
-/// Removals, a rename and another main script in turn, behind them.
+/// Removals, a rename and another main script in turn, after them.
 fn check_removals(rt: &(impl AllocGlobal + Abort), bench: &mut Bench) -> Result<(), Fail> {
     check_steps(
         rt,
@@ -220,7 +220,7 @@ fn is_discarded(bench: &Bench, id: &Octets) -> bool {
     }
 }
 
-/// Puts a script anew that one of two messages has looked up, and looks at their verdicts before the next report and behind it.
+/// Puts a script anew that one of two messages has looked up, and looks at their verdicts before the next report and after it.
 fn check_verdicts(
     rt: &(impl AllocGlobal + Abort),
     bench: &mut Bench,

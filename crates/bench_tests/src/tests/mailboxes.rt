@@ -73,7 +73,7 @@ fn check_size(
 fn check_sizes(rt: &(impl AllocGlobal + Abort), bench: &mut Bench) -> Result<(), Fail> {
     check_size(rt, bench, 1_048_576, &Ok(()))?;
     check_size(rt, bench, 1_048_577, &Err(EditFault::TooLarge))?;
-    // No line tells of it under a profile without the name.
+    // No line says of it under a profile without the name.
     check_report(rt, bench, super::REPORT)
 }
 

@@ -132,7 +132,7 @@ fn messages_are_tested(rt: HostRuntime) -> Result<(), AllocError> {
     )
 }
 
-/// The names of a profile stand behind the envelope, in their order.
+/// The names of a profile stand after the envelope, in their order.
 #[test]
 fn a_report_names_its_profile(rt: HostRuntime) -> Result<(), AllocError> {
     let mut job = job_of(rt.alloc(), &[(b"main", b"discard;\n")])?;
@@ -169,7 +169,7 @@ fn a_test_knows_its_mailboxes(rt: HostRuntime) -> Result<(), AllocError> {
     Ok(())
 }
 
-/// What time it is is told by the job.
+/// What time it is is said by the job.
 #[test]
 fn a_test_knows_its_clock(rt: HostRuntime) -> Result<(), AllocError> {
     let mut job = job_of(rt.alloc(), &[(b"main", b"discard;")])?;

@@ -44,7 +44,7 @@ fn texts_are_dumped(rt: HostRuntime) -> Result<(), AllocError> {
     check_named(&rt, b"kep;", line, TestEnd::Faulty)
 }
 
-/// A command behind `spaces` spaces.
+/// A command after `spaces` spaces.
 fn behind_spaces(alloc: Global, spaces: usize, command: &[u8]) -> Result<Vec<u8>, AllocError> {
     let mut text = vec![in alloc; b' '; spaces]?;
     text.extend_from_slice(command)?;

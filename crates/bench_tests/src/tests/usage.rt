@@ -34,7 +34,7 @@ fn each_end_has_its_status(rt: HostRuntime) {
     );
 }
 
-/// Compares what is told where there are no words.
+/// Compares what is printed where there are no words.
 fn check_fault(rt: &impl Abort, fault: &UsageFault) {
     match fault {
         UsageFault::Usage { help: false, text } => {
@@ -62,7 +62,7 @@ fn check_unknown(rt: &(impl AllocGlobal + Abort), fault: &UsageFault) -> Result<
     Ok(())
 }
 
-/// The first of several such names is told, with all that there are.
+/// The first of several such names is printed, with all that there are.
 #[test]
 fn a_name_that_is_not_known_is_told(rt: HostRuntime) -> Result<(), AllocError> {
     let words = [

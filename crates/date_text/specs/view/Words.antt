@@ -37,7 +37,7 @@ abbrev pub begins_word : List ℕ → Bool
 begins_word [] = true
 begins_word (c ∷ rest) = is_of_word c
 
--- the words of a date, whose zone is told by a text
+-- the words of a date, whose zone is said by a text
 abbrev pub date_words_as : slices.DateSlices → DateWords
 date_words_as w = record {
   day = w.day.now;

@@ -3,7 +3,7 @@ use Rattle.std.specs.Prelude.{ℕ, List, [], Option, None, Some}
 use denote.Ref.{Bor}
 use Rattle.match_text.specs.Flags.{pieces}
 
--- the pieces of what stands behind a space, where one is there
+-- the pieces of what stands after a space, where one is there
 abbrev pub pieces_behind : Option (Bor (List ℕ)) → List (List ℕ)
 pieces_behind None = []
 pieces_behind (Some rest) = pieces rest.now

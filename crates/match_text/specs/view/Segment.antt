@@ -52,7 +52,7 @@ abbrev pub first_place : (List ℕ → Bool) → (text : List ℕ) → Option �
 first_place test [] = if test [] then Some 0 else None
 first_place test (x ∷ text) = if test (x ∷ text) then Some 0 else option_map suc (first_place test text)
 
--- the place that the least fit has for a segment behind a star: the first, but the one at the end where no star follows
+-- the place that the least fit has for a segment after a star: the first, but the one at the end where no star follows
 abbrev pub place_of : (segment behind : List Item) → (text : List ℕ) → Option ℕ
 place_of segment [] text = first_place (ends segment) text
 place_of segment (item ∷ behind) text = first_place (begins segment) text

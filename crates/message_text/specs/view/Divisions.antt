@@ -13,7 +13,7 @@ abbrev pub IsWithin : List ℕ → Option ℕ → Type 0
 IsWithin all None = Unit {0}
 IsWithin all (Some at) = at < length all
 
--- the place is behind the last element that passes, or 0 where none does
+-- the place is after the last element that passes, or 0 where none does
 pub record IsBehindLast {X : Type 0} (test : X → Bool) (xs : List X) (place : ℕ) : Type 0 where
   pub within : place ≤ length xs
   pub before : before_last test xs ≡ take (place - 1) xs

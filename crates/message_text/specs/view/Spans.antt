@@ -25,7 +25,7 @@ field_here line more =
     cond (is_continuation line) []
     (filter is_field (record { first = line; continuations = take_while is_continuation more } ∷ []))
 
--- the name and the first line of the value stand where the span says, and it tells the name's number and whether there are more lines
+-- the name and the first line of the value stand where the span says, and it says the name's number and whether there are more lines
 pub record IsSpan (octets : List ℕ) (span : FieldSpan) : Type 0 where
   pub name_ordered : span.start ≤ span.name_end
   pub name_within : span.name_end ≤ length octets

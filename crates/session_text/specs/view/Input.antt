@@ -12,7 +12,7 @@ pub record Input : Type 0 where
 abbrev pub capacity : ℕ
 capacity = 65536
 
--- the octets that are not used, read or not, where the device tells what it has left
+-- the octets that are not used, read or not, where the device says what it has left
 abbrev pub unused : Input → Option (List ℕ) → Option (List ℕ)
 unused input remaining = prepend_known input.pending remaining
 
@@ -24,7 +24,7 @@ Knows input remaining = IsTrue input.ended → IsAtEnd remaining
 abbrev pub fuel : Input → ℕ
 fuel input = input.turns * (capacity + 1) + length input.pending
 
--- No more turns were taken than octets were given and faults counted, where the device tells what it has left. A count that stands
+-- No more turns were taken than octets were given and faults counted, where the device says what it has left. A count that stands
 -- at the greatest u64 counts no more.
 abbrev pub TurnsGave : ℕ → ℕ → Option (List ℕ) → Option (List ℕ) → ℕ → ℕ → Type 0
 TurnsGave before after None left faults faults' = ⊤

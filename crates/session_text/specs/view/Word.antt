@@ -3,7 +3,7 @@ use Rattle.std.specs.Prelude.{ℕ, List, [], Option, None, Some}
 use Rattle.session_text.specs.declared.word.Next.{Next}
 use Rattle.session_text.specs.declared.word.Next.TheVariants as nexts
 
--- a fact for the end, one for an octet and what is behind it, and one for what isn't there
+-- a fact for the end, one for an octet and what is after it, and one for what isn't there
 abbrev pub MatchNext : Next → Type 0 → (ℕ → List ℕ → Type 0) → Type 0 → Type 0
 MatchNext nexts.End P Q R = P
 MatchNext (nexts.Octet octet rest) P Q R = Q octet rest.now

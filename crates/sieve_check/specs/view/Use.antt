@@ -8,7 +8,7 @@ use Rattle.sieve_check.specs.Element.{row_elements}
 use Rattle.sieve_reading.specs.Shape.{known_shapes}
 use Rattle.sieve_table.specs.Table.{Row}
 
--- the rules that it breaks itself, where `alone` says whether it goes on with an `if` that isn't there, and then those of its arguments
+-- the rules that it breaks itself, where `alone` says whether it continues an `if` that isn't there, and then those of its arguments
 abbrev pub row_found : (alone : Bool) → Context → ℕ → Row → List Argument → Tests → (ends_by_block : Bool) → List Breach
 row_found alone context line row args ts ends_by_block =
     breaches_by (kind_breaks false alone (use_lacks context.profile context.required row args) row (known_shapes context.profile row.tags args) ts ends_by_block) line all_rules

@@ -13,7 +13,7 @@ pub record IsCursor (text : List ℕ) (cursor : Cursor) : Type 0 where
 pub record GoesTo (text : List ℕ) (from to : ℕ) : Type 0 where
   pub goes : (more : List Token) → SpellsFrom text to more → SpellsFrom text from more
 
--- the token comes next from the place, and the tokens behind the cursor come after it
+-- the token comes next from the place, and the tokens after the cursor come after it
 pub record IsNext (text : List ℕ) (from : ℕ) (token : Token) (behind : Cursor) : Type 0 where
   pub is : IsCursor text behind
   pub inside : IsInside text token

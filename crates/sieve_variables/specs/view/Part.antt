@@ -39,7 +39,7 @@ abbrev pub literal_part : List ℕ → List Part
 literal_part [] = []
 literal_part (c ∷ octets) = literal (c ∷ octets) ∷ []
 
--- What a reference adds to the parts, by what stands inside it, by the octets in front of it that aren't in the parts yet, and by
+-- What a reference adds to the parts, by what stands inside it, by the octets before it that aren't in the parts yet, and by
 -- these and the reference as they are written.
 abbrev pub added : (inside octets written : List ℕ) → List Part
 added inside octets written =

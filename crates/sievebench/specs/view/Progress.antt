@@ -36,12 +36,12 @@ CutFrom request old None before new after = ⊤
 CutFrom request old (Some unused) before new after = (reply front back : List ℕ) × (front ++ back ≡ reply) × Answered old (request unused) reply new × Appends before after front
 
 -- a fact where the session goes on, one for each end that the octets ask for, one where no more could be read, and one where no more could
--- be written; for want of memory no session ends behind its start
+-- be written; when out of memory no session ends after its start
 abbrev pub Follows : Progress → Type 0 → (SessionEnd → Type 0) → Type 0 → Type 0 → Type 0
 Follows ways.Continues P Q R S = P
 Follows (ways.Ends end) P Q R S = MatchSessionEnd end (Q end) R S ⊥
 
--- the session goes on behind a command, or ends; what is unused is left where it goes on, and the reader has the rest
+-- the session goes on after a command, or ends; what is unused is left where it goes on, and the reader has the rest
 abbrev pub GoesFrom : (List ℕ → Request) → Progress → Served → Option (List ℕ) → Option (List ℕ) → Served → Option (List ℕ) → Option (List ℕ) → Option (List ℕ) → Type 0
 GoesFrom request way old unused before new left rest after =
     Follows way (StepFrom request old unused before new left after) (λ end. EndFrom request end old unused before new after) (BreakFrom request old unused before new rest after) (CutFrom request old unused before new after)
@@ -57,7 +57,7 @@ ServesFrom ended old (Some unused) before new None after = ⊥
 ServesFrom ended old (Some unused) before new (Some left) after =
     (reply : List ℕ) × Step old (request_of (profile_of old) unused) reply new left × (ended ≡ false → AsksAlone old unused reply new left) × Appends before after reply
 
--- the session goes on behind its next command, or ends
+-- the session goes on after its next command, or ends
 abbrev pub Serves : Bool → Progress → Served → Option (List ℕ) → Option (List ℕ) → Served → Option (List ℕ) → Option (List ℕ) → Option (List ℕ) → Type 0
 Serves ended way old unused before new left rest after =
     Follows way (ServesFrom ended old unused before new left after) (λ end. EndFrom (request_of (profile_of old)) end old unused before new after)
@@ -87,7 +87,7 @@ abbrev pub MatchProgress : Progress → Type 0 → Type 0 → Type 0 → Type 0 
 MatchProgress ways.Continues G P Q R = G
 MatchProgress (ways.Ends end) G P Q R = MatchFault end P Q R
 
--- what a way tells of the faults of the reader and of the writer, as they were counted before and after: it is `Read` or `Write` only where
+-- what a way says of the faults of the reader and of the writer, as they were counted before and after: it is `Read` or `Write` only where
 -- one was counted, and `TurnLimit` only where no turn is left; and no read has come to the end where no more could be read
 abbrev pub TellsFaults : Progress → Input → ℕ → ℕ → ℕ → ℕ → Type 0
 TellsFaults way input read read' written written' =

@@ -145,7 +145,7 @@ fn files_are_read_in_the_order_of_the_manual(rt: HostRuntime) -> Result<(), Fail
     Ok(())
 }
 
-/// A file that is refused for want of memory is no file that can't be read.
+/// A file that is refused when out of memory is no file that can't be read.
 #[test]
 fn a_read_without_memory_is_told(rt: HostRuntime) -> Result<(), Fail> {
     let words: [&[u8]; 4] = [b"x", b"test", b"a.sieve", b"m"];

@@ -74,7 +74,7 @@ impl Room {
         }
     }
 
-    /// How a write of so many octets fails, behind so many writes and so many octets.
+    /// How a write of so many octets fails, after so many writes and so many octets.
     fn failure_of(self, len: usize, writes: usize, taken: usize) -> Option<ErrorKind> {
         match self.failure {
             Some((before, kind)) if before == writes => Some(kind),
@@ -94,7 +94,7 @@ pub(crate) struct Machine<'a> {
     pub words: &'a [&'a [u8]],
     pub input: Given<'a>,
     pub files: Paths<'a>,
-    /// The folders by their paths with a slash: the names in them, with a NUL behind each.
+    /// The folders by their paths with a slash: the names in them, with a NUL after each.
     pub folders: Paths<'a>,
     /// How a file fails that is not there, whatever is asked of it.
     pub missing: ErrorKind,

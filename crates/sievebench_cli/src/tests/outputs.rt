@@ -70,7 +70,7 @@ fn check_failures(
     Ok(())
 }
 
-/// The write that fails is the last one, and nothing is read behind it: before a read, at the end of the input, and behind the last reply.
+/// The write that fails is the last one, and nothing is read after it: before a read, at the end of the input, and after the last reply.
 #[test]
 fn the_first_write_that_fails_ends_the_session(rt: HostRuntime) -> Result<(), Fail> {
     let lines = b"no-main\nno-main\nno-main\n";

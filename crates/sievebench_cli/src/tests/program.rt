@@ -252,7 +252,7 @@ fn standard_error_says_what_went_wrong(rt: HostRuntime) {
     holds(&rt, ("turns", 0), turns == Some("too many reads"));
 }
 
-/// Says that the words could not be read for want of memory: the status.
+/// Says that the words could not be read when out of memory: the status.
 fn status_without_memory(alloc: Global, written: &Written) -> u8 {
     let machine = Machine {
         alloc,

@@ -215,7 +215,7 @@ fn charsets_of_tables_are_known_by_their_name(rt: HostRuntime) -> Result<(), Fai
                 b"A: =?koi8-r?Q?=00a=7F?= =?us-ascii?Q?b?= =?windows-1250?Q?=8A?=\n\n",
                 b"\x00a\x7fb\xc5\xa0\n",
             ),
-            // Octets that stand for nothing, alone and behind others.
+            // Octets that stand for nothing, alone and after others.
             (
                 b"A: =?windows-1250?Q?=81?=\nB: =?windows-1251?Q?a=98?=\nC: =?windows-1252?Q?=9D?=\n\n",
                 b"=?windows-1250?Q?=81?=\n=?windows-1251?Q?a=98?=\n=?windows-1252?Q?=9D?=\n",

@@ -54,7 +54,7 @@ fn a_text_has_each_of_its_flags_once(rt: HostRuntime) -> Result<(), AllocError> 
     )
 }
 
-/// Two lists, in front of both joined, and of those of the first that aren't in the second.
+/// Two lists, before both joined, and of those of the first that aren't in the second.
 type Pair<'a> = (&'a [u8], &'a [u8], &'a [u8], &'a [u8]);
 
 /// Compares both for two lists.
@@ -138,7 +138,7 @@ fn a_list_grows_and_shrinks(rt: HostRuntime) -> Result<(), AllocError> {
     check_changes(&rt, &mut list, &more)
 }
 
-/// A text's first flag stands in front of the first space behind it; what isn't a flag is passed over.
+/// A text's first flag stands before the first space after it; what isn't a flag is passed over.
 #[test]
 fn a_text_gives_its_first_flag(rt: HostRuntime) {
     let (flag, rest) = next_flag(b" b] x y  z").unwrap_or((b"", b""));
@@ -151,7 +151,7 @@ fn a_text_gives_its_first_flag(rt: HostRuntime) {
     same(&rt, b"nothing", nothing, b"");
 }
 
-/// Compares keys, each in front of a bar.
+/// Compares keys, each before a bar.
 fn check_keys(
     rt: &(impl AllocGlobal + Abort),
     row: &[u8],
@@ -254,14 +254,14 @@ fn check_copy(rt: &(impl AllocGlobal + Abort), flags: &FlagList) -> Result<(), A
     Ok(())
 }
 
-/// What a list tells of its flags.
+/// What a list says of its flags.
 #[test]
 fn a_list_gives_its_flags(rt: HostRuntime) -> Result<(), AllocError> {
     check_none(&rt);
     check_copy(&rt, &flags_of(rt.alloc(), b"one Two three")?)
 }
 
-/// Each text of three letters behind a space, where the first letter may be of either case.
+/// Each text of three letters after a space, where the first letter may be of either case.
 fn push_words(text: &mut Vec<u8>) -> Result<(), AllocError> {
     for first in b"abcdefghijklmnopqrstuvwxyzABCDEFGHIJKLMNOPQRSTUVWXYZ" {
         for second in b"abcdefghijklmnopqrstuvwxyz" {

@@ -211,7 +211,7 @@ fn fields_are_found_by_name(rt: HostRuntime) -> Result<(), Fail> {
     Ok(check_places(&rt, &none, &[(b"To", b""), (b"", b"")])?)
 }
 
-// A search that begins behind all fields finds none.
+// A search that begins after all fields finds none.
 #[test]
 fn no_field_is_behind_the_last(rt: HostRuntime) -> Result<(), Fail> {
     let message = read(rt.alloc(), b"To: a\nTo: b\n")?;

@@ -16,7 +16,7 @@ fn is_exceeded(kind: KeyKind, size: usize, (front, back, _): Piecewise<'_>) -> b
     Room::new(kind, size).after(front).after(back).is_exceeded()
 }
 
-/// Tells of each key that a value of as many octets as it needs can match, and one of fewer can't.
+/// Says of each key that a value of as many octets as it needs can match, and one of fewer can't.
 fn check_keys(rt: &impl Abort, kind: KeyKind, rows: &[Piecewise<'_>]) {
     for row in rows {
         let (_, back, needed) = *row;

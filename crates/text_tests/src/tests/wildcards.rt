@@ -45,7 +45,7 @@ fn check_answers<C: Comparator>(
     Ok(())
 }
 
-/// A `\` takes the meaning from the octet behind it, and stands for itself at the end.
+/// A `\` takes the meaning from the octet after it, and stands for itself at the end.
 #[test]
 fn wildcards_take_as_little_as_they_can(rt: HostRuntime) -> Result<(), AllocError> {
     check_answers::<Octet>(
@@ -185,7 +185,7 @@ fn slow(alloc: Global, value: &[u8], pattern: &[u8]) -> Result<Option<Vec<u8>>, 
     }
 }
 
-/// A bar and what a wildcard takes, in front of what those behind it take.
+/// A bar and what a wildcard takes, before what those after it take.
 fn behind(alloc: Global, taken: &[u8], told: &[u8]) -> Result<Vec<u8>, AllocError> {
     let mut all = Vec::from_slice(alloc, b"|")?;
     all.extend_from_slice(taken)?;
@@ -209,7 +209,7 @@ fn text_of(alloc: Global, alphabet: &[u8], number: usize) -> Result<Vec<u8>, All
     Ok(text)
 }
 
-/// Adds what the slow way takes, behind the value, or `no`.
+/// Adds what the slow way takes, after the value, or `no`.
 fn push_slow(
     alloc: Global,
     told: &mut Vec<u8>,

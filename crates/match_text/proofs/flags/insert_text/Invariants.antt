@@ -3,7 +3,7 @@ use Rattle.match_text.specs.Flags.{flags_in}
 use Rattle.match_text.proofs.Pieces.{AddedSoFar}
 use Rattle.match_text.proofs.flags.insert_text.Given as goal
 
--- the flags of the text in front of those of the rest have been added to the set
+-- the flags of the text before those of the rest have been added to the set
 abbrev pub invariant-loop-flag : goal.invariant-loop-flag
 invariant-loop-flag l = AddedSoFar (flags_in l.text) (flags_in l.rest) l.initial.flags.keys l.flags.keys
 

@@ -4,7 +4,7 @@ use Rattle.match_text.specs.Flags.{flag_keys, pieces}
 use Rattle.sieve_base.specs.view.Texts.{octets_of_each}
 use Rattle.match_text.proofs.sought_flags.push_keys.Given as goal
 
--- the keys so far, and behind them the pieces of the rest that have octets, are the keys found before and what the key stands for
+-- the keys so far, and after them the pieces of the rest that have octets, are the keys found before and what the key stands for
 abbrev pub invariant-pieces : goal.invariant-pieces
 invariant-pieces l = octets_of_each l.found.items ++ filter is_filled (pieces l.rest) ≡ octets_of_each l.initial.found.items ++ flag_keys l.key
 

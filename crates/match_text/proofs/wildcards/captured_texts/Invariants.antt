@@ -4,7 +4,7 @@ use Rattle.match_text.specs.view.Segment.{captures_of, texts_of}
 use Rattle.match_text.proofs.Greedy.{IsStarred}
 use Rattle.match_text.proofs.wildcards.captured_texts.Given as goal
 
--- no items are left or a star is next; what is left of the text is as long as what is left of the value; and the texts so far, and behind them
+-- no items are left or a star is next; what is left of the text is as long as what is left of the value; and the texts so far, and after them
 -- what the items that are left take, are the whole value and what all items take
 abbrev pub invariant-loop-items_left : goal.invariant-loop-items_left
 invariant-loop-items_left l = record {

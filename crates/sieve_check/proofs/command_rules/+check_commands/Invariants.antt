@@ -11,7 +11,7 @@ use Rattle.sieve_reading.specs.view.Tree.{node_of}
 use Rattle.sieve_check.proofs.InPlace.{IsLeft}
 use Rattle.sieve_check.proofs.command_rules.+check_commands.Given as goal
 
--- the breaches of the commands that are left are all that there are, and the context behind these commands is the context behind all; the commands that are cut and the others, when they are cut, are all commands cut; and the others are as they were
+-- the breaches of the commands that are left are all that there are, and the context after these commands is the context after all; the commands that are cut and the others, when they are cut, are all commands cut; and the others are as they were
 abbrev pub invariant-check_commands-loop-i : goal.invariant-check_commands-loop-i
 invariant-check_commands-loop-i l = record {
   found : breaches_in (nodes_elements (at_spot l.spot l.scope) (nodes (map seen.node_of (drop l.i l.initial.commands.items)))) ≡ breaches_in (nodes_elements (at_spot l.fn.start l.fn.scope) (nodes (map seen.node_of l.initial.commands.items)));

@@ -1,4 +1,4 @@
--- Which variables are set behind commands is told by the lemma `names_set`, and which are set before an element by the lemma `set_before`.
+-- Which variables are set after commands is said by the lemma `names_set`, and which are set before an element by the lemma `set_before`.
 use Rattle.sieve_check.proofs.NamedBefore.{set_before}
 use Rattle.sieve_check.proofs.Naming.{names_set}
 use Rattle.sieve_check.proofs.laws.what_is_written_to_be_set_is_set.Goals as goal

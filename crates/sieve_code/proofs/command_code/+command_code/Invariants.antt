@@ -3,7 +3,7 @@ use Rattle.sieve_code.specs.view.Branches.{branches_as}
 use Rattle.sieve_code.proofs.Putting.{branches_on}
 use Rattle.sieve_code.proofs.command_code.+command_code.Given as goal
 
--- the commands that were taken from the end stand in front of the given tail, with the branches that `front` tells of, which end within the tail; and all commands are those that are left and those that were taken
+-- the commands that were taken from the end stand before the given tail, with the branches that `front` says of, which end within the tail; and all commands are those that are left and those that were taken
 abbrev pub invariant-put_commands-loop-command : goal.invariant-put_commands-loop-command
 invariant-put_commands-loop-command l = record {
   within : l.front.behind ≤ length l.tail;

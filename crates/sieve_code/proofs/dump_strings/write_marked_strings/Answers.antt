@@ -9,7 +9,7 @@ use Rattle.sieve_variables.specs.Part.{Part}
 use Rattle.sieve_code.specs.view.Marked.{marked_string}
 use Rattle.sieve_code.proofs.dump_strings.write_marked_strings.Goals as goal
 
--- one string more stands behind what was written
+-- one string more stands after what was written
 more_whole : (done text whole : List ℕ) (strings : List (List Part)) (i : ℕ) (string : List Part) → drop i strings ≡ string ∷ drop (i + 1) strings → text ≡ marked_string string
     → done ++ flat_map marked_string (drop i strings) ≡ whole → (done ++ text) ++ flat_map marked_string (drop (i + 1) strings) ≡ whole
 more_whole done text whole strings i string left is so =

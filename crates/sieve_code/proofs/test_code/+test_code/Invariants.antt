@@ -3,7 +3,7 @@ use Rattle.sieve_code.specs.Choice.{list_before}
 use Rattle.sieve_code.proofs.Putting.{list_on}
 use Rattle.sieve_code.proofs.test_code.+test_code.Given as goal
 
--- the tests that were taken from the end stand in front of the given tail, with the jumps between them; others follow where some were taken; and all tests are those that are left and those that were taken
+-- the tests that were taken from the end stand before the given tail, with the jumps between them; others follow where some were taken; and all tests are those that are left and those that were taken
 abbrev pub invariant-put_list-loop-test : goal.invariant-put_list-loop-test
 invariant-put_list-loop-test l = record {
   value : l.tail ≡ list_before l.truth (list_on (drop (length l.list.items) l.fn.list.items)) l.fn.tail;

@@ -3,7 +3,7 @@ use Rattle.sieve_variables.specs.Scan.{parts_of_text}
 use Rattle.sieve_variables.proofs.Steps.{in_front}
 use Rattle.sieve_variables.proofs.references.parts_of_text.Given as goal
 
--- the parts so far, and then the octets that stand for themselves with the parts of what is left behind them, are the parts of the text
+-- the parts so far, and then the octets that stand for themselves with the parts of what is left after them, are the parts of the text
 abbrev pub invariant-loop-plain : goal.invariant-loop-plain
 invariant-loop-plain l = record {
   within : l.plain ≤ length l.left;
