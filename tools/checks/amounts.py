@@ -19,12 +19,12 @@ def of_sessions(room):
 
 
 def of_cuts(room):
-    """A session that is cut off behind each of its octets."""
+    """A session that is cut off after each of its octets."""
     ends = [(0, b"", 0), (21, b"no syntax\n", 2), (31, b"no truncated\n", 2), (32, b"ok\n", 0), (43, b"ok\nno syntax\n", 2), (45, b"ok\nok\n", 0)]
     ends += [(59, b"ok\nok\nno syntax\n", 2), (64, b"ok\nok\nok\n", 0), (69, b"ok\nok\nok\nno syntax\n", 2), (71, b"ok\nok\nok\n" + REPORT, 0)]
     for octets in range(len(SESSION) + 1):
         replies, status = next(end[1:] for end in ends if octets <= end[0])
-        yield session(room, f"a session that is cut off behind {octets} octets", SESSION[:octets], replies, status)
+        yield session(room, f"a session that is cut off after {octets} octets", SESSION[:octets], replies, status)
 
 
 def of_lines(room):
@@ -69,7 +69,7 @@ def of_words(room):
         (b"no-expect ", NAME_LIMIT, b"\n", no_message, large),
         (b"dump personal ", NAME_LIMIT, b"\n", no_script, no_script),
     ]:
-        title = f"the word behind `{front.decode()}`"
+        title = f"the word after `{front.decode()}`"
         names = "envelopes" if b"message-envelope " in front else ""
         yield session(room, f"{title} at its limit", front + b"n" * limit + end, reply, names=names)
         yield session(room, f"{title} past it", front + b"n" * (limit + 1) + end, past, names=names)
@@ -177,7 +177,7 @@ def of_nesting(room):
     for title, opened, deep, middle, closed, line, verdict in [
         ("blocks", b"if true {\n", 32, b"discard;", b"}", 33, ["discard"]),
         ("blocks without a command", b"if true {\n", 32, b"", b"}", 33, KEPT),
-        ("blocks behind blocks", b"if true {keep;}\nif true {", 32, b"", b"}", 33, ['store "INBOX"']),
+        ("blocks after blocks", b"if true {keep;}\nif true {", 32, b"", b"}", 33, ['store "INBOX"']),
         ("nots", b" not", 31, b" true {discard;}", b"", 1, KEPT),
         ("nots without a command", b" not", 31, b" true{}", b"", 1, KEPT),
         ("lists of tests", b" allof (", 31, b"true", b")", 1, KEPT),

@@ -1,8 +1,8 @@
-"""The calls of the libraries, each made by itself while each of its requests for memory is refused in turn, once and with all behind it.
+"""The calls of the libraries, each made by itself while each of its requests for memory is refused in turn, once and with all after it.
 
-`crates/one_call` makes them, as its words name them. The program runs with `refuse.c` in front of its C library, which tells the requests of
-the call by the marks around it. A call whose request is refused answers that, and leaves what was there before; a request in front of it
-ends the program's preparation, and one behind it the report that is made there. What is answered is written here by the rules.
+`crates/one_call` makes them, as its words name them. The program runs with `refuse.c` before its C library, which tells the requests of
+the call by the marks around it. A call whose request is refused answers that, and leaves what was there before; a request before it
+ends the program's preparation, and one after it the report that is made there. What is answered is written here by the rules.
 """
 import concurrent.futures
 import os
@@ -38,7 +38,7 @@ def runs(count):
 
 
 class Told:
-    """What a call may tell: the answer, what it leaves, and where its requests are refused, what stands behind that it was; further answers
+    """What a call may tell: the answer, what it leaves, and where its requests are refused, what stands after that it was; further answers
     that a refusal may have; and where requests behind the call may be refused, what stands behind the answer then."""
 
     def __init__(self, answer, left=b"", kept=(b"",), others=(), behind=()):
@@ -47,7 +47,7 @@ class Told:
         self.behind = {self.whole, *(answer + it for it in behind)}
 
 
-# The bench on which edits are made, behind the report that made its verdict: a message that the main script discards, as is expected.
+# The bench on which edits are made, after the report that made its verdict: a message that the main script discards, as is expected.
 DISCARDED = ["discard", 'read personal "main"']
 AGREES = " 0 unexpected"
 BEFORE = reported([("m", DISCARDED + ["expected"])], total=AGREES)
@@ -252,7 +252,7 @@ UNREFUSED = {
 
 
 class Call:
-    """A call under each refusal in turn, alone and with all behind it. `requests` are how many it makes, once it was made."""
+    """A call under each refusal in turn, alone and with all after it. `requests` are how many it makes, once it was made."""
 
     def __init__(self, room, library, program, word, told, takes):
         self.room, self.library, self.program, self.word, self.told, self.takes = room, library, program, word, told, takes

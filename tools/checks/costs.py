@@ -137,7 +137,7 @@ def of_bodies(room):
 
 
 class Devices:
-    """A session whose input comes at once makes so few reads and writes that one behind these fails unseen."""
+    """A session whose input comes at once makes so few reads and writes that one after these fails unseen."""
 
     command = "sievebench session"
 
@@ -203,7 +203,7 @@ def of_memory(room):
     # A run has a place of five words for each field up to the last that it looks at, and a message six words for each.
     mail = b"a:\n" * 240_000 + b"z: v\n\n"
     told = ['main personal "main"', 'envelope "" "" mailbox "INBOX"', 'script personal "main" ok', 'message "m0"', "  discard", '  read personal "main"']
-    yield limited(room, "a field behind many", judged(b'if header "z" "v" { discard; }', [mail]), lines(*["ok"] * 3, *told, "total 1 messages 0 errors"))
+    yield limited(room, "a field after many", judged(b'if header "z" "v" { discard; }', [mail]), lines(*["ok"] * 3, *told, "total 1 messages 0 errors"))
     # Of a mail of eight parts, whose octets in UTF-8 take twice as many, one part at a time is decoded.
     part = b"--b\nContent-Type: text/plain; charset=iso-8859-1\nContent-Transfer-Encoding: base64\n\n" + b"6enp" * 450_000 + b"\n"
     mail = b"Content-Type: multipart/mixed; boundary=b\n\n" + part * 8

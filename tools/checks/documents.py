@@ -26,7 +26,7 @@ def blocks(title):
 
 
 def of_replies(room):
-    """A session whose sixth line with words is none, behind replies of many lines, and the line that counts the replies."""
+    """A session whose sixth line with words is none, after replies of many lines, and the line that counts the replies."""
     (room / "input").write_bytes(b"message m 0\n\n" + put(b"script personal main", b"discard;\nx;\n") + b"main personal main\nreport\ndump personal gone\nfrobnicate\n")
     (count,) = blocks("Which line was refused")
     yield Run("the line of a `no syntax`", room, f"sievebench session < input > replies; {count}", lines("6"))
@@ -120,11 +120,11 @@ def of_first_checks(room):
 
 
 def of_site(room):
-    """What is expected of the mail with an order, and what is told where the script of orders sets no keyword."""
+    """What is expected of the mail with an order, and what is printed where the script of orders sets no keyword."""
     expected, told = re.findall(r"^```\n((?:\[|site/mails/).*?)^```", SITE.read_text(encoding="utf-8"), re.S | re.M)
     yield Run("what is expected of a mail", OFFICE, "cat mails/04-order.eml.expect", expected.encode())
     changed = f"cp -R {shlex.quote(str(OFFICE))} site && sed -i 's/ :flags \"$Order\"//' site/personal/sales.sieve"
-    yield Run("what is told of a changed script", room, f"{changed} && {shlex.quote(str(TOOL))} check --strict site", told.encode(), status=1)
+    yield Run("what is printed of a changed script", room, f"{changed} && {shlex.quote(str(TOOL))} check --strict site", told.encode(), status=1)
 
 
 def of_documents(room):

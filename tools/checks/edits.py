@@ -1,4 +1,4 @@
-"""Random edits of a bench with a report behind each, beside benches that are made anew for each report: the texts must be the same. Half of
+"""Random edits of a bench with a report after each, beside benches that are made anew for each report: the texts must be the same. Half of
 them are of benches of the empty profile, and half of benches that have the names by which there are more edits."""
 import concurrent.futures
 import os
@@ -157,7 +157,7 @@ def served(path, octets, has_names):
 
 
 def last_report(replies):
-    """The report at the end of some replies, behind the lines that say that edits were made, or all of them where there is none."""
+    """The report at the end of some replies, after the lines that say that edits were made, or all of them where there is none."""
     return replies[replies.rfind(b"main ", 0, replies.find(b"\nenvelope ")) :] if b"\nenvelope " in replies else replies
 
 
@@ -183,7 +183,7 @@ class Walk:
             if not got.startswith(reply + report):
                 return [f"at edit {step}: wanted {reply + report!r:.2000}, got {got[: len(reply + report)]!r:.2000}"]
             got = got[len(reply + report) :]
-        return [f"more behind the last report: {got!r:.2000}"] if got else []
+        return [f"more after the last report: {got!r:.2000}"] if got else []
 
 
 def of_benches():

@@ -20,7 +20,7 @@ SERIES = re.compile(r"([^;]*?)(\d+)([^;]*;) \.\. \1(\d+)\3")
 # Of each fault a few words of its sentence, and a few of its cause, that no other one has.
 OWN = {
     "syntax": ("can't follow", "a brace, a bracket or a quote is missing"),
-    "require-place": ("in front of all other commands", "put behind another one with its `require`"),
+    "require-place": ("before all other commands", "put after another one with its `require`"),
     "unknown-capability": ("no such extension here", "as `regex`"),
     "unknown-command": ("no such command or test", "a command of an extension that isn't there"),
     "not-required": ("that the script doesn't require", "the `require` is missing"),
@@ -100,7 +100,7 @@ def spelled(text):
 
 
 def of_table(room):
-    """The table, and the runs of its lines: what is told of a text by `dump`, and what is told of a run by `test`."""
+    """The table, and the runs of its lines: what is printed of a text by `dump`, and what is printed of a run by `test`."""
     yield Table()
     for row in cells()[1:]:
         it = dict(zip(COLUMNS, row))

@@ -51,7 +51,7 @@ def of_odd_names(room):
     for words, place in ("--personal linked", "personal"), ("--global linked/", "global"):
         scripts = [plain, f'{place} "link" ok', f'{place} "x" ok']
         told = report(scripts, "a script", "empty", ["discard"])
-        yield Run(f"a folder behind a symbolic link: {words}", folder, f"sievebench test {words} 'a script.sieve' empty", told)
+        yield Run(f"a folder after a symbolic link: {words}", folder, f"sievebench test {words} 'a script.sieve' empty", told)
     far = b'sievebench: cannot read "far/x.sieve"\n'
     yield Run("a script of which nobody knows what it is", folder, "sievebench test --personal far 'a script.sieve' empty", b"", far, 3)
     yield Run("a word that begins with a dash", folder, "sievebench test -- -x.sieve empty", b"", b'sievebench: cannot read "-x.sieve"\n', 3)

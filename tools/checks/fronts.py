@@ -1,4 +1,4 @@
-"""Sessions that are cut off behind their octets. What must come of a cut is told by the grammar of lines, which is written here once more,
+"""Sessions that are cut off after their octets. What must come of a cut is told by the grammar of lines, which is written here once more,
 as patterns, and by the replies of the whole lines, which are written out."""
 import re
 
@@ -51,7 +51,7 @@ EMPTY, TRUNCATED, SYNTAX = (b"", 0), (b"no truncated\n", 2), (b"no syntax\n", 2)
 
 
 def end_of(line, reply, pattern):
-    """What comes of the front of a line behind which the input ends: its reply is that of the whole line where it is a line too."""
+    """What comes of the front of a line after which the input ends: its reply is that of the whole line where it is a line too."""
     read = pattern.fullmatch(line.decode())
     if not read:
         return SYNTAX
@@ -61,33 +61,33 @@ def end_of(line, reply, pattern):
 
 
 def of_lines(room):
-    """A session with quoted words, a report in its middle and a dump, and one of lines that need names, cut off behind each octet."""
+    """A session with quoted words, a report in its middle and a dump, and one of lines that need names, cut off after each octet."""
     yield from cut_off(room, STEPS, LINE, "")
     yield from cut_off(room, ASKED_STEPS, ASKED_LINE, NAMES)
 
 
 def cut_off(room, steps, pattern, names):
-    """A session of these lines, under a profile, cut off behind each of its octets."""
+    """A session of these lines, under a profile, cut off after each of its octets."""
     octets, replies = b"", b""
     for line, counted, reply in steps:
         for size in range(len(line)):
             told, status = end_of(line[:size], reply, pattern)
-            yield session(room, f"cut off behind {octets + line[:size]!r:.200}", octets + line[:size], replies + told, status, names)
+            yield session(room, f"cut off after {octets + line[:size]!r:.200}", octets + line[:size], replies + told, status, names)
         for size in range(len(counted)):
-            yield session(room, f"cut off behind {size} octets of {line!r}", octets + line + counted[:size], replies + TRUNCATED[0], 2, names)
+            yield session(room, f"cut off after {size} octets of {line!r}", octets + line + counted[:size], replies + TRUNCATED[0], 2, names)
         octets, replies = octets + line + counted, replies + reply
     yield session(room, "not cut off", octets, replies, names=names)
 
 
 def of_texts(room):
-    """A text at its limit that begins no script, and one past it, each cut off behind each 100,000 octets."""
+    """A text at its limit that begins no script, and one past it, each cut off after each 100,000 octets."""
     for piece in b"[", b"(", b'"', b"{":
         octets = put(b"script personal a", piece * TEXT_LIMIT)
         told = lines("ok", "main none", 'envelope "" "" mailbox "INBOX"', 'script personal "a" line 1 syntax', "total 0 messages 0 errors")
         yield session(room, f"a text of {piece!r} at its limit", octets + b"report\n", told)
         for size in range(0, len(octets), 100_000):
             told, status = TRUNCATED if size else EMPTY
-            yield session(room, f"the same, cut off behind {size} octets", octets[:size], told, status)
+            yield session(room, f"the same, cut off after {size} octets", octets[:size], told, status)
         octets = put(b"script personal a", piece * (TEXT_LIMIT + 1)) + b"report\n"
         told = lines("no too-large", "main none", 'envelope "" "" mailbox "INBOX"', "total 0 messages 0 errors")
         yield session(room, f"a text of {piece!r} past its limit", octets, told)

@@ -21,7 +21,7 @@ SOURCES, SAYS = "crates/sieve_base/src/limits.rt", "crates/sievebench_cli/src"
 AMOUNTS, BODIES, SITE_DATES, TOOL, CLOCK = "tools/checks/amounts.py", "tools/checks/bodies.py", "tools/checks/dates.py", "tools/site/sievebench_site/words.py", "tools/site/sievebench_site/clock.py"
 NUMBER = r"(\d[\d,_]*\d|\d|[Tt]en)"
 # Of each limit the places beside its home: a file and a pattern, whose groups are numbers, each of them the limit; or the name of a constant of a
-# file of Python. What is told as one past the limit has a third part.
+# file of Python. What is printed as one past the limit has a third part.
 PLACES = {
     "MAX_TEXT": [
         (FORMATS, rf"\| a script's text, the list of mailboxes \| {NUMBER} octets"),
@@ -223,7 +223,7 @@ class Limits(Reading):
 
 
 def rows(path, heading):
-    """The rows of the first table behind a heading: each with its cells."""
+    """The rows of the first table after a heading: each with its cells."""
     text = text_of(path).partition(heading)[2]
     return [re.split(r" \| ", line.strip("| ")) for line in re.findall(r"^\|(?!---).*", text.partition("\n\n|")[2].partition("\n\n")[0], re.M)]
 

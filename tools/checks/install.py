@@ -50,7 +50,7 @@ def of_prefixes(room):
 
 
 def of_successes(room):
-    """What is installed, and what is told of it."""
+    """What is installed, and what is printed of it."""
     top = copy(room, BUILDS, {})
     here = os.fsencode(os.path.realpath(top))
     used = "find 'a b' -type f | LC_ALL=C sort; 'a b/bin/sievebench' x; eval \"$(grep export told)\"; sievebench y; sievebench-site"

@@ -1,5 +1,5 @@
 """Many of each thing that a script or a message holds: a few, some more, and as many as there may be. What must come out is written from the
-rules: the report, the code, and the report once more behind two renames."""
+rules: the report, the code, and the report once more after two renames."""
 from .amounts import MAIL_LIMIT, SCRIPT_LIMIT
 from .runs import SETTINGS, lines, put, session, some
 
@@ -24,7 +24,7 @@ def listed(form, count):
 
 def shown(room, title, script, mail, verdict, code, scripts=(), reads=()):
     """A session that reports what a script does with a mail, renames the script twice, prints its code and reports again; the verdict's
-    lines, the operations, other scripts, and the names that are looked up behind the main one."""
+    lines, the operations, other scripts, and the names that are looked up after the main one."""
     names = sorted(["main", *(name for name, text in scripts)])
     puts = b"".join(put(f"script personal {name}".encode(), text.encode()) for name, text in [("main", script), *scripts])
     words = lines("main personal main", "report", "rename personal main personal other", "rename personal other personal main", "dump personal main", "report")
@@ -36,7 +36,7 @@ def shown(room, title, script, mail, verdict, code, scripts=(), reads=()):
 
 
 def tested(room, title, require, test, mail, holds, operation):
-    """A test of one operation, behind which a message is discarded."""
+    """A test of one operation, after which a message is discarded."""
     code = [operation, "jump-if-false 3", f"discard @{require.count(chr(10)) + 1}"]
     return shown(room, title, f"{require}if {test} {{ discard; }}", mail, ["discard"] if holds else KEPT, code)
 
@@ -150,7 +150,7 @@ def of_flags(room):
         yield shown(room, f"{count} joined stores", require + "\n".join(steps), "", [f'store "INBOX"{held}'], code)
         script = f'{require}setflag {flags}; keep; removeflag "f1"; keep; addflag ["f1", "x"]; keep;'
         code = [f"setflag internal {flags} @2", "keep internal @2", 'removeflag internal ["f1"] @2', "keep internal @2", 'addflag internal ["f1", "x"] @2', "keep internal @2"]
-        yield shown(room, f"a store of {count} flags, joined behind changes", script, "", [f'store "INBOX"{held} "x"'], code)
+        yield shown(room, f"a store of {count} flags, joined after changes", script, "", [f'store "INBOX"{held} "x"'], code)
         script = f'{require}setflag "k{count}"; if hasflag {keys} {{ discard; }}'
         code = [f'setflag internal ["k{count}"] @2', f"hasflag is casemap internal {keys}", "jump-if-false 4", "discard @2"]
         yield shown(room, f"{count} keys of hasflag", script, "", ["discard"], code)

@@ -111,7 +111,7 @@ def of_keys(room):
         ("octets of a key under :contains", b'header :contains :comparator "i;octet" "subject" "%s"', b"x", b"x"),
         ("octets of a key under :contains, by casemap", b'header :contains "subject" "%s"', b"x", b"X"),
         ("octets of a pattern", b'header :matches "subject" "%s"', b"x", b"X"),
-        ("octets of a pattern behind a star", b'header :matches :comparator "i;octet" "subject" "*%s"', b"x", b"x"),
+        ("octets of a pattern after a star", b'header :matches :comparator "i;octet" "subject" "*%s"', b"x", b"x"),
         ("octets of a pattern between stars", b'header :matches "subject" "*%s*"', b"x", b"X"),
         ("question marks of a pattern", b'header :matches "subject" "%s"', b"?", b"x"),
         ("stars of a pattern", b'header :matches "subject" "%s"', b"*", b"x"),

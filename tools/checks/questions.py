@@ -88,7 +88,7 @@ def of_untested(room):
         (7, "without: keep;", False),
         (8, "without: keep;", False),
     )
-    # A mail `a` that isn't filed is kept, and its `stop` stands in front of nothing. A rejection and a discard go together.
+    # A mail `a` that isn't filed is kept, and its `stop` stands before nothing. A rejection and a discard go together.
     yield run("branches, and runs that end by an error", room, "untested branches", lines(*wanted, "9 of 13 changes are noticed"))
     parts = b'require "include"; include "part";\n'
     write(room / "mains", {**site({"1.eml": b"Subject: a\n\n"}, one=parts + b"discard;", two=parts), "personal/part.sieve": b'if header "subject" "b" {\n  discard;\n}\nkeep;\n', "personal/lost.sieve": b"keep;"})
@@ -113,7 +113,7 @@ def of_untested(room):
     yield run("a condition that sets variables and doesn't hold", room, "untested set", lines(*unnoticed("set/personal/main.sieve", (3, "without: discard;", False)), "3 of 4 changes are noticed"))
     yield run("enough are noticed", room, "untested -q --fail-under 50 limits", [b"limits/personal/main.sieve:1"])
     yield run("too few are noticed", room, "untested --json --fail-under 90 limits", [b'{"passed": false, "counts": {"noticed": 7, "changes": 11, "leave a fault": 0, "change nothing": 1}', b'"reached": false'], status=1)
-    yield run("a number that isn't one", room, "untested --fail-under x limits", b"", told("argument --fail-under: 'x' isn't a number from 0 to 100: --help tells the options"), 2)
+    yield run("a number that isn't one", room, "untested --fail-under x limits", b"", told("argument --fail-under: 'x' isn't a number from 0 to 100; see --help"), 2)
 
 
 def of_chains(room):
@@ -148,7 +148,7 @@ def of_diffs(room):
     write(room / "all", site(mails, main=b"keep;"))
     heads = [f"all/mails/{number}.eml under main" for number in (1, 2, 3)] + ["and 2 more: 5 verdicts in all, of 5 mails under 1 main"]
     yield run("many alike", room, "diff old all", lines(*heads, "  - discard", '  + store "INBOX"  (all/personal/main.sieve:1)', "5 of 5 verdicts changed"), status=1)
-    yield run("one folder alone", room, "diff old", b"", told("two folders are wanted, or with --git one: --help tells more"), 2)
+    yield run("one folder alone", room, "diff old", b"", told("two folders are wanted, or with --git one; see --help"), 2)
     write(room / "asks", {**site({"1.eml": b""}, main=b'require "vacation"; vacation "x";'), "with": b"vacation\n"})
     write(room / "asks-not", site({"1.eml": b""}, main=b"discard;"))
     yield run("what can't be judged", room, "diff asks asks-not", lines("asks-not/with: it was another, and is taken for both", 'asks-not/mails/1.eml under main: not judged: before, personal "main" requires vacation', "0 of 0 verdicts changed, 1 not judged"))
@@ -221,11 +221,11 @@ def of_answers(room):
     verdict = ['implicit "INBOX"', 'error personal "part" line 1 conflicting-actions']
     yield run("a command that fails where it is done again", room, "why twice-included 1.eml", answer("twice-included/mails/1.eml", "main", verdict, [at, part], [f"{part}:1: if true"], *ends))
     yield run("no such mail", room, "why why x.eml", b"", told('no mail "why/mails/x.eml"'), 2)
-    yield run("no mail", room, "why why", b"", told("a site and a mail are wanted: --help tells more"), 2)
+    yield run("no mail", room, "why why", b"", told("a site and a mail are wanted; see --help"), 2)
 
 
 class Watched:
-    """A site that is watched: what is done, each behind the report of what was done before, and the lines of all reports. A number of
+    """A site that is watched: what is done, each after the report of what was done before, and the lines of all reports. A number of
     seconds is `N` in them."""
 
     ENDS = re.compile(r", [0-9.]+ seconds$")
@@ -249,7 +249,7 @@ class Watched:
                 said = child.stderr.read()
                 child.wait(SECONDS)
             except queue.Empty:
-                return [f"no report in {self.seconds} seconds behind {got[-3:]}"]
+                return [f"no report in {self.seconds} seconds after {got[-3:]}"]
             finally:
                 child.kill()
         got += [read.get() for _ in range(read.qsize())]

@@ -35,7 +35,7 @@ class Proving:
             return []
         file = shlex.split(self.command, comments=True)[0]
         if file not in PROVE:
-            return ["no block behind it holds what it prints"]
+            return ["no block after it holds what it prints"]
         return [] if os.access(TOP / file, os.X_OK) else [f"{file} can't be executed"]
 
 

@@ -1,5 +1,5 @@
 """Sessions whose requests for memory are refused one by one, whose reads give an octet each, whose reads and writes fail one by one, and that
-have no more memory than a limit. The program runs with `refuse.c` in front of its C library. What a session must answer behind a refusal is
+have no more memory than a limit. The program runs with `refuse.c` before its C library. What a session must answer after a refusal is
 what it answers without the command that was refused: so both are compared, and what sessions answer is compared with the rules elsewhere."""
 import itertools
 import os
@@ -112,7 +112,7 @@ class Refusals:
 
 
 class Words:
-    """What words of the command line ask for, where one request is refused, or it and all behind it: the whole answer, or none and that
+    """What words of the command line ask for, where one request is refused, or it and all after it: the whole answer, or none and that
     memory is out."""
 
     OUT = b"", b"sievebench: out of memory\n", 4
@@ -176,7 +176,7 @@ class Pieces:
 class Failing:
     """A session whose reads, an octet each, fail one by one, and then its writes. Of a read that fails there must come what the commands
     that were whole before it answer, and of a write a front of what the session answers. So it is where a write takes nothing: nothing
-    is written behind it, and standard error says so."""
+    is written after it, and standard error says so."""
 
     def __init__(self, library, title, commands):
         self.library, self.commands = library, commands

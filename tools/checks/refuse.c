@@ -2,7 +2,7 @@
    front of the C library.
 
    REFUSE=N        refuses the Nth request, once
-   REFUSE_FROM=N   refuses the Nth and all behind it
+   REFUSE_FROM=N   refuses the Nth and all after it
    READ=N          lets a read give N octets at most
    FAIL_READ=N     lets the Nth read of standard input fail
    FAIL_WRITE=N    lets the Nth write to standard output fail

@@ -1,7 +1,7 @@
 """The rows of files in `examples/rows`.
 
 A file has paragraphs, with empty lines between them, and each is a case. A line `== TITLE` at the head of one is the title of it and of
-those behind it, and a line `# ..` is a comment. What stands behind a mark and a space is a line of octets; where a backslash stands
+those after it, and a line `# ..` is a comment. What stands after a mark and a space is a line of octets; where a backslash stands
 between the two, as in `@\\ A: b\\r\\n`, the octets have the escapes \\n, \\r, \\t, \\\\ and \\xHH, and no LF of their own. So do texts and
 parts.
 
@@ -11,12 +11,12 @@ and without such a line it is empty; then the lines of the verdict, `> `; or the
 `=` alone for none.
 
 `*.faults`: the faults of scripts. Behind `== FAULT`, which is `ok` for none, stands a text a line, with escapes, and `\\` alone for no
-octets. Lines `| ` stand before each text of the paragraph and of those behind it, up to other such lines; `|\\` stands for none. `+ `, the
+octets. Lines `| ` stand before each text of the paragraph and of those after it, up to other such lines; `|\\` stands for none. `+ `, the
 names of the profile in their order, holds for the paragraph.
 
 `*.sessions`: `< ` a line of the input, `> ` one of the replies, `+ ` the names of the profile, `= ` the status where it isn't 0.
 
-`*.words`: `$ ` the words of a command line behind `sievebench`, as a shell reads them; `> ` a part of what stands on standard output,
+`*.words`: `$ ` the words of a command line after `sievebench`, as a shell reads them; `> ` a part of what stands on standard output,
 `2> ` of standard error, each with escapes; `= ` the status where it isn't 0. Where an output has no part, nothing may stand there.
 """
 import re
@@ -28,7 +28,7 @@ ESCAPES = {"n": b"\n", "r": b"\r", "t": b"\t", "\\": b"\\"}
 
 
 class Case:
-    """A paragraph: the octets behind its marks, joined, and the lines by their marks."""
+    """A paragraph: the octets after its marks, joined, and the lines by their marks."""
 
     def __init__(self, title, paragraph, marks):
         self.title, self.octets, self.lines = title, {}, {}
@@ -36,10 +36,10 @@ class Case:
             mark = next((mark for mark in marks if line.startswith(mark)), None)
             if mark is None:
                 sys.exit(f"{title}: `{line}` is no line of a case")
-            behind = line[len(mark) :]
-            octets = unescaped(behind[2:]) if behind[:1] == "\\" else behind[1:].encode() + b"\n"
+            after = line[len(mark) :]
+            octets = unescaped(after[2:]) if after[:1] == "\\" else after[1:].encode() + b"\n"
             self.octets[mark] = self.octets.get(mark, b"") + octets
-            self.lines.setdefault(mark, []).append(behind[1:])
+            self.lines.setdefault(mark, []).append(after[1:])
 
     def status(self):
         """The status that is wanted."""

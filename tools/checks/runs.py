@@ -88,7 +88,7 @@ def wanted_and_got(wanted, got):
     if not isinstance(wanted, bytes):
         return f"wanted {wanted!r:.2000}, got {got!r:.2000}"
     start = wanted.rfind(b"\n", 0, len(os.path.commonprefix([wanted, got]))) + 1
-    return f"behind {start} octets wanted {wanted[start:]!r:.2000}, got {got[start:]!r:.2000}"
+    return f"after {start} octets wanted {wanted[start:]!r:.2000}, got {got[start:]!r:.2000}"
 
 
 def lines(*texts):

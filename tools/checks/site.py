@@ -195,15 +195,15 @@ def of_refusals(room):
         write(room / end, site({"1.eml": b""}, main=b""))
         (room / end / f"mails/1.eml.{end}").symlink_to("nowhere")
         yield run(f"a link to nothing, {end}", room, f"check {end}", b"", told(f'cannot read "{end}/mails/1.eml.{end}": No such file or directory'), 2)
-    yield run("an unknown option", room, "check --no unnamed", b"", told("unrecognized arguments: --no: --help tells the options"), 2)
-    yield run("a value of an option that takes none", room, "check --strict=no good", b"", told("argument --strict: ignored explicit argument 'no': --help tells the options"), 2)
+    yield run("an unknown option", room, "check --no unnamed", b"", told("unrecognized arguments: --no; see --help"), 2)
+    yield run("a value of an option that takes none", room, "check --strict=no good", b"", told("argument --strict: ignored explicit argument 'no'; see --help"), 2)
     yield run("the help of a command", room, "lint --help", [b"usage: sievebench-site lint ", b"--sievec", b"--program PROGRAM"])
-    yield run("an option without its value", room, "check good --main", b"", told("argument --main: expected one argument: --help tells the options"), 2)
-    yield run("no command", room, "", b"", told("one of check, record, lint, import, untested, diff, why and watch is wanted: --help tells more"), 2)
-    yield run("an unknown command", room, "chek good", b"", told('"chek" is none of check, record, lint, import, untested, diff, why and watch: --help tells more'), 2)
+    yield run("an option without its value", room, "check good --main", b"", told("argument --main: expected one argument; see --help"), 2)
+    yield run("no command", room, "", b"", told("one of check, record, lint, import, untested, diff, why and watch is wanted; see --help"), 2)
+    yield run("an unknown command", room, "chek good", b"", told('"chek" is none of check, record, lint, import, untested, diff, why and watch; see --help'), 2)
     for words in ("", "good none", "''"):
-        yield run(f"one folder is wanted: {words}", room, f"check {words}", b"", told("one folder is wanted, the site: --help tells more"), 2)
-    yield run("an option of another command", room, "lint --strict unnamed", b"", told("unrecognized arguments: --strict: --help tells the options"), 2)
+        yield run(f"one folder is wanted: {words}", room, f"check {words}", b"", told("one folder is wanted, the site; see --help"), 2)
+    yield run("an option of another command", room, "lint --strict unnamed", b"", told("unrecognized arguments: --strict; see --help"), 2)
     yield run("an output that is full", room, "check good > /dev/full", b"", told("cannot write: No space left on device"), 2)
 
 
@@ -348,7 +348,7 @@ def of_lints(room):
     ]
     order = sorted(faults, key=lambda fault: (not fault[0].startswith("global"), fault[0]))
     wanted = [f"lint/{place}: {word}: {sentence}" for place, word, sentence in order]
-    yield run("faults, and what may stand behind them", room, "lint lint", lines(*wanted), status=1)
+    yield run("faults, and what may stand after them", room, "lint lint", lines(*wanted), status=1)
     answers = b'require ["vacation", "variables"];\nvacation :days 1 :subject "a ${b}" :from "x\\\\" :mime "a";\nvacation :from "a@b.example" "b";\nvacation :from "x${c}" "d";\nvacation :from "a, b" "\\\"";\n'
     write(room / "answers", {"personal/main.sieve": answers, "mains": b"main\n", "with": b"vacation\n"})
     yield run("senders of responses", room, "lint answers", lines(*(f"answers/personal/main.sieve:{line}: bad-address: This isn't one address." for line in (2, 5))), status=1)

@@ -130,7 +130,7 @@ def opened(text, at):
 
 
 def statement(text, at):
-    """Where the statement, or the arm, begins in which a place stands: at a line behind one that ends by a mark."""
+    """Where the statement, or the arm, begins in which a place stands: at a line after one that ends by a mark."""
     return max(text.rfind(mark, 0, at) for mark in (";\n", "{\n", "}\n", ",\n")) + 1
 
 

@@ -1,6 +1,6 @@
 """The transcripts of the examples.
 
-A file `transcript` has lines `$ COMMAND`, which a shell runs in its folder, with `sievebench` for the program; behind each the lines of
+A file `transcript` has lines `$ COMMAND`, which a shell runs in its folder, with `sievebench` for the program; after each the lines of
 its standard output, then those of its standard error with `2> ` in front, then `= STATUS` where it isn't 0. A line of a comment, `# `,
 and empty lines stand before a command alone.
 """

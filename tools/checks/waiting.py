@@ -11,7 +11,7 @@ PAUSE = 0.1
 
 
 class Waiting:
-    """A session whose replies must come while its input stays open, and behind whose end nothing more may."""
+    """A session whose replies must come while its input stays open, and after whose end nothing more may."""
 
     def __init__(self, title, writes, replies, status=0):
         self.title, self.command, self.writes, self.wanted = f"an input that stays open: {title}", "sievebench session", writes, (replies, b"", status)
@@ -32,7 +32,7 @@ class Waiting:
                 return [str(fault)]
             finally:
                 served.kill()
-        return [] if found == self.wanted else [f"replies, what came behind the end, and status: wanted {self.wanted!r:.1000}, got {found!r:.1000}"]
+        return [] if found == self.wanted else [f"replies, what came after the end, and status: wanted {self.wanted!r:.1000}, got {found!r:.1000}"]
 
 
 def of_sessions():
@@ -40,7 +40,7 @@ def of_sessions():
     script = put(b"script personal main", b"discard;\n")
     yield Waiting("two commands", [b"mailbox INBOX\nno-main\n"], lines("ok", "ok"))
     yield Waiting("a script with its octets", [script], lines("ok"))
-    yield Waiting("a script whose octets come behind its line, in two parts", [script[:-9], script[-9:-4], script[-4:]], lines("ok"))
+    yield Waiting("a script whose octets come after its line, in two parts", [script[:-9], script[-9:-4], script[-4:]], lines("ok"))
     yield Waiting("a command in two parts, and another", [b"no-", b"main\n", b"no-main\n"], lines("ok", "ok"))
     large = b"expect m 65537\n" + b"x" * 65_537
     yield Waiting("octets that are refused", [large], lines("no too-large"))

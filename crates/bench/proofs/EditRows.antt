@@ -3,20 +3,20 @@ use Rattle.std.proofs.Common.{◌≡◌, [], ◌∷◌, None, Some, refl, codes}
 use Rattle.std.specs.List.{IsDistinct}
 use Rattle.std.specs.List.Sorted.{IsStrictlySortedBy}
 use Rattle.date_text.specs.Zone.{east}
-use Rattle.sieve_base.specs.declared.place.Place.TheVariants.{Personal, Global}
+use Rattle.sieve_base.specs.declared.location.Location.TheVariants.{Personal, Global}
 use Rattle.sieve_base.specs.declared.name.ScriptName.{ScriptName}
 use Rattle.sieve_profile.specs.Profile.{Profile}
 use Rattle.bench.specs.Content.{Content, new_content, put_script, put_message, set_main, set_envelope, set_mailbox, set_expected, set_mailboxes, set_message_envelope, set_clock}
 use Rattle.bench.specs.Edits.{AreDistinct, AreOrdered, rebuild}
 
 abbrev a : ScriptName
-a = record { place = Personal; name = codes "a" }
+a = record { location = Personal; name = codes "a" }
 
 abbrev b : ScriptName
-b = record { place = Personal; name = codes "b" }
+b = record { location = Personal; name = codes "b" }
 
 abbrev shared : ScriptName
-shared = record { place = Global; name = codes "a" }
+shared = record { location = Global; name = codes "a" }
 
 -- two scripts, two messages, of one of which a text is expected, and of which each has addresses of its own or none, a sender, a list of mailboxes,
 -- a clock and a main script

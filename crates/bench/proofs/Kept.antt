@@ -11,9 +11,9 @@ use Rattle.std.specs.Ordering.{is_eq, match_ordering, ordering_reverse}
 use Rattle.std.specs.declared.cmp.Ordering.{Ordering}
 use Rattle.std.specs.declared.cmp.Ordering.TheVariants.{Less, Equal, Greater}
 use lib.Pointwise.{pointwise}
-use Rattle.sieve_base.specs.declared.place.Place.{Place}
-use Rattle.sieve_base.specs.declared.place.Place.TheVariants.{Personal, Global}
-use Rattle.sieve_base.specs.Name.{name_cmp, place_cmp}
+use Rattle.sieve_base.specs.declared.location.Location.{Location}
+use Rattle.sieve_base.specs.declared.location.Location.TheVariants.{Personal, Global}
+use Rattle.sieve_base.specs.Name.{name_cmp, location_cmp}
 use Rattle.sieve_base.specs.declared.name.ScriptName.{ScriptName}
 use Rattle.bench.specs.Content.{Content, Edit, Sample, after, new_content, put_script, put_message, set_main, rename_script, remove_script, remove_message, clear_main, set_envelope, set_mailbox, set_expected, clear_expected, set_mailboxes, set_message_envelope, clear_message_envelope, set_clock, clear_clock, unless, text_at, message_at, put_over, with_script, changed, with_renamed}
 use Rattle.bench.specs.Edits.{IsInOrder, AreOrdered, AreDistinct, behind, content_after}
@@ -22,28 +22,28 @@ use Rattle.bench.specs.declared.fault.EditFault.{EditFault}
 
 -- THE ORDER OF NAMES
 
-place_antisymm : (a b : Place) → place_cmp a b ≡ ordering_reverse (place_cmp b a)
-place_antisymm Personal Personal = refl
-place_antisymm Personal Global = refl
-place_antisymm Global Personal = refl
-place_antisymm Global Global = refl
+location_antisymm : (a b : Location) → location_cmp a b ≡ ordering_reverse (location_cmp b a)
+location_antisymm Personal Personal = refl
+location_antisymm Personal Global = refl
+location_antisymm Global Personal = refl
+location_antisymm Global Global = refl
 
-place_trans : (a b c : Place) → place_cmp a b ≡ Less → place_cmp b c ≡ Less → place_cmp a c ≡ Less
-place_trans Personal Personal c below above = absurd cc
-place_trans Personal Global Personal below above = absurd cc
-place_trans Personal Global Global below above = refl
-place_trans Global Personal c below above = absurd cc
-place_trans Global Global c below above = absurd cc
+location_trans : (a b c : Location) → location_cmp a b ≡ Less → location_cmp b c ≡ Less → location_cmp a c ≡ Less
+location_trans Personal Personal c below above = absurd cc
+location_trans Personal Global Personal below above = absurd cc
+location_trans Personal Global Global below above = refl
+location_trans Global Personal c below above = absurd cc
+location_trans Global Global c below above = absurd cc
 
-place_congr : (a b c : Place) → place_cmp a b ≡ Equal → place_cmp a c ≡ place_cmp b c
-place_congr Personal Personal c is = refl
-place_congr Personal Global c is = absurd cc
-place_congr Global Personal c is = absurd cc
-place_congr Global Global c is = refl
+location_congr : (a b c : Location) → location_cmp a b ≡ Equal → location_cmp a c ≡ location_cmp b c
+location_congr Personal Personal c is = refl
+location_congr Personal Global c is = absurd cc
+location_congr Global Personal c is = absurd cc
+location_congr Global Global c is = refl
 
 pub name_total : IsTotalOrder name_cmp
 name_total =
-    then_total (on_total (λ (name : ScriptName). name.place) (record { antisymm = place_antisymm; trans = place_trans; congr = place_congr })) (on_total (λ (name : ScriptName). name.name) nat_list_cmp_total)
+    then_total (on_total (λ (name : ScriptName). name.location) (record { antisymm = location_antisymm; trans = location_trans; congr = location_congr })) (on_total (λ (name : ScriptName). name.name) nat_list_cmp_total)
 
 -- KEYS IN ORDER
 

@@ -8,9 +8,9 @@ use Rattle.std.specs.Ordering.{nat_cmp, ordering_then, match_ordering, is_eq}
 use Rattle.std.specs.declared.cmp.Ordering.{Ordering}
 use Rattle.std.specs.declared.cmp.Ordering.TheVariants.{Less, Equal, Greater}
 use lib.Pointwise.{pointwise}
-use Rattle.sieve_base.specs.declared.place.Place.{Place}
-use Rattle.sieve_base.specs.declared.place.Place.TheVariants.{Personal, Global}
-use Rattle.sieve_base.specs.Name.{name_cmp, name_eq, place_cmp, place_eq}
+use Rattle.sieve_base.specs.declared.location.Location.{Location}
+use Rattle.sieve_base.specs.declared.location.Location.TheVariants.{Personal, Global}
+use Rattle.sieve_base.specs.Name.{name_cmp, name_eq, location_cmp, location_eq}
 use Rattle.sieve_base.specs.declared.name.ScriptName.{ScriptName}
 use Rattle.bench.specs.Content.{text_at, with_renamed, with_script, without_script}
 
@@ -27,44 +27,44 @@ other_id id other apart = nat_list_eq_equiv.symm other id ∙ apart
 
 -- NAMES
 
-same_place : (place : Place) → place_eq place place ≡ true
-same_place Personal = refl
-same_place Global = refl
+same_location : (location : Location) → location_eq location location ≡ true
+same_location Personal = refl
+same_location Global = refl
 
-is_place : (a b : Place) → place_eq a b ≡ true → a ≡ b
-is_place Personal Personal is = refl
-is_place Personal Global is = absurd cc
-is_place Global Personal is = absurd cc
-is_place Global Global is = refl
+is_location : (a b : Location) → location_eq a b ≡ true → a ≡ b
+is_location Personal Personal is = refl
+is_location Personal Global is = absurd cc
+is_location Global Personal is = absurd cc
+is_location Global Global is = refl
 
-tied_places : (a b : Place) → place_cmp a b ≡ Equal → a ≡ b
-tied_places Personal Personal is = refl
-tied_places Personal Global is = absurd cc
-tied_places Global Personal is = absurd cc
-tied_places Global Global is = refl
+tied_locations : (a b : Location) → location_cmp a b ≡ Equal → a ≡ b
+tied_locations Personal Personal is = refl
+tied_locations Personal Global is = absurd cc
+tied_locations Global Personal is = absurd cc
+tied_locations Global Global is = refl
 
 pub same_name : (name : ScriptName) → name_eq name name ≡ true
-same_name name = by (place_eq name.place name.place) (same_place name.place)
+same_name name = by (location_eq name.location name.location) (same_location name.location)
   where
     by : (b : Bool) → b ≡ true → (b && pointwise nat_eq name.name name.name) ≡ true
     by true is = same_id name.name
     by false is = is
 
 pub is_name : (a b : ScriptName) → name_eq a b ≡ true → a ≡ b
-is_name a b is = by (place_eq a.place b.place) refl is
+is_name a b is = by (location_eq a.location b.location) refl is
   where
-    by : (v : Bool) → place_eq a.place b.place ≡ v → (v && pointwise nat_eq a.name b.name) ≡ true → a ≡ b
-    by true p is = let place = is_place a.place b.place p in let name = is_id a.name b.name is in λ i. record { place = place i; name = name i }
+    by : (v : Bool) → location_eq a.location b.location ≡ v → (v && pointwise nat_eq a.name b.name) ≡ true → a ≡ b
+    by true p is = let location = is_location a.location b.location p in let name = is_id a.name b.name is in λ i. record { location = location i; name = name i }
     by false p is = absurd cc
 
 -- names that no order tells apart are the same
 pub tied_names : CmpEqualImpliesEq name_cmp
-tied_names a b is = by (place_cmp a.place b.place) refl is
+tied_names a b is = by (location_cmp a.location b.location) refl is
   where
-    by : (r : Ordering) → place_cmp a.place b.place ≡ r → ordering_then r (slice_cmp nat_cmp a.name b.name) ≡ Equal → a ≡ b
+    by : (r : Ordering) → location_cmp a.location b.location ≡ r → ordering_then r (slice_cmp nat_cmp a.name b.name) ≡ Equal → a ≡ b
     by Less p is = absurd cc
     by Greater p is = absurd cc
-    by Equal p is = let place = tied_places a.place b.place p in let name = exact_bytes a.name b.name is in λ i. record { place = place i; name = name i }
+    by Equal p is = let location = tied_locations a.location b.location p in let name = exact_bytes a.name b.name is in λ i. record { location = location i; name = name i }
 
 -- TEXTS AT OTHER NAMES
 

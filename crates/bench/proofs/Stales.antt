@@ -2,7 +2,7 @@
 use Rattle.std.proofs.Common.{◌≡◌, ℕ, ◌<◌, true, false, List, [], ◌∷◌, length, length-append, None, Some, Result, Ok, Err, nat_lt, refl, ap, codes, arith}
 use Rattle.date_text.specs.Zone.{west}
 use Rattle.sieve_base.specs.Limits.{text_limit}
-use Rattle.sieve_base.specs.declared.place.Place.TheVariants.{Personal, Global}
+use Rattle.sieve_base.specs.declared.location.Location.TheVariants.{Personal, Global}
 use Rattle.sieve_check.specs.Judgement.{judgement_of, sound, faulty}
 use Rattle.sieve_reading.specs.Reading.{plain_settings, keep_leaf}
 use Rattle.sieve_reading.specs.Script.{acts, no_commands, script_of}
@@ -17,7 +17,7 @@ use Rattle.bench.specs.Stale.{ids_where, stale_after, verdict_on}
 use Rattle.bench.specs.declared.fault.EditFault.{EditFault}
 
 abbrev personal : List ℕ → ScriptName
-personal name = record { place = Personal; name = name }
+personal name = record { location = Personal; name = name }
 
 abbrev main : ScriptName
 main = personal (codes "main")
@@ -30,7 +30,7 @@ y = personal (codes "y")
 
 -- the global script of the same name is another script
 abbrev global_main : ScriptName
-global_main = record { place = Global; name = codes "main" }
+global_main = record { location = Global; name = codes "main" }
 
 -- rows under any profile
 module _ (profile : Profile) where

@@ -20,7 +20,7 @@ mod test_jobs;
 mod texts;
 mod usage;
 
-use sievebench::{Bench, Counted, Meter, Octets, Place, ScriptName};
+use sievebench::{Bench, Counted, Location, Meter, Octets, ScriptName};
 use std::alloc::{AllocError, Global};
 use std::process::Abort;
 use std::test::Fail;
@@ -83,7 +83,7 @@ fn check_runs(
 
 /// A personal script's name.
 fn personal(alloc: Global, name: &[u8]) -> Result<ScriptName, AllocError> {
-    Ok(ScriptName::new(Place::Personal, Vec::from_slice(alloc, name)?))
+    Ok(ScriptName::new(Location::Personal, Vec::from_slice(alloc, name)?))
 }
 
 /// Puts a personal script.

@@ -7,14 +7,14 @@ use crate::words::{Job, UsageFault};
 use date_text::{Clock, clock_named};
 use std::alloc::Global;
 
-// Whether an octet begins a zone.
+/// Whether an octet begins a zone.
 fn is_sign(octet: u8) -> bool
     ensures { result ≡ is_sign octet }
 {
     octet == b'+' || octet == b'-'
 }
 
-// Where the zone of a word begins.
+/// Where the zone of a word begins.
 fn zone_place(word: &[u8]) -> Option<usize>
     ensures is { result ≡ position is_sign word.now }
     ensures within { IfSome result (λ place. place ≤ length word.now) }
@@ -22,7 +22,7 @@ fn zone_place(word: &[u8]) -> Option<usize>
     word.iter().position(|octet| is_sign(*octet))
 }
 
-// The clock of a word: digits, and maybe a zone.
+/// The clock of a word: digits, and maybe a zone.
 fn clock_of(word: &[u8]) -> Option<Clock>
     ensures { result ≡ clock_of word.now }
 {
@@ -35,7 +35,7 @@ fn clock_of(word: &[u8]) -> Option<Clock>
     }
 }
 
-// The fault of a word that names no clock.
+/// The fault of a word that names no clock.
 fn bad_clock(alloc: Global, word: &str) -> UsageFault
     ensures { IsBadClock word.now result }
 {
@@ -45,7 +45,7 @@ fn bad_clock(alloc: Global, word: &str) -> UsageFault
     }
 }
 
-// The clock of an option's word, where it is given.
+/// The clock of an option's word, where it is given.
 fn clock_in(alloc: Global, word: &Option<Argument>) -> Result<Option<Clock>, UsageFault>
     ensures { SaysClock (clock_in word.now) result }
 {

@@ -13,7 +13,7 @@ use std::alloc::{AllocError, Global};
 /// The version that `--version` answers.
 const VERSION: &str = "0.2.0";
 
-// A path that must be there, under the name `id`.
+/// A path that must be there, under the name `id`.
 fn path_argument<'a>(alloc: Global, id: &'a str, value: &'a str, help: &'a str) -> Arg<'a>
     ensures rule { rule_of result ≡ spec.path_rule id.entry.now }
     ensures local { result.global ≡ false }
@@ -24,7 +24,7 @@ fn path_argument<'a>(alloc: Global, id: &'a str, value: &'a str, help: &'a str) 
         .required(true)
 }
 
-// An option with one value, under the name `id`, that a letter names.
+/// An option with one value, under the name `id`, that a letter names.
 fn letter_option<'a>(
     alloc: Global,
     id: &'a str,
@@ -41,7 +41,7 @@ fn letter_option<'a>(
         .help(help)
 }
 
-// An option with one value that its name names.
+/// An option with one value that its name names.
 fn name_option<'a>(alloc: Global, name: &'a str, value: &'a str, help: &'a str) -> Arg<'a>
     ensures rule { rule_of result ≡ spec.name_rule name.entry.now }
     ensures local { result.global ≡ false }
@@ -52,7 +52,7 @@ fn name_option<'a>(alloc: Global, name: &'a str, value: &'a str, help: &'a str) 
         .help(help)
 }
 
-// An option with one value that may be given any number of times, and that its name names.
+/// An option with one value that may be given any number of times, and that its name names.
 fn names_option<'a>(alloc: Global, name: &'a str, value: &'a str, help: &'a str) -> Arg<'a>
     ensures rule { rule_of result ≡ spec.names_rule name.entry.now }
     ensures local { result.global ≡ false }
@@ -64,7 +64,7 @@ fn names_option<'a>(alloc: Global, name: &'a str, value: &'a str, help: &'a str)
         .help(help)
 }
 
-// The command with the option for what a bench knows, whose help lists the names.
+/// The command with the option for what a bench knows, whose help lists the names.
 fn with_profile<'a>(
     alloc: Global,
     command: Command<'a>,
@@ -75,7 +75,7 @@ fn with_profile<'a>(
     command.arg(names_option(alloc, "with", "NAME", names))
 }
 
-// The subcommand `session` before it has an argument.
+/// The subcommand `session` before it has an argument.
 fn bare_session_command<'a>(alloc: Global) -> Command<'a>
     ensures shape { app_of result ≡ new_app (codes "session") }
     ensures local { (out-Command result).has_globals ≡ false }
@@ -85,7 +85,7 @@ fn bare_session_command<'a>(alloc: Global) -> Command<'a>
         .after_help(help::of_session())
 }
 
-// The subcommand `session`.
+/// The subcommand `session`.
 fn session_command<'a>(alloc: Global, names: &'a str) -> Result<Command<'a>, AllocError>
     ensures shape { IfOk result (λ command. shape_of command ≡ spec.session_shape) }
     ensures local { IfOk result (λ command. (out-Command command).has_globals ≡ false) }
@@ -93,7 +93,7 @@ fn session_command<'a>(alloc: Global, names: &'a str) -> Result<Command<'a>, All
     with_profile(alloc, bare_session_command(alloc), names)
 }
 
-// The subcommand `dump` before it has an argument.
+/// The subcommand `dump` before it has an argument.
 fn bare_dump_command<'a>(alloc: Global) -> Command<'a>
     ensures shape { app_of result ≡ new_app (codes "dump") }
     ensures local { (out-Command result).has_globals ≡ false }
@@ -103,7 +103,7 @@ fn bare_dump_command<'a>(alloc: Global) -> Command<'a>
         .after_help(help::of_dump())
 }
 
-// The subcommand `dump`.
+/// The subcommand `dump`.
 fn dump_command<'a>(alloc: Global, names: &'a str) -> Result<Command<'a>, AllocError>
     ensures shape { IfOk result (λ command. shape_of command ≡ spec.dump_shape) }
     ensures local { IfOk result (λ command. (out-Command command).has_globals ≡ false) }
@@ -112,7 +112,7 @@ fn dump_command<'a>(alloc: Global, names: &'a str) -> Result<Command<'a>, AllocE
     with_profile(alloc, bare_dump_command(alloc), names)?.arg(script)
 }
 
-// The subcommand `test` before it has an argument.
+/// The subcommand `test` before it has an argument.
 fn bare_test_command<'a>(alloc: Global) -> Command<'a>
     ensures shape { app_of result ≡ new_app (codes "test") }
     ensures local { (out-Command result).has_globals ≡ false }
@@ -122,7 +122,7 @@ fn bare_test_command<'a>(alloc: Global) -> Command<'a>
         .after_help(help::of_test())
 }
 
-// The command with the options for the envelope.
+/// The command with the options for the envelope.
 fn with_envelope<'a>(alloc: Global, command: Command<'a>) -> Result<Command<'a>, AllocError>
     ensures { IfOk result (spec.HasMore command.entry spec.envelope_rules) }
 {
@@ -133,7 +133,7 @@ fn with_envelope<'a>(alloc: Global, command: Command<'a>) -> Result<Command<'a>,
         .arg(name_option(alloc, "to", "ADDRESS", to))
 }
 
-// The command with the options for the mailbox that mail is kept in and for the list of mailboxes.
+/// The command with the options for the mailbox that mail is kept in and for the list of mailboxes.
 fn with_mailbox<'a>(alloc: Global, command: Command<'a>) -> Result<Command<'a>, AllocError>
     ensures { IfOk result (spec.HasMore command.entry spec.mailbox_rules) }
 {
@@ -144,7 +144,7 @@ fn with_mailbox<'a>(alloc: Global, command: Command<'a>) -> Result<Command<'a>, 
         .arg(name_option(alloc, "mailboxes", "FILE", mailboxes))
 }
 
-// The command with the option for the clock.
+/// The command with the option for the clock.
 fn with_clock<'a>(alloc: Global, command: Command<'a>) -> Result<Command<'a>, AllocError>
     ensures { IfOk result (spec.HasMore command.entry spec.clock_rules) }
 {
@@ -153,7 +153,7 @@ fn with_clock<'a>(alloc: Global, command: Command<'a>) -> Result<Command<'a>, Al
     command.arg(name_option(alloc, "clock", "TIME", clock))
 }
 
-// The command with the options for folders of scripts.
+/// The command with the options for folders of scripts.
 fn with_folders<'a>(alloc: Global, command: Command<'a>) -> Result<Command<'a>, AllocError>
     ensures { IfOk result (spec.HasMore command.entry spec.folder_rules) }
 {
@@ -164,7 +164,7 @@ fn with_folders<'a>(alloc: Global, command: Command<'a>) -> Result<Command<'a>, 
         .arg(name_option(alloc, "global", "DIR", global))
 }
 
-// The command with the paths of the script and the message.
+/// The command with the paths of the script and the message.
 fn with_files<'a>(alloc: Global, command: Command<'a>) -> Result<Command<'a>, AllocError>
     ensures { IfOk result (spec.HasMore command.entry spec.file_rules) }
 {
@@ -175,7 +175,7 @@ fn with_files<'a>(alloc: Global, command: Command<'a>) -> Result<Command<'a>, Al
         .arg(path_argument(alloc, "mail", "MAIL", mail))
 }
 
-// The subcommand `test`.
+/// The subcommand `test`.
 fn test_command<'a>(alloc: Global, names: &'a str) -> Result<Command<'a>, AllocError>
     ensures shape { IfOk result (λ command. shape_of command ≡ spec.test_shape) }
     ensures local { IfOk result (λ command. (out-Command command).has_globals ≡ false) }
@@ -188,7 +188,7 @@ fn test_command<'a>(alloc: Global, names: &'a str) -> Result<Command<'a>, AllocE
     with_files(alloc, command)
 }
 
-// The program before its settings.
+/// The program before its settings.
 fn bare_top_command<'a>(alloc: Global) -> Command<'a>
     ensures { app_of result ≡ new_app (codes "sievebench") }
 {
@@ -197,7 +197,7 @@ fn bare_top_command<'a>(alloc: Global) -> Command<'a>
         .after_help(help::of_program())
 }
 
-// The program, which wants a subcommand. Its usage has this name, whatever its file is called.
+/// The program, which wants a subcommand. Its usage has this name, whatever its file is called.
 fn top_command<'a>(alloc: Global) -> Result<Command<'a>, AllocError>
     ensures { IfOk result (λ command. app_of command ≡ spec.top_app) }
 {
@@ -208,7 +208,7 @@ fn top_command<'a>(alloc: Global) -> Result<Command<'a>, AllocError>
         .bin_name("sievebench")
 }
 
-// The program with `session`.
+/// The program with `session`.
 fn with_session<'a>(alloc: Global, names: &'a str) -> Result<Command<'a>, AllocError>
     ensures { IfOk result
         (λ command. app_of command ≡ with_subcommand spec.top_app spec.session_shape) }
@@ -216,7 +216,7 @@ fn with_session<'a>(alloc: Global, names: &'a str) -> Result<Command<'a>, AllocE
     top_command(alloc)?.subcommand(session_command(alloc, names)?)
 }
 
-// The program with `session` and `dump`.
+/// The program with `session` and `dump`.
 fn with_dump<'a>(alloc: Global, names: &'a str) -> Result<Command<'a>, AllocError>
     ensures { IfOk result (λ command. app_of command
         ≡ with_subcommand (with_subcommand spec.top_app spec.session_shape) spec.dump_shape) }

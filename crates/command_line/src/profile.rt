@@ -25,12 +25,12 @@ impl fmt::Display for Names {
     }
 }
 
-// An extension's name as text.
+/// An extension's name as text.
 fn name_text(extension: Extension) -> &'static str {
     std::str::from_utf8(extension.name()).unwrap_or("")
 }
 
-// What an extension brings, in a few words for help.
+/// What an extension brings, in a few words for help.
 fn brings(extension: Extension) -> &'static str {
     match extension {
         Extension::Body => "the test body, of what a message is made of (RFC 5173)",
@@ -66,7 +66,7 @@ pub(crate) fn names_help(alloc: Global) -> Result<String, AllocError> {
     Ok(text)
 }
 
-// A profile with what is known by the names in a word, or the first of them by which nothing is known.
+/// A profile with what is known by the names in a word, or the first of them by which nothing is known.
 fn with_word<'a>(before: Profile, word: &'a str) -> Result<Profile, &'a str>
     ensures { Says (with_names (profile_as before) (parts_of word.now)) result }
 {
@@ -80,7 +80,7 @@ fn with_word<'a>(before: Profile, word: &'a str) -> Result<Profile, &'a str>
     Ok(profile)
 }
 
-// The profile that the words of all `--with` say, or the first name by which nothing is known.
+/// The profile that the words of all `--with` say, or the first name by which nothing is known.
 fn profile_by<'a>(words: &[&'a str]) -> Result<Profile, &'a str>
     ensures { Says (with_names empty_profile (names_in (map (λ word. word.now) words.now))) result }
 {

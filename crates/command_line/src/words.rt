@@ -101,7 +101,7 @@ impl From<AllocError> for UsageFault {
     }
 }
 
-// What `clap` answers in place of matches, for the user.
+/// What `clap` answers in place of matches, for the user.
 fn usage_fault(alloc: Global, error: &Error) -> UsageFault
     ensures memory { kind_of error.now ≡ ErrorKind.OutOfMemory → result ≡ UsageFault.NoMemory }
     ensures usage { IsFaultFor (kind_of error.now) result }
@@ -118,14 +118,14 @@ fn usage_fault(alloc: Global, error: &Error) -> UsageFault
     }
 }
 
-// The value of an argument that a subcommand requires.
+/// The value of an argument that a subcommand requires.
 fn required_in(alloc: Global, matches: &ArgMatches<'_>, id: &str) -> Result<Argument, AllocError>
     ensures { IfOk result (λ value. value ≡ value_in (rows_of (found_of matches.now)) id.now) }
 {
     Argument::copied(alloc, matches.get_str(id).unwrap_or(""))
 }
 
-// The value of an option, where it is given.
+/// The value of an option, where it is given.
 fn option_in(
     alloc: Global,
     matches: &ArgMatches<'_>,
@@ -139,7 +139,7 @@ fn option_in(
     }
 }
 
-// The words of `test` with these matches.
+/// The words of `test` with these matches.
 fn test_words(alloc: Global, matches: &ArgMatches<'_>) -> Result<TestWords, AllocError>
     ensures { IfOk result (λ words. words ≡ test_words (rows_of (found_of matches.now))) }
 {
@@ -156,7 +156,7 @@ fn test_words(alloc: Global, matches: &ArgMatches<'_>) -> Result<TestWords, Allo
     })
 }
 
-// The job of a subcommand of that name with these matches.
+/// The job of a subcommand of that name with these matches.
 fn job_named(alloc: Global, name: &str, matches: &ArgMatches<'_>) -> Result<Option<Job>, AllocError>
     ensures { IfOk result (λ job. job ≡ job_named name.now (rows_of (found_of matches.now))) }
 {
@@ -170,7 +170,7 @@ fn job_named(alloc: Global, name: &str, matches: &ArgMatches<'_>) -> Result<Opti
     }
 }
 
-// The job of the subcommand that was met.
+/// The job of the subcommand that was met.
 fn job_in(alloc: Global, matches: &ArgMatches<'_>) -> Result<Option<Job>, AllocError>
     ensures { IfOk result (λ job. job ≡ job_of (subcommand_rows_of matches.now)) }
 {
@@ -180,7 +180,7 @@ fn job_in(alloc: Global, matches: &ArgMatches<'_>) -> Result<Option<Job>, AllocE
     }
 }
 
-// Whether a job needs a name.
+/// Whether a job needs a name.
 fn name_needed(job: &Job, name: Extension) -> bool
     ensures { result ≡ name_needed job.now name }
 {
@@ -194,14 +194,14 @@ fn name_needed(job: &Job, name: Extension) -> bool
     }
 }
 
-// Whether a profile lacks a name that a job needs.
+/// Whether a profile lacks a name that a job needs.
 fn is_lacking(profile: Profile, job: &Job, name: Extension) -> bool
     ensures { result ≡ is_lacking (profile_as profile) job.now name }
 {
     name_needed(job, name) && !profile.has(name)
 }
 
-// What is asked for by a job and a profile which has each name that the job needs.
+/// What is asked for by a job and a profile which has each name that the job needs.
 fn with_clock(alloc: Global, profile: Profile, job: Job) -> Result<CommandLine, UsageFault>
     requires { allows (profile_as profile) job ≡ true }
     ensures job { IfOk result (λ line. line.job ≡ job) }
@@ -217,7 +217,7 @@ fn with_clock(alloc: Global, profile: Profile, job: Job) -> Result<CommandLine, 
     }
 }
 
-// What is asked for by a job and a profile, which must have each name that the job needs.
+/// What is asked for by a job and a profile, which must have each name that the job needs.
 fn where_allowed(alloc: Global, profile: Profile, job: Job) -> Result<CommandLine, UsageFault>
     ensures job { IfOk result (λ line. line.job ≡ job) }
     ensures profile { SaysOf (Ok (profile_as profile)) job result }
@@ -231,7 +231,7 @@ fn where_allowed(alloc: Global, profile: Profile, job: Job) -> Result<CommandLin
     }
 }
 
-// What is asked for by a job and the profile of the subcommand that was met.
+/// What is asked for by a job and the profile of the subcommand that was met.
 fn with_profile(
     alloc: Global,
     matches: &ArgMatches<'_>,
@@ -246,7 +246,7 @@ fn with_profile(
     }
 }
 
-// The fault of a name by which nothing is known.
+/// The fault of a name by which nothing is known.
 fn unknown_name(alloc: Global, name: &str) -> UsageFault
     ensures { IsUnknown name.now result }
 {
@@ -256,7 +256,7 @@ fn unknown_name(alloc: Global, name: &str) -> UsageFault
     }
 }
 
-// The profile of the subcommand that was met.
+/// The profile of the subcommand that was met.
 fn profile_met<'a>(matches: &'a ArgMatches<'_>) -> Result<Profile, &'a str>
     ensures { Says (profile_met (subcommand_rows_of matches.now)) result }
 {

@@ -8,7 +8,7 @@ use crate::clock::{Clock, LAST_SECOND};
 use crate::number::digit_number;
 use crate::zone_words::zone_named;
 
-// The seconds with a digit more, which aren't past the year 9999.
+/// The seconds with a digit more, which aren't past the year 9999.
 fn with_digit(seconds: u64, octet: u8) -> Option<u64>
     requires { seconds ≤ last_second }
     ensures is { result
@@ -24,7 +24,7 @@ fn with_digit(seconds: u64, octet: u8) -> Option<u64>
     }
 }
 
-// The seconds that digits tell, which aren't past the year 9999. Digits after one that leads past it aren't read.
+/// The seconds that digits tell, which aren't past the year 9999. Digits after one that leads past it aren't read.
 fn seconds_named(digits: &[u8]) -> Option<u64>
     ensures is { result ≡ seconds_named digits.now }
 {

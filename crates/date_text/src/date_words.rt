@@ -24,14 +24,14 @@ pub(crate) const WEEKDAY_NAMES: [&[u8]; 7] = [
     b"Mon", b"Tue", b"Wed", b"Thu", b"Fri", b"Sat", b"Sun",
 ];
 
-// Whether a word is the name of a weekday.
+/// Whether a word is the name of a weekday.
 fn is_weekday(word: &[u8]) -> bool
     ensures { result ≡ is_weekday word.now }
 {
     is_one_of(word, &WEEKDAY_NAMES)
 }
 
-// Whether a word is one such octet.
+/// Whether a word is one such octet.
 fn is_sign(sign: u8, word: &[u8]) -> bool
     ensures { result ≡ is_sign sign word.now }
 {
@@ -41,7 +41,7 @@ fn is_sign(sign: u8, word: &[u8]) -> bool
     }
 }
 
-// What stands after a weekday and a comma, if a text begins with them.
+/// What stands after a weekday and a comma, if a text begins with them.
 fn after_weekday(text: &[u8]) -> &[u8]
     requires { closes text.now ≡ true }
     ensures words { words_in result.now ≡ after_weekday (words_in text.now) }
@@ -60,7 +60,7 @@ fn after_weekday(text: &[u8]) -> &[u8]
     }
 }
 
-// The second with which a text begins, with a `:` before it, if it does, and what stands after it.
+/// The second with which a text begins, with a `:` before it, if it does, and what stands after it.
 fn cut_second(text: &[u8]) -> (Option<&[u8]>, &[u8])
     requires { closes text.now ≡ true }
     ensures second { option_map (λ word. word.now) result.0 ≡ second_word (words_in text.now) }
@@ -80,7 +80,7 @@ fn cut_second(text: &[u8]) -> (Option<&[u8]>, &[u8])
     }
 }
 
-// The words of a date and a time without a weekday.
+/// The words of a date and a time without a weekday.
 fn plain_date_words(text: &[u8]) -> Option<DateSlices<'_>>
     requires { closes text.now ≡ true }
     ensures is { option_map date_words_as result ≡ date_words (words_in text.now) }

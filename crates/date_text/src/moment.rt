@@ -22,7 +22,7 @@ pub struct Moment {
 impl Moment {
     ghost use Rattle.date_text.specs.view.Moment.{moment_as, zone_as};
 
-    // The minutes since 1970-01-01 00:00 UTC of a day and a minute of the day, as a zone has them.
+    /// The minutes since 1970-01-01 00:00 UTC of a day and a minute of the day, as a zone has them.
     fn minutes_at(day: i32, minute: u16, zone: &Zone) -> i64
         requires day { IsEpochDay day }
         requires minute { minute < 1440 }

@@ -51,7 +51,7 @@ pub const DATE_PARTS: [DatePart; 13] = [
     DatePart::Weekday,
 ];
 
-// Whether a text is its name, in any case of letters.
+/// Whether a text is its name, in any case of letters.
 fn is_name_of(name: &[u8], part: DatePart) -> bool
     ensures { result ≡ str_eq_ignore_ascii_case (part_name part) name.now }
 {

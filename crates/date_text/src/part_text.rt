@@ -17,7 +17,7 @@ use crate::zone::Zone;
 use itoa::Buffer;
 use std::alloc::{AllocError, Global};
 
-// The name of a weekday, from 0 for Sunday.
+/// The name of a weekday, from 0 for Sunday.
 fn weekday_name(weekday: u8) -> &'static [u8]
     requires { weekday < 7 }
     ensures { result.now ≡ weekday_name weekday }
@@ -25,7 +25,7 @@ fn weekday_name(weekday: u8) -> &'static [u8]
     WEEKDAY_NAMES[usize::from((weekday + 6) % 7)]
 }
 
-// The name of a month, from 1.
+/// The name of a month, from 1.
 fn month_name(month: u8) -> &'static [u8]
     requires { IsInRange 1 12 month }
     ensures { result.now ≡ month_name month }
@@ -33,7 +33,7 @@ fn month_name(month: u8) -> &'static [u8]
     MONTH_NAMES[usize::from(month - 1)]
 }
 
-// Adds the date: 2026-07-05.
+/// Adds the date: 2026-07-05.
 fn push_date(text: &mut Vec<u8>, time: &LocalTime) -> Result<(), AllocError>
     ensures { OnOk result (text.new.items ≡ text.old.items ++ date_text (local_as time.now).date) }
 {
@@ -45,7 +45,7 @@ fn push_date(text: &mut Vec<u8>, time: &LocalTime) -> Result<(), AllocError>
     Ok(())
 }
 
-// Adds the time of day: 12:00:00.
+/// Adds the time of day: 12:00:00.
 fn push_time(text: &mut Vec<u8>, time: &LocalTime) -> Result<(), AllocError>
     ensures { OnOk result
         (text.new.items ≡ text.old.items ++ time_text time.now.minute time.now.second) }
@@ -58,7 +58,7 @@ fn push_time(text: &mut Vec<u8>, time: &LocalTime) -> Result<(), AllocError>
     Ok(())
 }
 
-// Adds the weekday and the date: Sun, 05 Jul 2026.
+/// Adds the weekday and the date: Sun, 05 Jul 2026.
 fn push_day(text: &mut Vec<u8>, time: &LocalTime) -> Result<(), AllocError>
     ensures { OnOk result
         (text.new.items ≡ text.old.items ++ day_text time.now.weekday (local_as time.now).date) }
@@ -73,7 +73,7 @@ fn push_day(text: &mut Vec<u8>, time: &LocalTime) -> Result<(), AllocError>
     Ok(())
 }
 
-// Adds the modified Julian day.
+/// Adds the modified Julian day.
 fn push_julian(text: &mut Vec<u8>, time: &LocalTime) -> Result<(), AllocError>
     ensures { OnOk result
         (text.new.items ≡ text.old.items ++ part_text Julian (local_as time.now)) }
@@ -83,7 +83,7 @@ fn push_julian(text: &mut Vec<u8>, time: &LocalTime) -> Result<(), AllocError>
     Ok(())
 }
 
-// Adds date, time and zone: 2026-07-05T12:00:00+02:00.
+/// Adds date, time and zone: 2026-07-05T12:00:00+02:00.
 fn push_iso8601(text: &mut Vec<u8>, time: &LocalTime) -> Result<(), AllocError>
     ensures { OnOk result
         (text.new.items ≡ text.old.items ++ part_text Iso8601 (local_as time.now)) }
@@ -95,7 +95,7 @@ fn push_iso8601(text: &mut Vec<u8>, time: &LocalTime) -> Result<(), AllocError>
     Ok(())
 }
 
-// Adds weekday, date, time and zone: Sun, 05 Jul 2026 12:00:00 +0200.
+/// Adds weekday, date, time and zone: Sun, 05 Jul 2026 12:00:00 +0200.
 fn push_std11(text: &mut Vec<u8>, time: &LocalTime) -> Result<(), AllocError>
     ensures { OnOk result (text.new.items ≡ text.old.items ++ part_text Std11 (local_as time.now)) }
 {
@@ -107,7 +107,7 @@ fn push_std11(text: &mut Vec<u8>, time: &LocalTime) -> Result<(), AllocError>
     Ok(())
 }
 
-// Adds a part.
+/// Adds a part.
 fn push_part(text: &mut Vec<u8>, part: DatePart, time: &LocalTime) -> Result<(), AllocError>
     ensures { OnOk result (text.new.items ≡ text.old.items ++ part_text part (local_as time.now)) }
 {

@@ -23,7 +23,7 @@ pub(crate) const MONTH_NAMES: [&[u8]; 12] = [
     b"Jan", b"Feb", b"Mar", b"Apr", b"May", b"Jun", b"Jul", b"Aug", b"Sep", b"Oct", b"Nov", b"Dec",
 ];
 
-// The number of a month by its name, from 1.
+/// The number of a month by its name, from 1.
 fn month_number(word: &[u8]) -> Option<u8>
     ensures is { result ≡ month_number word.now }
     ensures small { IfSome result (λ n. IsInRange 1 12 n) }
@@ -32,7 +32,7 @@ fn month_number(word: &[u8]) -> Option<u8>
     Some(place as u8 + 1)
 }
 
-// The number of a day: one digit or two.
+/// The number of a day: one digit or two.
 fn day_of_word(word: &[u8]) -> Option<u8>
     ensures is { result ≡ day_of_word word.now }
     ensures small { IfSome result (λ n. n < 100) }
@@ -44,7 +44,7 @@ fn day_of_word(word: &[u8]) -> Option<u8>
     }
 }
 
-// The year of two digits: those up to 49 are from 2000 on, the others from 1900 on.
+/// The year of two digits: those up to 49 are from 2000 on, the others from 1900 on.
 fn year_of_pair(high: u8, low: u8) -> Option<u16>
     ensures is { result ≡ option_map year_of_pair (pair_number high low) }
     ensures small { IfSome result (λ n. IsInRange 1900 9999 n) }
@@ -57,7 +57,7 @@ fn year_of_pair(high: u8, low: u8) -> Option<u16>
     })
 }
 
-// The year of four digits, of three, which are added to 1900, or of two.
+/// The year of four digits, of three, which are added to 1900, or of two.
 fn year_of_word(word: &[u8]) -> Option<u16>
     ensures is { result ≡ year_of_word word.now }
     ensures small { IfSome result (λ n. IsInRange 1900 9999 n) }
@@ -73,7 +73,7 @@ fn year_of_word(word: &[u8]) -> Option<u16>
     }
 }
 
-// The number of two digits up to a limit.
+/// The number of two digits up to a limit.
 fn pair_of_word(limit: u8, word: &[u8]) -> Option<u8>
     ensures is { result ≡ pair_of_word limit word.now }
     ensures small { IfSome result (λ n. n ≤ limit) }
@@ -84,7 +84,7 @@ fn pair_of_word(limit: u8, word: &[u8]) -> Option<u8>
     }
 }
 
-// The date of words.
+/// The date of words.
 fn date_of_words(words: &DateSlices<'_>) -> Option<Date>
     ensures is { option_map date_as result ≡ date_of_words (date_words_as words.now) }
     ensures year { IfSome result (λ date. date.year ≡ pos (unsigned_abs date.year)) }
@@ -95,7 +95,7 @@ fn date_of_words(words: &DateSlices<'_>) -> Option<Date>
     date_of(year, month, day)
 }
 
-// The minute of the day.
+/// The minute of the day.
 fn minute_of_words(words: &DateSlices<'_>) -> Option<u16>
     ensures is { result ≡ minute_of_words (date_words_as words.now) }
     ensures small { IfSome result (λ n. n < 1440) }
@@ -105,7 +105,7 @@ fn minute_of_words(words: &DateSlices<'_>) -> Option<u16>
     Some(60 * u16::from(hour) + u16::from(minute))
 }
 
-// The second, which is 0 where none is written.
+/// The second, which is 0 where none is written.
 fn second_of_word(word: Option<&[u8]>) -> Option<u8>
     ensures is { result ≡ second_of_word (option_map (λ found. found.now) word.entry) }
     ensures small { IfSome result (λ n. n ≤ 60) }
@@ -116,7 +116,7 @@ fn second_of_word(word: Option<&[u8]>) -> Option<u8>
     }
 }
 
-// The moment of a date, a time and a zone, if they are such.
+/// The moment of a date, a time and a zone, if they are such.
 fn moment_of_words(words: &DateSlices<'_>) -> Option<Moment>
     requires { closes words.now.zone.now ≡ true }
     ensures { option_map moment_as result ≡ moment_of_words (date_words_as words.now) }
@@ -128,14 +128,14 @@ fn moment_of_words(words: &DateSlices<'_>) -> Option<Moment>
     Some(Moment::at(date.to_unix_epoch_day(), minute, second, zone))
 }
 
-// Whether an octet is no `;`.
+/// Whether an octet is no `;`.
 fn is_no_semicolon(octet: u8) -> bool
     ensures { result ≡ not (octet == octet_of ";") }
 {
     octet != b';'
 }
 
-// How many octets stand after the last `;`, or how many there are where there is none.
+/// How many octets stand after the last `;`, or how many there are where there is none.
 fn tail_len(value: &[u8]) -> usize
     ensures { result ≡ suffix_len (λ octet. not (octet == octet_of ";")) value.now }
 {
@@ -146,7 +146,7 @@ fn tail_len(value: &[u8]) -> usize
         .count()
 }
 
-// What stands after the last `;`, or all where there is none.
+/// What stands after the last `;`, or all where there is none.
 fn after_last_semicolon(value: &[u8]) -> &[u8]
     ensures { result.now ≡ after_last (λ c. c == octet_of ";") value.now }
 {

@@ -16,7 +16,7 @@ pub(crate) enum Spot {
     Escaped(usize),
 }
 
-// Where what stands after a comment stands.
+/// Where what stands after a comment stands.
 fn after_comment(others: usize) -> Spot
     ensures is { result ≡ after_octet (Inside others) (octet_of ")") }
     ensures depth { depth_of result ≤ others }
@@ -28,7 +28,7 @@ fn after_comment(others: usize) -> Spot
     }
 }
 
-// Where what stands after an octet of a comment stands.
+/// Where what stands after an octet of a comment stands.
 fn after_inner(others: usize, octet: u8) -> Spot
     requires { others + 1 < 2 ^ 63 }
     ensures is { result ≡ after_octet (Inside others) octet }

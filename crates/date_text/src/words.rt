@@ -22,14 +22,14 @@ pub(crate) fn are_letters(word: &[u8]) -> bool
     word.iter().all(|octet| is_letter(*octet))
 }
 
-// Whether two octets side by side are of one word.
+/// Whether two octets side by side are of one word.
 fn is_joined(first: u8, second: u8) -> bool
     ensures { result ≡ is_joined first second }
 {
     (is_letter(first) && is_letter(second)) || (is_digit(first) && is_digit(second))
 }
 
-// How many octets are of one word with the one before them.
+/// How many octets are of one word with the one before them.
 fn joined_len(first: u8, rest: &[u8]) -> usize
     ensures { result ≡ prefix_len (is_joined first) rest.now }
 {
@@ -38,21 +38,21 @@ fn joined_len(first: u8, rest: &[u8]) -> usize
         .count()
 }
 
-// Whether an octet outside comments is one of a word.
+/// Whether an octet outside comments is one of a word.
 fn is_of_word(octet: u8) -> bool
     ensures { result ≡ is_of_word octet }
 {
     !is_white(octet) && octet != b'('
 }
 
-// Whether an octet that stands there is one of a word.
+/// Whether an octet that stands there is one of a word.
 fn is_word_at(spot: Spot, octet: u8) -> bool
     ensures { result ≡ is_word_at spot octet }
 {
     spot.is_outside() && is_of_word(octet)
 }
 
-// What stands after the first octet of a text, if it is no octet of a word, and where that stands.
+/// What stands after the first octet of a text, if it is no octet of a word, and where that stands.
 fn after_blank(spot: Spot, text: &[u8]) -> Option<(Spot, &[u8])>
     requires { depth_of spot < 2 ^ 63 }
     ensures words { IfSome result
@@ -73,7 +73,7 @@ fn after_blank(spot: Spot, text: &[u8]) -> Option<(Spot, &[u8])>
     Some((spot.after(*octet), rest))
 }
 
-// What stands after the white space and the comments with which a text begins.
+/// What stands after the white space and the comments with which a text begins.
 fn without_blanks(text: &[u8]) -> &[u8]
     requires { closes text.now ≡ true }
     ensures closed { closes result.now ≡ true }

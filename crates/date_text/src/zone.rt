@@ -55,7 +55,7 @@ impl Zone {
         if self.west { -minutes } else { minutes }
     }
 
-    // The sign of the zone.
+    /// The sign of the zone.
     fn sign(&self) -> u8
         ensures { result ≡ zone_sign (zone_as self.now) }
     {

@@ -11,7 +11,7 @@ use crate::number::{pair_number, up_to};
 use crate::words::{are_letters, next_word};
 use crate::zone::Zone;
 
-// The minutes of four digits.
+/// The minutes of four digits.
 fn zone_minutes(digits: &[u8]) -> Option<u16>
     ensures is { result ≡ zone_minutes digits.now }
     ensures small { IfSome result (λ n. n ≤ 5999) }
@@ -24,7 +24,7 @@ fn zone_minutes(digits: &[u8]) -> Option<u16>
     Some(60 * u16::from(hours) + u16::from(minutes))
 }
 
-// The zone of a sign and digits.
+/// The zone of a sign and digits.
 fn zone_of_sign(sign: u8, digits: &[u8]) -> Option<Zone>
     ensures { option_map zone_as result ≡ zone_of_sign sign digits.now }
 {
@@ -35,7 +35,7 @@ fn zone_of_sign(sign: u8, digits: &[u8]) -> Option<Zone>
     }
 }
 
-// Whether a word is a name, in any case of letters.
+/// Whether a word is a name, in any case of letters.
 pub(crate) fn is_same_name(word: &[u8], name: &[u8]) -> bool
     ensures { result ≡ is_same_name word.now name.now }
 {
@@ -56,7 +56,7 @@ pub(crate) fn place_of(word: &[u8], names: &[&[u8]]) -> Option<usize>
     names.iter().position(|name| is_same_name(word, name))
 }
 
-// The zone of letters.
+/// The zone of letters.
 fn zone_of_letters(word: &[u8]) -> Zone
     ensures { zone_as result ≡ zone_of_letters word.now }
 {
@@ -77,7 +77,7 @@ fn zone_of_letters(word: &[u8]) -> Zone
     }
 }
 
-// The zone of one word.
+/// The zone of one word.
 fn zone_of_word(word: &[u8]) -> Option<Zone>
     ensures { option_map zone_as result ≡ zone_of_word word.now }
 {
@@ -88,7 +88,7 @@ fn zone_of_word(word: &[u8]) -> Option<Zone>
     }
 }
 
-// The zone of two words.
+/// The zone of two words.
 fn zone_of_two(sign: &[u8], digits: &[u8]) -> Option<Zone>
     ensures { option_map zone_as result ≡ zone_of_two sign.now digits.now }
 {

@@ -9,7 +9,7 @@ use crate::value::push_sequence;
 use std::alloc::{AllocError, Global};
 use std::borrow::CowSlice;
 
-// Whether a text has encoded characters.
+/// Whether a text has encoded characters.
 fn has_sequence(text: &[u8]) -> bool
     ensures { result ≡ has_sequence text.now }
 {
@@ -24,7 +24,7 @@ fn has_sequence(text: &[u8]) -> bool
     false
 }
 
-// A text with its encoded characters replaced.
+/// A text with its encoded characters replaced.
 fn all_replaced(alloc: Global, text: &[u8]) -> Result<Option<Vec<u8>>, AllocError>
     ensures { IfOk result (λ found. octets_of found ≡ characters_replaced text.now) }
 {

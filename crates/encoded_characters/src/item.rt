@@ -24,7 +24,7 @@ pub(crate) fn is_hex_digit(octet: u8) -> bool
     hex_octet(b'0', octet).is_some()
 }
 
-// How many octets stand before the first digit.
+/// How many octets stand before the first digit.
 fn gap_len(octets: &[u8]) -> usize
     ensures { result ≡ prefix_len (λ octet. not (is_hex_digit octet)) octets.now }
 {
@@ -34,7 +34,7 @@ fn gap_len(octets: &[u8]) -> usize
         .count()
 }
 
-// How many digits octets begin with.
+/// How many digits octets begin with.
 fn digit_count(octets: &[u8]) -> usize
     ensures { result ≡ prefix_len is_hex_digit octets.now }
 {
@@ -60,7 +60,7 @@ pub(crate) fn next_item(octets: &[u8]) -> Option<(EncodedItem<'_>, &[u8])>
     Some((EncodedItem { blanks, digits }, rest))
 }
 
-// What stands after the blank with which octets begin.
+/// What stands after the blank with which octets begin.
 #[tactic(auto, unfolding(crate::specs::Sequence::are_blanks))]
 fn after_blank(octets: &[u8]) -> Option<&[u8]>
     ensures is { MatchOption result (are_blanks octets.now ≡ nat_eq (length octets.now) 0)
@@ -74,7 +74,7 @@ fn after_blank(octets: &[u8]) -> Option<&[u8]>
     }
 }
 
-// Whether octets are blanks: spaces, tabs, and CRs each with an LF after it.
+/// Whether octets are blanks: spaces, tabs, and CRs each with an LF after it.
 fn are_blanks(octets: &[u8]) -> bool
     ensures { result ≡ are_blanks octets.now }
 {
@@ -85,7 +85,7 @@ fn are_blanks(octets: &[u8]) -> bool
     left.is_empty()
 }
 
-// Whether digits, with what stands before them, are an item.
+/// Whether digits, with what stands before them, are an item.
 fn is_item(hex: bool, item: &EncodedItem<'_>) -> bool
     requires some { 0 < length item.now.digits.now }
     requires digits { list_all is_hex_digit item.now.digits.now ≡ true }

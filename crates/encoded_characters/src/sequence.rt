@@ -17,38 +17,38 @@ pub(crate) struct EncodedSequence<'a> {
     pub(crate) inside: &'a [u8],
 }
 
-// How many octets of a sequence aren't its word, and don't stand between `:` and `}`: `${`, `:` and `}`.
+/// How many octets of a sequence aren't its word, and don't stand between `:` and `}`: `${`, `:` and `}`.
 pub(crate) const SIGN_COUNT: usize = 4;
 
-// The word of sequences that stand for octets.
+/// The word of sequences that stand for octets.
 pub(crate) fn is_hex(word: &[u8]) -> bool
     ensures { result ≡ is_hex word.now }
 {
     b"hex".eq_ignore_ascii_case(word)
 }
 
-// The word of those that stand for characters.
+/// The word of those that stand for characters.
 fn is_unicode(word: &[u8]) -> bool
     ensures { result ≡ is_unicode word.now }
 {
     b"unicode".eq_ignore_ascii_case(word)
 }
 
-// An octet that may stand between `:` and `}`.
+/// An octet that may stand between `:` and `}`.
 fn may_stand(octet: u8) -> bool
     ensures { result ≡ may_stand octet }
 {
     is_hex_digit(octet) || is_white(octet)
 }
 
-// How many octets that may stand there others begin with.
+/// How many octets that may stand there others begin with.
 fn run_len(octets: &[u8]) -> usize
     ensures { result ≡ length (run octets.now) }
 {
     octets.iter().take_while(|octet| may_stand(**octet)).count()
 }
 
-// Cuts after the first octets that may stand there, up to one that may not.
+/// Cuts after the first octets that may stand there, up to one that may not.
 #[tactic(auto, using(crate::proofs::Steps::run_len))]
 fn cut_run(octets: &[u8]) -> (&[u8], &[u8])
     ensures run { result.0.now ≡ run octets.now }
@@ -58,14 +58,14 @@ fn cut_run(octets: &[u8]) -> (&[u8], &[u8])
     octets.split_at(run_len(octets))
 }
 
-// The first octets, as many as that, or all where there are fewer.
+/// The first octets, as many as that, or all where there are fewer.
 fn front(octets: &[u8], count: usize) -> &[u8]
     ensures { result.now ≡ take count octets.now }
 {
     octets.get(..count).unwrap_or(octets)
 }
 
-// The word with which octets begin.
+/// The word with which octets begin.
 fn word_at(octets: &[u8]) -> Option<&[u8]>
     ensures is { option_map (λ word. word.now) result ≡ word_at octets.now }
     ensures within { IfSome result (λ word. length word.now ≤ length octets.now) }
@@ -78,7 +78,7 @@ fn word_at(octets: &[u8]) -> Option<&[u8]>
     if is_unicode(word) { Some(word) } else { None }
 }
 
-// Encoded characters, by their word, what may stand between `:` and `}`, and what stands after that: `}`.
+/// Encoded characters, by their word, what may stand between `:` and `}`, and what stands after that: `}`.
 fn before_brace<'a>(word: &'a [u8], inside: &'a [u8], behind: &[u8]) -> Option<EncodedSequence<'a>>
     ensures is { option_map sequence_of result ≡ before_brace word.now inside.now behind.now }
     ensures word { IfSome result (λ found. found.word.now ≡ word.now) }
@@ -95,7 +95,7 @@ fn before_brace<'a>(word: &'a [u8], inside: &'a [u8], behind: &[u8]) -> Option<E
     }
 }
 
-// Encoded characters, by their word and what stands after it: `:`, and so on.
+/// Encoded characters, by their word and what stands after it: `:`, and so on.
 fn after_word<'a>(word: &'a [u8], behind: &'a [u8]) -> Option<EncodedSequence<'a>>
     ensures is { option_map sequence_of result ≡ after_word word.now behind.now }
     ensures word { IfSome result (λ found. found.word.now ≡ word.now) }
@@ -108,12 +108,12 @@ fn after_word<'a>(word: &'a [u8], behind: &'a [u8]) -> Option<EncodedSequence<'a
     before_brace(word, inside, further)
 }
 
-// The encoded characters with which a text begins.
-//
-// Trying each place of a text takes time linear in its length. A try reads ten octets at most, and after them those that may
-// stand between `:` and `}`, up to the first that may not. No `$` is among them, so no other try begins there: what a try
-// reads after its first ten octets, it alone reads. It reads them once, and where a `}` ends them twice more, for their digits
-// and for their blanks.
+/// The encoded characters with which a text begins.
+///
+/// Trying each place of a text takes time linear in its length. A try reads ten octets at most, and after them those that may
+/// stand between `:` and `}`, up to the first that may not. No `$` is among them, so no other try begins there: what a try
+/// reads after its first ten octets, it alone reads. It reads them once, and where a `}` ends them twice more, for their digits
+/// and for their blanks.
 #[tactic(auto, unfolding(crate::specs::Scan::sequence_at))]
 pub(crate) fn sequence_at(text: &[u8]) -> Option<EncodedSequence<'_>>
     ensures is { option_map sequence_of result ≡ sequence_at text.now }

@@ -8,7 +8,7 @@ use crate::sequence::{EncodedSequence, is_hex};
 use sieve_base::hex::hex_octet;
 use std::alloc::AllocError;
 
-// The octet of one digit or of two.
+/// The octet of one digit or of two.
 fn pair_octet(digits: &[u8]) -> Option<u8>
     ensures { result ≡ pair_octet digits.now }
 {
@@ -19,10 +19,10 @@ fn pair_octet(digits: &[u8]) -> Option<u8>
     }
 }
 
-// The greatest number of a character.
+/// The greatest number of a character.
 const MAX_CHARACTER: u32 = 0x10_FFFF;
 
-// The character whose number the digits are. A number that is too great stays so with more digits, so the rest isn't read.
+/// The character whose number the digits are. A number that is too great stays so with more digits, so the rest isn't read.
 fn character(digits: &[u8]) -> Option<char>
     ensures { result ≡ character_of digits.now }
 {
@@ -37,7 +37,7 @@ fn character(digits: &[u8]) -> Option<char>
     char::from_u32(number)
 }
 
-// Adds the octet of one digit or of two, and says whether there is one.
+/// Adds the octet of one digit or of two, and says whether there is one.
 fn push_octet(octets: &mut Vec<u8>, digits: &[u8]) -> Result<bool, AllocError>
     ensures { IfOk result (λ pushed. if_right pushed octets.new.items
         ≡ grown octets.old.items (octets_of_digits true digits.now)) }
@@ -49,7 +49,7 @@ fn push_octet(octets: &mut Vec<u8>, digits: &[u8]) -> Result<bool, AllocError>
     Ok(true)
 }
 
-// Adds the character whose number the digits are, in UTF-8, and says whether there is one.
+/// Adds the character whose number the digits are, in UTF-8, and says whether there is one.
 fn push_character(octets: &mut Vec<u8>, digits: &[u8]) -> Result<bool, AllocError>
     ensures { IfOk result (λ pushed. if_right pushed octets.new.items
         ≡ grown octets.old.items (octets_of_digits false digits.now)) }
@@ -62,7 +62,7 @@ fn push_character(octets: &mut Vec<u8>, digits: &[u8]) -> Result<bool, AllocErro
     Ok(true)
 }
 
-// Adds what digits stand for, and says whether they stand for something.
+/// Adds what digits stand for, and says whether they stand for something.
 fn push_digits(octets: &mut Vec<u8>, hex: bool, digits: &[u8]) -> Result<bool, AllocError>
     ensures { IfOk result (λ pushed. if_right pushed octets.new.items
         ≡ grown octets.old.items (octets_of_digits hex digits.now)) }

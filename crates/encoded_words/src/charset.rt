@@ -44,14 +44,14 @@ pub(crate) enum Charset {
     Tabled(Codepage),
 }
 
-// Whether a charset has this name, in any case.
+/// Whether a charset has this name, in any case.
 fn is_named(charset: &[u8], name: &[u8]) -> bool
     ensures { result ≡ str_eq_ignore_ascii_case name.now charset.now }
 {
     name.eq_ignore_ascii_case(charset)
 }
 
-// The charset of that name that has a table.
+/// The charset of that name that has a table.
 #[tactic(auto, unfolding(crate::specs::Charset::codepage_named))]
 fn codepage_named(name: &[u8]) -> Option<Codepage>
     ensures { result ≡ codepage_named name.now }
@@ -73,7 +73,7 @@ fn codepage_named(name: &[u8]) -> Option<Codepage>
     }
 }
 
-// The charset of that name, if the profile knows it (RFC 2047, section 2).
+/// The charset of that name, if the profile knows it (RFC 2047, section 2).
 fn charset_named(profile: Profile, name: &[u8]) -> Option<Charset>
     ensures { result ≡ charset_named (profile_as profile) name.now }
 {
@@ -90,7 +90,7 @@ fn charset_named(profile: Profile, name: &[u8]) -> Option<Charset>
     }
 }
 
-// Octets of ISO 8859-1 in UTF-8.
+/// Octets of ISO 8859-1 in UTF-8.
 fn latin(alloc: Global, octets: &[u8]) -> Result<Vec<u8>, AllocError>
     ensures { IfOk result (λ text. text.items ≡ encode_utf8_all octets.now) }
 {
@@ -101,7 +101,7 @@ fn latin(alloc: Global, octets: &[u8]) -> Result<Vec<u8>, AllocError>
     Ok(text.into_bytes())
 }
 
-// The characters of a charset's octets from 128 on.
+/// The characters of a charset's octets from 128 on.
 #[tactic(auto, unfolding(crate::specs::Charset::table_of))]
 fn table_of(codepage: Codepage) -> &'static [char; 128]
     ensures { result.now ≡ table_of codepage }
@@ -116,7 +116,7 @@ fn table_of(codepage: Codepage) -> &'static [char; 128]
     }
 }
 
-// The character of an octet.
+/// The character of an octet.
 fn character_at(table: &[char; 128], octet: u8) -> Option<char>
     ensures { result ≡ character_at table.now octet }
 {
@@ -131,7 +131,7 @@ fn character_at(table: &[char; 128], octet: u8) -> Option<char>
     }
 }
 
-// Octets in UTF-8 by a table, or nothing where one of them stands for nothing.
+/// Octets in UTF-8 by a table, or nothing where one of them stands for nothing.
 fn tabled(alloc: Global, table: &[char; 128], octets: &[u8]) -> Result<Option<Vec<u8>>, AllocError>
     ensures { IfOk result (λ text. octets_of text ≡ tabled table.now octets.now) }
 {
@@ -145,7 +145,7 @@ fn tabled(alloc: Global, table: &[char; 128], octets: &[u8]) -> Result<Option<Ve
     Ok(Some(text.into_bytes()))
 }
 
-// Whether octets are well-formed UTF-8 (RFC 3629, section 4).
+/// Whether octets are well-formed UTF-8 (RFC 3629, section 4).
 #[tactic(auto, using(crate::proofs::Steps::utf8_said, crate::proofs::Steps::utf8_denied))]
 fn is_utf8(octets: &[u8]) -> bool
     ensures { result ≡ is_utf8 octets.now }
@@ -153,14 +153,14 @@ fn is_utf8(octets: &[u8]) -> bool
     std::str::from_utf8(octets).is_ok()
 }
 
-// Whether octets are those of ASCII.
+/// Whether octets are those of ASCII.
 fn are_ascii(octets: &[u8]) -> bool
     ensures { result ≡ list_all is_ascii octets.now }
 {
     octets.iter().all(|octet| octet.is_ascii())
 }
 
-// Octets of a charset in UTF-8, or nothing where they aren't of that charset.
+/// Octets of a charset in UTF-8, or nothing where they aren't of that charset.
 #[tactic(auto, unfolding(crate::specs::Charset::in_utf8))]
 fn in_utf8(alloc: Global, charset: Charset, octets: Vec<u8>) -> Result<Option<Vec<u8>>, AllocError>
     ensures { IfOk result (λ found. octets_of found ≡ in_utf8 charset octets.items) }
@@ -177,7 +177,7 @@ fn in_utf8(alloc: Global, charset: Charset, octets: Vec<u8>) -> Result<Option<Ve
     }
 }
 
-// The octets of a word's text, by the letter of its encoding.
+/// The octets of a word's text, by the letter of its encoding.
 fn octets_in(alloc: Global, word: &EncodedWord<'_>) -> Result<Option<Vec<u8>>, AllocError>
     ensures { IfOk result (λ octets. octets_of octets ≡ octets_in (word_of word.now)) }
 {
@@ -188,7 +188,7 @@ fn octets_in(alloc: Global, word: &EncodedWord<'_>) -> Result<Option<Vec<u8>>, A
     }
 }
 
-// What a word stands for, if it can be decoded. The charset comes first: a text of one that isn't known isn't read.
+/// What a word stands for, if it can be decoded. The charset comes first: a text of one that isn't known isn't read.
 #[tactic(auto, unfolding(crate::specs::Charset::meaning))]
 pub(crate) fn meaning(
     alloc: Global,
@@ -208,7 +208,7 @@ pub(crate) fn meaning(
     }
 }
 
-// A text, or octets where there is none.
+/// A text, or octets where there is none.
 fn or_same<'o>(octets: CowSlice<'o, u8>, text: Option<Vec<u8>>) -> CowSlice<'o, u8>
     ensures { cow_slice_items result ≡ or_same (cow_slice_items octets.entry) (octets_of text) }
 {

@@ -18,14 +18,14 @@ use sieve_profile::Profile;
 use std::alloc::{AllocError, Global};
 use std::borrow::CowSlice;
 
-// Whether octets are spaces and tabs alone.
+/// Whether octets are spaces and tabs alone.
 fn are_blank(octets: &[u8]) -> bool
     ensures { result ≡ list_all is_blank octets.now }
 {
     octets.iter().all(|octet| is_blank(*octet))
 }
 
-// Adds what a word stands for, and the octets before it. After a word, spaces and tabs alone are dropped.
+/// Adds what a word stands for, and the octets before it. After a word, spaces and tabs alone are dropped.
 fn push_word(
     octets: &mut Vec<u8>,
     behind_word: bool,
@@ -41,7 +41,7 @@ fn push_word(
     octets.extend_from_slice(meant)
 }
 
-// How many octets stand before the first `=`. No word begins among them.
+/// How many octets stand before the first `=`. No word begins among them.
 fn before_sign(value: &[u8]) -> usize
     ensures within { result ≤ length value.now }
     ensures alone { (profile : profiles.Profile) → map octet (take result value.now)
@@ -52,7 +52,7 @@ fn before_sign(value: &[u8]) -> usize
     memchr(b'=', value).unwrap_or(value.len())
 }
 
-// A value with its encoded words replaced, if it has one that can be decoded.
+/// A value with its encoded words replaced, if it has one that can be decoded.
 fn replaced(alloc: Global, profile: Profile, value: &[u8]) -> Result<Option<Vec<u8>>, AllocError>
     ensures is { IfOk result
         (λ found. octets_of found ≡ replaced_of (profile_as profile) value.now) }
@@ -87,7 +87,7 @@ fn replaced(alloc: Global, profile: Profile, value: &[u8]) -> Result<Option<Vec<
     Ok(Some(octets))
 }
 
-// A value with its encoded words replaced. It is borrowed exactly where none was.
+/// A value with its encoded words replaced. It is borrowed exactly where none was.
 #[tactic(auto, using(crate::proofs::Steps::unchanged, crate::proofs::Steps::none_replaced, crate::proofs::Steps::some_replaced))]
 fn decoded(alloc: Global, profile: Profile, value: &[u8]) -> Result<CowSlice<'_, u8>, AllocError>
     ensures octets { IfOk result

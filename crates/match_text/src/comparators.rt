@@ -112,7 +112,7 @@ impl Comparator for AsciiCasemap {
     ghost settles = { λ b. Prim.search rules };
 }
 
-// The first place of `value` whose octet is equal to `b` under `i;ascii-casemap`: at most two are.
+/// The first place of `value` whose octet is equal to `b` under `i;ascii-casemap`: at most two are.
 fn find_letter(value: &[u8], b: u8) -> Option<usize>
     ensures { IsFirstByte (λ x. ascii_casemap x == ascii_casemap b) value.now result }
 {

@@ -8,14 +8,14 @@ use crate::comparators::{AsciiCasemap, is};
 use memchr::memchr;
 use sieve_base::octet::is_visible;
 
-// Whether an octet may stand in a keyword.
+/// Whether an octet may stand in a keyword.
 fn is_flag_octet(octet: u8) -> bool
     ensures { result ≡ is_flag_octet octet }
 {
     is_visible(octet) && !is_special(octet)
 }
 
-// Whether an octet is one of those that no atom has.
+/// Whether an octet is one of those that no atom has.
 fn is_special(octet: u8) -> bool
     ensures { result ≡ is_special octet }
 {
@@ -25,14 +25,14 @@ fn is_special(octet: u8) -> bool
     )
 }
 
-// Whether a text is a flag.
+/// Whether a text is a flag.
 pub(crate) fn is_flag(text: &[u8]) -> bool
     ensures { result ≡ is_flag text.now }
 {
     is_system_flag(text) || is_keyword(text)
 }
 
-// Whether a text is one of the flags with a `\`.
+/// Whether a text is one of the flags with a `\`.
 fn is_system_flag(text: &[u8]) -> bool
     ensures { result ≡ is_system_flag text.now }
 {
@@ -50,14 +50,14 @@ pub fn is_keyword(text: &[u8]) -> bool
     !text.is_empty() && are_flag_octets(text)
 }
 
-// Whether each octet may stand in a keyword.
+/// Whether each octet may stand in a keyword.
 fn are_flag_octets(text: &[u8]) -> bool
     ensures { result ≡ list_all is_flag_octet text.now }
 {
     text.iter().all(|octet| is_flag_octet(*octet))
 }
 
-// The first piece of a text, and what stands after the space that ends it, where one does.
+/// The first piece of a text, and what stands after the space that ends it, where one does.
 pub(crate) fn next_piece(text: &[u8]) -> (&[u8], Option<&[u8]>)
     ensures pieces { pieces text.now ≡ result.0.now ∷ pieces_behind result.1 }
     ensures shorter { IfSome result.1 (λ rest. length rest.now < length text.now) }
@@ -90,7 +90,7 @@ pub fn next_flag(text: &[u8]) -> Option<(&[u8], &[u8])>
     }
 }
 
-// The flag that a text without a space is, if it is one, and nothing after it.
+/// The flag that a text without a space is, if it is one, and nothing after it.
 fn last_flag(piece: &[u8]) -> Option<(&[u8], &[u8])>
     requires { pieces piece.now ≡ piece.now ∷ [] }
     ensures some { IfSome result

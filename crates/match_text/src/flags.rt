@@ -117,7 +117,7 @@ impl Equivalent<Flag> for SoughtFlag<'_> {
     }
 }
 
-// Feeds a hasher the octets in upper case.
+/// Feeds a hasher the octets in upper case.
 fn write_folded<H: Hasher>(octets: &[u8], state: &mut H)
     ensures { state.new ≡ fold H.write state.old (flag_hash octets.now) }
 {
@@ -284,7 +284,7 @@ impl FlagList {
     }
 }
 
-// Whether a flag stands for the number of a key.
+/// Whether a flag stands for the number of a key.
 fn has_number(flags: &[Flag], key: &[u8]) -> bool
     ensures { result ≡ has_key (are_equal Collation.Numeric) flags.now key.now }
 {
@@ -293,7 +293,7 @@ fn has_number(flags: &[Flag], key: &[u8]) -> bool
         .any(|flag| equals(Collation::Numeric, flag.as_slice(), key))
 }
 
-// The list of a set's flags.
+/// The list of a set's flags.
 fn list_of(flags: IndexSet<Flag>) -> FlagList
     ensures { result ≡ flags.keys }
 {
@@ -302,7 +302,7 @@ fn list_of(flags: IndexSet<Flag>) -> FlagList
     FlagList { flags }
 }
 
-// Adds a flag at the end, where it isn't there yet.
+/// Adds a flag at the end, where it isn't there yet.
 fn insert(alloc: Global, flags: &mut IndexSet<Flag>, flag: &[u8]) -> Result<(), AllocError>
     ensures ok { OnOk result (flags.new.keys ≡ flag_union flags.old.keys (flag.now ∷ [])) }
     ensures err { OnErr result (flags.new.keys ≡ flags.old.keys) }
@@ -313,7 +313,7 @@ fn insert(alloc: Global, flags: &mut IndexSet<Flag>, flag: &[u8]) -> Result<(), 
     }
 }
 
-// Adds each of some flags that isn't there yet.
+/// Adds each of some flags that isn't there yet.
 fn insert_each(alloc: Global, flags: &mut IndexSet<Flag>, list: &[Flag]) -> Result<(), AllocError>
     ensures ok { OnOk result (flags.new.keys ≡ flag_union flags.old.keys list.now) }
     ensures err { OnErr result
@@ -326,7 +326,7 @@ fn insert_each(alloc: Global, flags: &mut IndexSet<Flag>, list: &[Flag]) -> Resu
     Ok(())
 }
 
-// Adds a flag at the end, where it isn't there yet. One that is there isn't copied.
+/// Adds a flag at the end, where it isn't there yet. One that is there isn't copied.
 fn insert_missing(alloc: Global, flags: &mut IndexSet<Flag>, flag: &[u8]) -> Result<(), AllocError>
     ensures ok { OnOk result (flags.new.keys ≡ flag_union flags.old.keys (flag.now ∷ [])) }
     ensures err { OnErr result (flags.new.keys ≡ flags.old.keys) }
@@ -338,7 +338,7 @@ fn insert_missing(alloc: Global, flags: &mut IndexSet<Flag>, flag: &[u8]) -> Res
     insert(alloc, flags, flag)
 }
 
-// Adds each flag of a text that isn't there yet.
+/// Adds each flag of a text that isn't there yet.
 fn insert_text(alloc: Global, flags: &mut IndexSet<Flag>, text: &[u8]) -> Result<(), AllocError>
     ensures ok { OnOk result (flags.new.keys ≡ flag_union flags.old.keys (flags_in text.now)) }
     ensures err { OnErr result (SomeIndex (flags_in text.now)
@@ -399,7 +399,7 @@ pub fn without(alloc: Global, a: &FlagList, b: &FlagList) -> Result<FlagList, Al
     Ok(list_of(flags))
 }
 
-// Adds a flag that isn't among the others.
+/// Adds a flag that isn't among the others.
 fn insert_other(
     alloc: Global,
     flags: &mut IndexSet<Flag>,

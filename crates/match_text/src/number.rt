@@ -6,7 +6,7 @@ ghost use Rattle.match_text.specs.view.Digits.{digits_cmp, without_zeros};
 use sieve_base::octet::is_digit;
 use std::cmp::Ordering;
 
-// The digits that a text begins with.
+/// The digits that a text begins with.
 fn first_digits(text: &[u8]) -> &[u8]
     ensures { result.now ≡ first_digits text.now }
 {
@@ -18,7 +18,7 @@ fn first_digits(text: &[u8]) -> &[u8]
     text
 }
 
-// Digits without the zeros that they begin with.
+/// Digits without the zeros that they begin with.
 fn without_zeros(digits: &[u8]) -> &[u8]
     ensures { result.now ≡ without_zeros digits.now }
 {
@@ -29,7 +29,7 @@ fn without_zeros(digits: &[u8]) -> &[u8]
     rest
 }
 
-// The order of numbers whose digits begin with no zero: the one of more digits is greater, and of as many the first that differ decide.
+/// The order of numbers whose digits begin with no zero: the one of more digits is greater, and of as many the first that differ decide.
 fn digits_cmp(a: &[u8], b: &[u8]) -> Ordering
     ensures { result ≡ digits_cmp a.now b.now }
 {

@@ -10,7 +10,7 @@ use crate::number::number_cmp;
 use crate::relation::Relation;
 use std::cmp::Ordering;
 
-// The order of two texts by their folded octets: the first that differ decide, and a front comes before what it is a front of.
+/// The order of two texts by their folded octets: the first that differ decide, and a front comes before what it is a front of.
 fn folded_cmp<C: Comparator>(a: &[u8], b: &[u8]) -> Ordering
     ensures { result ≡ slice_cmp nat_cmp (map C.folded a.now) (map C.folded b.now) }
 {
@@ -31,7 +31,7 @@ fn folded_cmp<C: Comparator>(a: &[u8], b: &[u8]) -> Ordering
     }
 }
 
-// The order of two texts under a comparator (RFC 4790, section 9).
+/// The order of two texts under a comparator (RFC 4790, section 9).
 fn order_of(collation: Collation, a: &[u8], b: &[u8]) -> Ordering
     ensures { result ≡ order_of collation a.now b.now }
 {

@@ -40,7 +40,7 @@ pub(crate) fn folded_items<C: Comparator>(
     Ok(items)
 }
 
-// The item that an octet of a pattern is; none where it only protects the next one.
+/// The item that an octet of a pattern is; none where it only protects the next one.
 fn item_at<C: Comparator>(is_protected: bool, octet: u8) -> Option<Item>
     ensures { result ≡ option_map (folded_item C.folded) (item_at is_protected octet) }
 {

@@ -36,14 +36,14 @@ impl Relation {
         }
     }
 
-    // Whether a word is that of the relation, in any case of letters.
+    /// Whether a word is that of the relation, in any case of letters.
     fn is_word(self, word: &[u8]) -> bool
         ensures { result ≡ is_word_of self word.now }
     {
         self.word().eq_ignore_ascii_case(word)
     }
 
-    // Whether the relation holds of two things, the first of which stands in this order to the second.
+    /// Whether the relation holds of two things, the first of which stands in this order to the second.
     pub(crate) fn holds(self, order: Ordering) -> bool
         ensures { result ≡ stands_in self order }
     {

@@ -19,7 +19,7 @@ pub(crate) fn cut(items: &[Item]) -> (&[Item], &[Item])
     items.split_at(items.len())
 }
 
-// Whether an item of a segment takes the octet.
+/// Whether an item of a segment takes the octet.
 fn takes(item: Item, octet: u8) -> bool
     ensures { result ≡ takes item octet }
 {
@@ -63,8 +63,8 @@ pub(crate) fn place_of(
     first_place(alloc, segment, text)
 }
 
-// The first place where the segment stands. Octets alone are looked for in linear time; a segment with a `?` is tried at
-// each place.
+/// The first place where the segment stands. Octets alone are looked for in linear time; a segment with a `?` is tried at
+/// each place.
 fn first_place(alloc: Global, segment: &[Item], text: &[u8]) -> Result<Option<usize>, AllocError>
     ensures { IfOk result (λ place. place ≡ first_place (begins segment.now) text.now) }
 {
@@ -74,7 +74,7 @@ fn first_place(alloc: Global, segment: &[Item], text: &[u8]) -> Result<Option<us
     }
 }
 
-// The place at the end of the text, if the segment stands there.
+/// The place at the end of the text, if the segment stands there.
 fn end_place(segment: &[Item], text: &[u8]) -> Option<usize>
     ensures { result ≡ first_place (ends segment.now) text.now }
 {
@@ -89,7 +89,7 @@ fn end_place(segment: &[Item], text: &[u8]) -> Option<usize>
     }
 }
 
-// The first place where the segment stands: each place is tried.
+/// The first place where the segment stands: each place is tried.
 fn find_place(segment: &[Item], text: &[u8]) -> Option<usize>
     ensures { result ≡ first_place (begins segment.now) text.now }
 {
@@ -107,7 +107,7 @@ fn find_place(segment: &[Item], text: &[u8]) -> Option<usize>
     }
 }
 
-// The octets of a segment without a wildcard.
+/// The octets of a segment without a wildcard.
 fn literals(alloc: Global, segment: &[Item]) -> Result<Option<Vec<u8>>, AllocError>
     ensures { IfOk result (λ found. IfSome found (λ octets. segment.now ≡ literals octets.items)) }
 {

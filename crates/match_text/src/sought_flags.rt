@@ -58,7 +58,7 @@ pub fn next_key(key: &[u8]) -> Option<(&[u8], &[u8])>
     }
 }
 
-// The piece that a text without a space is, if it has octets, and nothing after it.
+/// The piece that a text without a space is, if it has octets, and nothing after it.
 fn last_key(piece: &[u8]) -> Option<(&[u8], &[u8])>
     requires { pieces piece.now ≡ piece.now ∷ [] }
     ensures some { IfSome result
@@ -73,7 +73,7 @@ fn last_key(piece: &[u8]) -> Option<(&[u8], &[u8])>
     }
 }
 
-// Adds what a key stands for.
+/// Adds what a key stands for.
 #[tactic(auto, unfolding(crate::specs::Flags::flag_keys))]
 fn push_keys<'a>(found: &mut Vec<CowSlice<'a, u8>>, key: &'a [u8]) -> Result<(), AllocError>
     ensures { OnOk result
@@ -94,7 +94,7 @@ fn push_keys<'a>(found: &mut Vec<CowSlice<'a, u8>>, key: &'a [u8]) -> Result<(),
     }
 }
 
-// Adds a piece that has octets.
+/// Adds a piece that has octets.
 fn push_filled<'a>(found: &mut Vec<CowSlice<'a, u8>>, piece: &'a [u8]) -> Result<(), AllocError>
     ensures { OnOk result (octets_of_each found.new.items
         ≡ octets_of_each found.old.items ++ filter is_filled (piece.now ∷ [])) }

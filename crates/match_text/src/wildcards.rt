@@ -77,7 +77,7 @@ pub fn matches<'v, C: Comparator>(
     }
 }
 
-// The whole value and what the wildcards take of it, for items and a text that are folded.
+/// The whole value and what the wildcards take of it, for items and a text that are folded.
 fn captured_texts<'v>(
     alloc: Global,
     items: &[Item],
@@ -112,8 +112,8 @@ fn captured_texts<'v>(
     }
 }
 
-// Adds what a star takes of the value up to a place, and then what the `?` of the segment that stands there take; what
-// stands after the segment, of the text and of the value.
+/// Adds what a star takes of the value up to a place, and then what the `?` of the segment that stands there take; what
+/// stands after the segment, of the text and of the value.
 fn take_star<'t, 'v>(
     texts: &mut Vec<&'v [u8]>,
     place: usize,
@@ -136,8 +136,8 @@ fn take_star<'t, 'v>(
     take_segment(texts, segment, text_left, value_left)
 }
 
-// Adds what the `?` of a segment take of the value, which begins with it; what stands after the segment, of the text and
-// of the value.
+/// Adds what the `?` of a segment take of the value, which begins with it; what stands after the segment, of the text and
+/// of the value.
 fn take_segment<'t, 'v>(
     texts: &mut Vec<&'v [u8]>,
     segment: &[Item],
@@ -156,7 +156,7 @@ fn take_segment<'t, 'v>(
     Ok((text_left, value_left))
 }
 
-// Adds what the `?` of a segment take of the value, which begins with it; what stands after the segment.
+/// Adds what the `?` of a segment take of the value, which begins with it; what stands after the segment.
 fn push_questions<'v>(
     texts: &mut Vec<&'v [u8]>,
     segment: &[Item],

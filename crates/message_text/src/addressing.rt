@@ -63,7 +63,7 @@ impl Address {
     }
 }
 
-// The user in a local part.
+/// The user in a local part.
 fn user_in(local: &[u8]) -> &[u8]
     ensures { result.now ≡ user_in local.now }
 {
@@ -71,7 +71,7 @@ fn user_in(local: &[u8]) -> &[u8]
     &local[..end]
 }
 
-// The detail in a local part.
+/// The detail in a local part.
 fn detail_in(local: &[u8]) -> Option<&[u8]>
     ensures { option_map (λ octets. octets.now) result ≡ detail_in local.now }
 {
@@ -100,7 +100,7 @@ pub fn addresses(alloc: Global, value: &[u8]) -> Result<Vec<Address>, AllocError
     Ok(found)
 }
 
-// Adds the address in a piece, if there is one.
+/// Adds the address in a piece, if there is one.
 fn push_address(alloc: Global, found: &mut Vec<Address>, piece: &[Marked]) -> Result<(), AllocError>
     ensures { OnOk result (found.new.items
         ≡ found.old.items ++ option_to_list (address_in piece.now)) }
@@ -112,7 +112,7 @@ fn push_address(alloc: Global, found: &mut Vec<Address>, piece: &[Marked]) -> Re
     Ok(())
 }
 
-// The address of these octets.
+/// The address of these octets.
 fn address_by(alloc: Global, marks: &[Marked]) -> Result<Address, AllocError>
     requires { 0 < length marks.now }
     ensures { IfOk result (λ address. address_by marks.now ≡ Some address) }
@@ -124,7 +124,7 @@ fn address_by(alloc: Global, marks: &[Marked]) -> Result<Address, AllocError>
     })
 }
 
-// The place of the last free `@`, if octets stand on both sides of it.
+/// The place of the last free `@`, if octets stand on both sides of it.
 fn dividing_at(marks: &[Marked]) -> Option<usize>
     requires { 0 < length marks.now }
     ensures { address_by marks.now ≡ Some (divided_at (octets_of marks.now) result) }
@@ -136,7 +136,7 @@ fn dividing_at(marks: &[Marked]) -> Option<usize>
     Some(behind - 1)
 }
 
-// The place after the last free `@`, or 0 where there is none.
+/// The place after the last free `@`, or 0 where there is none.
 fn behind_last_at(marks: &[Marked]) -> usize
     ensures { IsBehindLast (is_free (octet_of "@")) marks.now result }
 {

@@ -33,7 +33,7 @@ pub(crate) struct FieldSpan {
     pub(crate) name_hash: u32,
 }
 
-// The places of a field's name and colon in its first line.
+/// The places of a field's name and colon in its first line.
 #[derive(Clone, Copy)]
 struct FieldHead {
     name_len: usize,
@@ -61,14 +61,14 @@ pub(crate) fn is_continuation(line: &[u8]) -> bool
     }
 }
 
-// Whether the text may name a field: one or more printable octets that aren't spaces.
+/// Whether the text may name a field: one or more printable octets that aren't spaces.
 fn is_name(text: &[u8]) -> bool
     ensures { result ≡ is_name text.now }
 {
     !text.is_empty() && text.iter().all(|octet| is_visible(*octet))
 }
 
-// The name and the colon of a field's first line, or nothing where no field begins so.
+/// The name and the colon of a field's first line, or nothing where no field begins so.
 fn head_of(line: &[u8]) -> Option<FieldHead>
     ensures none { IfNone result (begins_field line.now ≡ false) }
     ensures some { IfSome result (λ head. IsHead line.now head.name_len head.colon) }
@@ -84,7 +84,7 @@ fn head_of(line: &[u8]) -> Option<FieldHead>
     })
 }
 
-// The field whose first line stands at `start`, or nothing where none begins there.
+/// The field whose first line stands at `start`, or nothing where none begins there.
 fn span_of(octets: &[u8], start: usize, line: LineSpan) -> Option<FieldSpan>
     requires { IsLineAt octets.now start line.end line.next }
     ensures groups { map (group_at octets.now) (option_to_list result)
@@ -107,7 +107,7 @@ fn span_of(octets: &[u8], start: usize, line: LineSpan) -> Option<FieldSpan>
     })
 }
 
-// Adds the field whose first line stands at `start`, where one begins there.
+/// Adds the field whose first line stands at `start`, where one begins there.
 fn push_span(
     spans: &mut Vec<FieldSpan>,
     octets: &[u8],

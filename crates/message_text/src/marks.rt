@@ -57,7 +57,7 @@ pub(crate) struct Marked {
     pub(crate) in_angle: bool,
 }
 
-// The mark of an octet outside of quoted strings, comments and literals.
+/// The mark of an octet outside of quoted strings, comments and literals.
 fn free_mark(in_angle: bool, octet: u8) -> Mark
     ensures { result ≡ spec.free_mark in_angle octet }
 {
@@ -71,7 +71,7 @@ fn free_mark(in_angle: bool, octet: u8) -> Mark
     }
 }
 
-// The mark of an octet in a quoted string. A backslash that ends the value protects nothing.
+/// The mark of an octet in a quoted string. A backslash that ends the value protects nothing.
 fn quoted_mark(is_protected: bool, is_last: bool, octet: u8) -> Mark
     ensures { result ≡ spec.quoted_mark is_protected is_last octet }
 {
@@ -85,7 +85,7 @@ fn quoted_mark(is_protected: bool, is_last: bool, octet: u8) -> Mark
     }
 }
 
-// The mark of the octet at a place.
+/// The mark of the octet at a place.
 fn mark_at(spot: Surroundings, is_last: bool, octet: u8) -> Mark
     ensures { result ≡ spec.mark_at spot is_last octet }
 {
@@ -97,7 +97,7 @@ fn mark_at(spot: Surroundings, is_last: bool, octet: u8) -> Mark
     }
 }
 
-// What an octet opens where nothing is open.
+/// What an octet opens where nothing is open.
 fn opened_by(octet: u8) -> Inside
     ensures { result ≡ spec.opened_by octet }
 {
@@ -109,7 +109,7 @@ fn opened_by(octet: u8) -> Inside
     }
 }
 
-// What is open after an octet of so many comments in one another.
+/// What is open after an octet of so many comments in one another.
 fn comment_behind(depth: usize, octet: u8) -> Inside
     requires { depth + 1 < 2 ^ 64 }
     ensures { result ≡ spec.comment_behind depth octet }
@@ -122,7 +122,7 @@ fn comment_behind(depth: usize, octet: u8) -> Inside
     }
 }
 
-// What is open after an octet that isn't protected.
+/// What is open after an octet that isn't protected.
 fn inside_behind(inside: Inside, octet: u8) -> Inside
     requires { depth_of inside + 1 < 2 ^ 64 }
     ensures { result ≡ spec.inside_behind inside octet }
@@ -136,14 +136,14 @@ fn inside_behind(inside: Inside, octet: u8) -> Inside
     }
 }
 
-// Whether a backslash there protects the next octet.
+/// Whether a backslash there protects the next octet.
 fn is_protecting(inside: Inside) -> bool
     ensures { result ≡ spec.is_protecting inside }
 {
     !matches!(inside, Inside::Nothing)
 }
 
-// Whether an angle is open after an octet.
+/// Whether an angle is open after an octet.
 fn angle_behind(inside: Inside, in_angle: bool, octet: u8) -> bool
     ensures { result ≡ spec.angle_behind inside in_angle octet }
 {
@@ -157,7 +157,7 @@ fn angle_behind(inside: Inside, in_angle: bool, octet: u8) -> bool
     }
 }
 
-// The place after an octet.
+/// The place after an octet.
 fn surroundings_behind(spot: Surroundings, octet: u8) -> Surroundings
     requires { depth_of spot.inside + 1 < 2 ^ 64 }
     ensures spot { result ≡ spec.surroundings_behind spot octet }

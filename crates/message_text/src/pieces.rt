@@ -14,7 +14,7 @@ pub(crate) fn is_free(octet: u8, marked: Marked) -> bool
     matches!(marked.mark, Mark::Plain) && marked.octet == octet
 }
 
-// Whether a marked octet is this one, outside of angles too.
+/// Whether a marked octet is this one, outside of angles too.
 fn is_bare(octet: u8, marked: Marked) -> bool
     ensures { result ≡ spec.is_bare octet marked }
 {
@@ -28,7 +28,7 @@ pub(crate) fn separates(marked: Marked) -> bool
     is_bare(b',', marked) || is_bare(b';', marked)
 }
 
-// The piece without the name of a group, which the last bare colon ends.
+/// The piece without the name of a group, which the last bare colon ends.
 fn without_group(piece: &[Marked]) -> &[Marked]
     ensures { result.now ≡ spec.without_group piece.now }
 {
@@ -49,14 +49,14 @@ fn without_comments(alloc: Global, piece: &[Marked]) -> Result<Vec<Marked>, Allo
         .collect(alloc)
 }
 
-// Whether a marked octet is white space outside of quoted strings.
+/// Whether a marked octet is white space outside of quoted strings.
 fn is_gap(marked: Marked) -> bool
     ensures { result ≡ spec.is_gap marked }
 {
     is_white(marked.octet) && !matches!(marked.mark, Mark::Quoted)
 }
 
-// Whether the first octet after white space is an `@`.
+/// Whether the first octet after white space is an `@`.
 fn begins_route(inside: &[Marked]) -> bool
     ensures { result ≡ spec.begins_route inside.now }
 {
@@ -68,7 +68,7 @@ fn begins_route(inside: &[Marked]) -> bool
     false
 }
 
-// The inside of an angle without its source route, which ends with the first colon.
+/// The inside of an angle without its source route, which ends with the first colon.
 fn without_route(inside: &[Marked]) -> &[Marked]
     ensures { result.now ≡ spec.without_route inside.now }
 {
@@ -81,7 +81,7 @@ fn without_route(inside: &[Marked]) -> &[Marked]
     }
 }
 
-// The inside of the first angle, or the piece where it has none.
+/// The inside of the first angle, or the piece where it has none.
 fn in_first_angle(piece: &[Marked]) -> &[Marked]
     ensures { result.now ≡ spec.in_first_angle piece.now }
 {
@@ -92,7 +92,7 @@ fn in_first_angle(piece: &[Marked]) -> &[Marked]
     without_route(up_to_close(&piece[open + 1..]))
 }
 
-// What stands before the first sign that closes an angle.
+/// What stands before the first sign that closes an angle.
 fn up_to_close(inside: &[Marked]) -> &[Marked]
     ensures { result.now ≡ before_first (λ m. spec.closes_angle m.mark) inside.now }
 {
@@ -103,7 +103,7 @@ fn up_to_close(inside: &[Marked]) -> &[Marked]
     }
 }
 
-// Whether a marked octet is neither white space outside of quoted strings nor a sign of one.
+/// Whether a marked octet is neither white space outside of quoted strings nor a sign of one.
 fn stays(marked: Marked) -> bool
     ensures { result ≡ spec.stays marked }
 {

@@ -72,7 +72,7 @@ pub(crate) fn unfolded(
     Ok(value)
 }
 
-// Adds a line to a value, whose front stays without spaces and tabs.
+/// Adds a line to a value, whose front stays without spaces and tabs.
 fn push_trimmed(value: &mut Vec<u8>, line: &[u8]) -> Result<(), AllocError>
     requires { trim_start value.old.items ≡ value.old.items }
     ensures { OnOk result (value.new.items ≡ trim_start (value.old.items ++ line.now)) }

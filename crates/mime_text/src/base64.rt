@@ -5,7 +5,7 @@ ghost use Rattle.mime_text.specs.Base64.{base64_octets, digit_value, digits_of, 
 
 use std::alloc::{AllocError, Global};
 
-// The number of a digit of the alphabet.
+/// The number of a digit of the alphabet.
 fn digit_value(octet: u8) -> Option<u8>
     ensures is { result ≡ digit_value octet }
     ensures bits { IfSome result (λ digit. digit < 64) }
@@ -20,7 +20,7 @@ fn digit_value(octet: u8) -> Option<u8>
     }
 }
 
-// The digits up to the first padding.
+/// The digits up to the first padding.
 fn digits_of(alloc: Global, text: &[u8]) -> Result<Vec<u8>, AllocError>
     ensures digits { IfOk result (λ digits. digits.items ≡ digits_of text.now) }
     ensures bits { IfOk result (λ digits. All (λ d. d < 64) digits.items) }
@@ -31,7 +31,7 @@ fn digits_of(alloc: Global, text: &[u8]) -> Result<Vec<u8>, AllocError>
         .collect(alloc)
 }
 
-// The first octet of four digits.
+/// The first octet of four digits.
 fn first_octet(a: u8, b: u8) -> u8
     requires a_bits { a < 64 }
     requires b_bits { b < 64 }
@@ -40,7 +40,7 @@ fn first_octet(a: u8, b: u8) -> u8
     4 * a + b / 16
 }
 
-// The second.
+/// The second.
 fn second_octet(b: u8, c: u8) -> u8
     requires c_bits { c < 64 }
     ensures { result ≡ second_octet b c }
@@ -48,7 +48,7 @@ fn second_octet(b: u8, c: u8) -> u8
     16 * (b % 16) + c / 4
 }
 
-// The third.
+/// The third.
 fn third_octet(c: u8, d: u8) -> u8
     requires d_bits { d < 64 }
     ensures { result ≡ third_octet c d }
@@ -56,7 +56,7 @@ fn third_octet(c: u8, d: u8) -> u8
     64 * (c % 4) + d
 }
 
-// Adds the octets of four digits.
+/// Adds the octets of four digits.
 fn push_three(octets: &mut Vec<u8>, a: u8, b: u8, c: u8, d: u8) -> Result<(), AllocError>
     requires a_bits { a < 64 }
     requires b_bits { b < 64 }
@@ -69,7 +69,7 @@ fn push_three(octets: &mut Vec<u8>, a: u8, b: u8, c: u8, d: u8) -> Result<(), Al
     octets.extend_from_slice(&three)
 }
 
-// Adds the whole octets of fewer digits.
+/// Adds the whole octets of fewer digits.
 fn push_last(octets: &mut Vec<u8>, digits: &[u8]) -> Result<(), AllocError>
     requires bits { All (λ d. d < 64) digits.now }
     requires few { length digits.now < 4 }
@@ -82,7 +82,7 @@ fn push_last(octets: &mut Vec<u8>, digits: &[u8]) -> Result<(), AllocError>
     }
 }
 
-// The octets of digits, of which only whole ones are kept.
+/// The octets of digits, of which only whole ones are kept.
 fn whole_octets(alloc: Global, digits: &[u8]) -> Result<Vec<u8>, AllocError>
     requires { All (λ d. d < 64) digits.now }
     ensures { IfOk result (λ octets. octets.items ≡ whole_octets digits.now) }

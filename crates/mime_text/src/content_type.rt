@@ -19,21 +19,21 @@ pub(crate) struct ContentType {
     pub(crate) charset: Option<Vec<u8>>,
 }
 
-// An octet of a token.
+/// An octet of a token.
 fn is_token_octet(octet: u8) -> bool
     ensures { result ≡ spec.is_token_octet octet }
 {
     is_visible(octet) && !is_special(octet)
 }
 
-// One of the special ones.
+/// One of the special ones.
 fn is_special(octet: u8) -> bool
     ensures { result ≡ spec.is_special octet }
 {
     b"()<>@,;:\\\"/[]?=".contains(&octet)
 }
 
-// An octet of a token, outside of quoted strings.
+/// An octet of a token, outside of quoted strings.
 fn is_token_mark(mark: Mark) -> bool
     ensures { result ≡ spec.is_token_mark mark }
 {
@@ -43,7 +43,7 @@ fn is_token_mark(mark: Mark) -> bool
     }
 }
 
-// Whether a mark is this octet, outside of quoted strings.
+/// Whether a mark is this octet, outside of quoted strings.
 fn is_sign(sign: u8, mark: Mark) -> bool
     ensures { result ≡ spec.is_sign sign mark }
 {
@@ -53,7 +53,7 @@ fn is_sign(sign: u8, mark: Mark) -> bool
     }
 }
 
-// White space outside of quoted strings.
+/// White space outside of quoted strings.
 fn is_gap(mark: Mark) -> bool
     ensures { result ≡ spec.is_gap mark }
 {
@@ -63,7 +63,7 @@ fn is_gap(mark: Mark) -> bool
     }
 }
 
-// The octet of a mark.
+/// The octet of a mark.
 fn octet_at(mark: Mark) -> u8
     ensures { result ≡ spec.octet_at mark }
 {
@@ -73,7 +73,7 @@ fn octet_at(mark: Mark) -> u8
     }
 }
 
-// The marks without white space in front.
+/// The marks without white space in front.
 fn trim_front(marks: &[Mark]) -> &[Mark]
     ensures { result.now ≡ spec.trim_front marks.now }
 {
@@ -84,7 +84,7 @@ fn trim_front(marks: &[Mark]) -> &[Mark]
     &marks[start..]
 }
 
-// The marks without white space at their end.
+/// The marks without white space at their end.
 fn trim_back(marks: &[Mark]) -> &[Mark]
     ensures { result.now ≡ spec.trim_back marks.now }
 {
@@ -95,28 +95,28 @@ fn trim_back(marks: &[Mark]) -> &[Mark]
     &marks[..end]
 }
 
-// The marks without outer white space.
+/// The marks without outer white space.
 fn trimmed(marks: &[Mark]) -> &[Mark]
     ensures { result.now ≡ spec.trimmed marks.now }
 {
     trim_back(trim_front(marks))
 }
 
-// The octets of marks.
+/// The octets of marks.
 fn octets_of(alloc: Global, marks: &[Mark]) -> Result<Vec<u8>, AllocError>
     ensures { IfOk result (λ octets. octets.items ≡ map spec.octet_at marks.now) }
 {
     marks.iter().map(|mark| octet_at(*mark)).collect(alloc)
 }
 
-// Whether all are of a token.
+/// Whether all are of a token.
 fn are_token_marks(marks: &[Mark]) -> bool
     ensures { result ≡ list_all spec.is_token_mark marks.now }
 {
     marks.iter().all(|mark| is_token_mark(*mark))
 }
 
-// Whether they are a token.
+/// Whether they are a token.
 fn is_token(marks: &[Mark]) -> bool
     ensures { result ≡ spec.is_token marks.now }
 {
@@ -127,7 +127,7 @@ fn is_token(marks: &[Mark]) -> bool
     }
 }
 
-// A token, if they are one.
+/// A token, if they are one.
 fn token_of(alloc: Global, marks: &[Mark]) -> Result<Option<Vec<u8>>, AllocError>
     ensures { IfOk result (λ token. octets_as token ≡ spec.token_of marks.now) }
 {
@@ -145,28 +145,28 @@ pub(crate) fn token_in(alloc: Global, marks: &[Mark]) -> Result<Option<Vec<u8>>,
     token_of(alloc, trimmed(marks))
 }
 
-// A quote.
+/// A quote.
 fn is_quote(mark: Mark) -> bool
     ensures { result ≡ spec.is_quote mark }
 {
     matches!(mark, Mark::Quote)
 }
 
-// An octet of a quoted string.
+/// An octet of a quoted string.
 fn is_quoted(mark: Mark) -> bool
     ensures { result ≡ spec.is_quoted mark }
 {
     matches!(mark, Mark::Quoted(_))
 }
 
-// Whether all stand in a quoted string.
+/// Whether all stand in a quoted string.
 fn are_quoted(marks: &[Mark]) -> bool
     ensures { result ≡ list_all spec.is_quoted marks.now }
 {
     marks.iter().all(|mark| is_quoted(*mark))
 }
 
-// The octets before the quote that ends a quoted string, where it stands at the end alone.
+/// The octets before the quote that ends a quoted string, where it stands at the end alone.
 fn before_quote(alloc: Global, marks: &[Mark]) -> Result<Option<Vec<u8>>, AllocError>
     ensures { IfOk result (λ octets. octets_as octets ≡ spec.before_quote marks.now) }
 {
@@ -180,7 +180,7 @@ fn before_quote(alloc: Global, marks: &[Mark]) -> Result<Option<Vec<u8>>, AllocE
     Ok(Some(octets))
 }
 
-// The value of a parameter, if they are one.
+/// The value of a parameter, if they are one.
 fn value_of(alloc: Global, marks: &[Mark]) -> Result<Option<Vec<u8>>, AllocError>
     ensures { IfOk result (λ value. octets_as value ≡ spec.value_of marks.now) }
 {
@@ -190,7 +190,7 @@ fn value_of(alloc: Global, marks: &[Mark]) -> Result<Option<Vec<u8>>, AllocError
     }
 }
 
-// What stands before the first such sign, and after it, where there is one.
+/// What stands before the first such sign, and after it, where there is one.
 fn parted(sign: u8, marks: &[Mark]) -> Option<(&[Mark], &[Mark])>
     ensures none { IfNone result (list_any (spec.is_sign sign) marks.now ≡ false) }
     ensures some { IfSome result (λ _. list_any (spec.is_sign sign) marks.now ≡ true) }
@@ -203,7 +203,7 @@ fn parted(sign: u8, marks: &[Mark]) -> Option<(&[Mark], &[Mark])>
     }
 }
 
-// Two things, if both are there.
+/// Two things, if both are there.
 fn both(first: Option<Vec<u8>>, second: Option<Vec<u8>>) -> Option<(Vec<u8>, Vec<u8>)>
     ensures { both_as result ≡ spec.both (octets_as first) (octets_as second) }
 {
@@ -213,7 +213,7 @@ fn both(first: Option<Vec<u8>>, second: Option<Vec<u8>>) -> Option<(Vec<u8>, Vec
     }
 }
 
-// A type and a subtype, if they are such.
+/// A type and a subtype, if they are such.
 fn type_in(alloc: Global, piece: &[Mark]) -> Result<Option<(Vec<u8>, Vec<u8>)>, AllocError>
     ensures { IfOk result (λ names. both_as names ≡ spec.type_in piece.now) }
 {
@@ -225,7 +225,7 @@ fn type_in(alloc: Global, piece: &[Mark]) -> Result<Option<(Vec<u8>, Vec<u8>)>, 
     Ok(both(main, sub))
 }
 
-// The name of a parameter and its value, if they are such.
+/// The name of a parameter and its value, if they are such.
 fn parameter_in(alloc: Global, piece: &[Mark]) -> Result<Option<(Vec<u8>, Vec<u8>)>, AllocError>
     ensures { IfOk result (λ parameter. both_as parameter ≡ spec.parameter_in piece.now) }
 {
@@ -244,7 +244,7 @@ pub(crate) struct NamedParameters {
     charset: Option<Vec<u8>>,
 }
 
-// A value, where none was found before.
+/// A value, where none was found before.
 fn or_else(found: Option<Vec<u8>>, value: Vec<u8>) -> Option<Vec<u8>>
     ensures { octets_as result ≡ or_else (octets_as found) (Some value.items) }
 {
@@ -255,7 +255,7 @@ fn or_else(found: Option<Vec<u8>>, value: Vec<u8>) -> Option<Vec<u8>>
 }
 
 impl NamedParameters {
-    // With a further parameter, which counts where none of its name was there.
+    /// With a further parameter, which counts where none of its name was there.
     #[tactic(auto, unfolding(crate::specs::ContentType::parameter_named))]
     fn with(self, name: &[u8], value: Vec<u8>) -> NamedParameters
         ensures { named_as result
@@ -278,14 +278,14 @@ impl NamedParameters {
     }
 }
 
-// Whether a piece is white space alone.
+/// Whether a piece is white space alone.
 fn is_blank(piece: &[Mark]) -> bool
     ensures { result ≡ list_all spec.is_gap piece.now }
 {
     piece.iter().all(|mark| is_gap(*mark))
 }
 
-// Pieces without a last one that is white space alone.
+/// Pieces without a last one that is white space alone.
 fn without_blank_end<'p, 'm>(pieces: &'p [&'m [Mark]]) -> &'p [&'m [Mark]]
     ensures { map (λ piece. piece.now) result.now
         ≡ spec.without_blank_end (map (λ piece. piece.now) pieces.now) }
@@ -296,7 +296,7 @@ fn without_blank_end<'p, 'm>(pieces: &'p [&'m [Mark]]) -> &'p [&'m [Mark]]
     }
 }
 
-// The parameters of pieces, if each is one.
+/// The parameters of pieces, if each is one.
 fn named_of(alloc: Global, pieces: &[&[Mark]]) -> Result<Option<NamedParameters>, AllocError>
     ensures { IfOk result (λ named. option_map named_as named
         ≡ option_map spec.named_of (spec.parameters_of (map (λ piece. piece.now) pieces.now))) }
@@ -316,7 +316,7 @@ fn named_of(alloc: Global, pieces: &[&[Mark]]) -> Result<Option<NamedParameters>
     Ok(Some(named))
 }
 
-// The parameters of pieces, of which the last may be white space alone, if they are parameters.
+/// The parameters of pieces, of which the last may be white space alone, if they are parameters.
 fn named_in(alloc: Global, pieces: &[&[Mark]]) -> Result<Option<NamedParameters>, AllocError>
     ensures { IfOk result
         (λ named. option_map named_as named ≡ spec.named_in (map (λ piece. piece.now) pieces.now)) }
@@ -324,7 +324,7 @@ fn named_in(alloc: Global, pieces: &[&[Mark]]) -> Result<Option<NamedParameters>
     named_of(alloc, without_blank_end(pieces))
 }
 
-// A type with parameters, if both are there.
+/// A type with parameters, if both are there.
 fn with_type(
     names: Option<(Vec<u8>, Vec<u8>)>,
     named: Option<NamedParameters>,
@@ -341,7 +341,7 @@ fn with_type(
     })
 }
 
-// The type of pieces, if they are a type and parameters.
+/// The type of pieces, if they are a type and parameters.
 fn content_type_of(alloc: Global, pieces: &[&[Mark]]) -> Result<Option<ContentType>, AllocError>
     ensures { IfOk result
         (λ type. type_as type ≡ spec.content_type_of (map (λ piece. piece.now) pieces.now)) }

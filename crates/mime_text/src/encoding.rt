@@ -22,14 +22,14 @@ pub enum TransferEncoding {
     QuotedPrintable,
 }
 
-// Whether it is this name, in any case of letters.
+/// Whether it is this name, in any case of letters.
 fn is_named(name: &[u8], other: &[u8]) -> bool
     ensures { result ≡ str_eq_ignore_ascii_case other.now name.now }
 {
     other.eq_ignore_ascii_case(name)
 }
 
-// A name of one that changes nothing.
+/// A name of one that changes nothing.
 #[tactic(auto, unfolding(crate::specs::TransferEncoding::is_identity))]
 fn is_identity(name: &[u8]) -> bool
     ensures { result ≡ is_identity name.now }
@@ -37,7 +37,7 @@ fn is_identity(name: &[u8]) -> bool
     is_named(name, b"7bit") || is_named(name, b"8bit") || is_named(name, b"binary")
 }
 
-// The encoding of a name, in any case of letters, if it is known.
+/// The encoding of a name, in any case of letters, if it is known.
 #[tactic(auto, unfolding(crate::specs::TransferEncoding::encoding_named))]
 fn encoding_named(name: &[u8]) -> Option<TransferEncoding>
     ensures { result ≡ encoding_named name.now }

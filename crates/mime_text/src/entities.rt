@@ -54,7 +54,7 @@ pub struct Entity<'m> {
     pub(crate) given: Given<'m>,
 }
 
-// What an entity is made of.
+/// What an entity is made of.
 #[derive(Clone, Copy)]
 enum Shape<'t> {
     Multipart {
@@ -65,7 +65,7 @@ enum Shape<'t> {
     Leaf,
 }
 
-// What an entity gives, and the texts of the entities directly in it.
+/// What an entity gives, and the texts of the entities directly in it.
 #[derive(Drop)]
 struct Inner<'m> {
     given: Given<'m>,
@@ -73,7 +73,7 @@ struct Inner<'m> {
     texts: Vec<&'m [u8]>,
 }
 
-// What the header of an entity says of its content, and that.
+/// What the header of an entity says of its content, and that.
 #[derive(Drop)]
 struct Head<'m> {
     stated: EntityType,
@@ -81,7 +81,7 @@ struct Head<'m> {
     content: &'m [u8],
 }
 
-// The header section of a text, and what follows its first empty line, if there is one.
+/// The header section of a text, and what follows its first empty line, if there is one.
 fn divided(text: &[u8]) -> (&[u8], Option<&[u8]>)
     ensures header { result.0.now ≡ spec.header_of text.now }
     ensures body { option_map (λ body. body.now) result.1 ≡ spec.body_of text.now }
@@ -104,7 +104,7 @@ pub fn body_of(message: &[u8]) -> Option<&[u8]>
     body
 }
 
-// The value of the first field of that name.
+/// The value of the first field of that name.
 fn value_named<'m>(
     alloc: Global,
     header: &'m Message,
@@ -122,7 +122,7 @@ fn value_named<'m>(
     }
 }
 
-// The type that a value says.
+/// The type that a value says.
 fn stated_in(alloc: Global, value: &[u8]) -> Result<EntityType, AllocError>
     ensures { IfOk result (λ stated. stated_as stated ≡ spec.type_by false (Some value.now)) }
 {
@@ -135,7 +135,7 @@ fn stated_in(alloc: Global, value: &[u8]) -> Result<EntityType, AllocError>
     }
 }
 
-// The type where no field says one.
+/// The type where no field says one.
 fn default_type(in_digest: bool) -> EntityType
     ensures { stated_as result ≡ Some (spec.default_type in_digest) }
 {
@@ -146,7 +146,7 @@ fn default_type(in_digest: bool) -> EntityType
     }
 }
 
-// The type of an entity with that header, whatever its encoding is.
+/// The type of an entity with that header, whatever its encoding is.
 fn type_of(alloc: Global, in_digest: bool, header: &Message) -> Result<EntityType, AllocError>
     ensures { IfOk result (λ stated. stated_as stated ≡ spec.type_by in_digest (spec.first_value
         (filter (is_field_named (codes "Content-Type")) (fields_of header.now)))) }
@@ -157,7 +157,7 @@ fn type_of(alloc: Global, in_digest: bool, header: &Message) -> Result<EntityTyp
     }
 }
 
-// The encoding that a header says, if it is known.
+/// The encoding that a header says, if it is known.
 fn encoding_of(alloc: Global, header: &Message) -> Result<Option<TransferEncoding>, AllocError>
     ensures { IfOk result (λ encoding. encoding ≡ spec.encoding_by (spec.first_value
         (filter (is_field_named (codes "Content-Transfer-Encoding")) (fields_of header.now)))) }
@@ -168,7 +168,7 @@ fn encoding_of(alloc: Global, header: &Message) -> Result<Option<TransferEncodin
     }
 }
 
-// A header section as a message.
+/// A header section as a message.
 fn header_of(alloc: Global, header: &[u8]) -> Result<Message, AllocError>
     ensures { IfOk result (λ message. message ≡ header.now) }
 {
@@ -179,7 +179,7 @@ fn header_of(alloc: Global, header: &[u8]) -> Result<Message, AllocError>
     }
 }
 
-// What the header of a text says of its content, and that.
+/// What the header of a text says of its content, and that.
 fn head_of<'m>(alloc: Global, in_digest: bool, text: &'m [u8]) -> Result<Head<'m>, AllocError>
     ensures { IfOk result (IsHead in_digest text.now) }
 {
@@ -203,7 +203,7 @@ fn head_of<'m>(alloc: Global, in_digest: bool, text: &'m [u8]) -> Result<Head<'m
     }
 }
 
-// A boundary of 1 to 70 octets.
+/// A boundary of 1 to 70 octets.
 fn if_short(boundary: &[u8]) -> Option<&[u8]>
     ensures { option_map (λ boundary. boundary.now) result ≡ spec.if_short boundary.now }
 {
@@ -229,7 +229,7 @@ impl ContentType {
         self.is_main(main) && sub.eq_ignore_ascii_case(&self.sub)
     }
 
-    // Its boundary, if it has one.
+    /// Its boundary, if it has one.
     fn boundary(&self) -> Option<&[u8]>
         ensures { option_map (λ boundary. boundary.now) result
             ≡ spec.boundary_of (content_type_as self.now) }
@@ -240,7 +240,7 @@ impl ContentType {
         }
     }
 
-    // What an entity of the type is made of.
+    /// What an entity of the type is made of.
     fn shape(&self) -> Shape<'_>
         ensures { shape_as result ≡ spec.shape_of_type (content_type_as self.now) }
     {
@@ -258,7 +258,7 @@ impl ContentType {
 }
 
 impl EntityType {
-    // What an entity of the type is made of.
+    /// What an entity of the type is made of.
     fn shape(&self) -> Shape<'_>
         ensures { shape_as result ≡ spec.shape_of (stated_as self.now) }
     {
@@ -270,7 +270,7 @@ impl EntityType {
     }
 }
 
-// One text.
+/// One text.
 fn only<'m>(alloc: Global, text: &'m [u8]) -> Result<Vec<&'m [u8]>, AllocError>
     ensures { IfOk result (λ texts. map (λ text. text.now) texts.items ≡ text.now ∷ []) }
 {
@@ -279,7 +279,7 @@ fn only<'m>(alloc: Global, text: &'m [u8]) -> Result<Vec<&'m [u8]>, AllocError>
     Ok(texts)
 }
 
-// What a multipart with a boundary gives, and its parts.
+/// What a multipart with a boundary gives, and its parts.
 fn cut_inner<'m>(
     alloc: Global,
     is_digest: bool,
@@ -300,7 +300,7 @@ fn cut_inner<'m>(
     })
 }
 
-// What a multipart gives, and its parts, if it has a boundary.
+/// What a multipart gives, and its parts, if it has a boundary.
 fn parts_inner<'m>(
     alloc: Global,
     is_digest: bool,
@@ -324,7 +324,7 @@ fn parts_inner<'m>(
     }
 }
 
-// What an entity of a shape gives, and the texts of the entities directly in it.
+/// What an entity of a shape gives, and the texts of the entities directly in it.
 fn inner_of<'m>(
     alloc: Global,
     shape: Shape<'_>,
@@ -355,7 +355,7 @@ fn inner_of<'m>(
     }
 }
 
-// An entity, and what is directly in it.
+/// An entity, and what is directly in it.
 fn entity_of<'m>(
     alloc: Global,
     in_digest: bool,
@@ -375,7 +375,7 @@ fn entity_of<'m>(
     Ok((entity, inner.is_digest, inner.texts))
 }
 
-// Adds the entities of a text, of which so many lie in one another at most.
+/// Adds the entities of a text, of which so many lie in one another at most.
 fn push_entities<'m>(
     alloc: Global,
     depth: usize,

@@ -34,7 +34,7 @@ pub(crate) enum Spot {
     EscapedInComment(usize),
 }
 
-// Where what stands after a comment stands.
+/// Where what stands after a comment stands.
 fn after_comment(others: usize) -> Spot
     ensures is { result ≡ after_octet (InComment others) (octet_of ")") }
     ensures depth { depth_of result ≤ others }
@@ -46,7 +46,7 @@ fn after_comment(others: usize) -> Spot
     }
 }
 
-// Where what stands after an octet of a comment stands.
+/// Where what stands after an octet of a comment stands.
 fn after_inner(others: usize, octet: u8) -> Spot
     requires { others + 1 < 2 ^ 63 }
     ensures is { result ≡ after_octet (InComment others) octet }
@@ -60,7 +60,7 @@ fn after_inner(others: usize, octet: u8) -> Spot
     }
 }
 
-// Where what stands after an octet of a quoted string stands.
+/// Where what stands after an octet of a quoted string stands.
 fn after_quoted(octet: u8) -> Spot
     ensures is { result ≡ after_octet InString octet }
     ensures depth { depth_of result ≡ 0 }
@@ -72,7 +72,7 @@ fn after_quoted(octet: u8) -> Spot
     }
 }
 
-// Where what stands after an octet outside stands.
+/// Where what stands after an octet outside stands.
 fn after_outer(octet: u8) -> Spot
     ensures is { result ≡ after_octet Outside octet }
     ensures depth { depth_of result ≤ 1 }
@@ -108,7 +108,7 @@ impl Spot {
     }
 }
 
-// The mark of an octet outside.
+/// The mark of an octet outside.
 fn outer_mark(octet: u8) -> Mark
     ensures { marks_at Outside octet ≡ result ∷ [] }
 {
@@ -119,7 +119,7 @@ fn outer_mark(octet: u8) -> Mark
     }
 }
 
-// The mark of an octet of a quoted string, if one stays.
+/// The mark of an octet of a quoted string, if one stays.
 fn quoted_mark(octet: u8) -> Option<Mark>
     ensures { option_to_list result ≡ marks_at InString octet }
 {
@@ -130,7 +130,7 @@ fn quoted_mark(octet: u8) -> Option<Mark>
     }
 }
 
-// The mark of an octet, if one stays.
+/// The mark of an octet, if one stays.
 fn mark_at(spot: Spot, octet: u8) -> Option<Mark>
     ensures { option_to_list result ≡ marks_at spot octet }
 {
@@ -142,7 +142,7 @@ fn mark_at(spot: Spot, octet: u8) -> Option<Mark>
     }
 }
 
-// Adds the mark of an octet, if one stays.
+/// Adds the mark of an octet, if one stays.
 fn push_mark(marks: &mut Vec<Mark>, spot: Spot, octet: u8) -> Result<(), AllocError>
     ensures { OnOk result (marks.new.items ≡ marks.old.items ++ marks_at spot octet) }
 {

@@ -31,7 +31,7 @@ enum LineKind {
     Inner,
 }
 
-// A copy of a text with another after it.
+/// A copy of a text with another after it.
 fn joined(alloc: Global, front: &[u8], back: &[u8]) -> Result<Vec<u8>, AllocError>
     ensures { IfOk result (λ text. text.items ≡ front.now ++ back.now) }
 {
@@ -40,7 +40,7 @@ fn joined(alloc: Global, front: &[u8], back: &[u8]) -> Result<Vec<u8>, AllocErro
     Ok(text)
 }
 
-// Whether a line, its end aside, is a text and then spaces and tabs.
+/// Whether a line, its end aside, is a text and then spaces and tabs.
 fn is_padded(text: &[u8], line: &[u8]) -> bool
     ensures { result ≡ is_padded text.now line.now }
 {
@@ -52,7 +52,7 @@ fn is_padded(text: &[u8], line: &[u8]) -> bool
     }
 }
 
-// Whether all are spaces and tabs.
+/// Whether all are spaces and tabs.
 fn are_blank(octets: &[u8]) -> bool
     ensures { result ≡ list_all is_blank octets.now }
 {
@@ -60,7 +60,7 @@ fn are_blank(octets: &[u8]) -> bool
 }
 
 impl Boundary {
-    // The lines of a boundary.
+    /// The lines of a boundary.
     fn new(alloc: Global, boundary: &[u8]) -> Result<Boundary, AllocError>
         ensures { IfOk result
             (λ made. IsBoundary boundary.now made.delimiter.items made.closing.items) }
@@ -70,7 +70,7 @@ impl Boundary {
         Ok(Boundary { delimiter, closing })
     }
 
-    // What a line is.
+    /// What a line is.
     fn kind_of(&self, line: &[u8]) -> LineKind
         ensures { result ≡ kind_of self.now.delimiter.items self.now.closing.items line.now }
     {
@@ -104,7 +104,7 @@ struct Stretch<'t> {
     stop: Stop<'t>,
 }
 
-// What stands in a text before a rest of it, without the end of its last line.
+/// What stands in a text before a rest of it, without the end of its last line.
 fn text_before<'t>(text: &'t [u8], rest: &[u8]) -> &'t [u8]
     requires { length rest.now ≤ length text.now }
     ensures { result.now ≡ without_end (take (length text.now - length rest.now) text.now) }
@@ -113,7 +113,7 @@ fn text_before<'t>(text: &'t [u8], rest: &[u8]) -> &'t [u8]
 }
 
 impl Boundary {
-    // The first stretch of a text.
+    /// The first stretch of a text.
     fn next_stretch<'t>(&self, text: &'t [u8]) -> Stretch<'t>
         ensures text { (boundary : List ℕ)
             → IsBoundary boundary self.now.delimiter.items self.now.closing.items
@@ -159,7 +159,7 @@ pub(crate) struct Pieces<'t> {
     pub(crate) epilogue: Option<&'t [u8]>,
 }
 
-// The further parts of a content, from the first delimiter or closing line on, and the epilogue.
+/// The further parts of a content, from the first delimiter or closing line on, and the epilogue.
 fn parts_from<'t>(
     alloc: Global,
     boundary: &Boundary,

@@ -10,21 +10,21 @@ use sieve_base::hex::hex_octet;
 use sieve_base::octet::is_blank;
 use std::alloc::{AllocError, Global};
 
-// How many blanks stand in front.
+/// How many blanks stand in front.
 fn blank_len(text: &[u8]) -> usize
     ensures { result ≡ prefix_len is_blank text.now }
 {
     text.iter().take_while(|octet| is_blank(**octet)).count()
 }
 
-// Whether the end of a line or of the text stands in front.
+/// Whether the end of a line or of the text stands in front.
 fn is_at_end(text: &[u8]) -> bool
     ensures { result ≡ is_at_end text.now }
 {
     text.is_empty() || end_len(text) > 0
 }
 
-// Adds blanks, where no end follows them.
+/// Adds blanks, where no end follows them.
 fn push_blanks(kept: &mut Vec<u8>, blanks: &[u8], rest: &[u8]) -> Result<(), AllocError>
     ensures { OnOk result
         (kept.new.items ≡ kept.old.items ++ (if is_at_end rest.now then [] else blanks.now)) }
@@ -36,7 +36,7 @@ fn push_blanks(kept: &mut Vec<u8>, blanks: &[u8], rest: &[u8]) -> Result<(), All
     Ok(())
 }
 
-// Adds the blanks that stand in front, where no end follows them, or the first octet where it is none. Answers what follows.
+/// Adds the blanks that stand in front, where no end follows them, or the first octet where it is none. Answers what follows.
 fn push_stretch<'t>(kept: &mut Vec<u8>, text: &'t [u8]) -> Result<&'t [u8], AllocError>
     requires { 0 < length text.now }
     ensures kept { IfOk result (λ rest. kept.new.items ++ without_padding rest.now
@@ -52,7 +52,7 @@ fn push_stretch<'t>(kept: &mut Vec<u8>, text: &'t [u8]) -> Result<&'t [u8], Allo
     Ok(rest)
 }
 
-// A text without the blanks at the ends of its lines.
+/// A text without the blanks at the ends of its lines.
 fn without_padding(alloc: Global, text: &[u8]) -> Result<Vec<u8>, AllocError>
     ensures { IfOk result (λ kept. kept.items ≡ without_padding text.now) }
 {
@@ -64,7 +64,7 @@ fn without_padding(alloc: Global, text: &[u8]) -> Result<Vec<u8>, AllocError>
     Ok(kept)
 }
 
-// The octet of the escape whose two digits stand in front, and what follows them.
+/// The octet of the escape whose two digits stand in front, and what follows them.
 fn escape_at(text: &[u8]) -> Option<(u8, &[u8])>
     ensures { MatchOption result (escape_at text.now ≡ None)
         (λ found. (2 ≤ length text.now) × (found.1.now ≡ drop 2 text.now)
@@ -76,7 +76,7 @@ fn escape_at(text: &[u8]) -> Option<(u8, &[u8])>
     Some((hex_octet(*high, *low)?, rest))
 }
 
-// The octet that the first piece stands for, if it stands for one, and what follows the piece.
+/// The octet that the first piece stands for, if it stands for one, and what follows the piece.
 fn next_piece(first: u8, text: &[u8]) -> (Option<u8>, &[u8])
     ensures is { octets_of_pieces (pieces_of (first ∷ text.now))
         ≡ option_to_list result.0 ++ octets_of_pieces (pieces_of result.1.now) }
@@ -95,7 +95,7 @@ fn next_piece(first: u8, text: &[u8]) -> (Option<u8>, &[u8])
     }
 }
 
-// What a text stands for that has no blanks at the ends of its lines.
+/// What a text stands for that has no blanks at the ends of its lines.
 fn unquoted(alloc: Global, text: &[u8]) -> Result<Vec<u8>, AllocError>
     ensures { IfOk result (λ octets. octets.items ≡ octets_of_pieces (pieces_of text.now)) }
 {

@@ -14,7 +14,7 @@ use sieve_profile::Profile;
 use std::alloc::{AllocError, Global};
 use std::borrow::CowSlice;
 
-// Octets in UTF-8 by a charset, if there is one.
+/// Octets in UTF-8 by a charset, if there is one.
 fn text_by<'o>(
     alloc: Global,
     profile: Profile,
@@ -31,7 +31,7 @@ fn text_by<'o>(
 }
 
 impl ContentType {
-    // Its charset, which a text alone has.
+    /// Its charset, which a text alone has.
     fn charset(&self) -> Option<&[u8]>
         ensures { option_map (λ charset. charset.now) result
             ≡ charset_of_type (content_type_as self.now) }
@@ -47,7 +47,7 @@ impl ContentType {
 }
 
 impl EntityType {
-    // Its charset, if it has one.
+    /// Its charset, if it has one.
     fn charset(&self) -> Option<&[u8]>
         ensures { option_map (λ charset. charset.now) result ≡ charset_of (stated_as self.now) }
     {

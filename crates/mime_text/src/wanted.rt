@@ -20,14 +20,14 @@ pub enum WantedType<'e> {
     Nothing,
 }
 
-// Whether a slash stands among octets.
+/// Whether a slash stands among octets.
 fn has_slash(octets: &[u8]) -> bool
     ensures { result ≡ list_any is_slash octets.now }
 {
     octets.iter().any(|octet| *octet == b'/')
 }
 
-// A type and a subtype, neither of them empty, the second without a further slash.
+/// A type and a subtype, neither of them empty, the second without a further slash.
 fn both<'e>(main: &'e [u8], sub: &'e [u8]) -> WantedType<'e>
     ensures { wanted_as result ≡ of_both main.now sub.now }
 {
@@ -55,7 +55,7 @@ impl<'e> WantedType<'e> {
 }
 
 impl EntityType {
-    // Whether it has that main type, in any case of letters.
+    /// Whether it has that main type, in any case of letters.
     fn is_main(&self, main: &[u8]) -> bool
         ensures { result ≡ is_wanted (of_main main.now) (stated_as self.now) }
     {
@@ -68,7 +68,7 @@ impl EntityType {
         }
     }
 
-    // Whether it has that subtype, in any case of letters.
+    /// Whether it has that subtype, in any case of letters.
     fn is_type(&self, main: &[u8], sub: &[u8]) -> bool
         ensures { result ≡ is_wanted (of_type main.now sub.now) (stated_as self.now) }
     {

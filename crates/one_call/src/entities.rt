@@ -6,14 +6,14 @@ use sieve_profile::{Extension, Profile};
 use std::borrow::CowSlice;
 use std::io;
 
-// A prologue, a text, a mail that is held, which has a text in base64, and an epilogue.
+/// A prologue, a text, a mail that is held, which has a text in base64, and an epilogue.
 pub(crate) const MAIL: &[u8] =
     b"Content-Type: multipart/mixed; boundary=\"b c\"\r\n\r\nbefore\r\n--b c\r\nContent-Type: text/plain; charset=KOI8-R\r\n\r\n\xc1\r\n--b c\r\nContent-Type: message/rfc822\r\n\r\nSubject: held\r\nContent-Transfer-Encoding: base64\r\n\r\naGVsZA==\r\n--b c--\r\nafter";
 
-// The place of the text.
+/// The place of the text.
 const TEXT: usize = 1;
 
-// Quoted-printable with a soft line end.
+/// Quoted-printable with a soft line end.
 const QUOTED: &[u8] = b"caf=C3=A9 =\r\nat ten";
 
 /// What the entities of the mail give, as it is written.

@@ -5,13 +5,13 @@ use match_text::{Collation, FlagList, flags_of, union, without};
 use std::alloc::AllocError;
 use std::io;
 
-// Three flags, one of them twice, and what is none.
+/// Three flags, one of them twice, and what is none.
 const FIRST: &[u8] = b"\\Seen a $Label A \\Recent";
 
-// Four flags, two of them among the first three.
+/// Four flags, two of them among the first three.
 pub(crate) const SECOND: &[u8] = b"$label $Work \\SEEN other-flag-of-many-octets";
 
-// Two flags that are among the first three.
+/// Two flags that are among the first three.
 pub(crate) const HELD: &[u8] = b"$label \\SEEN";
 
 pub(crate) fn read(rt: &impl Host) -> io::Result<()> {

@@ -7,26 +7,26 @@ use sieve_profile::Profile;
 use std::borrow::CowSlice;
 use std::io;
 
-// Encoded words under both encodings on two lines, addresses on two lines, and a field of one line.
+/// Encoded words under both encodings on two lines, addresses on two lines, and a field of one line.
 pub(crate) const MAIL: &[u8] =
     b"From: Ann <ann@a.example>\r\nSubject: =?utf-8?q?caf=C3=A9_?=\r\n =?iso-8859-1?B?6Q==?= late\r\nTo: b@c.example,\r\n\td@e.example\r\nX-Plain: plain\r\n\r\nbody\r\n";
 
-// Octets without a field.
+/// Octets without a field.
 pub(crate) const BARE: &[u8] = b"\r\nbody\r\n";
 
-// An encoded word, and one of a charset that isn't known.
+/// An encoded word, and one of a charset that isn't known.
 pub(crate) const WORD: &[u8] = b"=?us-ascii?Q?a_b?= c";
 
 pub(crate) const UNKNOWN: &[u8] = b"=?koi8-r?Q?a_b?= c";
 
-// The places of three of the mail's fields.
+/// The places of three of the mail's fields.
 pub(crate) const SUBJECT: usize = 1;
 
 pub(crate) const TO: usize = 2;
 
 pub(crate) const PLAIN: usize = 3;
 
-// A group with an address in angles, an address beside a comment, and one with a source route.
+/// A group with an address in angles, an address beside a comment, and one with a source route.
 const ADDRESSES: &[u8] =
     b"Team: \"A. B\" <\"a b\"@b.example>, (note) c@d.example; <@r.example:e@f.example>";
 

@@ -18,7 +18,7 @@ pub(crate) const TEST: &[&str] = &["sievebench", "test", "-fa", "-mBox", "main",
 
 pub(crate) const MISTAKE: &[&str] = &["sievebench", "frobnicate"];
 
-// The reads that a session may make.
+/// The reads that a session may make.
 const TURNS: u64 = 10;
 
 pub(crate) fn make_bench(rt: &impl Host) -> io::Result<()> {

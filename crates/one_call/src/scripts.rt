@@ -11,10 +11,10 @@ use sieve_syntax::{Command, ParsedScript, SyntaxFault, Tests, Token, parse, toke
 use std::io;
 use std::io::ErrorKind;
 
-// A token of each kind, the last of which is no token of Sieve.
+/// A token of each kind, the last of which is no token of Sieve.
 const TOKENS: &[u8] = b"if x(\n[\"a\", text:\n.\n]) { keep :t 2K; } #\n'";
 
-// Names, strings and lists that are short and long, tests in tests, and blocks in blocks.
+/// Names, strings and lists that are short and long, tests in tests, and blocks in blocks.
 pub(crate) const TEXT: &[u8] =
     b"require [\"fileinto\", \"variables\", \"include\", \"imap4flags\", \"copy\"];
 global [\"shared_by_all_of_them\", \"b\"];

@@ -2,7 +2,7 @@
 
 ghost use Rattle.std.specs.Prelude.{◌≤◌, IfOk, length};
 
-use sieve_base::{Counted, Piece, Place, ScriptName, WriteFault, write_pieces};
+use sieve_base::{Counted, Location, Piece, ScriptName, WriteFault, write_pieces};
 use sieve_run::{Outcome, write_action, write_error, write_implicit, write_read};
 use std::alloc::AllocError;
 use std::borrow::CowSlice;
@@ -33,7 +33,7 @@ pub(crate) fn personal(rt: &impl Host, name: &[u8]) -> Result<ScriptName, AllocE
     requires { length name.now ≤ 1024 }
     ensures { IfOk result (λ made. length made.name ≤ 1024) }
 {
-    Ok(ScriptName::new(Place::Personal, Vec::from_slice(rt.alloc(), name)?))
+    Ok(ScriptName::new(Location::Personal, Vec::from_slice(rt.alloc(), name)?))
 }
 
 /// Prints that memory was refused.

@@ -11,11 +11,11 @@ use std::io;
 const VALUE: &[u8] =
     b"The quick brown fox jumps over the lazy dog, and then over the lazy cat, twice.";
 
-// A part of the value in other letters, which is too long to be looked for without copies.
+/// A part of the value in other letters, which is too long to be looked for without copies.
 pub(crate) const KEY: &[u8] =
     b"QUICK BROWN FOX JUMPS OVER THE LAZY DOG, AND THEN OVER THE LAZY CAT";
 
-// The longest front of that which isn't.
+/// The longest front of that which isn't.
 pub(crate) const SHORT_KEY: &[u8] =
     b"QUICK BROWN FOX JUMPS OVER THE LAZY DOG, AND THEN OVER THE LAZY ";
 

@@ -5,10 +5,10 @@ use sieve_base::{Octets, Piece};
 use sieve_variables::{Part, PartRef, Values, Variable, VariableRef, parts_of_text};
 use std::io;
 
-// A name of more octets than lie in a variable itself.
+/// A name of more octets than lie in a variable itself.
 const NAME: &[u8] = b"A_Name_Of_More_Octets_Than_Sixteen";
 
-// Octets, that variable, a shared one and a match variable.
+/// Octets, that variable, a shared one and a match variable.
 const TEXT: &[u8] = b"to be put beside ${A_Name_Of_More_Octets_Than_Sixteen}, ${global.b}${1}";
 
 pub(crate) fn cut(rt: &impl Host) -> io::Result<()> {

@@ -7,8 +7,8 @@ use Rattle.date_text.specs.Clock.{Clock, clock_named}
 use Rattle.sieve_profile.specs.Profile.{Profile, has}
 use Rattle.sieve_profile.specs.declared.extension.Extension.{Extension}
 use Rattle.sieve_profile.specs.declared.extension.Extension.TheVariants as extension
-use Rattle.sieve_base.specs.declared.place.Place.{Place}
-use Rattle.sieve_base.specs.declared.place.Place.TheVariants.{Personal, Global}
+use Rattle.sieve_base.specs.declared.location.Location.{Location}
+use Rattle.sieve_base.specs.declared.location.Location.TheVariants.{Personal, Global}
 use Rattle.sieve_base.specs.Limits.{line_limit}
 use Rattle.sieve_base.specs.Hex.{hex_octet}
 use Rattle.sieve_base.specs.Octet.{octet_of, is_digit, is_printable, is_visible}
@@ -124,17 +124,17 @@ word_value (b ∷ bs) = if b == octet_of "\"" then quoted_value bs else if list_
 -- what a line asks for
 pub data SessionCommand : Type 0 where
   nothing : SessionCommand
-  script : (place : Place) (name : List ℕ) (count : ℕ) → SessionCommand
+  script : (location : Location) (name : List ℕ) (count : ℕ) → SessionCommand
   message : (id : List ℕ) (count : ℕ) → SessionCommand
-  main : (place : Place) (name : List ℕ) → SessionCommand
+  main : (location : Location) (name : List ℕ) → SessionCommand
   no_main : SessionCommand
-  rename : (place : Place) (name : List ℕ) (new_place : Place) (new_name : List ℕ) → SessionCommand
-  drop_script : (place : Place) (name : List ℕ) → SessionCommand
+  rename : (location : Location) (name : List ℕ) (new_location : Location) (new_name : List ℕ) → SessionCommand
+  drop_script : (location : Location) (name : List ℕ) → SessionCommand
   drop_message : (id : List ℕ) → SessionCommand
   envelope : (from to : List ℕ) → SessionCommand
   mailbox : (box : List ℕ) → SessionCommand
   report : SessionCommand
-  dump : (place : Place) (name : List ℕ) → SessionCommand
+  dump : (location : Location) (name : List ℕ) → SessionCommand
   expect : (id : List ℕ) (count : ℕ) → SessionCommand
   no_expect : (id : List ℕ) → SessionCommand
   mailboxes : (count : ℕ) → SessionCommand
@@ -147,8 +147,8 @@ pub data SessionCommand : Type 0 where
 unfoldable pub is_text : List ℕ → List ℕ → Bool
 is_text text word = pointwise nat_eq word text
 
-abbrev pub place_of : List ℕ → Option Place
-place_of word = if is_text (codes "personal") word then Some Personal else if is_text (codes "global") word then Some Global else None
+abbrev pub location_of : List ℕ → Option Location
+location_of word = if is_text (codes "personal") word then Some Personal else if is_text (codes "global") word then Some Global else None
 
 -- the value of digits, after digits of that value
 abbrev pub value_after : ℕ → List ℕ → Option ℕ
@@ -165,16 +165,16 @@ last_count [] = None
 last_count (count ∷ []) = count_of count
 last_count (count ∷ more ∷ rest) = None
 
--- a place and a name
-abbrev pub named : List ℕ → List ℕ → Option (Place × List ℕ)
-named place name = option_and_then (λ p. option_map (λ n. (p, n)) (word_value name)) (place_of place)
+-- a location and a name
+abbrev pub named : List ℕ → List ℕ → Option (Location × List ℕ)
+named location name = option_and_then (λ p. option_map (λ n. (p, n)) (word_value name)) (location_of location)
 
--- a place and a name that are the last words
-abbrev pub last_name : List (List ℕ) → Option (Place × List ℕ)
+-- a location and a name that are the last words
+abbrev pub last_name : List (List ℕ) → Option (Location × List ℕ)
 last_name [] = None
-last_name (place ∷ []) = None
-last_name (place ∷ name ∷ []) = named place name
-last_name (place ∷ name ∷ more ∷ rest) = None
+last_name (location ∷ []) = None
+last_name (location ∷ name ∷ []) = named location name
+last_name (location ∷ name ∷ more ∷ rest) = None
 
 -- what the last word stands for
 abbrev pub last_value : List (List ℕ) → Option (List ℕ)
@@ -184,8 +184,8 @@ last_value (word ∷ more ∷ rest) = None
 
 abbrev pub script_command : List (List ℕ) → Option SessionCommand
 script_command [] = None
-script_command (place ∷ []) = None
-script_command (place ∷ name ∷ words) = option_and_then (λ n. option_map (λ count. script n.0 n.1 count) (last_count words)) (named place name)
+script_command (location ∷ []) = None
+script_command (location ∷ name ∷ words) = option_and_then (λ n. option_map (λ count. script n.0 n.1 count) (last_count words)) (named location name)
 
 abbrev pub message_command : List (List ℕ) → Option SessionCommand
 message_command [] = None
@@ -197,8 +197,8 @@ expect_command (id ∷ words) = option_and_then (λ i. option_map (λ count. exp
 
 abbrev pub rename_command : List (List ℕ) → Option SessionCommand
 rename_command [] = None
-rename_command (place ∷ []) = None
-rename_command (place ∷ name ∷ words) = option_and_then (λ from. option_map (λ to. rename from.0 from.1 to.0 to.1) (last_name words)) (named place name)
+rename_command (location ∷ []) = None
+rename_command (location ∷ name ∷ words) = option_and_then (λ from. option_map (λ to. rename from.0 from.1 to.0 to.1) (last_name words)) (named location name)
 
 abbrev pub envelope_command : List (List ℕ) → Option SessionCommand
 envelope_command [] = None
@@ -252,11 +252,11 @@ expecting_command word words =
     else if is_text (codes "no-expect") word then option_map (λ id. no_expect id) (last_value words)
     else extension_command word words
 
--- a command that prints what there is at a place and a name, or one of those
+-- a command that prints what there is at a location and a name, or one of those
 abbrev pub print_command : List ℕ → List (List ℕ) → Option SessionCommand
 print_command word words = if is_text (codes "dump") word then dump_command words else expecting_command word words
 
--- a command of a place and a name
+-- a command of a location and a name
 abbrev pub name_command : List ℕ → List (List ℕ) → Option SessionCommand
 name_command word words =
     if is_text (codes "main") word then main_command words

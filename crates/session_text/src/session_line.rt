@@ -10,7 +10,7 @@ use crate::cutting::next_word;
 use crate::extension_lines::extension_command;
 use crate::word::Word;
 use date_text::Clock;
-use sieve_base::Place;
+use sieve_base::Location;
 use sieve_base::octet::{is_digit, is_printable};
 
 /// What a line asks for. The words are those of the line, and no copies.
@@ -20,7 +20,7 @@ pub enum SessionCommand<'a> {
     Nothing,
     /// To put a script, whose text is the next `count` octets.
     Script {
-        place: Place,
+        location: Location,
         name: Word<'a>,
         count: u64,
     },
@@ -31,21 +31,21 @@ pub enum SessionCommand<'a> {
     },
     /// To make a script main.
     Main {
-        place: Place,
+        location: Location,
         name: Word<'a>,
     },
     /// To leave no script main.
     NoMain,
     /// To rename a script.
     Rename {
-        place: Place,
+        location: Location,
         name: Word<'a>,
-        new_place: Place,
+        new_location: Location,
         new_name: Word<'a>,
     },
     /// To remove a script.
     DropScript {
-        place: Place,
+        location: Location,
         name: Word<'a>,
     },
     /// To remove a message.
@@ -65,7 +65,7 @@ pub enum SessionCommand<'a> {
     Report,
     /// To print the code of a script.
     Dump {
-        place: Place,
+        location: Location,
         name: Word<'a>,
     },
     /// To expect a text of a message's verdict, which is the next `count` octets.
@@ -107,14 +107,14 @@ pub(crate) fn is_text(word: &[u8], text: &[u8]) -> bool
     word == text
 }
 
-/// The place of that name.
-fn place_of(word: &[u8]) -> Option<Place>
-    ensures { result ≡ spec.place_of word.now }
+/// The location of that name.
+fn location_of(word: &[u8]) -> Option<Location>
+    ensures { result ≡ spec.location_of word.now }
 {
     if is_text(word, b"personal") {
-        Some(Place::Personal)
+        Some(Location::Personal)
     } else if is_text(word, b"global") {
-        Some(Place::Global)
+        Some(Location::Global)
     } else {
         None
     }
@@ -152,23 +152,23 @@ pub(crate) fn last_count(line: &[u8]) -> Option<u64>
     if is_over(line) { count_of(count) } else { None }
 }
 
-/// The script of a place and a name.
-fn named<'a>(place: &[u8], name: &'a [u8]) -> Option<(Place, Word<'a>)>
-    ensures { result ≡ spec.named place.now name.now }
+/// The script of a location and a name.
+fn named<'a>(location: &[u8], name: &'a [u8]) -> Option<(Location, Word<'a>)>
+    ensures { result ≡ spec.named location.now name.now }
 {
-    let place = place_of(place)?;
+    let location = location_of(location)?;
     let name = Word::new(name)?;
-    Some((place, name))
+    Some((location, name))
 }
 
-/// A place and a name that are the last words.
-fn last_name(line: &[u8]) -> Option<(Place, Word<'_>)>
+/// A location and a name that are the last words.
+fn last_name(line: &[u8]) -> Option<(Location, Word<'_>)>
     ensures { result ≡ spec.last_name (spec.line_words line.now) }
 {
-    let (place, line) = next_word(line)?;
+    let (location, line) = next_word(line)?;
     let (name, line) = next_word(line)?;
     if is_over(line) {
-        named(place, name)
+        named(location, name)
     } else {
         None
     }
@@ -186,11 +186,15 @@ pub(crate) fn last_value(line: &[u8]) -> Option<Word<'_>>
 fn script_command(line: &[u8]) -> Option<SessionCommand<'_>>
     ensures { option_map command_as result ≡ spec.script_command (spec.line_words line.now) }
 {
-    let (place, line) = next_word(line)?;
+    let (location, line) = next_word(line)?;
     let (name, line) = next_word(line)?;
-    let (place, name) = named(place, name)?;
+    let (location, name) = named(location, name)?;
     let count = last_count(line)?;
-    Some(SessionCommand::Script { place, name, count })
+    Some(SessionCommand::Script {
+        location,
+        name,
+        count,
+    })
 }
 
 /// What `message ID N` asks for, after its first word.
@@ -217,14 +221,14 @@ fn expect_command(line: &[u8]) -> Option<SessionCommand<'_>>
 fn rename_command(line: &[u8]) -> Option<SessionCommand<'_>>
     ensures { option_map command_as result ≡ spec.rename_command (spec.line_words line.now) }
 {
-    let (place, line) = next_word(line)?;
+    let (location, line) = next_word(line)?;
     let (name, line) = next_word(line)?;
-    let (place, name) = named(place, name)?;
-    let (new_place, new_name) = last_name(line)?;
+    let (location, name) = named(location, name)?;
+    let (new_location, new_name) = last_name(line)?;
     Some(SessionCommand::Rename {
-        place,
+        location,
         name,
-        new_place,
+        new_location,
         new_name,
     })
 }
@@ -243,24 +247,24 @@ fn envelope_command(line: &[u8]) -> Option<SessionCommand<'_>>
 fn main_command(line: &[u8]) -> Option<SessionCommand<'_>>
     ensures { option_map command_as result ≡ spec.main_command (spec.line_words line.now) }
 {
-    let (place, name) = last_name(line)?;
-    Some(SessionCommand::Main { place, name })
+    let (location, name) = last_name(line)?;
+    Some(SessionCommand::Main { location, name })
 }
 
 /// What `drop-script PLACE NAME` asks for, after its first word.
 fn drop_script_command(line: &[u8]) -> Option<SessionCommand<'_>>
     ensures { option_map command_as result ≡ spec.drop_script_command (spec.line_words line.now) }
 {
-    let (place, name) = last_name(line)?;
-    Some(SessionCommand::DropScript { place, name })
+    let (location, name) = last_name(line)?;
+    Some(SessionCommand::DropScript { location, name })
 }
 
 /// What `dump PLACE NAME` asks for, after its first word.
 fn dump_command(line: &[u8]) -> Option<SessionCommand<'_>>
     ensures { option_map command_as result ≡ spec.dump_command (spec.line_words line.now) }
 {
-    let (place, name) = last_name(line)?;
-    Some(SessionCommand::Dump { place, name })
+    let (location, name) = last_name(line)?;
+    Some(SessionCommand::Dump { location, name })
 }
 
 /// What a line that says what is expected of a message asks for.
@@ -278,7 +282,7 @@ fn expecting_command<'a>(word: &[u8], line: &'a [u8]) -> Option<SessionCommand<'
     }
 }
 
-/// What a line that prints what there is at a place and a name asks for.
+/// What a line that prints what there is at a location and a name asks for.
 fn print_command<'a>(word: &[u8], line: &'a [u8]) -> Option<SessionCommand<'a>>
     ensures { option_map command_as result
         ≡ spec.print_command word.now (spec.line_words line.now) }
@@ -290,7 +294,7 @@ fn print_command<'a>(word: &[u8], line: &'a [u8]) -> Option<SessionCommand<'a>>
     }
 }
 
-/// What a line with a place and a name after its first word asks for.
+/// What a line with a location and a name after its first word asks for.
 fn name_command<'a>(word: &[u8], line: &'a [u8]) -> Option<SessionCommand<'a>>
     ensures { option_map command_as result ≡ spec.name_command word.now (spec.line_words line.now) }
 {

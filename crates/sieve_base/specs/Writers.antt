@@ -6,7 +6,7 @@ use Rattle.sieve_base.specs.Devices.{HasRisen}
 use Rattle.sieve_base.specs.declared.writers.Piece.{Piece}
 use Rattle.sieve_base.specs.declared.writers.Piece.TheVariants.{Raw, Quoted, Name, Number}
 use Rattle.sieve_base.specs.declared.name.ScriptName.{ScriptName}
-use Rattle.sieve_base.specs.Name.{place_word}
+use Rattle.sieve_base.specs.Name.{location_word}
 use Rattle.sieve_base.specs.Hex.{hex_digit}
 use Rattle.sieve_base.specs.Octet.{octet_of}
 
@@ -21,9 +21,9 @@ octet_spelling octet =
 unfoldable pub quoted : List ℕ → List ℕ
 quoted octets = codes "\"" ++ flat_map octet_spelling octets ++ codes "\""
 
--- the name of a script: the word of its place, and its octets in their quoted form
+-- the name of a script: the word of its location, and its octets in their quoted form
 unfoldable pub name_text : ScriptName → List ℕ
-name_text name = place_word name.place ++ codes " " ++ quoted name.name
+name_text name = location_word name.location ++ codes " " ++ quoted name.name
 
 -- what a piece prints
 abbrev pub piece_text : Piece → List ℕ

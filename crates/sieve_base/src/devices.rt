@@ -62,7 +62,7 @@ pub struct Counted<D> {
     calls: u64,
 }
 
-// The count after one more event. At the greatest `u64` it stays.
+/// The count after one more event. At the greatest `u64` it stays.
 fn count_after(count: u64) -> u64
     ensures { result ≡ next_count count }
 {

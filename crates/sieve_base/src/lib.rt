@@ -7,15 +7,15 @@ pub mod hex;
 pub mod laws;
 pub mod limits;
 mod line;
+mod location;
 mod name;
 pub mod octet;
 mod octets;
-mod place;
 mod writers;
 
 pub use devices::{Counted, Faults, Sink, Source};
 pub use line::without_return;
+pub use location::Location;
 pub use name::ScriptName;
 pub use octets::{Octets, SmallOctets};
-pub use place::Place;
 pub use writers::{Piece, WriteFault, write_out, write_pieces, write_quoted};

@@ -1,8 +1,8 @@
 //! The names of scripts.
 ghost use Rattle.std.specs.Prelude.{◌≡◌, IfOk};
 
+use crate::location::Location;
 use crate::octets::Octets;
-use crate::place::Place;
 use std::alloc::{AllocError, Global};
 
 /// The name of a script: the store that it is kept in, and its octets there. Personal names come first, and names
@@ -10,18 +10,18 @@ use std::alloc::{AllocError, Global};
 #[derive(Drop, PartialEq, Eq, PartialOrd, Ord, Hash)]
 pub struct ScriptName {
     /// The store.
-    pub place: Place,
+    pub location: Location,
     /// The octets of the name, of any values.
     pub name: Octets,
 }
 
 impl ScriptName {
     /// The script of these octets in a store (RFC 6609, section 3.2). Takes no memory.
-    pub fn new(place: Place, name: Vec<u8>) -> ScriptName
-        ensures { result ≡ record { place = place; name = name.items } }
+    pub fn new(location: Location, name: Vec<u8>) -> ScriptName
+        ensures { result ≡ record { location = location; name = name.items } }
     {
         ScriptName {
-            place,
+            location,
             name: Octets::from_vec(name),
         }
     }
@@ -31,7 +31,7 @@ impl ScriptName {
         ensures { IfOk result (λ copy. copy ≡ self.now) }
     {
         Ok(ScriptName {
-            place: self.place,
+            location: self.location,
             name: Octets::copied(alloc, self.name.as_slice())?,
         })
     }

@@ -23,16 +23,16 @@ pub enum Piece<'a> {
     Raw(&'a [u8]),
     /// The quoted form of these octets, as `write_quoted` writes it.
     Quoted(&'a [u8]),
-    /// The word of a script's place, and its name as `write_quoted` writes it.
+    /// The word of a script's location, and its name as `write_quoted` writes it.
     Name(&'a ScriptName),
     /// The number in base 10.
     Number(u64),
 }
 
-// How many times in a row an interrupted write is tried again.
+/// How many times in a row an interrupted write is tried again.
 const MAX_RETRIES: u32 = 1_000;
 
-// Writes some octets from the front, one at least, and answers how many.
+/// Writes some octets from the front, one at least, and answers how many.
 #[tactic(auto, using(crate::proofs::Writing::writing))]
 fn write_front<W: Sink>(bytes: &[u8], writer: &mut W) -> Result<usize, WriteFault>
     requires { 0 < length bytes.now }
@@ -71,14 +71,14 @@ pub fn write_out<W: Sink>(bytes: &[u8], writer: &mut W) -> Result<(), WriteFault
     Ok(())
 }
 
-// Whether an octet stands between quotes as it is.
+/// Whether an octet stands between quotes as it is.
 fn is_plain(octet: u8) -> bool
     ensures { IsTrue result ↔ (octet_spelling octet ≡ octet ∷ []) }
 {
     is_printable(octet) && octet != b'"' && octet != b'\\'
 }
 
-// How many octets at the front stand between quotes as they are.
+/// How many octets at the front stand between quotes as they are.
 fn plain_len(bytes: &[u8]) -> usize
     ensures within { result ≤ length bytes.now }
     ensures plain { flat_map octet_spelling (take result bytes.now) ≡ take result bytes.now }
@@ -91,7 +91,7 @@ fn plain_len(bytes: &[u8]) -> usize
     bytes.len()
 }
 
-// Writes how an octet stands between quotes.
+/// Writes how an octet stands between quotes.
 #[tactic(auto, using(crate::proofs::Writing::writing))]
 fn write_spelling<W: Sink>(octet: u8, writer: &mut W) -> Result<(), WriteFault>
     ensures { Writes W.contents W.fault_count result writer.old writer.new (octet_spelling octet) }
@@ -106,7 +106,7 @@ fn write_spelling<W: Sink>(octet: u8, writer: &mut W) -> Result<(), WriteFault>
     }
 }
 
-// Writes the spelling of some octets at the front, one at least, and answers how many.
+/// Writes the spelling of some octets at the front, one at least, and answers how many.
 #[tactic(auto, using(crate::proofs::Writing::writing_items))]
 fn write_spelled_front<W: Sink>(bytes: &[u8], writer: &mut W) -> Result<usize, WriteFault>
     requires { 0 < length bytes.now }
@@ -127,7 +127,7 @@ fn write_spelled_front<W: Sink>(bytes: &[u8], writer: &mut W) -> Result<usize, W
     }
 }
 
-// Writes the spelling of each octet.
+/// Writes the spelling of each octet.
 #[tactic(auto, using(crate::proofs::Writing::writing))]
 fn write_spelled<W: Sink>(bytes: &[u8], writer: &mut W) -> Result<(), WriteFault>
     ensures { Writes W.contents W.fault_count result writer.old writer.new
@@ -152,17 +152,17 @@ pub fn write_quoted<W: Sink>(bytes: &[u8], writer: &mut W) -> Result<(), WriteFa
     write_out(b"\"", writer)
 }
 
-// Writes the word of a script's place and its quoted name.
+/// Writes the word of a script's location and its quoted name.
 #[tactic(auto, using(crate::proofs::Writing::writing), unfolding(crate::specs::Writers::name_text))]
 fn write_name<W: Sink>(name: &ScriptName, writer: &mut W) -> Result<(), WriteFault>
     ensures { Writes W.contents W.fault_count result writer.old writer.new (name_text name.now) }
 {
-    write_out(name.place.word(), writer)?;
+    write_out(name.location.word(), writer)?;
     write_out(b" ", writer)?;
     write_quoted(name.name.as_slice(), writer)
 }
 
-// Writes one piece.
+/// Writes one piece.
 #[tactic(auto, using(crate::proofs::Writing::writing))]
 fn write_piece<W: Sink>(piece: &Piece<'_>, writer: &mut W) -> Result<(), WriteFault>
     ensures { Writes W.contents W.fault_count result writer.old writer.new (piece_text piece.now) }

@@ -84,7 +84,7 @@ module _ (labels others : List Label) (args arguments : List Argument) (same_tag
   commands_alike command.SetFlag alike = flags_alike change.Set alike
   commands_alike command.AddFlag alike = flags_alike change.Add alike
   commands_alike command.RemoveFlag alike = flags_alike change.Remove alike
-  commands_alike command.Include alike = two (λ t name. reads_act (include_leaf (commands.place_of t) (has_tag tag_kind.Once t) (has_tag tag_kind.Optional t) name)) same_tags alike.0
+  commands_alike command.Include alike = two (λ t name. reads_act (include_leaf (commands.location_of t) (has_tag tag_kind.Once t) (has_tag tag_kind.Optional t) name)) same_tags alike.0
   commands_alike command.Return alike = refl
   commands_alike command.Global alike = refl
   commands_alike command.Vacation alike = λ i. reads_act (vacation_leaf (record {

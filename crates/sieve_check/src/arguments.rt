@@ -19,7 +19,7 @@ ghost use Rattle.sieve_variables.specs.Name.{is_global_name, is_identifier};
 
 use crate::collating::{arguments_lack, known_collation, lacks_substrings};
 use crate::context::{Context, takes_references};
-use crate::role::{behind_first, first_role};
+use crate::labels::{after_first, first_role};
 use crate::said::said;
 use crate::usage::{has_bad_arguments, has_bad_tag, lacks_required};
 use crate::validator::CheckFault;
@@ -291,7 +291,7 @@ pub(crate) fn check_arguments(
     let mut labels_left = labels;
     for argument in args {
         check_argument(alloc, context, first_role(labels_left), argument)?;
-        labels_left = behind_first(labels_left);
+        labels_left = after_first(labels_left);
     }
     Ok(())
 }

@@ -6,7 +6,7 @@ ghost use Rattle.sieve_profile.specs.view.Profile.{profile_as};
 ghost use Rattle.sieve_syntax.specs.view.Tree.{argument_of, text_of};
 ghost use Rattle.sieve_table.specs.view.Required.{required_as};
 
-use crate::role::{behind_first, first_role};
+use crate::labels::{after_first, first_role};
 use crate::said::said;
 use match_text::{Collation, collation_named};
 use sieve_profile::Profile;
@@ -135,7 +135,7 @@ pub(crate) fn arguments_lack(
         if argument_lacks(alloc, profile, required, first_role(labels_left), argument)? {
             return Ok(true);
         }
-        labels_left = behind_first(labels_left);
+        labels_left = after_first(labels_left);
     }
     Ok(false)
 }

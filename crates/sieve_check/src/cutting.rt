@@ -9,7 +9,7 @@ ghost use Rattle.sieve_variables.specs.Scan.{parts_of_text};
 ghost use Rattle.sieve_variables.specs.Variable.{scoped, variable_named};
 
 use crate::context::{Context, takes_references};
-use crate::role::{behind_first, first_role};
+use crate::labels::{after_first, first_role};
 use crate::said::say_arguments;
 use sieve_reading::Label;
 use sieve_syntax::{Argument, Text, octets_in};
@@ -159,7 +159,7 @@ pub(crate) fn cut_arguments(
     let mut labels_left = labels;
     for i in 0..args.len() {
         cut_argument(alloc, context, first_role(labels_left), &mut args[i])?;
-        labels_left = behind_first(labels_left);
+        labels_left = after_first(labels_left);
     }
     Ok(())
 }

@@ -6,7 +6,7 @@ ghost use Rattle.sieve_check.specs.Said as spec;
 ghost use Rattle.sieve_syntax.specs.view.Tree.{argument_of, octets_of, text_of};
 ghost use Rattle.sieve_table.specs.view.Required.{required_as};
 
-use crate::role::{behind_first, first_role};
+use crate::labels::{after_first, first_role};
 use encoded_characters::replaced;
 use sieve_base::SmallOctets;
 use sieve_reading::Label;
@@ -129,7 +129,7 @@ pub(crate) fn say_arguments(
     let mut labels_left = labels;
     for i in 0..args.len() {
         say_argument(alloc, required, first_role(labels_left), &mut args[i])?;
-        labels_left = behind_first(labels_left);
+        labels_left = after_first(labels_left);
     }
     Ok(())
 }

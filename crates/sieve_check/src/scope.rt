@@ -7,7 +7,7 @@ ghost use Rattle.sieve_variables.specs.Variable.{with_name};
 ghost use Rattle.sieve_check.specs.Breach.{is_past_locals};
 ghost use Rattle.sieve_check.specs.Scope as spec;
 
-use crate::role::{behind_first, first_role};
+use crate::labels::{after_first, first_role};
 use sieve_base::Octets;
 use sieve_base::limits::MAX_LOCALS;
 use sieve_reading::Label;
@@ -96,7 +96,7 @@ fn declare_arguments(
     let mut labels_left = labels;
     for argument in args {
         declare_argument(alloc, &mut *declared, first_role(labels_left), argument)?;
-        labels_left = behind_first(labels_left);
+        labels_left = after_first(labels_left);
     }
     Ok(())
 }
@@ -201,7 +201,7 @@ impl Scope {
         let mut labels_left = labels;
         for argument in args {
             self.assign_argument(alloc, first_role(labels_left), argument)?;
-            labels_left = behind_first(labels_left);
+            labels_left = after_first(labels_left);
         }
         Ok(())
     }

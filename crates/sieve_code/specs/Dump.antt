@@ -4,9 +4,9 @@ use Rattle.std.specs.List.{flat_map}
 use Rattle.match_text.specs.declared.comparators.Collation.{Collation}
 use Rattle.match_text.specs.declared.comparators.Collation.TheVariants.{Octet, Casemap, Numeric}
 use Rattle.match_text.specs.Relation.{relation_word}
-use Rattle.sieve_base.specs.Name.{place_word}
+use Rattle.sieve_base.specs.Name.{location_word}
 use Rattle.sieve_base.specs.Writers.{quoted}
-use Rattle.sieve_base.specs.declared.place.Place.{Place}
+use Rattle.sieve_base.specs.declared.location.Location.{Location}
 use Rattle.message_text.specs.declared.addressing.AddressPart.{AddressPart}
 use Rattle.message_text.specs.declared.addressing.AddressPart.TheVariants as address_part
 use Rattle.sieve_reading.specs.Reading.{BodyTransform, raw_transform, content_transform, text_transform, DateZone, local_zone, original_zone, named_zone, header_values, address_values, envelope_values, string_values, flag_values, date_values, clock_values, body_values, ValueSource, Ask, compares, exists_ask, over_ask, under_ask, mailboxes_ask, duplicate_ask, Settings, Vacation, Leaf, keep_leaf, fileinto_leaf, redirect_leaf, discard_leaf, set_leaf, flag_leaf, include_leaf, vacation_leaf, reject_leaf, rejection_word}
@@ -204,8 +204,8 @@ changing_words how None = change_word how ++ codes " internal "
 changing_words how (Some variable) = change_word how ++ codes " " ++ scope_word variable ++ name_of variable ++ codes ") "
 
 -- what is included
-unfoldable pub include_words : Place → (once optional : Bool) → List ℕ → List ℕ
-include_words place once optional name = codes "include " ++ place_word place ++ given_word once (codes " once") ++ given_word optional (codes " optional") ++ codes " " ++ quoted name
+unfoldable pub include_words : Location → (once optional : Bool) → List ℕ → List ℕ
+include_words location once optional name = codes "include " ++ location_word location ++ given_word once (codes " once") ++ given_word optional (codes " optional") ++ codes " " ++ quoted name
 
 -- for how many days a sender gets no other response, where that is said
 unfoldable pub days_words : Option ℕ → List ℕ
@@ -245,7 +245,7 @@ leaf_text (redirect_leaf address settings) = worded_text (codes "redirect ") add
 leaf_text discard_leaf = codes "discard"
 leaf_text (set_leaf variable modifiers value) = worded_text (set_words variable modifiers) value
 leaf_text (flag_leaf how variable flags) = changing_words how variable ++ list_text flags
-leaf_text (include_leaf place once optional name) = include_words place once optional name
+leaf_text (include_leaf location once optional name) = include_words location once optional name
 leaf_text (vacation_leaf vacation) = vacation_text vacation
 leaf_text (reject_leaf how reason) = reject_text how reason
 

@@ -6,7 +6,7 @@ ghost use Rattle.sieve_code.specs.Dump as spec;
 ghost use Rattle.sieve_effects.specs.view.Ops.{settings_op_as};
 
 use crate::dump_strings::{name_of, scope_word, write_list, write_number, write_string};
-use sieve_base::{Piece, Place, Sink, WriteFault, write_out, write_pieces};
+use sieve_base::{Location, Piece, Sink, WriteFault, write_out, write_pieces};
 use sieve_effects::{SettingsOp, Strings};
 use sieve_reading::FlagChange;
 use sieve_variables::{LetterCase, Modifiers, Part, Variable};
@@ -297,19 +297,19 @@ pub(crate) fn write_flags<W: Sink>(
 /// Writes what is included.
 #[tactic(auto, unfolding(crate::specs::Dump::include_words))]
 pub(crate) fn write_include<W: Sink>(
-    place: Place,
+    location: Location,
     once: bool,
     optional: bool,
     name: &[u8],
     writer: &mut W,
 ) -> Result<(), WriteFault>
     ensures { Writes W.contents W.fault_count result writer.old writer.new
-        (spec.include_words place once optional name.now) }
+        (spec.include_words location once optional name.now) }
 {
     write_pieces(
         &[
             Piece::Raw(b"include "),
-            Piece::Raw(place.word()),
+            Piece::Raw(location.word()),
             Piece::Raw(given_word(once, b" once")),
             Piece::Raw(given_word(optional, b" optional")),
             Piece::Raw(b" "),

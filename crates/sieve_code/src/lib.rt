@@ -21,4 +21,6 @@ pub use code::Code;
 pub use compiler::compile;
 pub use op::{Inclusion, Op, PackedTest, SourceKind};
 pub use pools::Target;
-pub use sieve_base::{Counted, Faults, Place, Sink, Source, WriteFault, write_out, write_quoted};
+pub use sieve_base::{
+    Counted, Faults, Location, Sink, Source, WriteFault, write_out, write_quoted,
+};

@@ -1,6 +1,6 @@
 //! The operations of code.
 use message_text::AddressPart;
-use sieve_base::Place;
+use sieve_base::Location;
 use sieve_reading::{Comparison, FlagChange, Rejection};
 use std::mem::size_of;
 
@@ -99,7 +99,7 @@ pub(crate) struct PackedVacation {
 #[derive(Clone, Copy)]
 pub struct Inclusion {
     /// Where the script is kept.
-    pub place: Place,
+    pub location: Location,
     /// Whether the script runs only where it hasn't run yet.
     pub once: bool,
     /// Whether the script may be missing.

@@ -9,7 +9,7 @@ ghost use Rattle.sieve_code.specs.view.Pools.{pool_as};
 
 use crate::op::{Inclusion, NOWHERE, Op, PackedDate, PackedTest, PackedZone, SourceKind};
 use crate::pools::{Pools, Target};
-use sieve_base::Place;
+use sieve_base::Location;
 use sieve_reading::{
     Ask, BodyTransform, Comparison, DateZone, FlagChange, Leaf, Rejection, Settings, Text,
     Vacation, ValueSource,
@@ -258,18 +258,18 @@ impl Pools {
     /// The operation of an `include`.
     fn pack_include(
         &mut self,
-        place: Place,
+        location: Location,
         once: bool,
         optional: bool,
         name: Literal,
         line: u32,
     ) -> Result<Op, AllocError>
         ensures { IfOk result (λ op. Kept (pool_as self.old) (pool_as self.new) (λ p. op_in p op)
-            (act_op (include_leaf place once optional name) line)) }
+            (act_op (include_leaf location once optional name) line)) }
     {
         let name = self.keep_script(name)?;
         Ok(Op::Include(Inclusion {
-            place,
+            location,
             once,
             optional,
             line,
@@ -316,11 +316,11 @@ impl Pools {
                 flags,
             } => self.pack_flags(change, variable, flags, line),
             Leaf::Include {
-                place,
+                location,
                 once,
                 optional,
                 name,
-            } => self.pack_include(place, once, optional, name, line),
+            } => self.pack_include(location, once, optional, name, line),
             Leaf::Vacation { vacation } => self.pack_vacation(vacation, line),
             Leaf::Reject { how, reason } => self.pack_reject(how, reason, line),
         }

@@ -291,6 +291,6 @@ act_by include delivery (redirect_leaf address settings) line state = sends deli
 act_by include delivery discard_leaf line state = discards delivery line state
 act_by include delivery (set_leaf variable modifiers value) line state = sets delivery variable modifiers value line state
 act_by include delivery (flag_leaf how variable flags) line state = changes delivery line how variable flags state
-act_by include delivery (include_leaf place once optional name) line state = include (record { place = place; name = name }) once optional line state
+act_by include delivery (include_leaf location once optional name) line state = include (record { location = location; name = name }) once optional line state
 act_by include delivery (vacation_leaf vacation) line state = responds delivery vacation line state
 act_by include delivery (reject_leaf how reason) line state = rejects delivery how reason line state

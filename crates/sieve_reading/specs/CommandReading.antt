@@ -2,8 +2,8 @@
 -- section 3; RFC 5490, section 3.2; RFC 8579, section 4; RFC 5230, section 4; RFC 5429, section 2), by its arguments and their labels.
 use Rattle.std.specs.Prelude.{List, Option, Some, None}
 use Rattle.std.specs.Option.{option_map}
-use Rattle.sieve_base.specs.declared.place.Place.{Place}
-use Rattle.sieve_base.specs.declared.place.Place.TheVariants.{Personal, Global}
+use Rattle.sieve_base.specs.declared.location.Location.{Location}
+use Rattle.sieve_base.specs.declared.location.Location.TheVariants.{Personal, Global}
 use Rattle.sieve_table.specs.Table.{command_named, command_row}
 use Rattle.sieve_reading.specs.Tree.{Argument, Node, node}
 use Rattle.sieve_reading.specs.declared.label.Label.{Label}
@@ -71,18 +71,18 @@ set_by labels args = set_leaf (variable_in (in_role role.NameToSet labels args))
 abbrev pub flags_by : FlagChange → List Label → List Argument → Leaf
 flags_by how labels args = flag_leaf how (given_variable (in_role role.NameToSet labels args)) (texts_in (in_role role.Flags labels args))
 
--- the place of a script that is included, which is the personal one where none is named (RFC 6609, section 3.2)
-abbrev pub place_by : Option Tag → Place
-place_by (Some tag.Global) = Global
-place_by other = Personal
+-- the location of a script that is included, which is the personal one where none is named (RFC 6609, section 3.2)
+abbrev pub location_by : Option Tag → Location
+location_by (Some tag.Global) = Global
+location_by other = Personal
 
-unfoldable pub place_of : Tags → Place
-place_of tags = place_by (tags kind.Location)
+unfoldable pub location_of : Tags → Location
+location_of tags = location_by (tags kind.Location)
 
 -- what an `include` does (RFC 6609, section 3.2)
 abbrev pub include_by : List Label → List Argument → Leaf
 include_by labels args =
-    include_leaf (place_of (tags_of labels)) (has_tag kind.Once (tags_of labels)) (has_tag kind.Optional (tags_of labels)) (literal_in (in_role role.ScriptName labels args))
+    include_leaf (location_of (tags_of labels)) (has_tag kind.Once (tags_of labels)) (has_tag kind.Optional (tags_of labels)) (literal_in (in_role role.ScriptName labels args))
 
 -- what a `vacation` does (RFC 5230, section 4)
 abbrev pub vacation_by : List Label → List Argument → Leaf

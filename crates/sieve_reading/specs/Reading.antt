@@ -1,7 +1,7 @@
 -- What the commands and tests of a checked tree are (RFC 5228, sections 3, 4 and 5), with defaults filled in.
 use Rattle.std.specs.Prelude.{ℕ, Bool, false, List, Option, None, codes}
 use Rattle.message_text.specs.declared.addressing.AddressPart.{AddressPart}
-use Rattle.sieve_base.specs.declared.place.Place.{Place}
+use Rattle.sieve_base.specs.declared.location.Location.{Location}
 use Rattle.sieve_reading.specs.declared.reading.FlagChange.{FlagChange}
 use Rattle.sieve_reading.specs.declared.reading.Comparison.{Comparison}
 use Rattle.sieve_reading.specs.declared.reading.Rejection.{Rejection}
@@ -88,7 +88,7 @@ pub data Leaf : Type 0 where
   discard_leaf : Leaf
   set_leaf : (variable : Variable) (modifiers : Modifiers) (value : List Part) → Leaf
   flag_leaf : (change : FlagChange) (variable : Option Variable) (flags : List (List Part)) → Leaf
-  include_leaf : (place : Place) (once optional : Bool) (name : List ℕ) → Leaf
+  include_leaf : (location : Location) (once optional : Bool) (name : List ℕ) → Leaf
   vacation_leaf : (vacation : Vacation) → Leaf
   reject_leaf : (how : Rejection) (reason : List Part) → Leaf
 

@@ -11,14 +11,14 @@ ghost use Rattle.sieve_reading.specs.view.Tree.{argument_of};
 ghost use Rattle.sieve_table.specs.Role.{same_role};
 ghost use Rattle.sieve_table.specs.declared.row.Role.TheVariants as role;
 
+use crate::by_label::{into_argument, into_arguments, into_three};
 use crate::given::{
     given_text, given_texts, given_variable, name_in, text_in, texts_in, variable_in,
 };
-use crate::labelled::{into_argument, into_arguments, into_three};
 use crate::reading::{CommandReading, FlagChange, Leaf, Rejection, Settings};
 use crate::tags::Tags;
 use crate::vacation::vacation_leaf;
-use sieve_base::Place;
+use sieve_base::Location;
 use sieve_syntax::Argument;
 use sieve_table::{CommandKind, Role, Row, Tag, TagKind};
 use sieve_variables::{LetterCase, Modifiers};
@@ -135,22 +135,22 @@ fn flags_leaf(alloc: Global, change: FlagChange, row: &Row, args: Vec<Argument>)
     }
 }
 
-/// The place that a tag names, which is the personal one where none does.
-fn place_by(tag: Option<Tag>) -> Place
-    ensures { result ≡ spec.place_by tag }
+/// The location that a tag names, which is the personal one where none does.
+fn location_by(tag: Option<Tag>) -> Location
+    ensures { result ≡ spec.location_by tag }
 {
     match tag {
-        Some(Tag::Global) => Place::Global,
-        _ => Place::Personal,
+        Some(Tag::Global) => Location::Global,
+        _ => Location::Personal,
     }
 }
 
-/// The place of a script that is included.
-#[tactic(auto, unfolding(crate::specs::CommandReading::place_of))]
-fn place_of(tags: Tags) -> Place
-    ensures { result ≡ spec.place_of (tags_as tags) }
+/// The location of a script that is included.
+#[tactic(auto, unfolding(crate::specs::CommandReading::location_of))]
+fn location_of(tags: Tags) -> Location
+    ensures { result ≡ spec.location_of (tags_as tags) }
 {
-    place_by(tags.of(TagKind::Location))
+    location_by(tags.of(TagKind::Location))
 }
 
 /// What an `include` does.
@@ -161,7 +161,7 @@ fn include_leaf(row: &Row, args: Vec<Argument>) -> Leaf
     let tags = Tags::among(row, &args);
     let name = name_in(into_argument(row, Role::ScriptName, args));
     Leaf::Include {
-        place: place_of(tags),
+        location: location_of(tags),
         once: tags.has(TagKind::Once),
         optional: tags.has(TagKind::Optional),
         name,

@@ -9,10 +9,10 @@ ghost use Rattle.sieve_reading.specs.view.Tags.{tags_as};
 ghost use Rattle.sieve_reading.specs.view.Tree.{argument_of};
 ghost use Rattle.sieve_table.specs.declared.row.Role.TheVariants as role;
 
+use crate::by_label::first_or;
 use crate::given::{given_text, text_in, texts_in};
-use crate::labelled::first_or;
+use crate::label::role_of;
 use crate::reading::{Ask, DateZone, ValueSource};
-use crate::role::role_of;
 use crate::shape::{AsParts, row_expected, shape_of};
 use crate::tags::Tags;
 use crate::test_reading::comparison_of;

@@ -1,9 +1,10 @@
 //! What each argument is to its command or test (RFC 5228, section 2.6).
 ghost use Rattle.std.specs.Prelude.{◌≡◌, None, Some, drop, slice_get};
 ghost use Rattle.sieve_reading.specs.Label.{expected_behind, expecting, fits, label_at, slot_label, is_unfit};
+ghost use Rattle.sieve_reading.specs.Role.{role_of};
 ghost use Rattle.sieve_reading.specs.view.Expected.{expected_as, in_front, own_slot};
 
-use sieve_table::{Form, Slot, Tag};
+use sieve_table::{Form, Role, Slot, Tag};
 
 /// What an argument looks like, where some tags are taken (RFC 5228, section 2.6).
 #[derive(Clone, Copy)]
@@ -167,5 +168,15 @@ pub(crate) fn is_unfit(label: Label) -> bool
     match label {
         Label::Unfit => true,
         Label::Tagged(_) | Label::OtherTag | Label::Own(_) | Label::InSlot(_) => false,
+    }
+}
+
+/// The role of an argument, by its label. A tag has none, nor has what doesn't fit.
+pub fn role_of(label: Label) -> Option<Role>
+    ensures { result ≡ role_of label }
+{
+    match label {
+        Label::Own(slot) | Label::InSlot(slot) => Some(slot.role),
+        Label::Tagged(_) | Label::OtherTag | Label::Unfit => None,
     }
 }

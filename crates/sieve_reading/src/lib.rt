@@ -2,14 +2,13 @@
 //! tests are, read from it.
 #![tactic(auto)]
 
+mod by_label;
 mod command_reading;
 mod dates;
 mod given;
 mod label;
-mod labelled;
 pub mod laws;
 mod reading;
-mod role;
 mod shape;
 mod tags;
 mod test_reading;
@@ -17,14 +16,13 @@ mod vacation;
 
 pub use command_reading::read_command;
 pub use given::literal_in_parts;
-pub use label::Label;
+pub use label::{Label, role_of};
 pub use reading::{
     Ask, BodyTransform, CommandReading, Comparison, DateZone, FlagChange, Leaf, MatchType,
     Rejection, Settings, TestReading, Vacation, ValueSource,
 };
-pub use role::role_of;
 pub use shape::{AsOctets, AsParts, RowLabels, StringView, known_labels};
-pub use sieve_base::Place;
+pub use sieve_base::Location;
 pub use sieve_syntax::{Argument, Command, CommandName, Test, TestName, Tests, Text};
 pub use sieve_table::{CommandKind, TestKind};
 pub use sieve_variables::{

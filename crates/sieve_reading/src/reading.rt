@@ -5,7 +5,7 @@ ghost use Rattle.sieve_reading.specs.Reading.{rejection_word};
 
 use match_text::{Collation, Relation};
 use message_text::AddressPart;
-use sieve_base::Place;
+use sieve_base::Location;
 use sieve_syntax::Text;
 use sieve_variables::{Literal, Modifiers, Parts, Variable};
 
@@ -275,7 +275,7 @@ pub enum Leaf {
     /// A command that runs another script (RFC 6609, section 3.2).
     Include {
         /// Where the script is kept.
-        place: Place,
+        location: Location,
         /// Whether the script runs only where it hasn't run yet.
         once: bool,
         /// Whether the script may be missing.

@@ -9,11 +9,11 @@ ghost use Rattle.sieve_reading.specs.view.Reading.{ask_as, source_as, test_readi
 ghost use Rattle.sieve_reading.specs.view.Tags.{tags_as};
 ghost use Rattle.sieve_reading.specs.view.Tree.{argument_of};
 
+use crate::by_label::{argument_in, into_argument, into_arguments};
 use crate::dates::{current_date_ask, date_ask};
 use crate::given::{
     address_part_of, collation_by, given_texts, match_type_of, number_in, texts_in,
 };
-use crate::labelled::{argument_in, into_argument, into_arguments};
 use crate::reading::{Ask, BodyTransform, Comparison, TestReading, ValueSource};
 use crate::tags::Tags;
 use sieve_syntax::{Argument, Text};

@@ -8,10 +8,10 @@ ghost use Rattle.sieve_reading.specs.view.Reading.{leaf_as};
 ghost use Rattle.sieve_reading.specs.view.Tree.{argument_of};
 ghost use Rattle.sieve_table.specs.declared.row.Role.TheVariants as role;
 
+use crate::by_label::{argument_in, first_or};
 use crate::given::{given_number, given_text, given_texts, text_in};
-use crate::labelled::{argument_in, first_or};
+use crate::label::role_of;
 use crate::reading::{Leaf, Vacation};
-use crate::role::role_of;
 use crate::shape::{AsParts, row_expected, shape_of};
 use crate::tags::Tags;
 use sieve_syntax::Argument;

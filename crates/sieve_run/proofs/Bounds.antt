@@ -167,7 +167,7 @@ module _ (Holds : RunState → Type 0) (kept : IsKept Holds) where
     acts_hold depth delivery inner discard_leaf line s h = kept.acts delivery line (deed_of Discard plain_settings) s h
     acts_hold depth delivery inner (set_leaf variable modifiers value) line s h = given delivery line variable (modified modifiers (text_value s.values value)) s h
     acts_hold depth delivery inner (flag_leaf how variable flags) line s h = changed delivery line how variable flags s h
-    acts_hold depth delivery inner (include_leaf place once optional name) line s h = inner (record { place = place; name = name }) once optional line s h
+    acts_hold depth delivery inner (include_leaf location once optional name) line s h = inner (record { location = location; name = name }) once optional line s h
     acts_hold depth delivery inner (vacation_leaf vacation) line s h =
         let response = response_of s.values vacation in
         allowed delivery line BadAddress (record { action = Respond response; leaves_keep = true }) s h (may_be_from response.from)

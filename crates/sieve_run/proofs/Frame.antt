@@ -6,8 +6,8 @@ use lib.Pointwise.{pointwise}
 use Rattle.message_text.specs.Addresses.{addresses_of}
 use Rattle.match_text.specs.Flags.{flag_list}
 use Rattle.sieve_base.specs.Limits.{include_depth, include_limit, name_limit}
-use Rattle.sieve_base.specs.declared.place.Place.{Place}
-use Rattle.sieve_base.specs.declared.place.Place.TheVariants.{Personal, Global}
+use Rattle.sieve_base.specs.declared.location.Location.{Location}
+use Rattle.sieve_base.specs.declared.location.Location.TheVariants.{Personal, Global}
 use Rattle.sieve_reading.specs.Reading.{Settings, plain_settings, Leaf, keep_leaf, fileinto_leaf, redirect_leaf, discard_leaf, set_leaf, flag_leaf, include_leaf, vacation_leaf, reject_leaf}
 use Rattle.sieve_reading.specs.declared.reading.FlagChange.{FlagChange}
 use Rattle.sieve_reading.specs.Script.{Condition, Commands, no_commands, stops, returns, acts, chooses, script_of}
@@ -15,7 +15,7 @@ use Rattle.sieve_reading.specs.Tree.{Node}
 use Rattle.sieve_effects.specs.Delivery.{Arrival, Delivery, inside}
 use Rattle.sieve_run.specs.Frame.{Agree, Texts, outcome_over}
 use Rattle.sieve_run.specs.Library.{Lookup, found_at, invalid, library_of, lookup_of, missing, present}
-use Rattle.sieve_base.specs.Name.{name_eq, place_eq}
+use Rattle.sieve_base.specs.Name.{name_eq, location_eq}
 use Rattle.sieve_effects.specs.Act.{deed_of, store_deed, Ending, goes_on, returned, stopped, failed, changes, changed_flags, flags_named, held_flags, performs, fails_at, filing_of, is_mailbox, may_be_from, may_be_used, only_address, redirects, response_of, act_by, state_behind}
 use Rattle.sieve_run.specs.Run.{entering, included, include_of, includes, is_read, is_running, is_script, is_there, looked_up, act_of, and_then, answer_of, begun, chosen, decide, delivery_to, exec, resumed, run_of, running, verdict_at, verdict_of, outcome_of, with_found_script, with_read}
 use Rattle.sieve_effects.specs.State.{RunState}
@@ -45,12 +45,12 @@ same_octets (c ∷ cs) = both (nat_eq c c) (pointwise nat_eq cs cs) (same_octet 
     both true b is_a is_b = is_b
     both false b is_a is_b = is_a
 
-same_place : (place : Place) → place_eq place place ≡ true
-same_place Personal = refl
-same_place Global = refl
+same_location : (place : Location) → location_eq place place ≡ true
+same_location Personal = refl
+same_location Global = refl
 
 same_name : (name : ScriptName) → name_eq name name ≡ true
-same_name name = both (place_eq name.place name.place) (pointwise nat_eq name.name name.name) (same_place name.place) (same_octets name.name)
+same_name name = both (location_eq name.location name.location) (pointwise nat_eq name.name name.name) (same_location name.location) (same_octets name.name)
   where
     both : (a b : Bool) → a ≡ true → b ≡ true → (a && b) ≡ true
     both true b is_a is_b = is_b
@@ -280,8 +280,8 @@ module _ (find other : ScriptName → Lookup) where
   acts_frames delivery include include' frames discard_leaf line = own_frames _ (λ s. performs_reads delivery line (deed_of Discard plain_settings) s)
   acts_frames delivery include include' frames (set_leaf variable modifiers value) line = own_frames _ (λ s. given_reads delivery line variable (modified modifiers (text_value s.values value)) s (has_room_for variable s.values))
   acts_frames delivery include include' frames (flag_leaf how variable flags) line = own_frames _ (λ s. changed_reads delivery line how variable flags s)
-  acts_frames delivery include include' frames (include_leaf place once optional name) line =
-      let all = frames (record { place = place; name = name }) once optional line in record { grows = all.grows; same = all.same }
+  acts_frames delivery include include' frames (include_leaf location once optional name) line =
+      let all = frames (record { location = location; name = name }) once optional line in record { grows = all.grows; same = all.same }
   acts_frames delivery include include' frames (vacation_leaf vacation) line =
       own_frames _ (λ s. allowed_reads delivery line BadAddress (record { action = Respond (response_of s.values vacation); leaves_keep = true }) s (may_be_from (response_of s.values vacation).from))
   acts_frames delivery include include' frames (reject_leaf how reason) line =

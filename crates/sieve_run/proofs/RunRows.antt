@@ -6,7 +6,7 @@ use Rattle.sieve_reading.specs.Script.{chain_of, chain_with, block_commands, con
 use Rattle.sieve_table.specs.Table.{command_named}
 use Rattle.sieve_variables.specs.Value.{begun_values, no_values}
 use Rattle.sieve_reading.specs.Tree.{Node}
-use Rattle.sieve_base.specs.declared.place.Place.TheVariants.{Personal}
+use Rattle.sieve_base.specs.declared.location.Location.TheVariants.{Personal}
 use Rattle.sieve_base.specs.Limits.{name_limit}
 use Rattle.sieve_base.specs.Name.{name_eq}
 use Rattle.sieve_effects.specs.Act.{Ending, goes_on}
@@ -24,13 +24,13 @@ use Rattle.sieve_run.specs.Library.{Lookup, missing, present, found_at}
 use Rattle.sieve_run.specs.Run.{begun, exec, included, outcome_of, resumed, verdict_at}
 
 abbrev main : ScriptName
-main = record { place = Personal; name = codes "main" }
+main = record { location = Personal; name = codes "main" }
 
 abbrev script_a : ScriptName
-script_a = record { place = Personal; name = codes "a" }
+script_a = record { location = Personal; name = codes "a" }
 
 abbrev script_b : ScriptName
-script_b = record { place = Personal; name = codes "b" }
+script_b = record { location = Personal; name = codes "b" }
 
 abbrev envelope : Envelope
 envelope = record { from = []; to = []; mailbox = codes "INBOX"; mailboxes = []; clock = None }

@@ -63,7 +63,7 @@ fn skip_quoted<'a>(text: &'a [u8], octets: &[u8]) -> Option<&'a [u8]>
 fn skip_name<'a>(text: &'a [u8], name: &ScriptName) -> Option<&'a [u8]>
     ensures { option_copied result ≡ behind_front (name_text name.now) text.now }
 {
-    let left = skip_octets(text, name.place.word())?;
+    let left = skip_octets(text, name.location.word())?;
     let left = skip_octets(left, b" ")?;
     skip_quoted(left, name.name.as_slice())
 }

@@ -29,7 +29,7 @@ pub use meter::Meter;
 pub use outcome::Outcome;
 pub use script::Script;
 pub use shelf::Shelf;
-pub use sieve_base::{Octets, Place, ScriptName};
+pub use sieve_base::{Location, Octets, ScriptName};
 pub use sieve_effects::{
     Action, Addresses, Envelope, ErrorKind, Filing, Origin, Response, RunError, Texts,
     mailbox_count,

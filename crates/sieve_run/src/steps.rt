@@ -171,13 +171,13 @@ fn include_named<L: Library>(
     ensures ending { IfOk result (λ flow. ending_by flow (state_of state.new) ≡ included
         (library_of (L.profile running.now.lib.now) (L.texts running.now.lib.now)) running.now.depth
         (delivery_as running.now.delivery.now) (record {
-          place = inclusion.place;
+          location = inclusion.location;
           name = slice_index_or (pool_of running.now.code.now).scripts inclusion.name [];
         })
         inclusion.once inclusion.optional inclusion.line (state_of state.old)) }
 {
     let name = ScriptName {
-        place: inclusion.place,
+        location: inclusion.location,
         name: Octets::copied(running.delivery.alloc, running.code.script(inclusion.name))?,
     };
     include(running, &name, inclusion, fields, state)

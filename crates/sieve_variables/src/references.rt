@@ -29,7 +29,7 @@ pub struct References {
     pub far: bool,
 }
 
-// How many octets of a reference don't stand between its braces: `${` and `}`.
+/// How many octets of a reference don't stand between its braces: `${` and `}`.
 const SIGN_COUNT: usize = 3;
 
 /// The parts of a text.
@@ -93,7 +93,7 @@ pub fn references_in(text: &[u8]) -> References
     }
 }
 
-// What stands between the braces of the reference with which the text begins.
+/// What stands between the braces of the reference with which the text begins.
 #[tactic(auto, unfolding(crate::specs::Scan::inside_at))]
 fn inside_at(text: &[u8]) -> Option<&[u8]>
     ensures is { option_map (λ inside. inside.now) result ≡ spec.inside_at text.now }
@@ -106,7 +106,7 @@ fn inside_at(text: &[u8]) -> Option<&[u8]>
     if is_legal(inside) { Some(inside) } else { None }
 }
 
-// What stands before the first `}`, if only octets of words and dots do.
+/// What stands before the first `}`, if only octets of words and dots do.
 #[tactic(auto, unfolding(crate::specs::Scan::before_brace))]
 fn before_brace(text: &[u8]) -> Option<&[u8]>
     ensures is { option_map (λ inside. inside.now) result ≡ spec.before_brace text.now }
@@ -135,7 +135,7 @@ fn is_inside(octet: u8) -> bool
     is_name_octet(octet) || is_dot(octet)
 }
 
-// Cuts at the first dot: the first word, and what stands after the dot.
+/// Cuts at the first dot: the first word, and what stands after the dot.
 fn cut(inside: &[u8]) -> Option<(&[u8], &[u8])>
     ensures words { MatchOption result (spec.words_of inside.now ≡ inside.now ∷ [])
         (λ cut. spec.words_of inside.now ≡ cut.0.now ∷ spec.words_of cut.1.now) }
@@ -149,7 +149,7 @@ fn cut(inside: &[u8]) -> Option<(&[u8], &[u8])>
     None
 }
 
-// Whether what stands between braces are the words of a reference.
+/// Whether what stands between braces are the words of a reference.
 #[tactic(auto, using(crate::proofs::Words::legal_cut))]
 fn is_legal(inside: &[u8]) -> bool
     ensures { result ≡ is_legal (spec.words_of inside.now) }
@@ -163,7 +163,7 @@ fn is_legal(inside: &[u8]) -> bool
     are_names(words)
 }
 
-// Whether the words between dots are names.
+/// Whether the words between dots are names.
 #[tactic(auto, using(crate::proofs::Words::names_cut))]
 fn are_names(inside: &[u8]) -> bool
     ensures { result ≡ list_all is_name (spec.words_of inside.now) }
@@ -178,14 +178,14 @@ fn are_names(inside: &[u8]) -> bool
     is_name(left)
 }
 
-// Whether the words of a reference are more than one.
+/// Whether the words of a reference are more than one.
 fn is_namespaced(inside: &[u8]) -> bool
     ensures { result ≡ spec.is_namespaced (reference (spec.words_of inside.now)) }
 {
     inside.contains(&b'.')
 }
 
-// Whether a reference is in another namespace than that of the variables that scripts share.
+/// Whether a reference is in another namespace than that of the variables that scripts share.
 fn is_foreign(inside: &[u8]) -> bool
     ensures { result ≡ spec.is_foreign (reference (spec.words_of inside.now)) }
 {
@@ -195,7 +195,7 @@ fn is_foreign(inside: &[u8]) -> bool
     }
 }
 
-// Whether a reference is to a match variable whose number is past the limit.
+/// Whether a reference is to a match variable whose number is past the limit.
 fn is_far(inside: &[u8]) -> bool
     ensures { result ≡ spec.is_far (reference (spec.words_of inside.now)) }
 {
@@ -208,7 +208,7 @@ fn is_far(inside: &[u8]) -> bool
     index_of(inside) > MAX_MATCH
 }
 
-// Adds the octets as a literal, if there are any.
+/// Adds the octets as a literal, if there are any.
 fn push_literal(alloc: Global, parts: &mut Parts, octets: &[u8]) -> Result<(), AllocError>
     ensures { OnOk result (parts.new ≡ parts.old ++ literal_part octets.now) }
 {
@@ -219,7 +219,7 @@ fn push_literal(alloc: Global, parts: &mut Parts, octets: &[u8]) -> Result<(), A
     Ok(())
 }
 
-// What a word refers to that is a reference alone.
+/// What a word refers to that is a reference alone.
 fn part_of_word(alloc: Global, word: &[u8]) -> Result<Part, AllocError>
     ensures { IfOk result (λ part. part ≡ part_of_words (word.now ∷ [])) }
 {
@@ -230,7 +230,7 @@ fn part_of_word(alloc: Global, word: &[u8]) -> Result<Part, AllocError>
     }
 }
 
-// What a reference refers to that isn't in another namespace than that of the variables that scripts share.
+/// What a reference refers to that isn't in another namespace than that of the variables that scripts share.
 fn part_inside(alloc: Global, inside: &[u8]) -> Result<Part, AllocError>
     requires { spec.is_foreign (reference (spec.words_of inside.now)) ≡ false }
     ensures { IfOk result (λ part. part ≡ part_of_words (spec.words_of inside.now)) }
@@ -241,7 +241,7 @@ fn part_inside(alloc: Global, inside: &[u8]) -> Result<Part, AllocError>
     }
 }
 
-// Adds a reference after octets that stand for themselves; `written` is both.
+/// Adds a reference after octets that stand for themselves; `written` is both.
 fn push_reference(
     alloc: Global,
     parts: &mut Parts,

@@ -43,17 +43,17 @@ pub data Demand : Type 0 where
 
 abbrev pub demand_of : SessionCommand → Demand
 demand_of nothing = asks_question Nothing
-demand_of (script place name count) = asks_put count (λ octets. put_script (record { place = place; name = name }) octets)
+demand_of (script location name count) = asks_put count (λ octets. put_script (record { location = location; name = name }) octets)
 demand_of (message id count) = asks_put count (λ octets. put_message id octets)
-demand_of (main place name) = asks_edit (set_main (record { place = place; name = name }))
+demand_of (main location name) = asks_edit (set_main (record { location = location; name = name }))
 demand_of no_main = asks_edit clear_main
-demand_of (rename place name new_place new_name) = asks_edit (rename_script (record { place = place; name = name }) (record { place = new_place; name = new_name }))
-demand_of (drop_script place name) = asks_edit (remove_script (record { place = place; name = name }))
+demand_of (rename location name new_location new_name) = asks_edit (rename_script (record { location = location; name = name }) (record { location = new_location; name = new_name }))
+demand_of (drop_script location name) = asks_edit (remove_script (record { location = location; name = name }))
 demand_of (drop_message id) = asks_edit (remove_message id)
 demand_of (envelope from to) = asks_edit (set_envelope from to)
 demand_of (mailbox box) = asks_edit (set_mailbox box)
 demand_of report = asks_report
-demand_of (dump place name) = asks_question (Code (record { place = place; name = name }))
+demand_of (dump location name) = asks_question (Code (record { location = location; name = name }))
 demand_of (expect id count) = asks_put count (λ octets. set_expected id octets)
 demand_of (no_expect id) = asks_edit (clear_expected id)
 demand_of (mailboxes count) = asks_put count (λ octets. set_mailboxes octets)

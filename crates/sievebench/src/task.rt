@@ -9,7 +9,7 @@ use bench::{Bench, EditFault};
 use date_text::Clock;
 use session_text::{SessionCommand, Word, command_of_line};
 use sieve_base::limits::{MAX_EXPECTED, MAX_ID, MAX_MAILBOXES, MAX_MESSAGE, MAX_TEXT};
-use sieve_base::{Octets, Place, ScriptName};
+use sieve_base::{Location, Octets, ScriptName};
 use std::alloc::{AllocError, Global};
 
 /// What octets are put at: a script's name or a message's id, the id of a message of which they are expected, or the list of mailboxes.
@@ -46,21 +46,21 @@ pub(crate) enum Task {
 }
 
 /// A script's name with a copy of its octets.
-fn copied_name(alloc: Global, place: Place, name: &Word<'_>) -> Result<ScriptName, AllocError>
-    ensures { IfOk result (λ copy. copy ≡ record { place = place; name = name.now }) }
+fn copied_name(alloc: Global, location: Location, name: &Word<'_>) -> Result<ScriptName, AllocError>
+    ensures { IfOk result (λ copy. copy ≡ record { location = location; name = name.now }) }
 {
     Ok(ScriptName {
-        place,
+        location,
         name: name.copied(alloc)?,
     })
 }
 
 /// To put a script.
-fn script_task(alloc: Global, place: Place, name: &Word<'_>, count: u64) -> Task
+fn script_task(alloc: Global, location: Location, name: &Word<'_>, count: u64) -> Task
     ensures { (state : BenchState)
-        → Tasks result (Some (demand_of (line.script place name.now count))) state state }
+        → Tasks result (Some (demand_of (line.script location name.now count))) state state }
 {
-    match copied_name(alloc, place, name) {
+    match copied_name(alloc, location, name) {
         Ok(name) => Task::Put {
             subject: Subject::Script(name),
             count,
@@ -98,11 +98,11 @@ fn expect_task(alloc: Global, id: &Word<'_>, count: u64) -> Task
 }
 
 /// To answer with the code of a script.
-fn dump_task(alloc: Global, place: Place, name: &Word<'_>) -> Task
+fn dump_task(alloc: Global, location: Location, name: &Word<'_>) -> Task
     ensures { (state : BenchState)
-        → Tasks result (Some (demand_of (line.dump place name.now))) state state }
+        → Tasks result (Some (demand_of (line.dump location name.now))) state state }
 {
-    match copied_name(alloc, place, name) {
+    match copied_name(alloc, location, name) {
         Ok(name) => Task::Ask {
             question: Question::Code { name },
         },
@@ -112,10 +112,10 @@ fn dump_task(alloc: Global, place: Place, name: &Word<'_>) -> Task
 
 /// Makes a script main.
 #[tactic(auto, using(crate::proofs::Tried::trying))]
-fn set_main(bench: &mut Bench, place: Place, name: &Word<'_>) -> Result<(), EditFault>
-    ensures { IsTried (Some (demand_of (line.main place name.now))) result bench.old bench.new }
+fn set_main(bench: &mut Bench, location: Location, name: &Word<'_>) -> Result<(), EditFault>
+    ensures { IsTried (Some (demand_of (line.main location name.now))) result bench.old bench.new }
 {
-    let name = copied_name(bench.allocator(), place, name)?;
+    let name = copied_name(bench.allocator(), location, name)?;
     bench.set_main(name)
 }
 
@@ -132,26 +132,26 @@ fn clear_main(bench: &mut Bench) -> Result<(), EditFault>
 #[tactic(auto, using(crate::proofs::Tried::trying))]
 fn rename_script(
     bench: &mut Bench,
-    place: Place,
+    location: Location,
     name: &Word<'_>,
-    new_place: Place,
+    new_location: Location,
     new_name: &Word<'_>,
 ) -> Result<(), EditFault>
-    ensures { IsTried (Some (demand_of (line.rename place name.now new_place new_name.now))) result
+    ensures { IsTried (Some (demand_of (line.rename location name.now new_location new_name.now))) result
         bench.old bench.new }
 {
-    let from = copied_name(bench.allocator(), place, name)?;
-    let to = copied_name(bench.allocator(), new_place, new_name)?;
+    let from = copied_name(bench.allocator(), location, name)?;
+    let to = copied_name(bench.allocator(), new_location, new_name)?;
     bench.rename_script(&from, to)
 }
 
 /// Removes a script.
 #[tactic(auto, using(crate::proofs::Tried::trying))]
-fn drop_script(bench: &mut Bench, place: Place, name: &Word<'_>) -> Result<(), EditFault>
+fn drop_script(bench: &mut Bench, location: Location, name: &Word<'_>) -> Result<(), EditFault>
     ensures { IsTried
-        (Some (demand_of (line.drop_script place name.now))) result bench.old bench.new }
+        (Some (demand_of (line.drop_script location name.now))) result bench.old bench.new }
 {
-    let name = copied_name(bench.allocator(), place, name)?;
+    let name = copied_name(bench.allocator(), location, name)?;
     bench.remove_script(&name)
 }
 
@@ -258,25 +258,27 @@ pub(crate) fn task_of(bench: &mut Bench, line: &[u8]) -> Task
             question: Question::Nothing,
         },
         SessionCommand::Report => return Task::Report,
-        SessionCommand::Dump { place, name } => return dump_task(alloc, place, &name),
-        SessionCommand::Script { place, name, count } => return script_task(
-            alloc, place, &name, count,
-        ),
+        SessionCommand::Dump { location, name } => return dump_task(alloc, location, &name),
+        SessionCommand::Script {
+            location,
+            name,
+            count,
+        } => return script_task(alloc, location, &name, count),
         SessionCommand::Message { id, count } => return message_task(alloc, &id, count),
         SessionCommand::Expect { id, count } => return expect_task(alloc, &id, count),
         SessionCommand::Mailboxes { count } => return Task::Put {
             subject: Subject::Mailboxes,
             count,
         },
-        SessionCommand::Main { place, name } => set_main(bench, place, &name),
+        SessionCommand::Main { location, name } => set_main(bench, location, &name),
         SessionCommand::NoMain => clear_main(bench),
         SessionCommand::Rename {
-            place,
+            location,
             name,
-            new_place,
+            new_location,
             new_name,
-        } => rename_script(bench, place, &name, new_place, &new_name),
-        SessionCommand::DropScript { place, name } => drop_script(bench, place, &name),
+        } => rename_script(bench, location, &name, new_location, &new_name),
+        SessionCommand::DropScript { location, name } => drop_script(bench, location, &name),
         SessionCommand::DropMessage { id } => drop_message(bench, &id),
         SessionCommand::NoExpect { id } => clear_expected(bench, &id),
         SessionCommand::Envelope { from, to } => set_envelope(bench, &from, &to),

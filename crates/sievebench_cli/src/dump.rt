@@ -5,7 +5,7 @@ use crate::files::{octets_in, script_name};
 use crate::streams::Output;
 use sieve_base::Counted;
 use sieve_base::limits::MAX_TEXT;
-use sievebench::{End, Place, Profile, ScriptName, SessionEnd, TestEnd, dump_text, status_of};
+use sievebench::{End, Location, Profile, ScriptName, SessionEnd, TestEnd, dump_text, status_of};
 use std::alloc::{AllocError, Global};
 use std::io;
 use std::io::{ErrorKind, Write};
@@ -81,5 +81,5 @@ fn dump_on<W: Write + Drop>(
 /// The name of the script at a path.
 fn named(alloc: Global, path: &str) -> Result<ScriptName, AllocError> {
     let name = Vec::from_slice(alloc, script_name(path).as_bytes())?;
-    Ok(ScriptName::new(Place::Personal, name))
+    Ok(ScriptName::new(Location::Personal, name))
 }

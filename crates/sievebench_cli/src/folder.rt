@@ -3,7 +3,7 @@
 use crate::files::{ReadFault, SCRIPT_END, octets_at};
 use crate::test_files::TestInput;
 use sieve_base::limits::MAX_TEXT;
-use sievebench::Place;
+use sievebench::Location;
 use std::alloc::{AllocError, Global};
 use std::fs::Metadata;
 use std::io::{BufReader, ErrorKind, Read};
@@ -17,12 +17,12 @@ const LISTING_ROOM: usize = 65_536;
 /// come in the order of the octets of these file names. No other file is opened.
 pub(crate) fn read_folder<R: Files + AllocGlobal>(
     rt: &R,
-    place: Place,
+    location: Location,
     folder: &str,
     input: &mut TestInput,
 ) -> Result<(), ReadFault> {
     match listing_of(rt, folder) {
-        Ok(listing) => read_listed(rt, (place, folder), listing.as_slice(), input),
+        Ok(listing) => read_listed(rt, (location, folder), listing.as_slice(), input),
         Err(e) => Err(ReadFault::at(rt.alloc(), folder.as_bytes(), &e)),
     }
 }
@@ -30,14 +30,14 @@ pub(crate) fn read_folder<R: Files + AllocGlobal>(
 /// Adds the scripts that are listed.
 fn read_listed<R: Files + AllocGlobal>(
     rt: &R,
-    (place, folder): (Place, &str),
+    (location, folder): (Location, &str),
     listing: &[u8],
     input: &mut TestInput,
 ) -> Result<(), ReadFault> {
     let names = file_names(rt.alloc(), listing)?;
     for file in names.iter() {
         let path = path_in(rt.alloc(), folder, file)?;
-        read_script(rt, place, file, path.as_slice(), input)?;
+        read_script(rt, location, file, path.as_slice(), input)?;
     }
     Ok(())
 }
@@ -45,7 +45,7 @@ fn read_listed<R: Files + AllocGlobal>(
 /// Adds the script in a file at a path, if it is a plain one.
 fn read_script<R: Files + AllocGlobal>(
     rt: &R,
-    place: Place,
+    location: Location,
     file: &[u8],
     path: &[u8],
     input: &mut TestInput,
@@ -53,7 +53,7 @@ fn read_script<R: Files + AllocGlobal>(
     if is_plain(rt, path)? {
         let text = octets_at(rt, path, MAX_TEXT)?;
         let name = file.strip_suffix(SCRIPT_END.as_bytes()).unwrap_or(file);
-        input.add(rt.alloc(), (place, name), path, text)?;
+        input.add(rt.alloc(), (location, name), path, text)?;
     }
     Ok(())
 }

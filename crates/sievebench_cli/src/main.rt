@@ -27,10 +27,10 @@ use std::{env, io};
 use streams::{Held, Output, Replies, Requests};
 use test_run::run_test;
 
-// How many reads a session may make.
+/// How many reads a session may make.
 const SESSION_TURNS: u64 = 1_000_000_000;
 
-// The status of help that was printed, and of a mistake in the words.
+/// The status of help that was printed, and of a mistake in the words.
 const HELP_STATUS: u8 = 0;
 
 const USAGE_STATUS: u8 = 2;
@@ -39,7 +39,7 @@ fn main(rt: HostRuntime) -> ExitCode {
     ExitCode::from(run(&rt))
 }
 
-// Serves a session. Answers the status of the process.
+/// Serves a session. Answers the status of the process.
 fn serve(rt: &(impl AllocGlobal + Input + Print + Eprint), profile: Profile) -> u8 {
     let end = run_session(rt, profile);
     if let Some(complaint) = complaint_of(end) {
@@ -48,7 +48,7 @@ fn serve(rt: &(impl AllocGlobal + Input + Print + Eprint), profile: Profile) -> 
     status_of(End::Session(end))
 }
 
-// Does what the command line asks for, and answers the status of the process.
+/// Does what the command line asks for, and answers the status of the process.
 fn run(rt: &(impl Env + AllocGlobal + Input + Print + Eprint + Files)) -> u8 {
     match asked(rt) {
         Ok(line) => {
@@ -67,13 +67,13 @@ fn run(rt: &(impl Env + AllocGlobal + Input + Print + Eprint + Files)) -> u8 {
     }
 }
 
-// What the command line asks for.
+/// What the command line asks for.
 fn asked(rt: &(impl Env + AllocGlobal)) -> Result<CommandLine, UsageFault> {
     let words = words_of(rt)?;
     command_of(rt.alloc(), words.as_slice())
 }
 
-// The words of the command line, the program's name first. A word that is no text is a mistake.
+/// The words of the command line, the program's name first. A word that is no text is a mistake.
 fn words_of(rt: &(impl Env + AllocGlobal)) -> Result<Vec<String>, UsageFault> {
     match env::args(rt) {
         Ok(words) => Ok(words.collect(rt.alloc())?),
@@ -88,7 +88,7 @@ fn words_of(rt: &(impl Env + AllocGlobal)) -> Result<Vec<String>, UsageFault> {
     }
 }
 
-// Prints help on standard output, and what is wrong with the words on standard error.
+/// Prints help on standard output, and what is wrong with the words on standard error.
 fn answer_usage(rt: &(impl Print + Eprint), fault: UsageFault) -> u8 {
     match fault {
         UsageFault::Usage { help: true, text } => match rt.print(text.as_str()) {
@@ -116,12 +116,12 @@ fn answer_usage(rt: &(impl Print + Eprint), fault: UsageFault) -> u8 {
     }
 }
 
-// Runs a session over standard input and output, on a bench of a profile.
+/// Runs a session over standard input and output, on a bench of a profile.
 fn run_session(rt: &(impl AllocGlobal + Input + Print), profile: Profile) -> SessionEnd {
     run_over(rt.alloc(), profile, rt.reader(), io::writer(rt))
 }
 
-// Runs a session over a reader and a writer, on a bench of a profile.
+/// Runs a session over a reader and a writer, on a bench of a profile.
 fn run_over<R: Read + Drop, W: Write + Drop>(
     alloc: Global,
     profile: Profile,
@@ -134,7 +134,7 @@ fn run_over<R: Read + Drop, W: Write + Drop>(
     }
 }
 
-// Runs a session on a bench, whose replies are held.
+/// Runs a session on a bench, whose replies are held.
 fn run_on<R: Read + Drop, W: Write + Drop>(
     alloc: Global,
     bench: &mut Bench,
@@ -147,8 +147,8 @@ fn run_on<R: Read + Drop, W: Write + Drop>(
     }
 }
 
-// Runs a session on a bench, and writes out what is left of its replies. An output that has failed, be it before a read, fails here
-// too.
+/// Runs a session on a bench, and writes out what is left of its replies. An output that has failed, be it before a read, fails here
+/// too.
 fn run_held<R: Read + Drop, W: Write + Drop>(
     bench: &mut Bench,
     input: R,
@@ -169,7 +169,7 @@ fn run_held<R: Read + Drop, W: Write + Drop>(
     }
 }
 
-// What standard error says of a session that did not go through.
+/// What standard error says of a session that did not go through.
 fn complaint_of(end: SessionEnd) -> Option<&'static str> {
     match end {
         SessionEnd::Read => Some("cannot read standard input"),

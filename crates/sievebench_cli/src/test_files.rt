@@ -6,7 +6,7 @@ use sieve_base::limits::{
     MAX_ADDRESS, MAX_MAILBOX, MAX_MAILBOXES, MAX_MESSAGE, MAX_NAME, MAX_TEXT,
 };
 use sievebench::{
-    Argument, Clock, Octets, Place, Profile, ScriptName, TestJob, TestScript, TestWords,
+    Argument, Clock, Location, Octets, Profile, ScriptName, TestJob, TestScript, TestWords,
 };
 use std::alloc::{AllocError, Global};
 use std::rt::Files;
@@ -47,10 +47,10 @@ fn read_files<R: Files + AllocGlobal>(
         read_mailboxes(rt, path.as_str(), input)?;
     }
     if let Some(folder) = &words.personal {
-        read_folder(rt, Place::Personal, folder.as_str(), input)?;
+        read_folder(rt, Location::Personal, folder.as_str(), input)?;
     }
     if let Some(folder) = &words.global {
-        read_folder(rt, Place::Global, folder.as_str(), input)?;
+        read_folder(rt, Location::Global, folder.as_str(), input)?;
     }
     read_main(rt, words.script.as_str(), input)?;
     let mail = words.mail.as_str().as_bytes();
@@ -78,7 +78,12 @@ fn read_main<R: Files + AllocGlobal>(
 ) -> Result<(), ReadFault> {
     let text = octets_at(rt, path.as_bytes(), MAX_TEXT)?;
     let name = script_name(path).as_bytes();
-    input.add(rt.alloc(), (Place::Personal, name), path.as_bytes(), text)?;
+    input.add(
+        rt.alloc(),
+        (Location::Personal, name),
+        path.as_bytes(),
+        text,
+    )?;
     input.job.main.name = Octets::copied(rt.alloc(), name)?;
     Ok(())
 }
@@ -125,7 +130,7 @@ impl TestInput {
             mailboxes: empty(alloc),
             clock,
             scripts: Vec::new(alloc),
-            main: ScriptName::new(Place::Personal, Vec::new(alloc)),
+            main: ScriptName::new(Location::Personal, Vec::new(alloc)),
             id: empty(alloc),
             message: empty(alloc),
         };
@@ -140,12 +145,12 @@ impl TestInput {
     pub(crate) fn add(
         &mut self,
         alloc: Global,
-        (place, name): (Place, &[u8]),
+        (location, name): (Location, &[u8]),
         path: &[u8],
         text: Vec<u8>,
     ) -> Result<(), AllocError> {
         self.paths.push(Vec::from_slice(alloc, path)?)?;
-        let name = ScriptName::new(place, Vec::from_slice(alloc, name)?);
+        let name = ScriptName::new(location, Vec::from_slice(alloc, name)?);
         let text = Octets::from_vec(text);
         Ok(self.job.scripts.push(TestScript { name, text })?)
     }

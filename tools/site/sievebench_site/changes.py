@@ -148,7 +148,7 @@ def keys_of(text: bytes, command: Command) -> Iterator[Change]:
 
 
 def without_key(text: bytes, command: Command, inner: Tuple[Token, ...], at: int) -> Change:
-    """One of the strings between brackets taken out, with the comma behind it, or of the last one that before it."""
+    """One of the strings between brackets taken out, with the comma after it, or of the last one that before it."""
     key = inner[at]
     last = at + 1 == len(inner)
     start, end = (inner[at - 1].start, key.end) if last else (key.start, inner[at + 1].end)

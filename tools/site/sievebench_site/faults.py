@@ -14,7 +14,7 @@ from .words import quoted
 # What each fault of a script means, and each error of a run that `lint` looks for.
 SENTENCES = {
     "syntax": "What stands here can't follow what stands before it, or the text ends too early.",
-    "require-place": "A `require` has to stand in front of all other commands.",
+    "require-place": "A `require` has to stand before all other commands.",
     "unknown-capability": "There is no such extension here.",
     "unknown-command": "There is no such command or test.",
     "not-required": "What stands here needs an extension that the script doesn't require.",

@@ -1,4 +1,4 @@
-"""Cases that are alike: the same difference of many mails is told once."""
+"""Cases that are alike: the same difference of many mails is printed once."""
 
 from __future__ import annotations
 
@@ -38,7 +38,7 @@ class Group(NamedTuple):
         )
 
     def more(self) -> Optional[str]:
-        """What is told after the first ones, where there are several."""
+        """What is printed after the first ones, where there are several."""
         rest = len(self.cases) - FIRST
         if len(self.cases) < 2:
             return None

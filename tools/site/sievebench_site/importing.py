@@ -121,7 +121,7 @@ class Import:
         self.told.append(f"{self.look.name(folder)}: left out: it is a mailbox by itself: name it to take it")
 
     def lines(self) -> List[str]:
-        """What is told: the mails that are left out, and the counts."""
+        """What is printed: the mails that are left out, and the counts."""
         counts = f"{counted(self.seen, 'mail')}, {self.written} written, {len(self.told)} left out"
         return [*self.told, counts + (f", {self.bare} without an envelope" if self.bare else "")]
 

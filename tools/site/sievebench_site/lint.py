@@ -52,7 +52,7 @@ class Linted:
         return "recursive-include" if not once and self.code.comes_to(goal, place) else None
 
     def notes(self) -> Iterator[Finding]:
-        """What is told and is no fault."""
+        """What is printed and is no fault."""
         for script, line, why in self.survey.unjudged(self.user):
             yield Finding(script.path, line, "not judged", why, NOTE)
         if self.site.clock is None:
@@ -92,7 +92,7 @@ def action_faults(session: Session, code: Code) -> Iterator[Finding]:
 
 
 def lint(site: Site, program: Program, sievec: bool) -> List[Finding]:
-    """All findings: the faults, where sievec says otherwise, and what is no fault. Of several users each is told once."""
+    """All findings: the faults, where sievec says otherwise, and what is no fault. Of several users each is printed once."""
     faults: Set[Finding] = set()
     others: List[Finding] = []
     notes: List[Finding] = []

@@ -81,7 +81,7 @@ def run_lint(options: argparse.Namespace) -> int:
 def run_import(options: argparse.Namespace) -> int:
     """The command import."""
     if len(options.folders) < 2:
-        refuse("mailboxes or files are wanted, and then the site: --help tells more")
+        refuse("mailboxes or files are wanted, and then the site; see --help")
     *sources, site = [os.fsencode(word) for word in options.folders]
     home = site if options.user is None else os.path.join(site, b"users", os.fsencode(options.user))
     folder = os.path.join(home, b"mails")
@@ -112,7 +112,7 @@ def run_diff(options: argparse.Namespace) -> int:
     folders = [os.fsencode(word) for word in options.folders]
     wants = 1 if options.git is not None else 2
     if len(folders) != wants or not all(folders):
-        refuse("two folders are wanted, or with --git one: --help tells more")
+        refuse("two folders are wanted, or with --git one; see --help")
     options.folders = options.folders[-1:]
     site = site_with_mails(options)
     with contextlib.ExitStack() as room:
@@ -126,7 +126,7 @@ def run_diff(options: argparse.Namespace) -> int:
 def run_why(options: argparse.Namespace) -> int:
     """The command why."""
     if len(options.folders) != 2:
-        refuse("a site and a mail are wanted: --help tells more")
+        refuse("a site and a mail are wanted; see --help")
     *options.folders, mail = options.folders
     options.only = [os.fsdecode(why.mail_name(os.fsencode(mail)))]
     site = site_with_mails(options)
@@ -157,7 +157,7 @@ def main(words: List[str]) -> int:
     """Runs a command, and gives the status."""
     names = " and ".join([", ".join(list(COMMANDS)[:-1]), list(COMMANDS)[-1]])
     if not words:
-        refuse(f"one of {names} is wanted: --help tells more")
+        refuse(f"one of {names} is wanted; see --help")
     if words[0] in ("-h", "--help", "help"):
         sys.stdout.write(f"{DESCRIPTION}{SITE}\n{STATUS}")
         return 0
@@ -165,7 +165,7 @@ def main(words: List[str]) -> int:
         print(f"sievebench-site {VERSION}, with {Program(None, []).version}")
         return 0
     if words[0] not in COMMANDS:
-        refuse(f"{quoted(os.fsencode(words[0]))} is none of {names}: --help tells more")
+        refuse(f"{quoted(os.fsencode(words[0]))} is none of {names}; see --help")
     return COMMANDS[words[0]](parsed(words[0], words[1:]))
 
 

@@ -84,7 +84,7 @@ class Parser(argparse.ArgumentParser):
     """A parser that tells what is wrong as the rest of the tool does."""
 
     def error(self, message: str) -> NoReturn:
-        refuse(f"{Look(False).name(os.fsencode(message))}: --help tells the options")
+        refuse(f"{Look(False).name(os.fsencode(message))}; see --help")
 
 
 def memory(text: str) -> int:
@@ -379,7 +379,7 @@ def parsed(command: str, words: List[str]) -> argparse.Namespace:
 def site_folder(words: List[str]) -> bytes:
     """The one folder that the words name."""
     if len(words) != 1 or not words[0]:
-        refuse("one folder is wanted, the site: --help tells more")
+        refuse("one folder is wanted, the site; see --help")
     return os.fsencode(words[0])
 
 

@@ -42,8 +42,8 @@ def with_fronts(text: bytes, places: List[int], domain: bytes) -> bytes:
 
 
 def with_end(text: bytes, command: Command) -> Tuple[bytes, int]:
-    """The script with an error in front of a command, which drops all else, on a line that no other error can have; and this line. What
-    stands in front of an `elsif` is at the start of its block, and its condition is true."""
+    """The script with an error before a command, which drops all else, on a line that no other error can have; and this line. What
+    stands before an `elsif` is at the start of its block, and its condition is true."""
     condition, place = command.condition(), command.start()
     if command.name() == b"elsif" and condition and command.block is not None:
         start, end = condition

@@ -20,7 +20,7 @@ CHANGED = "left, since it was changed meanwhile"
 
 
 class Change(NamedTuple):
-    """A file that is to be written, or left: what it was and becomes, and what is told of it."""
+    """A file that is to be written, or left: what it was and becomes, and what is printed of it."""
 
     mail: Mail
     text: bytes
@@ -29,7 +29,7 @@ class Change(NamedTuple):
 
 
 def record(site: Site, judged: Judged, look: Look, force: bool) -> Tuple[List[str], bool]:
-    """Writes what is to be expected, and gives what is told and whether all of it is written."""
+    """Writes what is to be expected, and gives what is printed and whether all of it is written."""
     faults = [
         f"{look.name(script.path)}:{line}: {word}: {sentence_of(script, line, word)}"
         for script, (line, word) in broken_in(site, judged)

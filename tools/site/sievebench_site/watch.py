@@ -132,7 +132,7 @@ class Watch:
         self.refused = False
 
     def lines(self) -> List[str]:
-        """What is told of a look: nothing where no file has changed."""
+        """What is printed of a look: nothing where no file has changed."""
         files = stamps_in(self.wanted.folder)
         if files == self.files and self.seen:
             return []

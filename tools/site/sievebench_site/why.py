@@ -74,7 +74,7 @@ class Question:
             return self.bench.run(self.place)[self.name]
 
     def take_out(self, error: Optional[Error]) -> Optional[Branch]:
-        """Puts a `stop` in place of the command that failed. It is the first on its line with which, and without those behind it, the
+        """Puts a `stop` in place of the command that failed. It is the first on its line with which, and without those after it, the
         run fails there."""
         place, line = error or (self.place, 0)
         text = self.texts.get(place, b"")
@@ -209,5 +209,5 @@ def mail_name(word: bytes) -> bytes:
     """The name of a mail's file, which may be given with the folder."""
     name = word.rpartition(b"/")[2]
     if not name:
-        refuse("a site and the name of a mail's file are wanted, as 09.eml: --help tells more")
+        refuse("a site and the name of a mail's file are wanted, as 09.eml; see --help")
     return name

@@ -58,8 +58,8 @@ class Changes(unittest.TestCase):
         for it in changes(SCRIPT, True, True):
             with self.subTest(how=it.how, line=it.line):
                 self.assertEqual(it.of(SCRIPT).count(b"\n"), SCRIPT.count(b"\n"))
-                behind = len(SCRIPT) - it.end
-                self.assertEqual(it.of(SCRIPT)[-behind:], SCRIPT[-behind:])
+                after = len(SCRIPT) - it.end
+                self.assertEqual(it.of(SCRIPT)[-after:], SCRIPT[-after:])
                 self.assertEqual(it.of(SCRIPT)[: it.start], SCRIPT[: it.start])
 
     def test_changes(self) -> None:

@@ -1,4 +1,4 @@
-"""The commands, by the fake program: what is told, what is written, and the status."""
+"""The commands, by the fake program: what is printed, what is written, and the status."""
 
 import json
 import os
@@ -305,7 +305,7 @@ class Imports(Room):
     def test_refusals(self) -> None:
         self.write({"x": "", "d/y": "", "site/mails/z": ""})
         rows = [
-            (("x",), "mailboxes or files are wanted, and then the site: --help tells more"),
+            (("x",), "mailboxes or files are wanted, and then the site; see --help"),
             (("x", "d"), 'no folder "d/mails": mails go there'),
             (("d", "site"), '"d" is no Maildir: it has neither cur nor new'),
             (("gone", "site"), 'cannot read "gone": No such file or directory'),
@@ -325,8 +325,8 @@ class Words(Room):
             (("check", "--memory", "1T", "x"), "argument --memory: '1T' isn't a number of octets, as 512M or 4G"),
             (("check", "--format", "xml", "x"), "argument --format: invalid choice: 'xml'"),
             (("check", "--utf8", "--no-utf8", "x"), "argument --no-utf8: not allowed with argument --utf8"),
-            (("lint", "--lax", "x"), "unrecognized arguments: --lax: --help tells the options"),
-            (("check", "--li", "x"), "unrecognized arguments: --li: --help tells the options"),
+            (("lint", "--lax", "x"), "unrecognized arguments: --lax; see --help"),
+            (("check", "--li", "x"), "unrecognized arguments: --li; see --help"),
         ]
         for words, sentence in rows:
             with self.subTest(words=words):

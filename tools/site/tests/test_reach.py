@@ -8,7 +8,7 @@ TEXT = b'require "fileinto"; if\ntrue { keep; }\nelsif not\nfalse { stop; }'
 
 
 class Questions(unittest.TestCase):
-    """What stands in front of commands."""
+    """What stands before commands."""
 
     def test_fronts(self) -> None:
         asked = b' redirect :copy "%d@d"; '

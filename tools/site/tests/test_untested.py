@@ -19,7 +19,7 @@ redirect "a@b.example";
 
 
 class Commands(Room):
-    """What is told of a site."""
+    """What is printed of a site."""
 
     def setUp(self) -> None:
         super().setUp()

@@ -19,7 +19,7 @@ FAULT = "1: unknown-command: There is no such command or test."
 
 
 class Looks(Room):
-    """What is told of each look."""
+    """What is printed of each look."""
 
     def setUp(self) -> None:
         super().setUp()
@@ -34,12 +34,12 @@ class Looks(Room):
         self.addCleanup(self.watch.close)
 
     def look(self) -> List[str]:
-        """What is told, without the folder and the times."""
+        """What is printed, without the folder and the times."""
         folder = f"{self.room}/site/"
         return [re.sub(r", [0-9]+\.[0-9]{2} seconds$", "", line).replace(folder, "") for line in self.watch.lines()]
 
     def saved(self, files: Files) -> List[str]:
-        """What is told where these files are saved, without the heading."""
+        """What is printed where these files are saved, without the heading."""
         self.write({f"site/{name}": text for name, text in files.items()})
         return [line for line in self.look() if not line.endswith((": saved", ": gone"))]
 

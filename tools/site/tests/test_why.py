@@ -17,7 +17,7 @@ if false { } elsif header "subject" "k1" { fileinto "B"; }
 
 
 class Answers(Room):
-    """What is told of a mail."""
+    """What is printed of a mail."""
 
     def setUp(self) -> None:
         super().setUp()
@@ -27,7 +27,7 @@ class Answers(Room):
         )
 
     def told(self, *words: str) -> List[str]:
-        """What is told where all is well."""
+        """What is printed where all is well."""
         status, told, error = self.ran("why", *words)
         self.assertEqual((status, error), (0, ""))
         return told

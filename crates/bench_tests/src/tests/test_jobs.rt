@@ -2,8 +2,8 @@
 
 use super::{holds, many, personal, same};
 use sievebench::{
-    Clock, Counted, Extension, Faults, Meter, Octets, Place, Profile, ScriptName, TestEnd, TestJob,
-    TestScript, Zone, test_bench,
+    Clock, Counted, Extension, Faults, Location, Meter, Octets, Profile, ScriptName, TestEnd,
+    TestJob, TestScript, Zone, test_bench,
 };
 use std::alloc::{AllocError, Global};
 use std::process::Abort;
@@ -218,7 +218,7 @@ fn name_of(part: Part) -> &'static str {
 fn add_name(alloc: Global, job: &mut TestJob, name: Octets) -> Result<(), AllocError> {
     let name = ScriptName {
         name,
-        place: Place::Personal,
+        location: Location::Personal,
     };
     let text = Octets::from_vec(Vec::new(alloc));
     Ok(job.scripts.push(TestScript { name, text })?)

@@ -1,7 +1,7 @@
 //! The dump of a text by itself.
 
 use super::{holds, many, personal, same};
-use sievebench::{Counted, Faults, Place, Profile, ScriptName, TestEnd, dump_text};
+use sievebench::{Counted, Faults, Location, Profile, ScriptName, TestEnd, dump_text};
 use std::alloc::{AllocError, Global};
 use std::process::Abort;
 
@@ -61,7 +61,7 @@ fn check_sizes(
     wanted: TestEnd,
 ) -> Result<(), AllocError> {
     let name = ScriptName {
-        place: Place::Personal,
+        location: Location::Personal,
         name: many(rt.alloc(), name)?,
     };
     let text = behind_spaces(rt.alloc(), spaces, command)?;

@@ -8,7 +8,9 @@ ghost use Rattle.sieve_run.specs.Shelf.{text_on};
 
 use super::holds;
 use sieve_profile::Profile;
-use sieve_run::{Action, Envelope, Message, Meter, Octets, Outcome, Place, ScriptName, Shelf, run};
+use sieve_run::{
+    Action, Envelope, Location, Message, Meter, Octets, Outcome, ScriptName, Shelf, run,
+};
 use std::alloc::{AllocError, Global};
 use std::test::Fail;
 
@@ -34,7 +36,7 @@ pub(crate) fn verdict_of(
 
 /// Whether a script discards the mail of a sender with these octets.
 fn discards(alloc: Global, text: &[u8], from: &[u8], octets: Vec<u8>) -> Result<bool, Fail> {
-    let name = ScriptName::new(Place::Personal, Vec::new(alloc));
+    let name = ScriptName::new(Location::Personal, Vec::new(alloc));
     let envelope = Envelope {
         from: Octets::copied(alloc, from)?,
         to: Octets::copied(alloc, b"ada@example.org")?,
@@ -75,8 +77,8 @@ fn mail_of(alloc: Global, size: usize) -> Result<Vec<u8>, AllocError> {
     Ok(octets)
 }
 
-// 1K is 1,024 octets, which is neither over nor under itself (RFC 5228, sections 2.4.1 and 5.9). Each field contains the empty key, and an
-// absent one contains nothing (section 2.7.1).
+/// 1K is 1,024 octets, which is neither over nor under itself (RFC 5228, sections 2.4.1 and 5.9). Each field contains the empty key, and an
+/// absent one contains nothing (section 2.7.1).
 #[test]
 fn sizes_and_empty_keys(rt: HostRuntime) -> Result<(), Fail> {
     let alloc = rt.alloc();

@@ -6,21 +6,21 @@ ghost use Rattle.std.specs.Prelude.{◌≤◌, IfOk, length};
 use super::{holds, same};
 use sieve_profile::Profile;
 use sieve_run::{
-    Action, Envelope, ErrorKind, Message, Meter, Octets, Outcome, Place, ScriptName, Shelf, run,
+    Action, Envelope, ErrorKind, Location, Message, Meter, Octets, Outcome, ScriptName, Shelf, run,
 };
 use std::alloc::{AllocError, Global};
 use std::process::Abort;
 use std::test::Fail;
 
-fn named(alloc: Global, place: Place, name: &[u8]) -> Result<ScriptName, AllocError> {
-    Ok(ScriptName::new(place, Vec::from_slice(alloc, name)?))
+fn named(alloc: Global, location: Location, name: &[u8]) -> Result<ScriptName, AllocError> {
+    Ok(ScriptName::new(location, Vec::from_slice(alloc, name)?))
 }
 
 /// The name of the main script.
 fn main_name(alloc: Global) -> Result<ScriptName, AllocError>
     ensures { IfOk result (λ main. length main.name ≤ 1024) }
 {
-    Ok(ScriptName::new(Place::Personal, Vec::from_slice(alloc, b"main")?))
+    Ok(ScriptName::new(Location::Personal, Vec::from_slice(alloc, b"main")?))
 }
 
 /// An envelope without addresses.
@@ -210,7 +210,7 @@ fn check_missing(
 
 /// Runs a script that is not on the shelf, though its name is that of the main one.
 fn check_other(rt: &(impl AllocGlobal + Abort), shelf: &Shelf) -> Result<(), Fail> {
-    let other = named(rt.alloc(), Place::Global, b"main")?;
+    let other = named(rt.alloc(), Location::Global, b"main")?;
     let missing = (0, true, Some((0, ErrorKind::MissingScript)), Some(false));
     let wanted = ("another place", missing);
     check_run(rt, shelf, Some(&other), &mut Meter::new(), wanted)
@@ -257,7 +257,7 @@ fn scripts_are_run(rt: HostRuntime) -> Result<(), Fail> {
 
 #[test]
 fn a_name_equals_its_copy(rt: HostRuntime) -> Result<(), Fail> {
-    let name = named(rt.alloc(), Place::Personal, b"a")?;
+    let name = named(rt.alloc(), Location::Personal, b"a")?;
     let copy = name.copy(rt.alloc())?;
     holds(&rt, "a copy", copy == name);
     Ok(())

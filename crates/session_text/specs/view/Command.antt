@@ -7,17 +7,17 @@ use Rattle.session_text.specs.declared.cutting.Quoting.TheVariants as spots
 
 abbrev pub command_as : SessionCommand → line.SessionCommand
 command_as Nothing = line.nothing
-command_as (Script place name count) = line.script place name count
+command_as (Script location name count) = line.script location name count
 command_as (Message id count) = line.message id count
-command_as (Main place name) = line.main place name
+command_as (Main location name) = line.main location name
 command_as NoMain = line.no_main
-command_as (Rename place name new_place new_name) = line.rename place name new_place new_name
-command_as (DropScript place name) = line.drop_script place name
+command_as (Rename location name new_location new_name) = line.rename location name new_location new_name
+command_as (DropScript location name) = line.drop_script location name
 command_as (DropMessage id) = line.drop_message id
 command_as (Envelope from to) = line.envelope from to
 command_as (Mailbox mailbox) = line.mailbox mailbox
 command_as Report = line.report
-command_as (Dump place name) = line.dump place name
+command_as (Dump location name) = line.dump location name
 command_as (Expect id count) = line.expect id count
 command_as (NoExpect id) = line.no_expect id
 command_as (Mailboxes count) = line.mailboxes count

@@ -83,7 +83,7 @@ leaf_as (Redirect address settings) = reading.redirect_leaf address (settings_as
 leaf_as Discard = reading.discard_leaf
 leaf_as (Set variable modifiers value) = reading.set_leaf variable modifiers value
 leaf_as (Flags change variable flags) = reading.flag_leaf change variable (texts_as flags.items)
-leaf_as (Include place once optional name) = reading.include_leaf place once optional name
+leaf_as (Include location once optional name) = reading.include_leaf location once optional name
 leaf_as (Vacation vacation) = reading.vacation_leaf (vacation_as vacation)
 leaf_as (Reject how reason) = reading.reject_leaf how reason
 

@@ -244,13 +244,13 @@ fn check_million(
     Ok(())
 }
 
-// Comments, pieces and quoted strings with nothing in them are no addresses.
+/// Comments, pieces and quoted strings with nothing in them are no addresses.
 #[test]
 fn a_million_octets_that_go(rt: HostRuntime) -> Result<(), AllocError> {
     check_million(&rt, b"(,\"", 0)
 }
 
-// The inside of an angle, a literal, and octets that stand for themselves.
+/// The inside of an angle, a literal, and octets that stand for themselves.
 #[test]
 fn a_million_octets_that_stay(rt: HostRuntime) -> Result<(), AllocError> {
     check_million(&rt, b"<[a@", 1)

@@ -4,7 +4,7 @@ use match_text::{AsciiCasemap, Collation, Comparator, Octet, contains, contains_
 use std::alloc::AllocError;
 use std::process::Abort;
 
-// i;ascii-casemap with nothing but its fold, so that the search is the trait's own.
+/// i;ascii-casemap with nothing but its fold, so that the search is the trait's own.
 struct Plain;
 
 impl Comparator for Plain {

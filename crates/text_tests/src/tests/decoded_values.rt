@@ -229,7 +229,7 @@ fn charsets_of_tables_are_known_by_their_name(rt: HostRuntime) -> Result<(), Fai
     )
 }
 
-// Another name brings no charset.
+/// Another name brings no charset.
 #[test]
 fn charsets_of_tables_are_not_known_without_their_name(rt: HostRuntime) -> Result<(), Fail> {
     check_decoded_by(
@@ -244,7 +244,7 @@ fn charsets_of_tables_are_not_known_without_their_name(rt: HostRuntime) -> Resul
     )
 }
 
-// A decoded value is borrowed where its field stands on one line and no word was replaced; a word of no octets counts.
+/// A decoded value is borrowed where its field stands on one line and no word was replaced; a word of no octets counts.
 #[test]
 fn borrows_values_without_words(rt: HostRuntime) -> Result<(), Fail> {
     let message = read(
@@ -277,7 +277,7 @@ fn decoded_len(
     Ok(message.decoded(alloc, profile, 0)?.as_slice().len())
 }
 
-// Each of these values would take hours if each place were read to the value's end.
+/// Each of these values would take hours if each place were read to the value's end.
 #[test]
 fn long_values_are_decoded_at_once(rt: HostRuntime) -> Result<(), Fail> {
     let none = Profile::new();

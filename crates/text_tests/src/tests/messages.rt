@@ -143,7 +143,7 @@ fn check_borrowed(
     Ok(())
 }
 
-// Whether a value is borrowed goes by its field's lines, and not by what is left of it. There are 4 fields.
+/// Whether a value is borrowed goes by its field's lines, and not by what is left of it. There are 4 fields.
 #[test]
 fn borrows_unfolded_values(rt: HostRuntime) -> Result<(), Fail> {
     let message = read(rt.alloc(), b"A: b\nC: d\n e\nF:\nG:\n \n\n f")?;
@@ -182,7 +182,7 @@ fn check_places(
     Ok(())
 }
 
-// Names ignore the case of ASCII letters alone, and are compared whole. `A@` and `B!` have one hash.
+/// Names ignore the case of ASCII letters alone, and are compared whole. `A@` and `B!` have one hash.
 #[test]
 fn fields_are_found_by_name(rt: HostRuntime) -> Result<(), Fail> {
     let message = read(
@@ -211,7 +211,7 @@ fn fields_are_found_by_name(rt: HostRuntime) -> Result<(), Fail> {
     Ok(check_places(&rt, &none, &[(b"To", b""), (b"", b"")])?)
 }
 
-// A search that begins after all fields finds none.
+/// A search that begins after all fields finds none.
 #[test]
 fn no_field_is_behind_the_last(rt: HostRuntime) -> Result<(), Fail> {
     let message = read(rt.alloc(), b"To: a\nTo: b\n")?;
@@ -226,7 +226,7 @@ fn no_field_is_behind_the_last(rt: HostRuntime) -> Result<(), Fail> {
     Ok(())
 }
 
-// Names that differ in case alone have one hash, by their letters in upper case, and a name with its hash names the same fields.
+/// Names that differ in case alone have one hash, by their letters in upper case, and a name with its hash names the same fields.
 #[test]
 fn a_name_keeps_its_hash(rt: HostRuntime) -> Result<(), Fail> {
     holds(&rt, b"to", name_hash(b"to") == 2_683);
@@ -241,7 +241,7 @@ fn a_name_keeps_its_hash(rt: HostRuntime) -> Result<(), Fail> {
     Ok(())
 }
 
-// Why `size` octets were refused, and how many came back.
+/// Why `size` octets were refused, and how many came back.
 fn refusal(alloc: Global, size: usize) -> Result<Option<(MessageFault, usize)>, AllocError> {
     match Message::new(alloc, vec![in alloc; b'a'; size]?) {
         Ok(_) => Ok(None),

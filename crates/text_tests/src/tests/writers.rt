@@ -9,14 +9,14 @@ use std::io::{ErrorKind, Read, Write};
 use std::process::Abort;
 use std::test::Fail;
 
-// What a writer without room answers.
+/// What a writer without room answers.
 #[derive(Clone, Copy)]
 enum Full {
     Zero,
     Broken,
 }
 
-// A writer that takes one octet a call, after some interruptions, while it has room.
+/// A writer that takes one octet a call, after some interruptions, while it has room.
 #[derive(Drop)]
 struct Slow {
     taken: Vec<u8>,
@@ -53,7 +53,7 @@ impl Write for Slow {
     }
 }
 
-// A reader that fails.
+/// A reader that fails.
 #[derive(Drop)]
 struct Broken;
 

@@ -15,9 +15,9 @@ loop-i-preserved c =
     let below : i < length old = search rules in
     let context = context_as c.args.context in let x = c.index_mut.result.now in let new = c.cut_argument.new.argument in
     let parted : List Label → List arguments.Argument → List Argument = λ labels l. parted_labelled context labels (map seen.argument_of l) in record {
-      cut = whole_more argument_of (parted c.loop-i.labels_left.now) (parted c.behind_first-labels_left.result.now) now old i x new _ below c.index_mut.ensures.value c.loop-i.invariant.left
+      cut = whole_more argument_of (parted c.loop-i.labels_left.now) (parted c.after_first-labels_left.result.now) now old i x new _ below c.index_mut.ensures.value c.loop-i.invariant.left
           (ap (λ a. a ∷ parted (drop 1 c.loop-i.labels_left.now) (drop (i + 1) old)) (sym (c.in_ok-cut_argument.ensures ∙ ap (λ role. parted_argument context role (seen.argument_of x)) c.first_role.ensures))
-          ∙ ap (λ labels. argument_of new ∷ parted labels (drop (i + 1) old)) (sym c.behind_first-labels_left.ensures))
+          ∙ ap (λ labels. argument_of new ∷ parted labels (drop (i + 1) old)) (sym c.after_first-labels_left.ensures))
           c.loop-i.invariant.cut;
       left = left_behind now old i new c.loop-i.invariant.left;
     }

@@ -14,9 +14,9 @@ loop-i-preserved c =
     let below : i < length old = search rules in
     let required = required_as c.args.required in let x = c.index_mut.result.now in let new = c.say_argument.new.argument in
     let made : List Label → List arguments.Argument → List Argument = λ labels l. said_arguments required labels (map argument_of l) in record {
-      said = whole_more argument_of (made c.loop-i.labels_left.now) (made c.behind_first-labels_left.result.now) now old i x new _ below c.index_mut.ensures.value c.loop-i.invariant.left
+      said = whole_more argument_of (made c.loop-i.labels_left.now) (made c.after_first-labels_left.result.now) now old i x new _ below c.index_mut.ensures.value c.loop-i.invariant.left
           (ap (λ a. a ∷ made (drop 1 c.loop-i.labels_left.now) (drop (i + 1) old)) (sym (c.in_ok-say_argument.ensures ∙ ap (λ role. said_argument required role (argument_of x)) c.first_role.ensures))
-          ∙ ap (λ labels. argument_of new ∷ made labels (drop (i + 1) old)) (sym c.behind_first-labels_left.ensures))
+          ∙ ap (λ labels. argument_of new ∷ made labels (drop (i + 1) old)) (sym c.after_first-labels_left.ensures))
           c.loop-i.invariant.said;
       left = left_behind now old i new c.loop-i.invariant.left;
     }

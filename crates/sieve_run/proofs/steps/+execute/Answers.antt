@@ -59,7 +59,7 @@ carry_out-returns-in-Include-clause-step g t c =
     let find : ScriptName → Lookup = library_of (g.L.Library.profile c.args.running.now.lib.now) (g.L.Library.texts c.args.running.now.lib.now) in
     let d = delivery_as c.args.running.now.delivery.now in
     let i = c.in-Include.inclusion in
-    acts_follow (act_of find c.args.running.now.depth d) d (include_leaf i.place i.once i.optional (slice_index_or (pool_of c.args.running.now.code.now).scripts i.name [])) i.line _ _ _ _ _ _ _
+    acts_follow (act_of find c.args.running.now.depth d) d (include_leaf i.location i.once i.optional (slice_index_or (pool_of c.args.running.now.code.now).scripts i.name [])) i.line _ _ _ _ _ _ _
     (ap (op_of c.args.running.now.code.now) c.in-Include.is)
     c.include_named.ensures.ending c.acted.ensures
 

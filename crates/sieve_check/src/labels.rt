@@ -16,7 +16,7 @@ pub(crate) fn first_role(labels: &[Label]) -> Option<Role>
 }
 
 /// The labels after the first.
-pub(crate) fn behind_first(labels: &[Label]) -> &[Label]
+pub(crate) fn after_first(labels: &[Label]) -> &[Label]
     ensures { result.now ≡ drop 1 labels.now }
 {
     match labels {

@@ -6,7 +6,7 @@ ghost use Rattle.sieve_reading.specs.view.Labels.{labels_in};
 ghost use Rattle.sieve_table.specs.Role.{same_role};
 ghost use Rattle.sieve_reading.specs.view.Tree.{argument_of};
 
-use crate::role::role_of;
+use crate::label::role_of;
 use crate::shape::{AsParts, row_expected, shape_of};
 use sieve_syntax::Argument;
 use sieve_table::{Role, Row, has_role};

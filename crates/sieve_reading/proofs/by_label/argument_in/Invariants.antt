@@ -5,7 +5,7 @@ use Rattle.sieve_reading.specs.Shape.{shape_of}
 use Rattle.sieve_reading.specs.view.Labels.{labels_in}
 use Rattle.sieve_reading.specs.view.Expected.{expected_as}
 use Rattle.sieve_reading.specs.view.Tree.{argument_of}
-use Rattle.sieve_reading.proofs.labelled.argument_in.Given as goal
+use Rattle.sieve_reading.proofs.by_label.argument_in.Given as goal
 
 -- the first argument in the wanted role is the first in that role among the arguments that are left
 abbrev pub invariant-loop-argument : goal.invariant-loop-argument

@@ -5,7 +5,7 @@ use Rattle.sieve_reading.specs.Shape.{shape_of}
 use Rattle.sieve_reading.specs.view.Labels.{labels_in}
 use Rattle.sieve_reading.specs.view.Expected.{expected_as}
 use Rattle.sieve_reading.specs.view.Tree.{argument_of}
-use Rattle.sieve_reading.proofs.labelled.into_argument.Given as goal
+use Rattle.sieve_reading.proofs.by_label.into_argument.Given as goal
 
 -- the first argument in the role among those that are left is the first of all arguments
 abbrev pub invariant-loop-argument : goal.invariant-loop-argument

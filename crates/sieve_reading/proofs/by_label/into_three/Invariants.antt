@@ -7,7 +7,7 @@ use Rattle.sieve_table.specs.Role.{same_role}
 use Rattle.sieve_reading.specs.view.Labels.{labels_in}
 use Rattle.sieve_reading.specs.view.Expected.{expected_as}
 use Rattle.sieve_reading.specs.view.Tree.{argument_of}
-use Rattle.sieve_reading.proofs.labelled.into_three.Given as goal
+use Rattle.sieve_reading.proofs.by_label.into_three.Given as goal
 
 -- the argument found in each role, or else the first in it among the arguments that are left, is the first of all arguments
 abbrev pub invariant-loop-argument : goal.invariant-loop-argument
