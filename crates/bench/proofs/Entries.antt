@@ -9,7 +9,7 @@ use Rattle.std.specs.Option.{option_map}
 use lib.Pointwise.{pointwise}
 use Rattle.indexmap.specs.IndexMap as ordered
 use Rattle.indexmap.specs.Layout.{set_value_at}
-use Rattle.sieve_effects.specs.declared.envelope.Addresses.{Addresses}
+use Rattle.sieve_actions.specs.declared.envelope.Addresses.{Addresses}
 use Rattle.bench.specs.Content.{Sample, changed, put_over, with_addresses, with_expected, with_message}
 use Rattle.bench.specs.declared.entry.Entry.{Entry}
 use Rattle.bench.specs.view.Entry.{expecting, fresh_entry, messages_of, put_entry, readdressed, renewed, sample_in, sample_of}

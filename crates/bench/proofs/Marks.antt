@@ -8,9 +8,9 @@ use Rattle.std.specs.Option.{option_map}
 use lib.Pointwise.{pointwise}
 use Rattle.indexmap.specs.IndexMap as ordered
 use Rattle.sieve_base.specs.Name.{name_eq}
-use Rattle.sieve_effects.specs.Delivery.{Arrival}
+use Rattle.sieve_actions.specs.Delivery.{Arrival}
 use Rattle.sieve_base.specs.declared.name.ScriptName.{ScriptName}
-use Rattle.sieve_effects.specs.declared.envelope.Addresses.{Addresses}
+use Rattle.sieve_actions.specs.declared.envelope.Addresses.{Addresses}
 use Rattle.sieve_run.specs.Frame.{Agree, Texts, outcome_over}
 use Rattle.sieve_run.specs.Run.{is_read}
 use Rattle.sieve_run.specs.Verdict.{Verdict}

@@ -2,7 +2,7 @@
 use Rattle.std.proofs.Common.{◌≡◌, ℕ, List, [], ◌∷◌, Bool, true, false, if◌then◌else◌, cond, Option, None, Some, Ok, nat_eq, refl, sym, ap, ◌∙◌}
 use Rattle.std.specs.Option.{option_map}
 use lib.Pointwise.{pointwise}
-use Rattle.sieve_effects.specs.declared.envelope.Addresses.{Addresses}
+use Rattle.sieve_actions.specs.declared.envelope.Addresses.{Addresses}
 use Rattle.bench.specs.Content.{Content, Sample, absent_refusal, addresses_refusal, after, changed, clear_message_envelope, message_at, set_message_envelope, with_addresses}
 use Rattle.bench.specs.Stale.{verdict_of, verdict_on}
 use Rattle.bench.proofs.Kept.{accepted}

@@ -6,11 +6,11 @@ use Rattle.date_text.specs.Zone.{zone_text}
 use Rattle.sieve_base.specs.Writers.{name_text, quoted}
 use Rattle.sieve_check.specs.Judgement.{Judgement, judgement_of, sound, faulty, fault_word}
 use Rattle.sieve_base.specs.declared.name.ScriptName.{ScriptName}
-use Rattle.sieve_effects.specs.Delivery.{mailbox_count}
-use Rattle.sieve_effects.specs.declared.action.Action.{Action}
-use Rattle.sieve_effects.specs.declared.action.Origin.{Origin}
-use Rattle.sieve_effects.specs.declared.envelope.Addresses.{Addresses}
-use Rattle.sieve_effects.specs.declared.envelope.Envelope.{Envelope}
+use Rattle.sieve_actions.specs.Delivery.{mailbox_count}
+use Rattle.sieve_actions.specs.declared.action.Action.{Action}
+use Rattle.sieve_actions.specs.declared.action.Origin.{Origin}
+use Rattle.sieve_actions.specs.declared.envelope.Addresses.{Addresses}
+use Rattle.sieve_actions.specs.declared.envelope.Envelope.{Envelope}
 use Rattle.sieve_run.specs.Library.{library_of}
 use Rattle.sieve_run.specs.Lines.{action_line, agrees, error_lines, implicit_lines, origin_line, read_lines, verdict_lines}
 use Rattle.sieve_run.specs.Run.{outcome_of}

@@ -5,7 +5,7 @@ use Rattle.std.proofs.lemmas.Bool.{eqb-true}
 use Rattle.std.specs.List.{slice_get}
 use Rattle.std.proofs.Math.Seq.{get_or-append_seam}
 use Rattle.std.proofs.lemmas.List.{append-nil, append_assoc, drop-map}
-use Rattle.sieve_effects.specs.Joined.{Lists, list_in, lists_plus, lists_with, no_lists}
+use Rattle.sieve_operations.specs.Joined.{Lists, list_in, lists_plus, lists_with, no_lists}
 use Rattle.sieve_reading.specs.Reading.{Vacation}
 use Rattle.sieve_variables.specs.Part.{Part}
 use Rattle.sieve_code.specs.declared.op.PackedDate.{PackedDate}

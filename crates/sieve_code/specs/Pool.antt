@@ -5,7 +5,7 @@ use Rattle.std.specs.Option.{option_map}
 use Rattle.match_text.specs.declared.comparators.Collation.TheVariants.{Octet}
 use Rattle.sieve_reading.specs.Reading.{Settings, Vacation}
 use Rattle.sieve_reading.specs.declared.reading.MatchType.TheVariants.{Is}
-use Rattle.sieve_effects.specs.Joined.{Lists, list_in, lists_plus, no_lists}
+use Rattle.sieve_operations.specs.Joined.{Lists, list_in, lists_plus, no_lists}
 use Rattle.sieve_variables.specs.Part.{Part}
 use Rattle.sieve_variables.specs.Variable.{Variable}
 use Rattle.sieve_code.specs.declared.op.PackedDate.{PackedDate}

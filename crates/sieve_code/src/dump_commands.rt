@@ -3,11 +3,11 @@ ghost use Rattle.std.specs.Prelude.{◌≡◌, ◌++◌, codes};
 ghost use Rattle.std.specs.Option.{option_copied};
 ghost use Rattle.sieve_base.specs.Writers.{Writes};
 ghost use Rattle.sieve_code.specs.Dump as spec;
-ghost use Rattle.sieve_effects.specs.view.Ops.{settings_op_as};
+ghost use Rattle.sieve_operations.specs.view.Ops.{settings_op_as};
 
 use crate::dump_strings::{name_of, scope_word, write_list, write_number, write_string};
 use sieve_base::{Location, Piece, Sink, WriteFault, write_out, write_pieces};
-use sieve_effects::{SettingsOp, Strings};
+use sieve_operations::{SettingsOp, Strings};
 use sieve_reading::FlagChange;
 use sieve_variables::{LetterCase, Modifiers, Part, Variable};
 

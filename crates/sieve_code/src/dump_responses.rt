@@ -2,12 +2,12 @@
 ghost use Rattle.std.specs.Prelude.{◌++◌};
 ghost use Rattle.sieve_base.specs.Writers.{Writes};
 ghost use Rattle.sieve_code.specs.Dump as spec;
-ghost use Rattle.sieve_effects.specs.view.Ops.{vacation_op_as};
+ghost use Rattle.sieve_operations.specs.view.Ops.{vacation_op_as};
 
 use crate::dump_commands::{given_word, write_given_string, write_worded};
 use crate::dump_strings::{write_list, write_number};
 use sieve_base::{Sink, WriteFault, write_out};
-use sieve_effects::{Strings, VacationOp};
+use sieve_operations::{Strings, VacationOp};
 use sieve_reading::Rejection;
 use sieve_variables::Part;
 

@@ -7,7 +7,7 @@ ghost use Rattle.sieve_variables.specs.view.Variable.{variable_ref_as};
 ghost use Rattle.sieve_code.specs.view.Marked.{marked_part, marked_string};
 
 use sieve_base::{Piece, Sink, WriteFault, write_out, write_pieces};
-use sieve_effects::Strings;
+use sieve_operations::Strings;
 use sieve_variables::{Part, PartRef, VariableRef};
 
 /// The word that says whose a variable is.

@@ -3,13 +3,13 @@ ghost use Rattle.std.specs.Prelude.{◌≡◌, ◌++◌, codes};
 ghost use Rattle.match_text.specs.Relation.{relation_word};
 ghost use Rattle.sieve_base.specs.Writers.{Writes};
 ghost use Rattle.sieve_code.specs.Dump.{address_part_word, address_words, collation_word, comparing_words, date_words, further_list, further_string, internal_list, match_word, source_text, transform_words, zone_words};
-ghost use Rattle.sieve_effects.specs.view.Ops.{body_op_as, source_op_as, zone_op_as};
+ghost use Rattle.sieve_operations.specs.view.Ops.{body_op_as, source_op_as, zone_op_as};
 
 use crate::dump_strings::{write_further_list, write_string};
 use match_text::{Collation, Relation};
 use message_text::AddressPart;
 use sieve_base::{Piece, Sink, WriteFault, write_out, write_pieces};
-use sieve_effects::{BodyOp, SourceOp, Strings, ZoneOp};
+use sieve_operations::{BodyOp, SourceOp, Strings, ZoneOp};
 use sieve_reading::{Comparison, MatchType};
 use sieve_variables::Part;
 

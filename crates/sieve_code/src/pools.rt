@@ -4,12 +4,12 @@ ghost use Rattle.std.specs.List.{slice_get};
 ghost use Rattle.std.specs.Option.{option_map};
 ghost use Rattle.sieve_reading.specs.Reading.{plain_settings};
 ghost use Rattle.sieve_reading.specs.view.Reading.{settings_as, texts_as, vacation_as};
-ghost use Rattle.sieve_effects.specs.Joined.{list_in};
+ghost use Rattle.sieve_operations.specs.Joined.{list_in};
 ghost use Rattle.sieve_code.specs.Pool.{Kept, date_packed_in, given_list, given_string, given_variable, no_pool, packed_in, settings_in, test_in, vacation_in, vacation_packed_in};
 ghost use Rattle.sieve_code.specs.view.Pools.{pool_as};
 
 use crate::op::{NOWHERE, PackedDate, PackedSettings, PackedTest, PackedVacation};
-use sieve_effects::{JoinedStrings, NameLists, StringLists};
+use sieve_operations::{JoinedStrings, NameLists, StringLists};
 use sieve_reading::{Settings, Text, Vacation};
 use sieve_variables::{Literal, Modifiers, Parts, Variable};
 use std::alloc::{AllocError, Global};

@@ -11,23 +11,23 @@ use Rattle.sieve_reading.specs.declared.reading.FlagChange.{FlagChange}
 use Rattle.sieve_reading.specs.Script.{script_of}
 use Rattle.sieve_reading.specs.Tree.{Node}
 use Rattle.sieve_code.specs.Walk.{Walk, at_end, by_stop, by_return, cut_off, asked, acted, tree_walk}
-use Rattle.sieve_effects.specs.Delivery.{Arrival, Delivery, inside}
+use Rattle.sieve_actions.specs.Delivery.{Arrival, Delivery, inside}
 use Rattle.sieve_run.specs.Library.{Lookup, missing, invalid, present, found_at}
-use Rattle.sieve_effects.specs.Matching.{behind_test, truth_of}
+use Rattle.sieve_matching.specs.Matching.{behind_test, truth_of}
 use Rattle.sieve_run.specs.Perform.{perform}
-use Rattle.sieve_effects.specs.Act.{deed_of, store_deed, Ending, goes_on, returned, stopped, failed, Performed, entered, joined, refused, unless, conflict_among, same_action, joined_with, changes, ends_with, gives, origin_at, performs, fails_at, filing_of, is_mailbox, may_be_from, may_be_used, only_address, redirects, response_of, held_flags, changed_flags, flags_named, state_behind}
+use Rattle.sieve_actions.specs.Act.{deed_of, store_deed, Ending, goes_on, returned, stopped, failed, Performed, entered, joined, refused, unless, conflict_among, same_action, joined_with, changes, ends_with, gives, origin_at, performs, fails_at, filing_of, is_mailbox, may_be_from, may_be_used, only_address, redirects, response_of, held_flags, changed_flags, flags_named, state_behind}
 use Rattle.sieve_run.specs.Run.{entering, included, include_of, includes, is_running, is_script, is_there, looked_up, act_of, and_then, answer_of, begun, chosen, delivery_to, exec, resumed, run_of, running, verdict_at, verdict_of, outcome_of, with_found_script, with_read}
-use Rattle.sieve_effects.specs.State.{RunState}
-use Rattle.sieve_effects.specs.declared.flow.Flow.{Flow}
-use Rattle.sieve_effects.specs.declared.flow.Flow.TheVariants as flow
+use Rattle.sieve_actions.specs.State.{RunState}
+use Rattle.sieve_actions.specs.declared.flow.Flow.{Flow}
+use Rattle.sieve_actions.specs.declared.flow.Flow.TheVariants as flow
 use Rattle.sieve_base.specs.declared.name.ScriptName.{ScriptName}
-use Rattle.sieve_effects.specs.declared.action.Deed.{Deed}
-use Rattle.sieve_effects.specs.declared.action.Origin.{Origin}
-use Rattle.sieve_effects.specs.declared.action.Action.{Action}
-use Rattle.sieve_effects.specs.declared.action.Action.TheVariants.{Redirect, Discard, Respond, Reject}
-use Rattle.sieve_effects.specs.declared.error.ErrorKind.{ErrorKind}
-use Rattle.sieve_effects.specs.declared.error.ErrorKind.TheVariants.{BadAddress, BadMailbox, TooManyActions, TooManyGlobals, IncludeCount}
-use Rattle.sieve_effects.specs.view.Flow.{ending_by}
+use Rattle.sieve_actions.specs.declared.action.Deed.{Deed}
+use Rattle.sieve_actions.specs.declared.action.Origin.{Origin}
+use Rattle.sieve_actions.specs.declared.action.Action.{Action}
+use Rattle.sieve_actions.specs.declared.action.Action.TheVariants.{Redirect, Discard, Respond, Reject}
+use Rattle.sieve_actions.specs.declared.error.ErrorKind.{ErrorKind}
+use Rattle.sieve_actions.specs.declared.error.ErrorKind.TheVariants.{BadAddress, BadMailbox, TooManyActions, TooManyGlobals, IncludeCount}
+use Rattle.sieve_actions.specs.view.Flow.{ending_by}
 use Rattle.sieve_run.specs.view.Step.{Acts, doing}
 use Rattle.sieve_variables.specs.Modifier.{modified}
 use Rattle.sieve_variables.specs.Part.{Part}

@@ -6,12 +6,12 @@ use Rattle.std.specs.Prelude.{if◌then◌else◌}
 use Rattle.sieve_base.specs.Limits.{include_depth}
 use Rattle.sieve_reading.specs.Script.{script_of}
 use Rattle.sieve_reading.specs.Tree.{Node}
-use Rattle.sieve_effects.specs.Delivery.{Arrival, Delivery, inside}
+use Rattle.sieve_actions.specs.Delivery.{Arrival, Delivery, inside}
 use Rattle.sieve_run.specs.Depth.{IsDeepest, depth_left, entered_within, watched, watched_include, watched_run}
 use Rattle.sieve_run.specs.Library.{Lookup}
-use Rattle.sieve_effects.specs.Act.{Ending, goes_on, act_by, state_behind}
+use Rattle.sieve_actions.specs.Act.{Ending, goes_on, act_by, state_behind}
 use Rattle.sieve_run.specs.Run.{answer_of, begun, delivery_to, exec, include_of, included, is_running, is_script, run_of, running}
-use Rattle.sieve_effects.specs.State.{RunState}
+use Rattle.sieve_actions.specs.State.{RunState}
 use Rattle.sieve_base.specs.declared.name.ScriptName.{ScriptName}
 
 -- the main script has all depth left

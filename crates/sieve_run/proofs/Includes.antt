@@ -6,16 +6,16 @@ use Rattle.sieve_reading.specs.Script.{script_of}
 use Rattle.sieve_reading.specs.Tree.{Node}
 use Rattle.sieve_code.specs.Operation.{Operation}
 use Rattle.sieve_code.specs.Walk.{code_walk}
-use Rattle.sieve_effects.specs.Delivery.{Delivery, inside}
+use Rattle.sieve_actions.specs.Delivery.{Delivery, inside}
 use Rattle.sieve_run.specs.Library.{Lookup, missing, invalid, present, HasCode, found_at}
-use Rattle.sieve_effects.specs.Act.{Ending, goes_on, fails_at}
+use Rattle.sieve_actions.specs.Act.{Ending, goes_on, fails_at}
 use Rattle.sieve_run.specs.Run.{act_of, answer_of, entering, exec, include_of, included, includes, is_running, is_script, is_there, looked_up, resumed, resuming, with_read}
-use Rattle.sieve_effects.specs.State.{RunState}
-use Rattle.sieve_effects.specs.declared.flow.Flow.{Flow}
-use Rattle.sieve_effects.specs.declared.flow.Flow.TheVariants.{GoesOn, Returned, Stopped, Failed}
+use Rattle.sieve_actions.specs.State.{RunState}
+use Rattle.sieve_actions.specs.declared.flow.Flow.{Flow}
+use Rattle.sieve_actions.specs.declared.flow.Flow.TheVariants.{GoesOn, Returned, Stopped, Failed}
 use Rattle.sieve_base.specs.declared.name.ScriptName.{ScriptName}
-use Rattle.sieve_effects.specs.declared.error.ErrorKind.TheVariants.{IncludeCount, IncludeDepth, RecursiveInclude}
-use Rattle.sieve_effects.specs.view.Flow.{ending_by}
+use Rattle.sieve_actions.specs.declared.error.ErrorKind.TheVariants.{IncludeCount, IncludeDepth, RecursiveInclude}
+use Rattle.sieve_actions.specs.view.Flow.{ending_by}
 use Rattle.sieve_run.specs.view.Include.{enters, looks_up, resumed_by}
 use Rattle.sieve_run.specs.view.Step.{doing}
 use Rattle.sieve_variables.specs.Value.{Values}

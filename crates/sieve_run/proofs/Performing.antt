@@ -7,15 +7,15 @@ use Rattle.sieve_code.specs.Walk.{Walk, at_end, by_stop, by_return, cut_off, ask
 use Rattle.sieve_code.specs.Operation.{Operation}
 use Rattle.sieve_base.specs.Limits.{include_depth}
 use Rattle.sieve_code.specs.Compiles.{Compiles}
-use Rattle.sieve_effects.specs.Delivery.{Arrival, Delivery, inside}
+use Rattle.sieve_actions.specs.Delivery.{Arrival, Delivery, inside}
 use Rattle.sieve_run.specs.Library.{HasCode, Lookup, missing, invalid, present}
 use Rattle.sieve_run.specs.Perform.{answers_after, answers_of, chosen_answers, do_gone, do_met, end_of, perform}
 use Rattle.sieve_base.specs.declared.name.ScriptName.{ScriptName}
 use Rattle.sieve_run.specs.view.Include.{enters}
 use Rattle.sieve_run.specs.view.Step.{doing}
-use Rattle.sieve_effects.specs.Act.{Ending, goes_on, returned, stopped, failed}
+use Rattle.sieve_actions.specs.Act.{Ending, goes_on, returned, stopped, failed}
 use Rattle.sieve_run.specs.Run.{Answer, also, or_else, act_of, and_then, answer_of, begun, chosen, decide, delivery_to, entering, exec, resumed, running, verdict_at, verdict_of, with_found_script}
-use Rattle.sieve_effects.specs.State.{RunState}
+use Rattle.sieve_actions.specs.State.{RunState}
 
 module _ (ask : Ask → RunState → Answer) (act : Leaf → ℕ → RunState → Ending) where
   -- TESTS

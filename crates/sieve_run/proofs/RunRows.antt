@@ -9,14 +9,14 @@ use Rattle.sieve_reading.specs.Tree.{Node}
 use Rattle.sieve_base.specs.declared.location.Location.TheVariants.{Personal}
 use Rattle.sieve_base.specs.Limits.{name_limit}
 use Rattle.sieve_base.specs.Name.{name_eq}
-use Rattle.sieve_effects.specs.Act.{Ending, goes_on}
-use Rattle.sieve_effects.specs.Delivery.{Arrival, Delivery, inside}
-use Rattle.sieve_effects.specs.State.{RunState}
-use Rattle.sieve_effects.specs.declared.envelope.Envelope.{Envelope}
+use Rattle.sieve_actions.specs.Act.{Ending, goes_on}
+use Rattle.sieve_actions.specs.Delivery.{Arrival, Delivery, inside}
+use Rattle.sieve_actions.specs.State.{RunState}
+use Rattle.sieve_actions.specs.declared.envelope.Envelope.{Envelope}
 use Rattle.sieve_profile.specs.Profile.{empty_profile}
-use Rattle.sieve_effects.specs.declared.action.Action.TheVariants.{Store, Discard}
-use Rattle.sieve_effects.specs.declared.action.Filing.{Filing}
-use Rattle.sieve_effects.specs.declared.error.ErrorKind.TheVariants.{MissingScript}
+use Rattle.sieve_actions.specs.declared.action.Action.TheVariants.{Store, Discard}
+use Rattle.sieve_actions.specs.declared.action.Filing.{Filing}
+use Rattle.sieve_actions.specs.declared.error.ErrorKind.TheVariants.{MissingScript}
 use Rattle.sieve_base.specs.declared.name.ScriptName.{ScriptName}
 use Rattle.sieve_run.specs.Depth.{watched_include}
 use Rattle.sieve_run.specs.Distinct.{AreDistinct}

@@ -5,11 +5,11 @@ use Rattle.sieve_reading.specs.Reading.{Ask, Leaf, compares, exists_ask, over_as
 use Rattle.sieve_reading.specs.declared.reading.MatchType.{MatchType}
 use Rattle.sieve_reading.specs.declared.reading.MatchType.TheVariants.{Is, Contains, Matches, Value, Count}
 use Rattle.sieve_reading.specs.Script.{Condition, always, never, asks, negated, both, either, Commands, stops, returns}
-use Rattle.sieve_effects.specs.Delivery.{Delivery}
-use Rattle.sieve_effects.specs.Matching.{behind_test, match_found, sets_matched, values_behind, with_found}
-use Rattle.sieve_effects.specs.Act.{Ending, returned, stopped}
+use Rattle.sieve_actions.specs.Delivery.{Delivery}
+use Rattle.sieve_matching.specs.Matching.{behind_test, match_found, sets_matched, values_behind, with_found}
+use Rattle.sieve_actions.specs.Act.{Ending, returned, stopped}
 use Rattle.sieve_run.specs.Run.{SetsMatched, Answer, and_then, answer_of, also, or_else, decide, exec}
-use Rattle.sieve_effects.specs.State.{RunState}
+use Rattle.sieve_actions.specs.State.{RunState}
 use Rattle.sieve_variables.specs.Value.{with_matched}
 
 -- a state after two matches in turn is the one before them but for what a match gave

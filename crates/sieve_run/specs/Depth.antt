@@ -3,11 +3,11 @@ use Rattle.std.specs.Prelude.{ℕ, zero, suc, ◌-◌, ◌≤◌, Bool, List, le
 use Rattle.sieve_base.specs.Limits.{include_depth}
 use Rattle.sieve_reading.specs.Script.{script_of}
 use Rattle.sieve_reading.specs.Tree.{Node}
-use Rattle.sieve_effects.specs.Delivery.{Arrival, Delivery, inside}
+use Rattle.sieve_actions.specs.Delivery.{Arrival, Delivery, inside}
 use Rattle.sieve_run.specs.Library.{Lookup}
-use Rattle.sieve_effects.specs.Act.{Ending, act_by}
+use Rattle.sieve_actions.specs.Act.{Ending, act_by}
 use Rattle.sieve_run.specs.Run.{answer_of, begun, delivery_to, exec, include_of, running}
-use Rattle.sieve_effects.specs.State.{RunState}
+use Rattle.sieve_actions.specs.State.{RunState}
 use Rattle.sieve_base.specs.declared.name.ScriptName.{ScriptName}
 
 -- how many scripts may still include one another below the running one: one less for each that includes it

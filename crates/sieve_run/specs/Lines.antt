@@ -5,13 +5,13 @@ use Rattle.std.specs.Str.Lines.{lines}
 use lib.Pointwise.{pointwise}
 use Rattle.sieve_base.specs.Writers.{name_text, quoted}
 use Rattle.sieve_base.specs.declared.name.ScriptName.{ScriptName}
-use Rattle.sieve_effects.specs.ErrorKind.{error_word}
-use Rattle.sieve_effects.specs.declared.action.Action.{Action}
-use Rattle.sieve_effects.specs.declared.action.Action.TheVariants.{Store, Redirect, Discard, Respond, Reject}
-use Rattle.sieve_effects.specs.declared.action.Filing.{Filing}
-use Rattle.sieve_effects.specs.declared.action.Origin.{Origin}
-use Rattle.sieve_effects.specs.declared.error.RunError.{RunError}
-use Rattle.sieve_effects.specs.declared.response.Response.{Response}
+use Rattle.sieve_actions.specs.ErrorKind.{error_word}
+use Rattle.sieve_actions.specs.declared.action.Action.{Action}
+use Rattle.sieve_actions.specs.declared.action.Action.TheVariants.{Store, Redirect, Discard, Respond, Reject}
+use Rattle.sieve_actions.specs.declared.action.Filing.{Filing}
+use Rattle.sieve_actions.specs.declared.action.Origin.{Origin}
+use Rattle.sieve_actions.specs.declared.error.RunError.{RunError}
+use Rattle.sieve_actions.specs.declared.response.Response.{Response}
 use Rattle.sieve_reading.specs.Reading.{rejection_word}
 use Rattle.sieve_run.specs.Verdict.{Verdict}
 

@@ -10,10 +10,10 @@ use crate::response_agreement::{skip_reject, skip_response};
 use itoa::Buffer;
 use match_text::FlagList;
 use message_text::next_line;
+use sieve_actions::{Action, Filing, RunError};
 use sieve_base::hex::hex_digit;
 use sieve_base::octet::is_printable;
 use sieve_base::{Octets, Piece, ScriptName};
-use sieve_effects::{Action, Filing, RunError};
 
 /// What follows these octets, where the text begins with them.
 pub(crate) fn skip_octets<'a>(text: &'a [u8], octets: &[u8]) -> Option<&'a [u8]>

@@ -2,16 +2,16 @@
 ghost use Rattle.std.specs.Prelude.{◌≡◌, ◌++◌, [], ◌∷◌, map, IfOk, OnOk};
 ghost use Rattle.sieve_run.specs.Library.{found_at, library_of};
 ghost use Rattle.sieve_run.specs.Run.{entering, is_running, is_script};
-ghost use Rattle.sieve_effects.specs.view.Delivery.{delivery_as};
-ghost use Rattle.sieve_effects.specs.view.State.{state_of};
+ghost use Rattle.sieve_actions.specs.view.Delivery.{delivery_as};
+ghost use Rattle.sieve_actions.specs.view.State.{state_of};
 ghost use Rattle.sieve_variables.specs.Value.{own_of};
 ghost use Rattle.sieve_run.specs.view.Found.{FoundAs};
 ghost use Rattle.sieve_run.specs.view.Include.{resumed_by, there_as};
 
 use crate::library::{Found, Library};
+use sieve_actions::{Delivery, Flow, State};
 use sieve_base::ScriptName;
 use sieve_base::limits::MAX_NAME;
-use sieve_effects::{Delivery, Flow, State};
 use sieve_variables::Own;
 use std::alloc::{AllocError, Global};
 

@@ -7,9 +7,9 @@ ghost use Rattle.sieve_run.specs.Run.{act_of, begun, delivery_to, outcome_of, ve
 ghost use Rattle.sieve_code.specs.Walk.{code_walk};
 ghost use Rattle.sieve_code.specs.view.Code.{ops_of};
 ghost use Rattle.sieve_base.specs.Limits.{action_limit, include_depth};
-ghost use Rattle.sieve_effects.specs.view.Delivery.{arrival_as};
-ghost use Rattle.sieve_effects.specs.view.Flow.{ending_by};
-ghost use Rattle.sieve_effects.specs.view.State.{state_of};
+ghost use Rattle.sieve_actions.specs.view.Delivery.{arrival_as};
+ghost use Rattle.sieve_actions.specs.view.Flow.{ending_by};
+ghost use Rattle.sieve_actions.specs.view.State.{state_of};
 ghost use Rattle.sieve_run.specs.view.Step.{doing};
 
 use crate::including::find;
@@ -20,12 +20,13 @@ use crate::steps::{Running, execute};
 use indexmap::IndexMap;
 use match_text::FlagList;
 use message_text::Message;
+use sieve_actions::{
+    Actions, Addresses, Arrival, Delivery, Envelope, ErrorKind, Flow, RunError, State,
+};
 use sieve_base::ScriptName;
 use sieve_base::limits::MAX_INCLUDE_DEPTH;
 use sieve_code::Code;
-use sieve_effects::{
-    Actions, Addresses, Arrival, Delivery, Envelope, ErrorKind, FieldReads, Flow, RunError, State,
-};
+use sieve_matching::FieldReads;
 use sieve_variables::Values;
 use std::alloc::{AllocError, Global};
 

@@ -29,9 +29,9 @@ pub use meter::Meter;
 pub use outcome::Outcome;
 pub use script::Script;
 pub use shelf::Shelf;
-pub use sieve_base::{Location, Octets, ScriptName};
-pub use sieve_effects::{
+pub use sieve_actions::{
     Action, Addresses, Envelope, ErrorKind, Filing, Origin, Response, RunError, Texts,
-    mailbox_count,
 };
+pub use sieve_base::{Location, Octets, ScriptName};
+pub use sieve_matching::mailbox_count;
 pub use sieve_reading::Rejection;

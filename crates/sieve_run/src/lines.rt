@@ -5,8 +5,8 @@ ghost use Rattle.sieve_run.specs.Lines.{action_line, create_word, error_line, fi
 
 use crate::response_lines::{write_reject, write_response};
 use match_text::FlagList;
+use sieve_actions::{Action, Filing, Origin, RunError};
 use sieve_base::{Octets, Piece, ScriptName, Sink, WriteFault, write_out, write_pieces};
-use sieve_effects::{Action, Filing, Origin, RunError};
 
 /// Writes a text after a space.
 pub(crate) fn write_spaced<W: Sink>(text: &[u8], writer: &mut W) -> Result<(), WriteFault>

@@ -1,17 +1,15 @@
 //! Carries out the operations of tests, and of commands that include nothing.
 ghost use Rattle.std.specs.Prelude.{◌≡◌, IfOk};
 ghost use Rattle.sieve_code.specs.declared.op.Op.TheVariants.{Compares, Discard, Duplicate, Exists, Fileinto, Flags, Keep, MailboxExists, Over, Redirect, Reject, Set, Under, Vacation};
-ghost use Rattle.sieve_effects.specs.Act.{act_by};
-ghost use Rattle.sieve_effects.specs.State.{RunState};
-ghost use Rattle.sieve_effects.specs.view.Delivery.{delivery_as};
-ghost use Rattle.sieve_effects.specs.view.State.{state_of};
+ghost use Rattle.sieve_actions.specs.Act.{act_by};
+ghost use Rattle.sieve_actions.specs.State.{RunState};
+ghost use Rattle.sieve_actions.specs.view.Delivery.{delivery_as};
+ghost use Rattle.sieve_actions.specs.view.State.{state_of};
 ghost use Rattle.sieve_run.specs.view.Step.{Acts, Carries, Includes};
 
 use crate::turn::{Step, Turn, proceed};
-use sieve_effects::{
-    FieldReads, State, change, compare, discard, exists, file_into, is_over, is_under, keep,
-    mailboxes_exist, redirect, reject, respond, set,
-};
+use sieve_actions::{State, change, discard, file_into, keep, redirect, reject, respond, set};
+use sieve_matching::{FieldReads, compare, exists, is_over, is_under, mailboxes_exist};
 use sieve_reading::{FlagChange, Rejection};
 use std::alloc::AllocError;
 

@@ -8,8 +8,8 @@ ghost use Rattle.sieve_run.specs.Lines.{agrees, verdict_lines};
 use crate::agreement::says;
 use indexmap::IndexMap;
 use match_text::FlagList;
+use sieve_actions::{Action, Origin, RunError};
 use sieve_base::ScriptName;
-use sieve_effects::{Action, Origin, RunError};
 use std::marker::Model;
 
 /// The verdict on a message, and the scripts that it looked at. Only a run makes one.

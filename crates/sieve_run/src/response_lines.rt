@@ -5,8 +5,8 @@ ghost use Rattle.sieve_reading.specs.Reading.{rejection_word};
 ghost use Rattle.sieve_run.specs.Lines.{addresses_words, days_words, further_words, mime_word, response_line, sending_words, spaced_word, spaced_words, worded_texts};
 
 use crate::lines::{write_given, write_spaced, write_worded};
+use sieve_actions::{Response, Texts};
 use sieve_base::{Piece, Sink, WriteFault, write_out, write_pieces};
-use sieve_effects::{Response, Texts};
 use sieve_reading::Rejection;
 
 /// Writes for how many days a sender gets no other response, where that is said.

@@ -4,12 +4,12 @@ ghost use Rattle.sieve_code.specs.Walk.{code_walk};
 ghost use Rattle.sieve_code.specs.view.Code.{op_of, ops_of, pool_of};
 ghost use Rattle.sieve_run.specs.Library.{library_of};
 ghost use Rattle.sieve_run.specs.Run.{act_of, included};
-ghost use Rattle.sieve_effects.specs.Delivery.{inside};
-ghost use Rattle.sieve_effects.specs.view.Delivery.{delivery_as};
-ghost use Rattle.sieve_effects.specs.view.Flow.{ending_by};
+ghost use Rattle.sieve_actions.specs.Delivery.{inside};
+ghost use Rattle.sieve_actions.specs.view.Delivery.{delivery_as};
+ghost use Rattle.sieve_actions.specs.view.Flow.{ending_by};
 ghost use Rattle.sieve_run.specs.view.Step.{StepsTo, doing};
 ghost use Rattle.sieve_run.specs.view.Include.{enters, looks_up};
-ghost use Rattle.sieve_effects.specs.view.State.{state_of};
+ghost use Rattle.sieve_actions.specs.view.State.{state_of};
 
 use crate::including::{
     begin_included, find, including_next, is_running, is_script, is_there, resumed,
@@ -21,10 +21,11 @@ use crate::operations::{
 };
 use crate::reads::note_read;
 use crate::turn::{Step, Turn, proceed};
+use sieve_actions::{Delivery, ErrorKind, Flow, State, fail};
 use sieve_base::limits::MAX_INCLUDES;
 use sieve_base::{Octets, ScriptName};
 use sieve_code::{Code, Inclusion, Op};
-use sieve_effects::{Delivery, ErrorKind, FieldReads, Flow, State, fail};
+use sieve_matching::FieldReads;
 use std::alloc::AllocError;
 
 /// A script that runs.

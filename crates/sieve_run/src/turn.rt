@@ -3,8 +3,8 @@ ghost use Rattle.std.specs.Prelude.{◌≡◌, IfOk};
 ghost use Rattle.sieve_run.specs.declared.turn.Step.TheVariants.{Next};
 ghost use Rattle.sieve_run.specs.view.Step.{Follows, step_after};
 
+use sieve_actions::{Delivery, Flow};
 use sieve_code::Code;
-use sieve_effects::{Delivery, Flow};
 use std::alloc::AllocError;
 
 /// What an operation finds when its turn comes.

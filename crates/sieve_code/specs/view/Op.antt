@@ -2,7 +2,7 @@
 use Rattle.sieve_variables.specs.Part.{Part}
 use Rattle.std.specs.Prelude.{ℕ, ◌-◌, Bool, true, false, List, [], map, length, Option, Some, None, slice_index_or}
 use Rattle.std.specs.List.{slice_get}
-use Rattle.sieve_effects.specs.Joined.{list_in}
+use Rattle.sieve_operations.specs.Joined.{list_in}
 use Rattle.sieve_reading.specs.Reading.{raw_transform, content_transform, text_transform, DateZone, local_zone, original_zone, named_zone, date_values, clock_values, body_values, ValueSource, Ask, compares, exists_ask, over_ask, under_ask, mailboxes_ask, duplicate_ask, header_values, address_values, envelope_values, string_values, flag_values, keep_leaf, fileinto_leaf, redirect_leaf, discard_leaf, set_leaf, flag_leaf, include_leaf, vacation_leaf, reject_leaf}
 use Rattle.sieve_code.specs.Operation.{Operation, set_op, invert_op, test_op, jump_op, jump_if_op, act_op, stop_op, return_op, targeting}
 use Rattle.sieve_code.specs.Pool.{Pool, no_pool, date_packed_in, given_list, given_variable, settings_in, test_in, vacation_in}

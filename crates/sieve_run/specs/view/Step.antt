@@ -6,18 +6,18 @@ use Rattle.sieve_code.specs.declared.op.Op.{Op}
 use Rattle.sieve_code.specs.view.Code.{op_of}
 use Rattle.sieve_code.specs.Walk as walk
 use Rattle.sieve_code.specs.Walk.{Walk}
-use Rattle.sieve_effects.specs.Delivery.{Delivery}
+use Rattle.sieve_actions.specs.Delivery.{Delivery}
 use Rattle.sieve_run.specs.Perform.{perform}
-use Rattle.sieve_effects.specs.Act.{Ending}
+use Rattle.sieve_actions.specs.Act.{Ending}
 use Rattle.sieve_run.specs.Run.{answer_of}
-use Rattle.sieve_effects.specs.State.{RunState}
-use Rattle.sieve_effects.specs.declared.flow.Flow.{Flow}
-use Rattle.sieve_effects.specs.declared.flow.Flow.TheVariants as flow
+use Rattle.sieve_actions.specs.State.{RunState}
+use Rattle.sieve_actions.specs.declared.flow.Flow.{Flow}
+use Rattle.sieve_actions.specs.declared.flow.Flow.TheVariants as flow
 use Rattle.sieve_run.specs.declared.turn.Step.{Step}
 use Rattle.sieve_run.specs.declared.turn.Step.TheVariants.{Next, Ended}
 use Rattle.sieve_run.specs.declared.turn.Turn.{Turn}
-use Rattle.sieve_effects.specs.view.Delivery.{delivery_as}
-use Rattle.sieve_effects.specs.view.Flow.{ending_by}
+use Rattle.sieve_actions.specs.view.Delivery.{delivery_as}
+use Rattle.sieve_actions.specs.view.Flow.{ending_by}
 use Rattle.sieve_base.specs.declared.name.ScriptName.{ScriptName}
 
 -- what commands do that act

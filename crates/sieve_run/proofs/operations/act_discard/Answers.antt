@@ -1,7 +1,7 @@
 use Rattle.std.proofs.Common.{refl}
 use Rattle.sieve_reading.specs.Reading.{discard_leaf}
-use Rattle.sieve_effects.specs.Act.{act_by}
-use Rattle.sieve_effects.specs.view.Delivery.{delivery_as}
+use Rattle.sieve_actions.specs.Act.{act_by}
+use Rattle.sieve_actions.specs.view.Delivery.{delivery_as}
 use Rattle.sieve_run.proofs.Stepping.{acts_follow}
 use Rattle.sieve_run.proofs.operations.act_discard.Goals as goal
 

@@ -3,9 +3,9 @@ use Rattle.sieve_reading.specs.Reading.{fileinto_leaf}
 use Rattle.sieve_code.specs.Operation.{act_op}
 use Rattle.sieve_code.specs.Pool.{settings_in}
 use Rattle.sieve_code.specs.view.Code.{pool_of}
-use Rattle.sieve_effects.specs.Act.{act_by}
-use Rattle.sieve_effects.specs.view.Delivery.{delivery_as}
-use Rattle.sieve_effects.specs.view.Ops.{settings_op_as}
+use Rattle.sieve_actions.specs.Act.{act_by}
+use Rattle.sieve_actions.specs.view.Delivery.{delivery_as}
+use Rattle.sieve_operations.specs.view.Ops.{settings_op_as}
 use Rattle.sieve_run.proofs.Stepping.{acts_follow}
 use Rattle.sieve_run.proofs.operations.act_fileinto.Goals as goal
 

@@ -3,9 +3,9 @@ use Rattle.std.specs.Option.{option_copied}
 use Rattle.sieve_reading.specs.Reading.{flag_leaf}
 use Rattle.sieve_code.specs.Operation.{act_op}
 use Rattle.sieve_code.specs.view.Code.{pool_of}
-use Rattle.sieve_effects.specs.Act.{act_by}
-use Rattle.sieve_effects.specs.Joined.{list_in}
-use Rattle.sieve_effects.specs.view.Delivery.{delivery_as}
+use Rattle.sieve_actions.specs.Act.{act_by}
+use Rattle.sieve_operations.specs.Joined.{list_in}
+use Rattle.sieve_actions.specs.view.Delivery.{delivery_as}
 use Rattle.sieve_run.proofs.Stepping.{acts_follow}
 use Rattle.sieve_run.proofs.operations.act_flags.Goals as goal
 

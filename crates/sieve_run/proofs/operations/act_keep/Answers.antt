@@ -1,9 +1,9 @@
 use Rattle.std.proofs.Common.{sym, ap}
 use Rattle.sieve_reading.specs.Reading.{keep_leaf}
 use Rattle.sieve_code.specs.Operation.{act_op}
-use Rattle.sieve_effects.specs.Act.{act_by}
-use Rattle.sieve_effects.specs.view.Delivery.{delivery_as}
-use Rattle.sieve_effects.specs.view.Ops.{settings_op_as}
+use Rattle.sieve_actions.specs.Act.{act_by}
+use Rattle.sieve_actions.specs.view.Delivery.{delivery_as}
+use Rattle.sieve_operations.specs.view.Ops.{settings_op_as}
 use Rattle.sieve_run.proofs.Stepping.{acts_follow}
 use Rattle.sieve_run.proofs.operations.act_keep.Goals as goal
 

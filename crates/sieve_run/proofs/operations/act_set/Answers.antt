@@ -5,8 +5,8 @@ use Rattle.sieve_code.specs.Operation.{act_op, targeting}
 use Rattle.sieve_code.specs.declared.pools.Target.{Target}
 use Rattle.sieve_code.specs.view.Code.{jump_place_of, pool_of}
 use Rattle.sieve_code.specs.view.Op.{set_in}
-use Rattle.sieve_effects.specs.Act.{act_by}
-use Rattle.sieve_effects.specs.view.Delivery.{delivery_as}
+use Rattle.sieve_actions.specs.Act.{act_by}
+use Rattle.sieve_actions.specs.view.Delivery.{delivery_as}
 use Rattle.sieve_run.proofs.Stepping.{acts_follow}
 use Rattle.sieve_run.proofs.operations.act_set.Goals as goal
 

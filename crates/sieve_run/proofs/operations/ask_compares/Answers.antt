@@ -3,9 +3,9 @@ use Rattle.sieve_reading.specs.Reading.{compares}
 use Rattle.sieve_code.specs.Operation.{test_op}
 use Rattle.sieve_code.specs.view.Code.{pool_of}
 use Rattle.sieve_code.specs.view.Op.{compares_in}
-use Rattle.sieve_effects.specs.Joined.{list_in}
-use Rattle.sieve_effects.specs.view.Delivery.{delivery_as}
-use Rattle.sieve_effects.specs.view.Ops.{source_op_as}
+use Rattle.sieve_operations.specs.Joined.{list_in}
+use Rattle.sieve_actions.specs.view.Delivery.{delivery_as}
+use Rattle.sieve_operations.specs.view.Ops.{source_op_as}
 use Rattle.sieve_run.proofs.Stepping.{asks_follow}
 use Rattle.sieve_run.proofs.operations.ask_compares.Goals as goal
 

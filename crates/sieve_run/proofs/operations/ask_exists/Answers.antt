@@ -1,7 +1,7 @@
 use Rattle.std.proofs.Common.{sym, ap}
 use Rattle.sieve_reading.specs.Reading.{exists_ask}
 use Rattle.sieve_code.specs.Operation.{test_op}
-use Rattle.sieve_effects.specs.view.Delivery.{delivery_as}
+use Rattle.sieve_actions.specs.view.Delivery.{delivery_as}
 use Rattle.sieve_run.proofs.Stepping.{exists_follow}
 use Rattle.sieve_run.proofs.operations.ask_exists.Goals as goal
 

@@ -1,7 +1,7 @@
 use Rattle.std.proofs.Common.{refl}
 use Rattle.sieve_reading.specs.Reading.{over_ask}
-use Rattle.sieve_effects.specs.Matching.{truth_of, values_behind}
-use Rattle.sieve_effects.specs.view.Delivery.{delivery_as}
+use Rattle.sieve_matching.specs.Matching.{truth_of, values_behind}
+use Rattle.sieve_actions.specs.view.Delivery.{delivery_as}
 use Rattle.sieve_run.proofs.Stepping.{size_steps}
 use Rattle.sieve_run.proofs.operations.ask_over.Goals as goal
 

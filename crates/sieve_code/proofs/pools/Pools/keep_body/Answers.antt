@@ -1,4 +1,4 @@
-use Rattle.sieve_effects.specs.Joined.{list_in}
+use Rattle.sieve_operations.specs.Joined.{list_in}
 use Rattle.sieve_reading.specs.Reading.{body_values, content_transform}
 use Rattle.sieve_reading.specs.view.Reading.{texts_as}
 use Rattle.sieve_code.specs.Pool.{Pool}

@@ -1,5 +1,5 @@
 use Rattle.std.proofs.Common.{ap, length, sym, ◌∙◌}
-use Rattle.sieve_effects.specs.Joined.{Lists, list_in, lists_plus}
+use Rattle.sieve_operations.specs.Joined.{Lists, list_in, lists_plus}
 use Rattle.sieve_reading.specs.view.Reading.{texts_as}
 use Rattle.sieve_code.specs.view.Pools.{pool_as}
 use Rattle.sieve_code.proofs.Keeping.{list_kept}

@@ -1,4 +1,4 @@
-use Rattle.sieve_effects.specs.Joined.{list_in}
+use Rattle.sieve_operations.specs.Joined.{list_in}
 use Rattle.sieve_reading.specs.Reading.{compares}
 use Rattle.sieve_code.specs.Operation.{test_op}
 use Rattle.sieve_reading.specs.view.Reading.{source_as, texts_as}

@@ -1,4 +1,4 @@
-use Rattle.sieve_effects.specs.Joined.{list_in}
+use Rattle.sieve_operations.specs.Joined.{list_in}
 use Rattle.sieve_code.specs.Pool.{given_variable}
 use Rattle.sieve_reading.specs.Reading.{flag_leaf}
 use Rattle.sieve_code.specs.Operation.{act_op}

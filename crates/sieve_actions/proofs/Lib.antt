@@ -1,0 +1,4 @@
+pub mod InTheWay
+pub mod Known
+pub mod NameFronts
+mod Named

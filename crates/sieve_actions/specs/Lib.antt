@@ -1,0 +1,5 @@
+pub mod Act
+pub mod Delivery
+pub mod ErrorKind
+pub mod State
+pub mod view

@@ -1,0 +1,23 @@
+-- The state of a run.
+use Rattle.std.specs.Prelude.{ℕ, Bool, List}
+use Rattle.sieve_variables.specs.Value.{Values}
+use Rattle.sieve_base.specs.declared.name.ScriptName.{ScriptName}
+use Rattle.sieve_actions.specs.declared.action.Action.{Action}
+use Rattle.sieve_actions.specs.declared.action.Origin.{Origin}
+
+pub record RunState : Type 0 where
+  -- the actions in order
+  pub actions : List Action
+  -- of each action the command that entered it first
+  pub origins : List Origin
+  -- whether an action that was performed cancelled the implicit keep, be it one that added no entry (RFC 5228, section 2.10.2; RFC
+  -- 3894, section 3; RFC 5230, section 4.7; RFC 5429, section 2.4)
+  pub cancelled : Bool
+  -- the names looked up so far, each present or missing
+  pub reads : List (ScriptName × Bool)
+  -- the scripts that were entered, in turn, the main script first (RFC 6609, section 3.2)
+  pub entered : List ScriptName
+  -- the variables of the script that runs, and those that scripts share
+  pub values : Values
+  -- the internal flags (RFC 5232, section 2)
+  pub flags : List (List ℕ)

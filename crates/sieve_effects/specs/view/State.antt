@@ -1,6 +1,0 @@
--- What a state stands for.
-use Rattle.sieve_effects.specs.declared.state.State.{State}
-use Rattle.sieve_effects.specs.State.{RunState}
-
-abbrev pub state_of : State → RunState
-state_of s = record { actions = s.actions.actions; origins = s.origins.items; cancelled = s.cancelled; reads = s.reads.entries; entered = s.entered.items; values = s.values; flags = s.actions.flags }

@@ -1,0 +1,7 @@
+pub mod Copying
+pub mod Holding
+pub mod Keyed
+mod Counted
+mod NamesInTurn
+mod Paths
+pub mod Searching

@@ -1,0 +1,4 @@
+pub mod Bodies
+pub mod Dates
+pub mod Matching
+pub mod view

@@ -1,0 +1,88 @@
+-- What tests find in one value, one field, one name and one entity.
+use Rattle.std.specs.Prelude.{ℕ, Bool, true, false, List, [], ◌∷◌, map, Option, None, Some, if◌then◌else◌}
+use Rattle.std.specs.List.{flat_map}
+use Rattle.std.specs.Option.{option_and_then}
+use Rattle.match_text.specs.Flags.{flag_keys}
+use Rattle.encoded_words.specs.Scan.{decoded_of}
+use Rattle.sieve_profile.specs.Profile.{Profile}
+use Rattle.message_text.specs.Addresses.{AddrSpec, addresses_of, part_of_address, part_of_path}
+use Rattle.message_text.specs.Fields.{Field, is_field_named}
+use Rattle.message_text.specs.declared.addressing.AddressPart.{AddressPart}
+use Rattle.mime_text.specs.Entities.{Entity}
+use Rattle.mime_text.specs.Values.{texts_if_named}
+use Rattle.sieve_reading.specs.Reading.{ValueSource, address_values, body_values, clock_values, date_values, envelope_values, flag_values, header_values, string_values}
+use Rattle.sieve_variables.specs.Part.{Part}
+use Rattle.sieve_variables.specs.Value.{text_value}
+use Rattle.sieve_table.specs.Address.{is_address_field}
+use Rattle.sieve_matching.specs.Matching.{envelope_text, first_match, first_some, pairs_with}
+use Rattle.sieve_matching.specs.declared.matcher.Matcher.{Matcher}
+use Rattle.sieve_actions.specs.declared.envelope.Envelope.{Envelope}
+
+-- what a key stands for: itself, or its pieces where keys are cut at spaces
+abbrev pub cut_key : (cut : Bool) → List ℕ → List (List ℕ)
+cut_key true text = flag_keys text
+cut_key false text = text ∷ []
+
+-- the keys that a value is compared with
+abbrev pub key_texts : Matcher → List (List ℕ)
+key_texts matcher = flat_map (cut_key matcher.are_cut) (map (text_value matcher.values.now) matcher.keys.now)
+
+-- what a key gives that a value matches, and what the first key gives
+abbrev pub key_found : Matcher → List ℕ → List Part → Option (List (List ℕ))
+key_found matcher value key = first_match matcher.comparison (pairs_with (cut_key matcher.are_cut (text_value matcher.values.now key)) value)
+
+abbrev pub found_with : Matcher → List ℕ → Option (List (List ℕ))
+found_with matcher value = first_match matcher.comparison (pairs_with (key_texts matcher) value)
+
+-- where values are taken from: the values of fields, or a part of the addresses in them
+abbrev pub field_source : Option AddressPart → List (List Part) → ValueSource
+field_source None names = header_values names
+field_source (Some part) names = address_values part names
+
+-- whether a test's keys are cut at spaces
+abbrev pub cuts_keys : ValueSource → Bool
+cuts_keys (header_values names) = false
+cuts_keys (address_values part names) = false
+cuts_keys (envelope_values part names) = false
+cuts_keys (string_values texts) = false
+cuts_keys (flag_values variables) = true
+cuts_keys (date_values zone field part) = false
+cuts_keys (clock_values zone part) = false
+cuts_keys (body_values transform) = false
+
+-- whether fields of that name are looked at
+abbrev pub is_looked_at : Option AddressPart → List ℕ → Bool
+is_looked_at None name = true
+is_looked_at (Some part) name = is_address_field name
+
+-- where `find` says what a value that matches gives
+module _ (find : List ℕ → Option (List (List ℕ))) where
+  -- a part of an address that is there
+  abbrev pub part_found : AddressPart → AddrSpec → Option (List (List ℕ))
+  part_found part address = option_and_then find (part_of_address part address)
+
+  -- a part of an envelope's address, and of the address in the envelope's part of a name
+  abbrev pub path_found : AddressPart → List ℕ → Option (List (List ℕ))
+  path_found part text = option_and_then find (part_of_path part text)
+
+  abbrev pub path_name_found : AddressPart → Envelope → List ℕ → Option (List (List ℕ))
+  path_name_found part envelope name = option_and_then (path_found part) (envelope_text envelope name)
+
+-- where the profile says besides which charsets are known
+module _ (find : List ℕ → Option (List (List ℕ))) (profile : Profile) where
+  -- all of a value with its encoded words replaced, or that part of the addresses in it as it is written
+  abbrev pub value_found : Option AddressPart → List ℕ → Option (List (List ℕ))
+  value_found None value = find (decoded_of profile value)
+  value_found (Some part) value = first_some (part_found find part) (addresses_of value)
+
+  -- the value of a field, where it has that name
+  abbrev pub field_found : Option AddressPart → List ℕ → Field → Option (List (List ℕ))
+  field_found part name field = if is_field_named name field then value_found part field.value else None
+
+  -- the values of the fields of a name, where they are looked at
+  abbrev pub name_found : Option AddressPart → List Field → List ℕ → Option (List (List ℕ))
+  name_found part fields name = if is_looked_at part name then first_some (field_found part name) fields else None
+
+  -- the texts of an entity, if one of these entries names it
+  abbrev pub entity_found : (entries : List (List ℕ)) → Entity → Option (List (List ℕ))
+  entity_found entries entity = first_some find (texts_if_named profile entries entity)

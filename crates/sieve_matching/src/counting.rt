@@ -1,0 +1,303 @@
+//! How many values a test has that counts them (RFC 5231, section 4.2).
+ghost use Rattle.std.specs.Prelude.{◌≡◌, ◌<◌, ◌+◌, length, filter, map, None, Some, slice_get, IfOk};
+ghost use Rattle.std.specs.List.{flat_map};
+ghost use Rattle.match_text.specs.Flags.{flag_list};
+ghost use Rattle.message_text.specs.Fields.{fields_of};
+ghost use Rattle.message_text.specs.declared.addressing.AddressPart.TheVariants.{All};
+ghost use Rattle.sieve_base.specs.Octet.{is_filled};
+ghost use Rattle.sieve_reading.specs.Reading.{address_values, envelope_values, flag_values, header_values};
+ghost use Rattle.sieve_actions.specs.Delivery.{envelope_of};
+ghost use Rattle.sieve_matching.specs.Matching.{counted_of, envelope_named, parts_named, parts_of_envelope, parts_of_value, values_named, values_of};
+ghost use Rattle.sieve_actions.specs.view.Delivery.{arrival_as, delivery_as};
+ghost use Rattle.sieve_matching.specs.view.FieldReads.{address_lists_of};
+ghost use Rattle.sieve_operations.specs.view.Ops.{source_op_as};
+ghost use Rattle.sieve_actions.specs.view.State.{state_of};
+ghost use Rattle.sieve_variables.specs.Value.{text_value};
+
+use crate::body_values::count_body;
+use crate::date_values::{count_clock, count_date};
+use crate::field_reads::FieldReads;
+use crate::path_values::{envelope_text, is_null_path};
+use match_text::flags_of;
+use message_text::{FieldName, Message};
+use sieve_actions::{Arrival, Delivery, State};
+use sieve_operations::{FieldNames, SourceOp, Strings};
+use sieve_table::is_address_field;
+use sieve_variables::Values;
+use std::alloc::{AllocError, Global};
+
+/// The sum of two numbers. One of more than 64 bits is answered as want of memory.
+pub(crate) fn plus(count: usize, more: usize) -> Result<usize, AllocError>
+    ensures { IfOk result (λ sum. sum ≡ count + more) }
+{
+    match count.checked_add(more) {
+        Some(sum) => Ok(sum),
+        None => Err(AllocError),
+    }
+}
+
+/// How many fields of that name there are. None of their values is read.
+fn fields_named(message: &Message, name: &FieldName<'_>) -> usize
+    ensures { result ≡ length (values_named (fields_of message.now) name.now) }
+{
+    let mut count = 0usize;
+    let mut start = 0;
+    while start < message.fields() {
+        let Some(i) = message.next_named(name, start) else {
+            return count;
+        };
+        count += 1;
+        start = i + 1;
+    }
+    count
+}
+
+/// How many fields of some names there are. Where a name is given twice, its fields count twice.
+fn fields_by_names(
+    alloc: Global,
+    message: &Message,
+    values: &Values,
+    names: &FieldNames<'_>,
+) -> Result<usize, AllocError>
+    ensures { IfOk result (λ count. count ≡ length
+        (flat_map (values_named (fields_of message.now)) (map (text_value values.now) names.now))) }
+{
+    let mut buffer = Vec::new(alloc);
+    let mut count = 0usize;
+    for i in 0..names.len() {
+        let name = names.name_in(i, values, &mut buffer)?;
+        count = plus(count, fields_named(message, &name))?;
+    }
+    Ok(count)
+}
+
+/// How many values there are for a test of some fields.
+fn count_fields(
+    delivery: &Delivery<'_>,
+    state: &State,
+    names: &FieldNames<'_>,
+) -> Result<usize, AllocError>
+    ensures { IfOk result (λ count. count ≡ length
+        (values_of (delivery_as delivery.now) (state_of state.now) (header_values names.now))) }
+{
+    let message = delivery.arrival.message;
+    fields_by_names(delivery.alloc, message, &state.values, names)
+}
+
+/// How many addresses there are in the value of field `i`.
+fn addresses_at(alloc: Global, fields: &mut FieldReads<'_>, i: usize) -> Result<usize, AllocError>
+    requires { i < length (fields_of fields.old.message) }
+    ensures arrival { fields.new ≡ fields.old }
+    ensures count { IfOk result (λ count. slice_get
+        (map (λ listed. length listed) (address_lists_of fields.old.message)) i ≡ Some count) }
+{
+    let listed = fields.take_addresses(alloc, i)?;
+    let count = listed.len();
+    fields.keep_addresses(i, listed)?;
+    Ok(count)
+}
+
+/// How many addresses there are in the fields of that name.
+fn addresses_in_fields(
+    alloc: Global,
+    fields: &mut FieldReads<'_>,
+    name: &FieldName<'_>,
+) -> Result<usize, AllocError>
+    ensures arrival { fields.new ≡ fields.old }
+    ensures count { IfOk result (λ count. count ≡ length
+        (flat_map (parts_of_value All) (values_named (fields_of fields.old.message) name.now))) }
+{
+    let message = fields.message();
+    let mut count = 0usize;
+    let mut start = 0;
+    while start < message.fields() {
+        let Some(i) = message.next_named(name, start) else {
+            return Ok(count);
+        };
+        count = plus(count, addresses_at(alloc, &mut *fields, i)?)?;
+        start = i + 1;
+    }
+    Ok(count)
+}
+
+/// How many addresses there are in the fields of that name, where such fields hold addresses.
+fn addresses_by_name(
+    alloc: Global,
+    fields: &mut FieldReads<'_>,
+    name: &FieldName<'_>,
+) -> Result<usize, AllocError>
+    ensures arrival { fields.new ≡ fields.old }
+    ensures count { IfOk result
+        (λ count. count ≡ length (parts_named All (fields_of fields.old.message) name.now)) }
+{
+    if is_address_field(name.octets()) {
+        addresses_in_fields(alloc, fields, name)
+    } else {
+        Ok(0)
+    }
+}
+
+/// How many addresses there are in the fields of some names.
+fn addresses_by_names(
+    alloc: Global,
+    fields: &mut FieldReads<'_>,
+    values: &Values,
+    names: &FieldNames<'_>,
+) -> Result<usize, AllocError>
+    ensures arrival { fields.new ≡ fields.old }
+    ensures count { IfOk result (λ count. count ≡ length (flat_map
+        (parts_named All (fields_of fields.old.message)) (map (text_value values.now) names.now))) }
+{
+    let mut buffer = Vec::new(alloc);
+    let mut count = 0usize;
+    for i in 0..names.len() {
+        let name = names.name_in(i, values, &mut buffer)?;
+        count = plus(count, addresses_by_name(alloc, &mut *fields, &name)?)?;
+    }
+    Ok(count)
+}
+
+/// How many addresses there are for a test of some fields, whatever part of them it names.
+fn count_addresses(
+    delivery: &Delivery<'_>,
+    fields: &mut FieldReads<'_>,
+    state: &State,
+    names: &FieldNames<'_>,
+) -> Result<usize, AllocError>
+    requires { fields.old ≡ (delivery_as delivery.now).arrival }
+    ensures arrival { fields.new ≡ fields.old }
+    ensures count { IfOk result (λ count. count ≡ length (values_of (delivery_as delivery.now)
+        (state_of state.now) (address_values All names.now))) }
+{
+    addresses_by_names(delivery.alloc, fields, &state.values, names)
+}
+
+/// How many addresses there are in the envelope's part of this text: none in a null path, and one in each other text.
+fn addresses_in_path(text: &[u8]) -> usize
+    ensures { result ≡ length (filter is_filled (parts_of_envelope All (Some text.now))) }
+{
+    if is_null_path(text) { 0 } else { 1 }
+}
+
+/// How many addresses there are in the envelope's part of that name.
+fn addresses_by_path_name(arrival: &Arrival<'_>, name: &[u8]) -> usize
+    ensures { result ≡ length
+        (filter is_filled (envelope_named All (envelope_of (arrival_as arrival.now)) name.now)) }
+{
+    match envelope_text(arrival, name) {
+        Some(text) => addresses_in_path(text),
+        None => 0,
+    }
+}
+
+/// How many addresses there are in some parts of the envelope.
+fn addresses_by_path_names(
+    alloc: Global,
+    arrival: &Arrival<'_>,
+    values: &Values,
+    names: &Strings<'_>,
+) -> Result<usize, AllocError>
+    ensures { IfOk result (λ count. count ≡ length (filter is_filled (flat_map (envelope_named All
+        (envelope_of (arrival_as arrival.now))) (map (text_value values.now) names.now)))) }
+{
+    let mut buffer = Vec::new(alloc);
+    let mut count = 0usize;
+    for i in 0..names.len() {
+        let name = names.text_in(i, values, &mut buffer)?;
+        count = plus(count, addresses_by_path_name(arrival, name))?;
+    }
+    Ok(count)
+}
+
+/// How many addresses there are for a test of some parts of the envelope, whatever part of them it names.
+fn count_paths(
+    delivery: &Delivery<'_>,
+    state: &State,
+    names: &Strings<'_>,
+) -> Result<usize, AllocError>
+    ensures { IfOk result (λ count. count ≡ length (filter is_filled (values_of
+        (delivery_as delivery.now) (state_of state.now) (envelope_values All names.now)))) }
+{
+    addresses_by_path_names(delivery.alloc, delivery.arrival, &state.values, names)
+}
+
+/// How many strings there are that aren't empty.
+fn filled_strings(alloc: Global, values: &Values, texts: &Strings<'_>) -> Result<usize, AllocError>
+    ensures { IfOk result
+        (λ count. count ≡ length (filter is_filled (map (text_value values.now) texts.now))) }
+{
+    let mut buffer = Vec::new(alloc);
+    let mut count = 0usize;
+    for i in 0..texts.len() {
+        let text = texts.text_in(i, values, &mut buffer)?;
+        if !text.is_empty() {
+            count += 1;
+        }
+    }
+    Ok(count)
+}
+
+/// How many flags there are in a text, each once.
+fn flags_in_text(alloc: Global, text: &[u8]) -> Result<usize, AllocError>
+    ensures { IfOk result (λ count. count ≡ length (flag_list text.now)) }
+{
+    let flags = flags_of(alloc, text)?;
+    Ok(flags.len())
+}
+
+/// How many flags variables hold: those of each of them in turn.
+fn flags_in_variables(
+    alloc: Global,
+    values: &Values,
+    variables: &Strings<'_>,
+) -> Result<usize, AllocError>
+    ensures { IfOk result
+        (λ count. count ≡ length (flat_map flag_list (map (text_value values.now) variables.now))) }
+{
+    let mut buffer = Vec::new(alloc);
+    let mut count = 0usize;
+    for i in 0..variables.len() {
+        let text = variables.text_in(i, values, &mut buffer)?;
+        count = plus(count, flags_in_text(alloc, text)?)?;
+    }
+    Ok(count)
+}
+
+/// How many flags variables hold, or how many internal ones there are where none are named.
+fn count_flags(
+    delivery: &Delivery<'_>,
+    state: &State,
+    variables: &Option<Strings<'_>>,
+) -> Result<usize, AllocError>
+    ensures { IfOk result (λ count. count ≡ length
+        (values_of (delivery_as delivery.now) (state_of state.now) (flag_values variables.now))) }
+{
+    match variables {
+        Some(variables) => flags_in_variables(delivery.alloc, &state.values, variables),
+        None => Ok(state.actions.flags().len()),
+    }
+}
+
+/// How many values of a source count.
+pub(crate) fn count_in_source(
+    delivery: &Delivery<'_>,
+    fields: &mut FieldReads<'_>,
+    state: &State,
+    source: &SourceOp<'_>,
+) -> Result<usize, AllocError>
+    requires { fields.old ≡ (delivery_as delivery.now).arrival }
+    ensures arrival { fields.new ≡ fields.old }
+    ensures count { IfOk result (λ count. count ≡ length
+        (counted_of (delivery_as delivery.now) (state_of state.now) (source_op_as source.now))) }
+{
+    match source {
+        SourceOp::Header { names } => count_fields(delivery, state, names),
+        SourceOp::Address { names, .. } => count_addresses(delivery, fields, state, names),
+        SourceOp::Envelope { names, .. } => count_paths(delivery, state, names),
+        SourceOp::String { texts } => { filled_strings(delivery.alloc, &state.values, texts) }
+        SourceOp::Flags { variables } => count_flags(delivery, state, variables),
+        SourceOp::Date { zone, field, part } => count_date(delivery, state, zone, *field, *part),
+        SourceOp::CurrentDate { zone, part } => count_clock(delivery, state, zone, *part),
+        SourceOp::Body { transform } => count_body(delivery, fields, state, transform),
+    }
+}
