@@ -46,11 +46,11 @@ module _ (delivery : Delivery) (line : ℕ) (state : RunState) where
         by true is = cc
         by false is = refl
 
-  pub sends_to : (address : List Part) (settings : Settings) (octets : List ℕ) (ending : Ending) → Some octets ≡ only_address (addresses_of (text_value state.values address)) → ending ≡ performs delivery line (deed_of (Redirect octets) settings) state → ending ≡ sends delivery address settings line state
-  sends_to address settings octets ending is does = does ∙ ap (λ o. redirects delivery line o settings state) is
+  pub sends_to : (address : List Part) (copy : Bool) (octets : List ℕ) (ending : Ending) → Some octets ≡ only_address (addresses_of (text_value state.values address)) → ending ≡ performs delivery line (deed_of (Redirect octets) copy) state → ending ≡ sends delivery address copy line state
+  sends_to address copy octets ending is does = does ∙ ap (λ o. redirects delivery line o copy state) is
 
-  pub sends_nowhere : (address : List Part) (settings : Settings) → None ≡ only_address (addresses_of (text_value state.values address)) → fails_at delivery line BadAddress state ≡ sends delivery address settings line state
-  sends_nowhere address settings is = ap (λ o. redirects delivery line o settings state) is
+  pub sends_nowhere : (address : List Part) (copy : Bool) → None ≡ only_address (addresses_of (text_value state.values address)) → fails_at delivery line BadAddress state ≡ sends delivery address copy line state
+  sends_nowhere address copy is = ap (λ o. redirects delivery line o copy state) is
 
 pub ruleset filing = (files_there, files_unused, files_nowhere)
 

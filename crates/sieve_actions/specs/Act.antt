@@ -129,9 +129,9 @@ with_action action actions = unless (conflict_among action actions) (with_room a
 abbrev pub fails_at : Delivery → ℕ → ErrorKind → RunState → Ending
 fails_at delivery line kind state = failed (record { script = delivery.script; line = line; kind = kind }) state
 
--- an action with what its command says of it
-abbrev pub deed_of : Action → Settings → Deed
-deed_of action settings = record { action = action; leaves_keep = settings.copy }
+-- an action, which may be a copy (RFC 3894, section 3)
+abbrev pub deed_of : Action → (copy : Bool) → Deed
+deed_of action copy = record { action = action; leaves_keep = copy }
 
 -- the command at a line of the script that runs
 abbrev pub origin_at : Delivery → ℕ → Origin
@@ -185,9 +185,9 @@ abbrev pub files : Delivery → ℕ → (name : List ℕ) → (used : Option (Li
 files delivery line name used deed state = if is_mailbox name && may_be_used used then performs delivery line deed state else fails_at delivery line BadMailbox state
 
 -- a redirect is performed where there is an address (RFC 5228, section 4.2); else the command fails
-abbrev pub redirects : Delivery → ℕ → Option (List ℕ) → Settings → RunState → Ending
-redirects delivery line None settings state = fails_at delivery line BadAddress state
-redirects delivery line (Some address) settings state = performs delivery line (deed_of (Redirect address) settings) state
+abbrev pub redirects : Delivery → ℕ → Option (List ℕ) → (copy : Bool) → RunState → Ending
+redirects delivery line None copy state = fails_at delivery line BadAddress state
+redirects delivery line (Some address) copy state = performs delivery line (deed_of (Redirect address) copy) state
 
 -- FLAGS
 
@@ -230,23 +230,23 @@ filing_of values settings = record { create = settings.create; special_use = opt
 
 -- a store into a mailbox, with what is said beside
 abbrev pub store_deed : RunState → List ℕ → Settings → Deed
-store_deed state mailbox settings = deed_of (Store mailbox (stored_flags state settings.flags) (filing_of state.values settings)) settings
+store_deed state mailbox settings = deed_of (Store mailbox (stored_flags state settings.flags) (filing_of state.values settings)) settings.copy
 
 -- keep stores into the delivery's mailbox (RFC 5228, section 4.3)
-abbrev pub keeps : Delivery → Settings → ℕ → RunState → Ending
-keeps delivery settings line state = performs delivery line (store_deed state delivery.arrival.envelope.mailbox settings) state
+abbrev pub keeps : Delivery → (flags : Option (List (List Part))) → ℕ → RunState → Ending
+keeps delivery flags line state = performs delivery line (store_deed state delivery.arrival.envelope.mailbox (record plain_settings { flags = flags })) state
 
 -- fileinto stores into the mailbox that it names (RFC 5228, section 4.1)
 abbrev pub files_into : Delivery → List Part → Settings → ℕ → RunState → Ending
 files_into delivery mailbox settings line state = files delivery line (text_value state.values mailbox) (filing_of state.values settings).special_use (store_deed state (text_value state.values mailbox) settings) state
 
 -- redirect sends the message on to an address (RFC 5228, section 4.2)
-abbrev pub sends : Delivery → List Part → Settings → ℕ → RunState → Ending
-sends delivery address settings line state = redirects delivery line (only_address (addresses_of (text_value state.values address))) settings state
+abbrev pub sends : Delivery → List Part → (copy : Bool) → ℕ → RunState → Ending
+sends delivery address copy line state = redirects delivery line (only_address (addresses_of (text_value state.values address))) copy state
 
 -- discard discards it (RFC 5228, section 4.4)
 abbrev pub discards : Delivery → ℕ → RunState → Ending
-discards delivery line state = performs delivery line (deed_of Discard plain_settings) state
+discards delivery line state = performs delivery line (deed_of Discard false) state
 
 -- what a `vacation` answers, with what its strings stand for (RFC 5230, section 4)
 abbrev pub response_of : Values → Vacation → Response
@@ -285,9 +285,9 @@ sets delivery variable modifiers value line state = gives delivery line variable
 -- What a command does that acts, where `include` says what an include does: setflag, addflag and removeflag change flags (RFC 5232,
 -- section 3).
 abbrev pub act_by : (include : ScriptName → (once optional : Bool) → ℕ → RunState → Ending) → Delivery → Leaf → ℕ → RunState → Ending
-act_by include delivery (keep_leaf settings) line state = keeps delivery settings line state
+act_by include delivery (keep_leaf flags) line state = keeps delivery flags line state
 act_by include delivery (fileinto_leaf mailbox settings) line state = files_into delivery mailbox settings line state
-act_by include delivery (redirect_leaf address settings) line state = sends delivery address settings line state
+act_by include delivery (redirect_leaf address copy) line state = sends delivery address copy line state
 act_by include delivery discard_leaf line state = discards delivery line state
 act_by include delivery (set_leaf variable modifiers value) line state = sets delivery variable modifiers value line state
 act_by include delivery (flag_leaf how variable flags) line state = changes delivery line how variable flags state

@@ -26,7 +26,7 @@ use match_text::is_keyword;
 use message_text::{Address, AddressPart, addresses};
 use sieve_base::Octets;
 use sieve_base::limits::MAX_MAILBOX;
-use sieve_operations::SettingsOp;
+use sieve_operations::{SettingsOp, Strings};
 use sieve_variables::{Modifiers, Part, Values, Variable};
 use std::alloc::AllocError;
 
@@ -130,16 +130,25 @@ fn store(
 /// (RFC 5228, section 2.10.4). Fails where memory is refused.
 pub fn keep(
     delivery: &Delivery<'_>,
-    settings: &SettingsOp<'_>,
+    flags: Option<Strings<'_>>,
     line: u64,
     state: &mut State,
 ) -> Result<Flow, AllocError>
-    ensures { IfOk result (λ flow. ending_by flow (state_of state.new) ≡ spec.keeps
-        (delivery_as delivery.now) (settings_op_as settings.now) line (state_of state.old)) }
+    ensures { IfOk result (λ flow. ending_by flow (state_of state.new)
+        ≡ spec.keeps (delivery_as delivery.now) flags.entry line (state_of state.old)) }
 {
     let mailbox = Octets::copied(delivery.alloc, delivery.arrival.envelope.mailbox.as_slice())?;
-    let filing = filing_of(delivery, &state.values, settings)?;
-    store(delivery, mailbox, filing, settings, line, state)
+    let settings = SettingsOp {
+        flags,
+        copy: false,
+        create: false,
+        special_use: None,
+    };
+    let filing = Filing {
+        create: false,
+        special_use: None,
+    };
+    store(delivery, mailbox, filing, &settings, line, state)
 }
 
 /// Discards the message (RFC 5228, section 4.4). One action too many is an error of the script (section 2.10.4). Fails where memory is refused.
@@ -289,17 +298,17 @@ fn address_named(
 pub fn redirect(
     delivery: &Delivery<'_>,
     address: &[Part],
-    settings: &SettingsOp<'_>,
+    copy: bool,
     line: u64,
     state: &mut State,
 ) -> Result<Flow, AllocError>
-    ensures { IfOk result (λ flow. ending_by flow (state_of state.new) ≡ spec.sends (delivery_as
-        delivery.now) address.now (settings_op_as settings.now) line (state_of state.old)) }
+    ensures { IfOk result (λ flow. ending_by flow (state_of state.new)
+        ≡ spec.sends (delivery_as delivery.now) address.now copy line (state_of state.old)) }
 {
     match address_named(delivery, &state.values, address)? {
         Some(address) => {
             let action = Action::Redirect { address };
-            let leaves_keep = settings.copy;
+            let leaves_keep = copy;
             perform(
                 delivery,
                 Deed {

@@ -75,9 +75,9 @@ module _ (labels others : List Label) (args arguments : List Argument) (same_tag
   commands_alike command.If alike = refl
   commands_alike command.Elsif alike = refl
   commands_alike command.Else alike = refl
-  commands_alike command.Keep alike = ap (λ s. reads_act (keep_leaf s)) (settings_alike alike.0 alike.1.0)
+  commands_alike command.Keep alike = ap (λ flags. reads_act (keep_leaf flags)) alike.0
   commands_alike command.Fileinto alike = two (λ mailbox s. reads_act (fileinto_leaf mailbox s)) alike.0 (settings_alike alike.1.0 alike.1.1.0)
-  commands_alike command.Redirect alike = two (λ address s. reads_act (redirect_leaf address s)) alike.0 (settings_alike alike.1.0 alike.1.1.0)
+  commands_alike command.Redirect alike = two (λ address t. reads_act (redirect_leaf address (has_tag tag_kind.Copy t))) alike.0 same_tags
   commands_alike command.Discard alike = refl
   commands_alike command.Stop alike = refl
   commands_alike command.Set alike = three (λ variable t value. reads_act (set_leaf variable (commands.modifiers_of t) value)) alike.0 same_tags alike.1.0

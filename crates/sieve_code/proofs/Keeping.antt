@@ -1,7 +1,6 @@
 -- What is kept in pools stays where it is.
-use Rattle.std.proofs.Common.{◌≡◌, ℕ, ◌<◌, ◌==◌, arith, Bool, true, false, if◌then◌else◌, List, [], ◌∷◌, ◌++◌, length, map, drop, get_or, Option, Some, None, refl, sym, ap, ◌∙◌, subst}
+use Rattle.std.proofs.Common.{◌≡◌, ℕ, true, false, List, [], ◌∷◌, ◌++◌, length, map, drop, get_or, Option, Some, None, refl, sym, ap, ◌∙◌, subst}
 use Rattle.std.specs.Option.{option_map}
-use Rattle.std.proofs.lemmas.Bool.{eqb-true}
 use Rattle.std.specs.List.{slice_get}
 use Rattle.std.proofs.Math.Seq.{get_or-append_seam}
 use Rattle.std.proofs.lemmas.List.{append-nil, append_assoc, drop-map}
@@ -13,7 +12,7 @@ use Rattle.sieve_code.specs.declared.op.PackedSettings.{PackedSettings}
 use Rattle.sieve_code.specs.declared.op.PackedTest.{PackedTest}
 use Rattle.sieve_code.specs.declared.op.PackedVacation.{PackedVacation}
 use Rattle.sieve_code.specs.declared.pools.Target.{Target}
-use Rattle.sieve_code.specs.Pool.{Grows, Keeps, Kept, Pool, date_packed_in, given_list, given_string, given_variable, no_date, no_pool, no_test, no_vacation, nowhere, packed_in, plain_packed, plus, test_in, vacation_packed_in, vacation_unpacked}
+use Rattle.sieve_code.specs.Pool.{Grows, Keeps, Kept, Pool, date_packed_in, given_list, given_string, given_variable, no_date, no_pool, no_test, no_vacation, packed_in, plain_packed, plus, test_in, vacation_packed_in, vacation_unpacked}
 use Rattle.sieve_code.specs.Operation.{Operation}
 use Rattle.sieve_code.specs.view.Op.{is_plain, op_in, plain_as}
 use Rattle.sieve_code.specs.declared.op.Op.{Op}
@@ -78,13 +77,6 @@ slice_get-seam : {X : Type 0} (xs : List X) (x : X) (ys : List X) → slice_get 
 slice_get-seam [] x ys = refl
 slice_get-seam (y ∷ xs) x ys = slice_get-seam xs x ys
 
-somewhere : (place : ℕ) → place < nowhere → (place == nowhere) ≡ false
-somewhere place below = by_test (place == nowhere) refl
-  where
-    by_test : (b : Bool) → (place == nowhere) ≡ b → (place == nowhere) ≡ false
-    by_test true is = let same : place ≡ nowhere = eqb-true place nowhere is in absurd (omega (arith, below, same))
-    by_test false is = is
-
 module _ (p q : Pool) (place : ℕ) where
   pub string_kept : (string : List Part) → place ≡ length p.strings → q ≡ record p { strings = p.strings ++ string ∷ [] } → Kept p q (λ r. get_or r.strings place []) string
   string_kept string at is = subst (λ (q : Pool). Kept p q (λ r. get_or r.strings place []) string) (sym is) (record {
@@ -110,12 +102,11 @@ module _ (p q : Pool) (place : ℕ) where
     keeps = λ more. ap (λ (l : List PackedTest). get_or l place no_test) (append_assoc p.tests (test ∷ []) more.tests) ∙ ap (λ n. get_or (p.tests ++ test ∷ more.tests) n no_test) at ∙ get_or-append_seam p.tests test more.tests no_test;
   })
 
-  pub settings_kept : (settings : PackedSettings) → place ≡ length p.settings → place < nowhere → q ≡ record p { settings = p.settings ++ settings ∷ [] } → Kept p q (λ r. packed_in r place) settings
-  settings_kept settings at below is = subst (λ (q : Pool). Kept p q (λ r. packed_in r place) settings) (sym is) (record {
+  pub settings_kept : (settings : PackedSettings) → place ≡ length p.settings → q ≡ record p { settings = p.settings ++ settings ∷ [] } → Kept p q (λ r. packed_in r (Some place)) settings
+  settings_kept settings at is = subst (λ (q : Pool). Kept p q (λ r. packed_in r (Some place)) settings) (sym is) (record {
     grows = λ more. (record more { settings = settings ∷ more.settings }, ap (λ (s : List PackedSettings). record (plus p more) { settings = s }) (append_assoc p.settings (settings ∷ []) more.settings));
     keeps = λ more.
-        ap (λ b. if b then plain_packed else get_or ((p.settings ++ settings ∷ []) ++ more.settings) place plain_packed) (somewhere place below)
-        ∙ ap (λ (l : List PackedSettings). get_or l place plain_packed) (append_assoc p.settings (settings ∷ []) more.settings) ∙ ap (λ n. get_or (p.settings ++ settings ∷ more.settings) n plain_packed) at ∙ get_or-append_seam p.settings settings more.settings plain_packed;
+        ap (λ (l : List PackedSettings). get_or l place plain_packed) (append_assoc p.settings (settings ∷ []) more.settings) ∙ ap (λ n. get_or (p.settings ++ settings ∷ more.settings) n plain_packed) at ∙ get_or-append_seam p.settings settings more.settings plain_packed;
   })
 
   pub vacation_kept : (vacation : PackedVacation) → place ≡ length p.vacations → q ≡ record p { vacations = p.vacations ++ vacation ∷ [] } → Kept p q (λ r. vacation_packed_in r place) vacation
@@ -150,23 +141,18 @@ module _ (p q : Pool) (place : ℕ) (texts : List (List Part)) where
 
 -- WHAT MAY BE LEFT OUT
 
-pub given_kept : (p q : Pool) (place : ℕ) (texts : List (List Part)) → place < nowhere → Kept p q (λ r. list_in r.lists place) texts → Kept p q (λ r. given_list r place) (Some texts)
-given_kept p q place texts below kept = record {
-  grows = kept.grows;
-  keeps = λ more. ap (λ b. if b then None else Some (list_in (plus q more).lists place)) (somewhere place below) ∙ ap Some (kept.keeps more);
-}
+-- what is found at the place that something stands for
+pub kept_at : {X : Type 0} (p q : Pool) (given place : Option ℕ) (find : Option ℕ → Pool → X) (x : X) → given ≡ place → Kept p q (find place) x → Kept p q (find given) x
+kept_at p q given place find x is kept = subst (λ (g : Option ℕ). Kept p q (find g) x) (sym is) kept
 
-pub given_string_kept : (p q : Pool) (place : ℕ) (string : List Part) → place < nowhere → Kept p q (λ r. get_or r.strings place []) string → Kept p q (λ r. given_string r place) (Some string)
-given_string_kept p q place string below kept = record {
-  grows = kept.grows;
-  keeps = λ more. ap (λ b. if b then None else Some (get_or (plus q more).strings place [])) (somewhere place below) ∙ ap Some (kept.keeps more);
-}
+pub given_kept : (p q : Pool) (place : ℕ) (texts : List (List Part)) → Kept p q (λ r. list_in r.lists place) texts → Kept p q (λ r. given_list r (Some place)) (Some texts)
+given_kept p q place texts kept = kept_as Some p q (λ r. list_in r.lists place) texts kept
 
-pub variable_kept : (p q : Pool) (place : ℕ) (target : Target) → place < nowhere → Kept p q (λ r. slice_get r.targets place) (Some target) → Kept p q (λ r. given_variable r place) (Some target.variable)
-variable_kept p q place target below kept = record {
-  grows = kept.grows;
-  keeps = λ more. ap (λ b. if b then None else option_map (λ (t : Target). t.variable) (slice_get (plus q more).targets place)) (somewhere place below) ∙ ap (option_map (λ (t : Target). t.variable)) (kept.keeps more);
-}
+pub given_string_kept : (p q : Pool) (place : ℕ) (string : List Part) → Kept p q (λ r. get_or r.strings place []) string → Kept p q (λ r. given_string r (Some place)) (Some string)
+given_string_kept p q place string kept = kept_as Some p q (λ r. get_or r.strings place []) string kept
+
+pub variable_kept : (p q : Pool) (place : ℕ) (target : Target) → Kept p q (λ r. slice_get r.targets place) (Some target) → Kept p q (λ r. given_variable r (Some place)) (Some target.variable)
+variable_kept p q place target kept = kept_as (option_map (λ (t : Target). t.variable)) p q (λ r. slice_get r.targets place) (Some target) kept
 
 -- WHAT A VACATION SAYS
 
@@ -208,9 +194,9 @@ plain_in pool (op.Over limit) plain = absurd (no_plain plain)
 plain_in pool (op.Under limit) plain = absurd (no_plain plain)
 plain_in pool (op.MailboxExists names) plain = absurd (no_plain plain)
 plain_in pool op.Duplicate plain = absurd (no_plain plain)
-plain_in pool (op.Keep line settings) plain = absurd (no_plain plain)
+plain_in pool (op.Keep line flags) plain = absurd (no_plain plain)
 plain_in pool (op.Fileinto line mailbox settings) plain = absurd (no_plain plain)
-plain_in pool (op.Redirect line address settings) plain = absurd (no_plain plain)
+plain_in pool (op.Redirect line address copy) plain = absurd (no_plain plain)
 plain_in pool (op.Discard line) plain = absurd (no_plain plain)
 plain_in pool (op.Set line target value) plain = absurd (no_plain plain)
 plain_in pool (op.Flags change line variable flags) plain = absurd (no_plain plain)

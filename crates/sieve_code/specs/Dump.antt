@@ -167,8 +167,8 @@ unfoldable pub stored_text : Settings → List ℕ
 stored_text settings = stored_flags settings.flags ++ store_words settings
 
 -- what a command says beside, after its word
-unfoldable pub worded_settings : List ℕ → Settings → List ℕ
-worded_settings word settings = word ++ stored_text settings
+unfoldable pub keep_text : Option (List (List Part)) → List ℕ
+keep_text flags = codes "keep" ++ stored_flags flags
 
 -- the words of modifiers, those of higher precedence first
 abbrev pub case_word : Option LetterCase → List ℕ
@@ -239,9 +239,9 @@ unfoldable pub reject_text : Rejection → List Part → List ℕ
 reject_text how reason = rejection_word how ++ worded_text (codes " ") reason
 
 unfoldable pub leaf_text : Leaf → List ℕ
-leaf_text (keep_leaf settings) = worded_settings (codes "keep") settings
+leaf_text (keep_leaf flags) = keep_text flags
 leaf_text (fileinto_leaf mailbox settings) = worded_text (codes "fileinto ") mailbox ++ stored_text settings
-leaf_text (redirect_leaf address settings) = worded_text (codes "redirect ") address ++ copy_word settings.copy
+leaf_text (redirect_leaf address copy) = worded_text (codes "redirect ") address ++ copy_word copy
 leaf_text discard_leaf = codes "discard"
 leaf_text (set_leaf variable modifiers value) = worded_text (set_words variable modifiers) value
 leaf_text (flag_leaf how variable flags) = changing_words how variable ++ list_text flags

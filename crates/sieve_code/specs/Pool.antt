@@ -1,5 +1,5 @@
 -- What operations of code say by its place.
-use Rattle.std.specs.Prelude.{◌≡◌, ℕ, false, List, [], ◌++◌, Option, Some, None, ◌==◌, if◌then◌else◌, slice_index_or}
+use Rattle.std.specs.Prelude.{◌≡◌, ℕ, false, List, [], ◌++◌, Option, Some, None, slice_index_or}
 use Rattle.std.specs.List.{slice_get}
 use Rattle.std.specs.Option.{option_map}
 use Rattle.match_text.specs.declared.comparators.Collation.TheVariants.{Octet}
@@ -17,7 +17,7 @@ use Rattle.sieve_code.specs.declared.op.SourceKind.TheVariants as source
 use Rattle.sieve_code.specs.declared.pools.Target.{Target}
 
 -- strings, each by its parts; lists of strings; lists of names of fields; what commands change; names of scripts; and what tests that
--- compare, commands that store or redirect, those that answer the sender, and tests of dates say beside their strings
+-- compare, a `fileinto`, a `vacation`, and tests of dates say beside their strings
 pub record Pool : Type 0 where
   pub strings : List (List Part)
   pub lists : Lists
@@ -46,19 +46,16 @@ plus pool more = record {
   dates = pool.dates ++ more.dates;
 }
 
--- the place of what isn't given
-abbrev pub nowhere : ℕ
-nowhere = 4294967295
-
 -- a list, a string, and the variable of a target, each of which may be left out
-abbrev pub given_list : Pool → ℕ → Option (List (List Part))
-given_list pool place = if place == nowhere then None else Some (list_in pool.lists place)
+abbrev pub given_list : Pool → Option ℕ → Option (List (List Part))
+given_list pool place = option_map (list_in pool.lists) place
 
-abbrev pub given_string : Pool → ℕ → Option (List Part)
-given_string pool place = if place == nowhere then None else Some (slice_index_or pool.strings place [])
+abbrev pub given_string : Pool → Option ℕ → Option (List Part)
+given_string pool place = option_map (λ place. slice_index_or pool.strings place []) place
 
-abbrev pub given_variable : Pool → ℕ → Option Variable
-given_variable pool place = if place == nowhere then None else option_map (λ target. target.variable) (slice_get pool.targets place)
+abbrev pub given_variable : Pool → Option ℕ → Option Variable
+given_variable pool None = None
+given_variable pool (Some place) = option_map (λ target. target.variable) (slice_get pool.targets place)
 
 -- what a test that compares says beside its strings; past the end, that of a `string` test
 abbrev pub no_test : PackedTest
@@ -67,22 +64,23 @@ no_test = record { source = source.String; comparison = record { match_type = Is
 abbrev pub test_in : Pool → ℕ → PackedTest
 test_in pool place = slice_index_or pool.tests place no_test
 
--- what a command that stores or redirects says beside its strings; a plain one says nothing
+-- what a `fileinto` says beside its mailbox; a plain one says nothing
 abbrev pub plain_packed : PackedSettings
-plain_packed = record { flags = nowhere; copy = false; create = false; special_use = nowhere }
+plain_packed = record { flags = None; copy = false; create = false; special_use = None }
 
-abbrev pub packed_in : Pool → ℕ → PackedSettings
-packed_in pool place = if place == nowhere then plain_packed else slice_index_or pool.settings place plain_packed
+abbrev pub packed_in : Pool → Option ℕ → PackedSettings
+packed_in pool None = plain_packed
+packed_in pool (Some place) = slice_index_or pool.settings place plain_packed
 
 abbrev pub unpacked : Pool → PackedSettings → Settings
 unpacked pool packed = record { flags = given_list pool packed.flags; copy = packed.copy; create = packed.create; special_use = given_string pool packed.special_use }
 
-abbrev pub settings_in : Pool → ℕ → Settings
+abbrev pub settings_in : Pool → Option ℕ → Settings
 settings_in pool place = unpacked pool (packed_in pool place)
 
 -- what a `vacation` says; past the end, nothing
 abbrev pub no_vacation : PackedVacation
-no_vacation = record { reason = nowhere; days = None; subject = nowhere; from = nowhere; addresses = nowhere; mime = false; handle = nowhere }
+no_vacation = record { reason = 0; days = None; subject = None; from = None; addresses = None; mime = false; handle = None }
 
 abbrev pub vacation_packed_in : Pool → ℕ → PackedVacation
 vacation_packed_in pool place = slice_index_or pool.vacations place no_vacation
@@ -103,7 +101,7 @@ vacation_in pool place = vacation_unpacked pool (vacation_packed_in pool place)
 
 -- what a test of dates says, as it is kept; past the end, nothing
 abbrev pub no_date : PackedDate
-no_date = record { zone = zone.Local; field = nowhere; part = nowhere }
+no_date = record { zone = zone.Local; field = 0; part = 0 }
 
 abbrev pub date_packed_in : Pool → ℕ → PackedDate
 date_packed_in pool place = slice_index_or pool.dates place no_date

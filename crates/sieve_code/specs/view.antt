@@ -2,5 +2,6 @@
 pub mod Branches
 pub mod Code
 pub mod Marked
+pub mod Given
 pub mod Op
 pub mod Pools

@@ -12,8 +12,9 @@ ghost use Rattle.sieve_code.specs.view.Op.{clock_in, date_in, ops_in, source_in,
 ghost use Rattle.sieve_code.specs.view.Pools.{pool_as};
 
 use crate::dump::write_line;
+use crate::given::GivenPlace;
 use crate::op::{
-    NOWHERE, Op, PackedDate, PackedSettings, PackedTest, PackedVacation, PackedZone, SourceKind,
+    Op, PackedDate, PackedSettings, PackedTest, PackedVacation, PackedZone, SourceKind,
 };
 use crate::pools::{Pools, Target};
 use match_text::Collation;
@@ -45,15 +46,15 @@ fn no_test() -> PackedTest
     }
 }
 
-/// What a command says that says nothing beside its mailbox or its address.
+/// What a `fileinto` says that says nothing beside its mailbox.
 fn plain_packed() -> PackedSettings
     ensures { result ≡ plain_packed }
 {
     PackedSettings {
-        flags: NOWHERE,
+        flags: GivenPlace::none(),
         copy: false,
         create: false,
-        special_use: NOWHERE,
+        special_use: GivenPlace::none(),
     }
 }
 
@@ -62,13 +63,13 @@ fn no_vacation() -> PackedVacation
     ensures { result ≡ no_vacation }
 {
     PackedVacation {
-        reason: NOWHERE,
+        reason: 0,
         days: None,
-        subject: NOWHERE,
-        from: NOWHERE,
-        addresses: NOWHERE,
+        subject: GivenPlace::none(),
+        from: GivenPlace::none(),
+        addresses: GivenPlace::none(),
         mime: false,
-        handle: NOWHERE,
+        handle: GivenPlace::none(),
     }
 }
 
@@ -78,8 +79,8 @@ fn no_date() -> PackedDate
 {
     PackedDate {
         zone: PackedZone::Local,
-        field: NOWHERE,
-        part: NOWHERE,
+        field: 0,
+        part: 0,
     }
 }
 
@@ -116,13 +117,12 @@ impl Code {
     }
 
     /// The string at a place, where one is given. Takes no memory.
-    fn given_string(&self, place: u32) -> Option<&[Part]>
+    fn given_string(&self, place: GivenPlace) -> Option<&[Part]>
         ensures { option_copied result ≡ given_string (pool_of self.now) place }
     {
-        if place == NOWHERE {
-            None
-        } else {
-            Some(self.string(place))
+        match place.get() {
+            Some(place) => Some(self.string(place)),
+            None => None,
         }
     }
 
@@ -134,13 +134,12 @@ impl Code {
     }
 
     /// The list at a place, where one is given. Takes no memory.
-    fn given(&self, place: u32) -> Option<Strings<'_>>
+    pub fn given_list(&self, place: GivenPlace) -> Option<Strings<'_>>
         ensures { result ≡ given_list (pool_of self.now) place }
     {
-        if place == NOWHERE {
-            None
-        } else {
-            Some(self.list(place))
+        match place.get() {
+            Some(place) => Some(self.list(place)),
+            None => None,
         }
     }
 
@@ -226,8 +225,9 @@ impl Code {
             SourceKind::String => SourceOp::String {
                 texts: self.list(place),
             },
-            SourceKind::Flags => SourceOp::Flags {
-                variables: self.given(place),
+            SourceKind::InternalFlags => SourceOp::Flags { variables: None },
+            SourceKind::VariableFlags => SourceOp::Flags {
+                variables: Some(self.list(place)),
             },
             SourceKind::Date => self.date(place),
             SourceKind::CurrentDate => self.current_date(place),
@@ -245,26 +245,26 @@ impl Code {
         }
     }
 
-    /// What a command says beside its mailbox or its address, by its place, as it is kept.
-    fn packed_settings(&self, place: u32) -> PackedSettings
+    /// What a `fileinto` says beside its mailbox, by its place, as it is kept.
+    fn packed_settings(&self, place: GivenPlace) -> PackedSettings
         ensures { result ≡ packed_in (pool_of self.now) place }
     {
-        if place == NOWHERE {
+        let Some(place) = place.get() else {
             return plain_packed();
-        }
+        };
         match self.pools.settings.get(place as usize) {
             Some(settings) => *settings,
             None => plain_packed(),
         }
     }
 
-    /// What a command says beside its mailbox or its address, by its place, if it says anything. Takes no memory.
-    pub fn settings(&self, place: u32) -> SettingsOp<'_>
+    /// What a `fileinto` says beside its mailbox, by its place, if it says anything. Takes no memory.
+    pub fn settings(&self, place: GivenPlace) -> SettingsOp<'_>
         ensures { settings_op_as result ≡ settings_in (pool_of self.now) place }
     {
         let packed = self.packed_settings(place);
         SettingsOp {
-            flags: self.given(packed.flags),
+            flags: self.given_list(packed.flags),
             copy: packed.copy,
             create: packed.create,
             special_use: self.given_string(packed.special_use),
@@ -291,7 +291,7 @@ impl Code {
             days: packed.days,
             subject: self.given_string(packed.subject),
             from: self.given_string(packed.from),
-            addresses: self.given(packed.addresses),
+            addresses: self.given_list(packed.addresses),
             mime: packed.mime,
             handle: self.given_string(packed.handle),
         }
@@ -306,12 +306,12 @@ impl Code {
     }
 
     /// The variable at a place, if one is given. Takes no memory.
-    pub fn variable(&self, place: u32) -> Option<&Variable>
+    pub fn variable(&self, place: GivenPlace) -> Option<&Variable>
         ensures { option_copied result ≡ given_variable (pool_of self.now) place }
     {
-        if place == NOWHERE {
+        let Some(place) = place.get() else {
             return None;
-        }
+        };
         match self.target(place) {
             Some(target) => Some(&target.variable),
             None => None,

@@ -8,12 +8,13 @@ ghost use Rattle.sieve_code.specs.view.Code.{jump_place_of, op_of};
 
 use crate::code::Code;
 use crate::dump_commands::{
-    write_fileinto, write_flags, write_include, write_line_number, write_redirect, write_set,
-    write_worded_settings,
+    write_fileinto, write_flags, write_include, write_keep, write_line_number, write_redirect,
+    write_set,
 };
 use crate::dump_responses::{write_reject, write_vacation};
 use crate::dump_strings::{write_list, write_number};
 use crate::dump_tests::write_compares;
+use crate::given::GivenPlace;
 use crate::op::{Inclusion, Op};
 use sieve_base::{Piece, Sink, WriteFault, write_out, write_pieces};
 use sieve_reading::{FlagChange, Rejection};
@@ -61,14 +62,14 @@ fn write_jump<W: Sink>(
 #[tactic(auto, using(sieve_base::proofs::Writing::writing), unfolding(crate::specs::Dump::operation_text, crate::specs::Dump::leaf_text))]
 fn write_keeping<W: Sink>(
     code: &Code,
-    settings: u32,
+    flags: GivenPlace,
     line: u32,
     writer: &mut W,
 ) -> Result<(), WriteFault>
     ensures { Writes W.contents W.fault_count result writer.old writer.new
-        (operation_text (op_of code.now (Keep line settings))) }
+        (operation_text (op_of code.now (Keep line flags))) }
 {
-    write_worded_settings(b"keep", &code.settings(settings), writer)?;
+    write_keep(code.given_list(flags), writer)?;
     write_line_number(line, writer)
 }
 
@@ -77,7 +78,7 @@ fn write_keeping<W: Sink>(
 fn write_filing<W: Sink>(
     code: &Code,
     mailbox: u32,
-    settings: u32,
+    settings: GivenPlace,
     line: u32,
     writer: &mut W,
 ) -> Result<(), WriteFault>
@@ -93,14 +94,14 @@ fn write_filing<W: Sink>(
 fn write_sending<W: Sink>(
     code: &Code,
     address: u32,
-    settings: u32,
+    copy: bool,
     line: u32,
     writer: &mut W,
 ) -> Result<(), WriteFault>
     ensures { Writes W.contents W.fault_count result writer.old writer.new
-        (operation_text (op_of code.now (Redirect line address settings))) }
+        (operation_text (op_of code.now (Redirect line address copy))) }
 {
-    write_redirect(code.string(address), &code.settings(settings), writer)?;
+    write_redirect(code.string(address), copy, writer)?;
     write_line_number(line, writer)
 }
 
@@ -140,7 +141,7 @@ fn write_setting<W: Sink>(
 fn write_changing<W: Sink>(
     code: &Code,
     change: FlagChange,
-    variable: u32,
+    variable: GivenPlace,
     flags: u32,
     line: u32,
     writer: &mut W,
@@ -163,13 +164,13 @@ fn write_including<W: Sink>(
         (operation_text (op_of code.now (Include inclusion))) }
 {
     let Inclusion {
-        place,
+        location,
         once,
         optional,
         line,
         name,
     } = inclusion;
-    write_include(place, once, optional, code.script(name), writer)?;
+    write_include(location, once, optional, code.script(name), writer)?;
     write_line_number(line, writer)
 }
 
@@ -223,7 +224,7 @@ fn write_op<W: Sink>(code: &Code, op: Op, writer: &mut W) -> Result<(), WriteFau
         Op::Jump(left) => write_jump(b"jump ", code, left, writer),
         Op::JumpIfFalse(left) => write_jump(b"jump-if-false ", code, left, writer),
         Op::JumpIfTrue(left) => write_jump(b"jump-if-true ", code, left, writer),
-        Op::Keep { line, settings } => write_keeping(code, settings, line, writer),
+        Op::Keep { line, flags } => write_keeping(code, flags, line, writer),
         Op::Fileinto {
             line,
             mailbox,
@@ -232,8 +233,8 @@ fn write_op<W: Sink>(code: &Code, op: Op, writer: &mut W) -> Result<(), WriteFau
         Op::Redirect {
             line,
             address,
-            settings,
-        } => write_sending(code, address, settings, line, writer),
+            copy,
+        } => write_sending(code, address, copy, line, writer),
         Op::Discard { line } => write_discard(line, writer),
         Op::Set {
             line,

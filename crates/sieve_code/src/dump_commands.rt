@@ -26,12 +26,12 @@ pub(crate) fn write_worded<W: Sink>(
 
 /// Writes the flags of what is stored: those that are named, or that these are the internal ones.
 #[tactic(auto, unfolding(crate::specs::Dump::stored_flags))]
-fn write_stored_flags<W: Sink>(settings: &SettingsOp<'_>, writer: &mut W) -> Result<(), WriteFault>
+fn write_stored_flags<W: Sink>(flags: Option<Strings<'_>>, writer: &mut W) -> Result<(), WriteFault>
     ensures { Writes W.contents W.fault_count result writer.old writer.new
-        (spec.stored_flags (settings_op_as settings.now).flags) }
+        (spec.stored_flags flags.entry) }
 {
-    match &settings.flags {
-        Some(flags) => write_list(b" flags ", flags, writer),
+    match flags {
+        Some(flags) => write_list(b" flags ", &flags, writer),
         None => write_out(b" internal", writer),
     }
 }
@@ -45,11 +45,10 @@ pub(crate) fn given_word<'a>(is_given: bool, word: &'a [u8]) -> &'a [u8]
 
 /// Writes that an action is a copy, where it is one.
 #[tactic(auto, unfolding(crate::specs::Dump::copy_word))]
-fn write_copy<W: Sink>(settings: &SettingsOp<'_>, writer: &mut W) -> Result<(), WriteFault>
-    ensures { Writes W.contents W.fault_count result writer.old writer.new
-        (spec.copy_word (settings_op_as settings.now).copy) }
+fn write_copy<W: Sink>(copy: bool, writer: &mut W) -> Result<(), WriteFault>
+    ensures { Writes W.contents W.fault_count result writer.old writer.new (spec.copy_word copy) }
 {
-    write_out(given_word(settings.copy, b" copy"), writer)
+    write_out(given_word(copy, b" copy"), writer)
 }
 
 /// Writes that a mailbox is made which isn't there, where a command says so.
@@ -94,7 +93,7 @@ fn write_store_words<W: Sink>(settings: &SettingsOp<'_>, writer: &mut W) -> Resu
         (spec.store_words (settings_op_as settings.now)) }
 {
     write_filing_words(settings, writer)?;
-    write_copy(settings, writer)
+    write_copy(settings.copy, writer)
 }
 
 /// Writes what a command that stores says beside.
@@ -103,36 +102,35 @@ fn write_stored<W: Sink>(settings: &SettingsOp<'_>, writer: &mut W) -> Result<()
     ensures { Writes W.contents W.fault_count result writer.old writer.new
         (spec.stored_text (settings_op_as settings.now)) }
 {
-    write_stored_flags(settings, writer)?;
+    write_stored_flags(settings.flags, writer)?;
     write_store_words(settings, writer)
 }
 
-/// Writes a command's word and then what it says beside.
-#[tactic(auto, using(sieve_base::proofs::Writing::writing), unfolding(crate::specs::Dump::worded_settings))]
-pub(crate) fn write_worded_settings<W: Sink>(
-    word: &[u8],
-    settings: &SettingsOp<'_>,
+/// Writes a `keep`.
+#[tactic(auto, using(sieve_base::proofs::Writing::writing), unfolding(crate::specs::Dump::keep_text))]
+pub(crate) fn write_keep<W: Sink>(
+    flags: Option<Strings<'_>>,
     writer: &mut W,
 ) -> Result<(), WriteFault>
     ensures { Writes W.contents W.fault_count result writer.old writer.new
-        (spec.worded_settings word.now (settings_op_as settings.now)) }
+        (spec.keep_text flags.entry) }
 {
-    write_out(word, writer)?;
-    write_stored(settings, writer)
+    write_out(b"keep", writer)?;
+    write_stored_flags(flags, writer)
 }
 
 /// Writes a `redirect`.
 #[tactic(auto, using(sieve_base::proofs::Writing::writing))]
 pub(crate) fn write_redirect<W: Sink>(
     address: &[Part],
-    settings: &SettingsOp<'_>,
+    copy: bool,
     writer: &mut W,
 ) -> Result<(), WriteFault>
-    ensures { Writes W.contents W.fault_count result writer.old writer.new (spec.worded_text
-        (codes "redirect ") address.now ++ spec.copy_word (settings_op_as settings.now).copy) }
+    ensures { Writes W.contents W.fault_count result writer.old writer.new
+        (spec.worded_text (codes "redirect ") address.now ++ spec.copy_word copy) }
 {
     write_worded(b"redirect ", address, writer)?;
-    write_copy(settings, writer)
+    write_copy(copy, writer)
 }
 
 /// Writes a `fileinto`.

@@ -10,6 +10,7 @@ mod dump_commands;
 mod dump_responses;
 mod dump_strings;
 mod dump_tests;
+mod given;
 pub mod laws;
 mod op;
 mod packing;
@@ -19,6 +20,7 @@ mod test_code;
 
 pub use code::Code;
 pub use compiler::compile;
+pub use given::GivenPlace;
 pub use op::{Inclusion, Op, PackedTest, SourceKind};
 pub use pools::Target;
 pub use sieve_base::{

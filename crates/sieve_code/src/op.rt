@@ -1,11 +1,10 @@
 //! The operations of code.
+
+use crate::given::GivenPlace;
 use message_text::AddressPart;
 use sieve_base::Location;
 use sieve_reading::{Comparison, FlagChange, Rejection};
 use std::mem::size_of;
-
-/// The place of what isn't given.
-pub(crate) const NOWHERE: u32 = u32::MAX;
 
 /// The zone in which a date is shown (RFC 5260, section 4.1).
 #[derive(Clone, Copy)]
@@ -29,8 +28,10 @@ pub enum SourceKind {
     Envelope(AddressPart),
     /// Strings themselves (RFC 5229, section 5).
     String,
-    /// Flags that variables hold, or the internal ones where no list is given (RFC 5232, section 4).
-    Flags,
+    /// The internal flags, without a list (RFC 5232, section 4).
+    InternalFlags,
+    /// Flags that variables hold (RFC 5232, section 4).
+    VariableFlags,
     /// From the date of a field (RFC 5260, section 4).
     Date,
     /// From the current date (RFC 5260, section 5).
@@ -48,7 +49,7 @@ pub enum SourceKind {
 pub(crate) struct PackedDate {
     /// The zone in which the date is shown.
     pub(crate) zone: PackedZone,
-    /// The place of the field's name, if the date is a field's.
+    /// The place of the field's name; any place if the date is the current one.
     pub(crate) field: u32,
     /// The place of the string that says which part.
     pub(crate) part: u32,
@@ -63,17 +64,17 @@ pub struct PackedTest {
     pub comparison: Comparison,
 }
 
-/// What a command that stores or redirects says beside its mailbox or its address.
+/// What a `fileinto` says beside its mailbox.
 #[derive(Clone, Copy)]
 pub(crate) struct PackedSettings {
     /// The place of the flags, if any are given (RFC 5232, section 5).
-    pub(crate) flags: u32,
+    pub(crate) flags: GivenPlace,
     /// Whether the implicit keep stays as it is (RFC 3894, section 3).
     pub(crate) copy: bool,
     /// Whether a mailbox that isn't there is to be made (RFC 5490, section 3.2).
     pub(crate) create: bool,
     /// The place of the use of a mailbox, if one is named (RFC 8579, section 4).
-    pub(crate) special_use: u32,
+    pub(crate) special_use: GivenPlace,
 }
 
 /// What a `vacation` says (RFC 5230, section 4), whose strings and list lie at places.
@@ -84,15 +85,15 @@ pub(crate) struct PackedVacation {
     /// For how many days a sender gets no other response, where that is said (section 4.1).
     pub(crate) days: Option<u64>,
     /// The place of the subject, if one is said (section 4.3).
-    pub(crate) subject: u32,
+    pub(crate) subject: GivenPlace,
     /// The place of whom the response is from, if that is said (section 4.3).
-    pub(crate) from: u32,
+    pub(crate) from: GivenPlace,
     /// The place of further addresses of the user, if any are given (section 4.5).
-    pub(crate) addresses: u32,
+    pub(crate) addresses: GivenPlace,
     /// Whether the text is a MIME entity (section 4.4).
     pub(crate) mime: bool,
     /// The place of what a server would know such a response by, if that is said (section 4.2).
-    pub(crate) handle: u32,
+    pub(crate) handle: GivenPlace,
 }
 
 /// What an `include` says (RFC 6609, section 3.2).
@@ -111,9 +112,9 @@ pub struct Inclusion {
 }
 
 /// An operation. Code has one truth register, which tests set. Where an operation has strings, a variable or the name of a script, it says
-/// their places, and the [`Code`](crate::Code) that it is one of has what lies there; it also knows the place of what isn't given, and to
-/// which place a jump goes. What a test that compares, a test of dates, a store, a redirect or a `vacation` says beside its strings lies at a
-/// place too, so that it may grow.
+/// their places, and the [`Code`](crate::Code) that it is one of has what lies there; it also knows to which
+/// place a jump goes. What a test that compares, a test of dates, a `fileinto` or a `vacation` says beside its strings lies at a place too, so
+/// that it may grow.
 #[derive(Clone, Copy)]
 pub enum Op {
     /// Sets the register to true.
@@ -163,8 +164,8 @@ pub enum Op {
     Keep {
         /// The command's line.
         line: u32,
-        /// The place of what the command says beside, if anything.
-        settings: u32,
+        /// The place of the flags, if any are given (RFC 5232, section 5).
+        flags: GivenPlace,
     },
     /// Stores into a mailbox (RFC 5228, section 4.1).
     Fileinto {
@@ -173,7 +174,7 @@ pub enum Op {
         /// The place of the mailbox's name.
         mailbox: u32,
         /// The place of what the command says beside, if anything.
-        settings: u32,
+        settings: GivenPlace,
     },
     /// Sends the message on (RFC 5228, section 4.2).
     Redirect {
@@ -181,8 +182,8 @@ pub enum Op {
         line: u32,
         /// The place of the address.
         address: u32,
-        /// The place of what the command says beside, if anything.
-        settings: u32,
+        /// Whether the implicit keep stays as it is (RFC 3894, section 3).
+        copy: bool,
     },
     /// Discards the message (RFC 5228, section 4.4).
     Discard {
@@ -205,7 +206,7 @@ pub enum Op {
         /// The command's line.
         line: u32,
         /// The place of the variable that holds them; where none is given, they are the internal ones.
-        variable: u32,
+        variable: GivenPlace,
         /// The place of the flags that are named.
         flags: u32,
     },

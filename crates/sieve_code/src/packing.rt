@@ -1,13 +1,14 @@
 //! The operations of tests that ask and of commands that act, with what they say in pools.
 ghost use Rattle.std.specs.Prelude.{◌≡◌, IfOk};
-ghost use Rattle.sieve_reading.specs.Reading.{body_values, clock_values, compares, date_values, exists_ask, fileinto_leaf, flag_leaf, include_leaf, keep_leaf, mailboxes_ask, redirect_leaf, reject_leaf, set_leaf, vacation_leaf};
+ghost use Rattle.std.specs.Option.{option_map};
+ghost use Rattle.sieve_reading.specs.Reading.{body_values, clock_values, compares, date_values, exists_ask, fileinto_leaf, flag_leaf, flag_values, include_leaf, keep_leaf, mailboxes_ask, redirect_leaf, reject_leaf, set_leaf, vacation_leaf};
 ghost use Rattle.sieve_reading.specs.view.Reading.{ask_as, date_zone_as, leaf_as, settings_as, source_as, texts_as, transform_as, vacation_as};
 ghost use Rattle.sieve_code.specs.Operation.{act_op, test_op};
 ghost use Rattle.sieve_code.specs.Pool.{Kept, date_packed_in};
 ghost use Rattle.sieve_code.specs.view.Op.{clock_in, date_in, op_in, source_in, zone_in};
 ghost use Rattle.sieve_code.specs.view.Pools.{pool_as};
 
-use crate::op::{Inclusion, NOWHERE, Op, PackedDate, PackedTest, PackedZone, SourceKind};
+use crate::op::{Inclusion, Op, PackedDate, PackedTest, PackedZone, SourceKind};
 use crate::pools::{Pools, Target};
 use sieve_base::Location;
 use sieve_reading::{
@@ -62,9 +63,27 @@ impl Pools {
         let part = self.keep_string(part)?;
         self.put_date(PackedDate {
             zone,
-            field: NOWHERE,
+            field: 0,
             part,
         })
+    }
+
+    /// Keeps the variables whose flags a test takes, if it names any. Answers the kind of source, and the place of their list, if there is one.
+    fn keep_flag_lists(
+        &mut self,
+        variables: Option<Vec<Text>>,
+    ) -> Result<(SourceKind, u32), AllocError>
+        ensures { IfOk result (λ kept. Kept (pool_as self.old) (pool_as self.new)
+            (λ p. source_in p kept.0 kept.1)
+            (flag_values (option_map (λ given. texts_as given.items) variables))) }
+    {
+        match variables {
+            Some(texts) => {
+                let place = self.keep_list(texts)?;
+                Ok((SourceKind::VariableFlags, place))
+            }
+            None => Ok((SourceKind::InternalFlags, 0)),
+        }
     }
 
     /// Keeps what is taken of a body. Answers its kind, and the place of its list, if it has one.
@@ -73,12 +92,12 @@ impl Pools {
             (λ p. source_in p kept.0 kept.1) (body_values (transform_as transform))) }
     {
         match transform {
-            BodyTransform::Raw => Ok((SourceKind::RawBody, NOWHERE)),
+            BodyTransform::Raw => Ok((SourceKind::RawBody, 0)),
             BodyTransform::Content { entries } => {
                 let place = self.keep_list(entries)?;
                 Ok((SourceKind::BodyContent, place))
             }
-            BodyTransform::Text => Ok((SourceKind::BodyText, NOWHERE)),
+            BodyTransform::Text => Ok((SourceKind::BodyText, 0)),
         }
     }
 
@@ -104,10 +123,7 @@ impl Pools {
                 let place = self.keep_list(texts)?;
                 Ok((SourceKind::String, place))
             }
-            ValueSource::Flags { variables } => {
-                let place = self.keep_given(variables)?;
-                Ok((SourceKind::Flags, place))
-            }
+            ValueSource::Flags { variables } => self.keep_flag_lists(variables),
             ValueSource::Date { zone, field, part } => {
                 let place = self.keep_date(zone, field, part)?;
                 Ok((SourceKind::Date, place))
@@ -165,12 +181,12 @@ impl Pools {
     }
 
     /// The operation of a `keep`.
-    fn pack_keep(&mut self, settings: Settings, line: u32) -> Result<Op, AllocError>
+    fn pack_keep(&mut self, flags: Option<Vec<Text>>, line: u32) -> Result<Op, AllocError>
         ensures { IfOk result (λ op. Kept (pool_as self.old) (pool_as self.new) (λ p. op_in p op)
-            (act_op (keep_leaf (settings_as settings)) line)) }
+            (act_op (keep_leaf (option_map (λ given. texts_as given.items) flags)) line)) }
     {
-        let settings = self.keep_settings(settings)?;
-        Ok(Op::Keep { line, settings })
+        let flags = self.keep_given(flags)?;
+        Ok(Op::Keep { line, flags })
     }
 
     /// The operation of a `fileinto`.
@@ -193,21 +209,15 @@ impl Pools {
     }
 
     /// The operation of a `redirect`.
-    fn pack_redirect(
-        &mut self,
-        address: Parts,
-        settings: Settings,
-        line: u32,
-    ) -> Result<Op, AllocError>
+    fn pack_redirect(&mut self, address: Parts, copy: bool, line: u32) -> Result<Op, AllocError>
         ensures { IfOk result (λ op. Kept (pool_as self.old) (pool_as self.new) (λ p. op_in p op)
-            (act_op (redirect_leaf address (settings_as settings)) line)) }
+            (act_op (redirect_leaf address copy) line)) }
     {
         let address = self.keep_string(address)?;
-        let settings = self.keep_settings(settings)?;
         Ok(Op::Redirect {
             line,
             address,
-            settings,
+            copy,
         })
     }
 
@@ -301,9 +311,9 @@ impl Pools {
             (act_op (leaf_as leaf) line)) }
     {
         match leaf {
-            Leaf::Keep { settings } => self.pack_keep(settings, line),
+            Leaf::Keep { flags } => self.pack_keep(flags, line),
             Leaf::Fileinto { mailbox, settings } => self.pack_fileinto(mailbox, settings, line),
-            Leaf::Redirect { address, settings } => self.pack_redirect(address, settings, line),
+            Leaf::Redirect { address, copy } => self.pack_redirect(address, copy, line),
             Leaf::Discard => Ok(Op::Discard { line }),
             Leaf::Set {
                 variable,

@@ -8,7 +8,8 @@ ghost use Rattle.sieve_operations.specs.Joined.{list_in};
 ghost use Rattle.sieve_code.specs.Pool.{Kept, date_packed_in, given_list, given_string, given_variable, no_pool, packed_in, settings_in, test_in, vacation_in, vacation_packed_in};
 ghost use Rattle.sieve_code.specs.view.Pools.{pool_as};
 
-use crate::op::{NOWHERE, PackedDate, PackedSettings, PackedTest, PackedVacation};
+use crate::given::GivenPlace;
+use crate::op::{PackedDate, PackedSettings, PackedTest, PackedVacation};
 use sieve_operations::{JoinedStrings, NameLists, StringLists};
 use sieve_reading::{Settings, Text, Vacation};
 use sieve_variables::{Literal, Modifiers, Parts, Variable};
@@ -43,7 +44,7 @@ fn place_of(len: usize) -> Result<u32, AllocError>
     ensures given { IfOk result (λ place. place < 4294967295) }
 {
     match u32::try_from(len) {
-        Ok(place) if place < NOWHERE => Ok(place),
+        Ok(place) if place < u32::MAX => Ok(place),
         _ => Err(AllocError),
     }
 }
@@ -58,7 +59,7 @@ fn unmodified() -> Modifiers {
     }
 }
 
-/// Whether a command says nothing beside its mailbox or its address.
+/// Whether a `fileinto` says nothing beside its mailbox.
 fn are_plain(settings: &Settings) -> bool
     ensures { result ≡ true → settings_as settings.now ≡ plain_settings }
 {
@@ -113,16 +114,16 @@ impl Pools {
     }
 
     /// Keeps a string that may be left out. Answers its place.
-    fn keep_given_string(&mut self, string: Option<Parts>) -> Result<u32, AllocError>
+    fn keep_given_string(&mut self, string: Option<Parts>) -> Result<GivenPlace, AllocError>
         ensures { IfOk result (λ place. Kept (pool_as self.old) (pool_as self.new)
             (λ p. given_string p place) string) }
     {
         match string {
             Some(string) => {
                 let place = self.keep_string(string)?;
-                Ok(place)
+                Ok(GivenPlace::at(place))
             }
-            None => Ok(NOWHERE),
+            None => Ok(GivenPlace::none()),
         }
     }
 
@@ -138,16 +139,16 @@ impl Pools {
     }
 
     /// Keeps a list that may be left out. Answers its place.
-    pub(crate) fn keep_given(&mut self, texts: Option<Vec<Text>>) -> Result<u32, AllocError>
+    pub(crate) fn keep_given(&mut self, texts: Option<Vec<Text>>) -> Result<GivenPlace, AllocError>
         ensures { IfOk result (λ place. Kept (pool_as self.old) (pool_as self.new)
             (λ p. given_list p place) (option_map (λ given. texts_as given.items) texts)) }
     {
         match texts {
             Some(texts) => {
                 let place = self.keep_list(texts)?;
-                Ok(place)
+                Ok(GivenPlace::at(place))
             }
-            None => Ok(NOWHERE),
+            None => Ok(GivenPlace::none()),
         }
     }
 
@@ -173,7 +174,10 @@ impl Pools {
     }
 
     /// Keeps a variable that may be left out. Answers the place of its target.
-    pub(crate) fn keep_variable(&mut self, variable: Option<Variable>) -> Result<u32, AllocError>
+    pub(crate) fn keep_variable(
+        &mut self,
+        variable: Option<Variable>,
+    ) -> Result<GivenPlace, AllocError>
         ensures { IfOk result (λ place. Kept (pool_as self.old) (pool_as self.new)
             (λ p. given_variable p place) variable) }
     {
@@ -184,9 +188,9 @@ impl Pools {
                     variable,
                     modifiers,
                 })?;
-                Ok(place)
+                Ok(GivenPlace::at(place))
             }
-            None => Ok(NOWHERE),
+            None => Ok(GivenPlace::none()),
         }
     }
 
@@ -210,23 +214,23 @@ impl Pools {
         Ok(place)
     }
 
-    /// Keeps what a command says beside its mailbox or its address, whose strings lie at their places. Answers its place.
-    fn put_settings(&mut self, settings: PackedSettings) -> Result<u32, AllocError>
+    /// Keeps what a `fileinto` says beside its mailbox, whose strings lie at their places. Answers its place.
+    fn put_settings(&mut self, settings: PackedSettings) -> Result<GivenPlace, AllocError>
         ensures { IfOk result (λ place. Kept (pool_as self.old) (pool_as self.new)
             (λ p. packed_in p place) settings) }
     {
         let place = place_of(self.settings.len())?;
         self.settings.push(settings)?;
-        Ok(place)
+        Ok(GivenPlace::at(place))
     }
 
-    /// Keeps what a command says beside its mailbox or its address. Answers its place.
-    pub(crate) fn keep_settings(&mut self, settings: Settings) -> Result<u32, AllocError>
+    /// Keeps what a `fileinto` says beside its mailbox. Answers its place.
+    pub(crate) fn keep_settings(&mut self, settings: Settings) -> Result<GivenPlace, AllocError>
         ensures { IfOk result (λ place. Kept (pool_as self.old) (pool_as self.new)
             (λ p. settings_in p place) (settings_as settings)) }
     {
         if are_plain(&settings) {
-            return Ok(NOWHERE);
+            return Ok(GivenPlace::none());
         }
         let copy = settings.copy;
         let create = settings.create;

@@ -85,7 +85,7 @@ pub enum SourceOp<'a> {
     },
 }
 
-/// What a command that stores or redirects says beside its mailbox or its address.
+/// What a `fileinto` says beside its mailbox.
 #[derive(Drop)]
 pub struct SettingsOp<'a> {
     /// The flags of what the command stores, where they are named (RFC 5232, section 5).

@@ -24,8 +24,7 @@ use Rattle.sieve_reading.specs.Given.{Tags, tags_of, in_role, texts_in, given_te
 use Rattle.sieve_reading.specs.Shape.{row_labels}
 use Rattle.sieve_reading.specs.Reading.{Settings, Leaf, keep_leaf, fileinto_leaf, redirect_leaf, discard_leaf, set_leaf, flag_leaf, include_leaf, vacation_leaf, reject_leaf, CommandReading, reads_if, reads_elsif, reads_else, reads_stop, reads_return, reads_nothing, reads_act}
 
--- what a command says beside its mailbox or its address (RFC 5232, section 5; RFC 3894, section 3; RFC 5490, section 3.2; RFC 8579,
--- section 4)
+-- what a `fileinto` says beside its mailbox (RFC 5232, section 5; RFC 3894, section 3; RFC 5490, section 3.2; RFC 8579, section 4)
 abbrev pub settings_by : List Label → List Argument → Settings
 settings_by labels args = record {
   flags = given_texts (in_role role.Flags labels args);
@@ -34,17 +33,17 @@ settings_by labels args = record {
   special_use = given_text (in_role role.Text labels args);
 }
 
--- what a `keep` does (RFC 5228, section 4.3)
+-- what a `keep` does (RFC 5228, section 4.3; RFC 5232, section 5)
 abbrev pub keep_by : List Label → List Argument → Leaf
-keep_by labels args = keep_leaf (settings_by labels args)
+keep_by labels args = keep_leaf (given_texts (in_role role.Flags labels args))
 
 -- what a `fileinto` does (RFC 5228, section 4.1)
 abbrev pub fileinto_by : List Label → List Argument → Leaf
 fileinto_by labels args = fileinto_leaf (text_in (in_role role.Mailbox labels args)) (settings_by labels args)
 
--- what a `redirect` does (RFC 5228, section 4.2)
+-- what a `redirect` does (RFC 5228, section 4.2; RFC 3894, section 3)
 abbrev pub redirect_by : List Label → List Argument → Leaf
-redirect_by labels args = redirect_leaf (text_in (in_role role.Address labels args)) (settings_by labels args)
+redirect_by labels args = redirect_leaf (text_in (in_role role.Address labels args)) (has_tag kind.Copy (tags_of labels))
 
 -- the case that a modifier makes (RFC 5229, section 4.1.3)
 abbrev pub case_by : Option Tag → Option LetterCase

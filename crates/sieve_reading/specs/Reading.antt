@@ -47,16 +47,16 @@ pub data Ask : Type 0 where
   mailboxes_ask : (names : List (List Part)) → Ask
   duplicate_ask : Ask
 
--- What a command that stores or redirects says beside its mailbox or its address: the flags of what it stores, where it names them (RFC
--- 5232, section 5), whether it says `:copy` (RFC 3894, section 3), whether it says `:create` (RFC 5490, section 3.2), and the use of a
--- mailbox, where it names one (RFC 8579, section 4).
+-- What a `fileinto` says beside its mailbox: the flags of what it stores, where it names them (RFC 5232, section 5), whether it says
+-- `:copy` (RFC 3894, section 3), whether it says `:create` (RFC 5490, section 3.2), and the use of a mailbox, where it names one (RFC
+-- 8579, section 4).
 pub record Settings : Type 0 where
   pub flags : Option (List (List Part))
   pub copy : Bool
   pub create : Bool
   pub special_use : Option (List Part)
 
--- the settings of a command that says nothing beside
+-- the settings of a `fileinto` that says nothing beside
 abbrev pub plain_settings : Settings
 plain_settings = record { flags = None; copy = false; create = false; special_use = None }
 
@@ -77,14 +77,14 @@ abbrev pub rejection_word : Rejection → List ℕ
 rejection_word Reject = codes "reject"
 rejection_word Ereject = codes "ereject"
 
--- A command that acts. One that changes flags changes those that a variable holds, or else the internal ones (RFC 5232, section 3).
+-- A command that acts. A `keep` may name flags (RFC 5232, section 5), and a `redirect` may be a copy (RFC 3894, section 3). One that changes flags changes those that a variable holds, or else the internal ones (RFC 5232, section 3).
 -- One that includes a script names its place and its name, and says whether the script runs once at most, and whether it may be
 -- missing (RFC 6609, section 3.2). One that answers the sender is a `vacation` (RFC 5230); one that rejects the message says by which action, and
 -- for which reason (RFC 5429).
 pub data Leaf : Type 0 where
-  keep_leaf : (settings : Settings) → Leaf
+  keep_leaf : (flags : Option (List (List Part))) → Leaf
   fileinto_leaf : (mailbox : List Part) (settings : Settings) → Leaf
-  redirect_leaf : (address : List Part) (settings : Settings) → Leaf
+  redirect_leaf : (address : List Part) (copy : Bool) → Leaf
   discard_leaf : Leaf
   set_leaf : (variable : Variable) (modifiers : Modifiers) (value : List Part) → Leaf
   flag_leaf : (change : FlagChange) (variable : Option Variable) (flags : List (List Part)) → Leaf

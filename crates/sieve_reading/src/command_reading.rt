@@ -24,38 +24,14 @@ use sieve_table::{CommandKind, Role, Row, Tag, TagKind};
 use sieve_variables::{LetterCase, Modifiers};
 use std::alloc::Global;
 
-/// The first argument in a role, and what the command says beside it.
-fn with_settings(
-    alloc: Global,
-    row: &Row,
-    wanted: Role,
-    args: Vec<Argument>,
-) -> (Option<Argument>, Settings)
-    requires flags { same_role role.Flags wanted ≡ false }
-    requires text { same_role role.Text wanted ≡ false }
-    ensures argument { option_map argument_of result.0
-        ≡ in_role wanted (labels_in row.now args.items) (map argument_of args.items) }
-    ensures settings { settings_as result.1
-        ≡ spec.settings_by (labels_in row.now args.items) (map argument_of args.items) }
-{
-    let tags = Tags::among(row, &args);
-    let (argument, flags, special_use) = into_three(row, wanted, Role::Flags, Role::Text, args);
-    let settings = Settings {
-        flags: given_texts(alloc, flags),
-        copy: tags.has(TagKind::Copy),
-        create: tags.has(TagKind::Create),
-        special_use: given_text(special_use),
-    };
-    (argument, settings)
-}
-
-/// What a `keep` does, none of whose arguments names a mailbox.
+/// What a `keep` does.
 fn keep_leaf(alloc: Global, row: &Row, args: Vec<Argument>) -> Leaf
     ensures { leaf_as result
         ≡ spec.keep_by (labels_in row.now args.items) (map argument_of args.items) }
 {
-    let (_, settings) = with_settings(alloc, row, Role::Mailbox, args);
-    Leaf::Keep { settings }
+    let flags = into_argument(row, Role::Flags, args);
+    let flags = given_texts(alloc, flags);
+    Leaf::Keep { flags }
 }
 
 /// What a `fileinto` does.
@@ -63,19 +39,32 @@ fn fileinto_leaf(alloc: Global, row: &Row, args: Vec<Argument>) -> Leaf
     ensures { leaf_as result
         ≡ spec.fileinto_by (labels_in row.now args.items) (map argument_of args.items) }
 {
-    let (mailbox, settings) = with_settings(alloc, row, Role::Mailbox, args);
+    let tags = Tags::among(row, &args);
+    let (mailbox, flags, special_use) = into_three(
+        row,
+        Role::Mailbox,
+        Role::Flags,
+        Role::Text,
+        args,
+    );
     let mailbox = text_in(mailbox);
+    let settings = Settings {
+        flags: given_texts(alloc, flags),
+        copy: tags.has(TagKind::Copy),
+        create: tags.has(TagKind::Create),
+        special_use: given_text(special_use),
+    };
     Leaf::Fileinto { mailbox, settings }
 }
 
 /// What a `redirect` does.
-fn redirect_leaf(alloc: Global, row: &Row, args: Vec<Argument>) -> Leaf
+fn redirect_leaf(row: &Row, args: Vec<Argument>) -> Leaf
     ensures { leaf_as result
         ≡ spec.redirect_by (labels_in row.now args.items) (map argument_of args.items) }
 {
-    let (address, settings) = with_settings(alloc, row, Role::Address, args);
-    let address = text_in(address);
-    Leaf::Redirect { address, settings }
+    let copy = Tags::among(row, &args).has(TagKind::Copy);
+    let address = text_in(into_argument(row, Role::Address, args));
+    Leaf::Redirect { address, copy }
 }
 
 /// The case that a tag asks for.
@@ -189,7 +178,7 @@ fn reading_by(alloc: Global, kind: CommandKind, row: &Row, args: Vec<Argument>) 
         CommandKind::Else => return CommandReading::Else,
         CommandKind::Keep => keep_leaf(alloc, row, args),
         CommandKind::Fileinto => fileinto_leaf(alloc, row, args),
-        CommandKind::Redirect => redirect_leaf(alloc, row, args),
+        CommandKind::Redirect => redirect_leaf(row, args),
         CommandKind::Discard => Leaf::Discard,
         CommandKind::Stop => return CommandReading::Stop,
         CommandKind::Set => set_leaf(row, args),

@@ -177,7 +177,7 @@ pub enum FlagChange {
     Remove,
 }
 
-/// What a command that stores or redirects says beside its mailbox or its address.
+/// What a `fileinto` says beside its mailbox.
 #[derive(Drop)]
 pub struct Settings {
     /// The flags of what the command stores, where it names them (RFC 5232, section 5).
@@ -235,8 +235,8 @@ impl Rejection {
 pub enum Leaf {
     /// A command that stores into the mailbox of the delivery (RFC 5228, section 4.3).
     Keep {
-        /// What the command says beside.
-        settings: Settings,
+        /// The flags of what the command stores, where it names them (RFC 5232, section 5).
+        flags: Option<Vec<Text>>,
     },
     /// A command that stores into the mailbox of that name (RFC 5228, section 4.1).
     Fileinto {
@@ -249,8 +249,8 @@ pub enum Leaf {
     Redirect {
         /// The address, as its parts.
         address: Parts,
-        /// What the command says beside.
-        settings: Settings,
+        /// Whether the implicit keep stays as it is (RFC 3894, section 3).
+        copy: bool,
     },
     /// A command that discards the message (RFC 5228, section 4.4).
     Discard,

@@ -77,9 +77,9 @@ module _ (Holds : RunState → Type 0) (kept : IsKept Holds) where
   allowed delivery line kind deed s h true = kept.acts delivery line deed s h
   allowed delivery line kind deed s h false = h
 
-  redirected : (delivery : Delivery) (line : ℕ) (address : Option (List ℕ)) (settings : Settings) (s : RunState) → Holds s → Ends (redirects delivery line address settings s)
-  redirected delivery line None settings s h = h
-  redirected delivery line (Some address) settings s h = kept.acts delivery line (deed_of (Redirect address) settings) s h
+  redirected : (delivery : Delivery) (line : ℕ) (address : Option (List ℕ)) (copy : Bool) (s : RunState) → Holds s → Ends (redirects delivery line address copy s)
+  redirected delivery line None copy s h = h
+  redirected delivery line (Some address) copy s h = kept.acts delivery line (deed_of (Redirect address) copy) s h
 
   given_by : (delivery : Delivery) (line : ℕ) (variable : Variable) (value : List ℕ) (s : RunState) → Holds s → (room : Bool) → Ends (if room then goes_on (record s { values = with_variable variable value s.values }) else fails_at delivery line TooManyGlobals s)
   given_by delivery line variable value s h true = kept.values s (with_variable variable value s.values) h
@@ -161,10 +161,10 @@ module _ (Holds : RunState → Type 0) (kept : IsKept Holds) where
   module _ (find : ScriptName → Lookup) where
     acts_hold : (depth : ℕ) (delivery : Delivery) → ((name : ScriptName) (once optional : Bool) (line : ℕ) (s : RunState) → Holds s → Ends (included find depth delivery name once optional line s))
         → (leaf : Leaf) (line : ℕ) (s : RunState) → Holds s → Ends (act_of find depth delivery leaf line s)
-    acts_hold depth delivery inner (keep_leaf settings) line s h = kept.acts delivery line (store_deed s delivery.arrival.envelope.mailbox settings) s h
+    acts_hold depth delivery inner (keep_leaf flags) line s h = kept.acts delivery line (store_deed s delivery.arrival.envelope.mailbox (record plain_settings { flags = flags })) s h
     acts_hold depth delivery inner (fileinto_leaf mailbox settings) line s h = allowed delivery line BadMailbox (store_deed s (text_value s.values mailbox) settings) s h (is_mailbox (text_value s.values mailbox) && may_be_used (filing_of s.values settings).special_use)
-    acts_hold depth delivery inner (redirect_leaf address settings) line s h = redirected delivery line (only_address (addresses_of (text_value s.values address))) settings s h
-    acts_hold depth delivery inner discard_leaf line s h = kept.acts delivery line (deed_of Discard plain_settings) s h
+    acts_hold depth delivery inner (redirect_leaf address copy) line s h = redirected delivery line (only_address (addresses_of (text_value s.values address))) copy s h
+    acts_hold depth delivery inner discard_leaf line s h = kept.acts delivery line (deed_of Discard false) s h
     acts_hold depth delivery inner (set_leaf variable modifiers value) line s h = given delivery line variable (modified modifiers (text_value s.values value)) s h
     acts_hold depth delivery inner (flag_leaf how variable flags) line s h = changed delivery line how variable flags s h
     acts_hold depth delivery inner (include_leaf location once optional name) line s h = inner (record { location = location; name = name }) once optional line s h

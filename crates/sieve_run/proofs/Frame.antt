@@ -106,9 +106,9 @@ allowed_reads : (delivery : Delivery) (line : ℕ) (kind : ErrorKind) (deed : De
 allowed_reads delivery line kind deed s true = performs_reads delivery line deed s
 allowed_reads delivery line kind deed s false = refl
 
-redirected_reads : (delivery : Delivery) (line : ℕ) (address : Option (List ℕ)) (settings : Settings) (s : RunState) → (state_behind (redirects delivery line address settings s)).reads ≡ s.reads
-redirected_reads delivery line None settings s = refl
-redirected_reads delivery line (Some address) settings s = performs_reads delivery line (deed_of (Redirect address) settings) s
+redirected_reads : (delivery : Delivery) (line : ℕ) (address : Option (List ℕ)) (copy : Bool) (s : RunState) → (state_behind (redirects delivery line address copy s)).reads ≡ s.reads
+redirected_reads delivery line None copy s = refl
+redirected_reads delivery line (Some address) copy s = performs_reads delivery line (deed_of (Redirect address) copy) s
 
 given_reads : (delivery : Delivery) (line : ℕ) (variable : Variable) (value : List ℕ) (s : RunState) (room : Bool) → (state_behind (if room then goes_on (record s { values = with_variable variable value s.values }) else fails_at delivery line TooManyGlobals s)).reads ≡ s.reads
 given_reads delivery line variable value s true = refl
@@ -274,10 +274,10 @@ module _ (find other : ScriptName → Lookup) where
 
   acts_frames : (delivery : Delivery) (include include' : ScriptName → (once optional : Bool) → ℕ → RunState → Ending) → ((name : ScriptName) (once optional : Bool) (line : ℕ) → Frames (include name once optional line) (include' name once optional line))
       → (leaf : Leaf) (line : ℕ) → Frames (act_by include delivery leaf line) (act_by include' delivery leaf line)
-  acts_frames delivery include include' frames (keep_leaf settings) line = own_frames _ (λ s. performs_reads delivery line (store_deed s delivery.arrival.envelope.mailbox settings) s)
+  acts_frames delivery include include' frames (keep_leaf flags) line = own_frames _ (λ s. performs_reads delivery line (store_deed s delivery.arrival.envelope.mailbox (record plain_settings { flags = flags })) s)
   acts_frames delivery include include' frames (fileinto_leaf mailbox settings) line = own_frames _ (λ s. allowed_reads delivery line BadMailbox (store_deed s (text_value s.values mailbox) settings) s (is_mailbox (text_value s.values mailbox) && may_be_used (filing_of s.values settings).special_use))
-  acts_frames delivery include include' frames (redirect_leaf address settings) line = own_frames _ (λ s. redirected_reads delivery line (only_address (addresses_of (text_value s.values address))) settings s)
-  acts_frames delivery include include' frames discard_leaf line = own_frames _ (λ s. performs_reads delivery line (deed_of Discard plain_settings) s)
+  acts_frames delivery include include' frames (redirect_leaf address copy) line = own_frames _ (λ s. redirected_reads delivery line (only_address (addresses_of (text_value s.values address))) copy s)
+  acts_frames delivery include include' frames discard_leaf line = own_frames _ (λ s. performs_reads delivery line (deed_of Discard false) s)
   acts_frames delivery include include' frames (set_leaf variable modifiers value) line = own_frames _ (λ s. given_reads delivery line variable (modified modifiers (text_value s.values value)) s (has_room_for variable s.values))
   acts_frames delivery include include' frames (flag_leaf how variable flags) line = own_frames _ (λ s. changed_reads delivery line how variable flags s)
   acts_frames delivery include include' frames (include_leaf location once optional name) line =

@@ -9,6 +9,7 @@ ghost use Rattle.sieve_run.specs.view.Step.{Acts, Carries, Includes};
 
 use crate::turn::{Step, Turn, proceed};
 use sieve_actions::{State, change, discard, file_into, keep, redirect, reject, respond, set};
+use sieve_code::GivenPlace;
 use sieve_matching::{FieldReads, compare, exists, is_over, is_under, mailboxes_exist};
 use sieve_reading::{FlagChange, Rejection};
 use std::alloc::AllocError;
@@ -86,15 +87,15 @@ pub(crate) fn ask_under(turn: &Turn<'_>, limit: u64) -> Step
 pub(crate) fn act_keep(
     turn: &Turn<'_>,
     line: u32,
-    settings: u32,
+    flags: GivenPlace,
     state: &mut State,
 ) -> Result<Step, AllocError>
     ensures { (include : Includes)
         → IfOk result (λ step. Carries (act_by include (delivery_as turn.now.delivery.now)) turn.now
-        (Keep line settings) (state_of state.old) step (state_of state.new)) }
+        (Keep line flags) (state_of state.old) step (state_of state.new)) }
 {
-    let settings = turn.code.settings(settings);
-    let flow = keep(turn.delivery, &settings, line as u64, state);
+    let flags = turn.code.given_list(flags);
+    let flow = keep(turn.delivery, flags, line as u64, state);
     turn.acted(flow)
 }
 
@@ -103,7 +104,7 @@ pub(crate) fn act_fileinto(
     turn: &Turn<'_>,
     line: u32,
     mailbox: u32,
-    settings: u32,
+    settings: GivenPlace,
     state: &mut State,
 ) -> Result<Step, AllocError>
     ensures { (include : Includes)
@@ -121,16 +122,15 @@ pub(crate) fn act_redirect(
     turn: &Turn<'_>,
     line: u32,
     address: u32,
-    settings: u32,
+    copy: bool,
     state: &mut State,
 ) -> Result<Step, AllocError>
     ensures { (include : Includes)
         → IfOk result (λ step. Carries (act_by include (delivery_as turn.now.delivery.now)) turn.now
-        (Redirect line address settings) (state_of state.old) step (state_of state.new)) }
+        (Redirect line address copy) (state_of state.old) step (state_of state.new)) }
 {
     let address = turn.code.string(address);
-    let settings = turn.code.settings(settings);
-    let flow = redirect(turn.delivery, address, &settings, line as u64, state);
+    let flow = redirect(turn.delivery, address, copy, line as u64, state);
     turn.acted(flow)
 }
 
@@ -177,7 +177,7 @@ pub(crate) fn act_flags(
     turn: &Turn<'_>,
     how: FlagChange,
     line: u32,
-    variable: u32,
+    variable: GivenPlace,
     flags: u32,
     state: &mut State,
 ) -> Result<Step, AllocError>

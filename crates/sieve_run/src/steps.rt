@@ -128,7 +128,7 @@ fn carry_out<L: Library>(
         Op::JumpIfTrue(left) => {
             Ok(proceed(register, chosen(register, code.jump_place(left), behind)))
         }
-        Op::Keep { line, settings } => act_keep(turn, line, settings, state),
+        Op::Keep { line, flags } => act_keep(turn, line, flags, state),
         Op::Fileinto {
             line,
             mailbox,
@@ -137,8 +137,8 @@ fn carry_out<L: Library>(
         Op::Redirect {
             line,
             address,
-            settings,
-        } => act_redirect(turn, line, address, settings, state),
+            copy,
+        } => act_redirect(turn, line, address, copy, state),
         Op::Discard { line } => act_discard(turn, line, state),
         Op::Set {
             line,

@@ -39,9 +39,7 @@ fn test_by(alloc: Global, name: &TestName, args: Vec<Argument>) -> Option<TestRe
 /// Whether a command of that name and with these arguments reads as `keep` without flags.
 fn is_plain_keep(alloc: Global, name: &CommandName, args: Vec<Argument>) -> bool {
     match read_by(alloc, name, args) {
-        Some(CommandReading::Act(Leaf::Keep { settings })) => {
-            settings.flags.is_none() && !settings.copy
-        }
+        Some(CommandReading::Act(Leaf::Keep { flags })) => flags.is_none(),
         _ => false,
     }
 }

@@ -77,9 +77,9 @@ vacation_as v = record {
 }
 
 abbrev pub leaf_as : Leaf → reading.Leaf
-leaf_as (Keep settings) = reading.keep_leaf (settings_as settings)
+leaf_as (Keep flags) = reading.keep_leaf (option_map (λ texts. texts_as texts.items) flags)
 leaf_as (Fileinto mailbox settings) = reading.fileinto_leaf mailbox (settings_as settings)
-leaf_as (Redirect address settings) = reading.redirect_leaf address (settings_as settings)
+leaf_as (Redirect address copy) = reading.redirect_leaf address copy
 leaf_as Discard = reading.discard_leaf
 leaf_as (Set variable modifiers value) = reading.set_leaf variable modifiers value
 leaf_as (Flags change variable flags) = reading.flag_leaf change variable (texts_as flags.items)

@@ -1,19 +1,19 @@
-use Rattle.std.proofs.Common.{List, Option, sym, subst}
+use Rattle.std.proofs.Common.{List, None, Option, sym, subst}
 use Rattle.std.proofs.lemmas.Result.{IfOk-weaker}
 use Rattle.std.specs.Option.{option_map}
 use Rattle.sieve_reading.specs.Reading.{Settings}
 use Rattle.sieve_reading.specs.view.Reading.{settings_as, texts_as}
 use Rattle.sieve_variables.specs.Part.{Part}
-use Rattle.sieve_code.specs.Pool.{Kept, Pool, given_list, given_string, nowhere, packed_in, settings_in, unpacked}
+use Rattle.sieve_code.specs.Pool.{Kept, Pool, given_list, given_string, packed_in, settings_in, unpacked}
 use Rattle.sieve_code.specs.declared.op.PackedSettings.{PackedSettings}
 use Rattle.sieve_code.specs.view.Pools.{pool_as}
-use Rattle.sieve_code.proofs.Keeping.{kept_by, kept_still, kept_two}
+use Rattle.sieve_code.proofs.Keeping.{kept_at, kept_by, kept_still, kept_two}
 use Rattle.sieve_code.proofs.pools.Pools.keep_settings.Goals as goal
 
 pub returns-then-are_plain : goal.returns-then-are_plain
 returns-then-are_plain c =
     let p = pool_as c.args.self.now in
-    subst (λ (s : Settings). Kept p p (λ q. settings_in q nowhere) s) (sym (c.are_plain.ensures c.if-are_plain.true)) (kept_still p _)
+    kept_at p p _ None (λ g q. settings_in q g) _ c.none-then-are_plain.ensures (subst (λ (s : Settings). Kept p p (λ q. settings_in q None) s) (sym (c.are_plain.ensures c.if-are_plain.true)) (kept_still p _))
 
 pub returns : goal.returns
 returns c =
