@@ -1,9 +1,13 @@
 -- The lines of a session: where they end, and what they say.
-use Rattle.std.specs.Prelude.{ℕ, suc, ◌+◌, ◌-◌, ◌*◌, Bool, true, false, ◌&&◌, ◌||◌, ◌==◌, not, nat_le, nat_lt, if◌then◌else◌, List, [], ◌∷◌, length, filter, Option, None, Some, unwrap_or, codes, nat_eq}
+use Rattle.std.specs.Prelude.{ℕ, suc, ◌+◌, ◌-◌, ◌*◌, Bool, true, false, ◌&&◌, ◌||◌, ◌==◌, not, nat_le, nat_lt, if◌then◌else◌, List, [], ◌∷◌, length, filter, find, Option, None, Some, unwrap_or, codes, nat_eq}
 use Rattle.std.specs.List.{list_all}
 use Rattle.std.specs.Option.{option_map, option_and_then}
 use lib.Pointwise.{pointwise}
 use Rattle.date_text.specs.Clock.{Clock, clock_named}
+use Rattle.session_text.specs.contracts.line_kind.LineKind.{enum}
+use Rattle.session_text.specs.declared.line_kind.LineKind.{LineKind}
+use Rattle.session_text.specs.declared.line_kind.LineKind.TheVariants as kind
+use Rattle.sieve_profile.specs.Every.{every}
 use Rattle.sieve_profile.specs.Profile.{Profile, has}
 use Rattle.sieve_profile.specs.declared.extension.Extension.{Extension}
 use Rattle.sieve_profile.specs.declared.extension.Extension.TheVariants as extension
@@ -230,61 +234,57 @@ last_clock (seconds ∷ []) = None
 last_clock (seconds ∷ zone ∷ []) = clock_named seconds zone
 last_clock (seconds ∷ zone ∷ more ∷ rest) = None
 
--- a command of the clock
-abbrev pub clock_command : List ℕ → List (List ℕ) → Option SessionCommand
-clock_command word words =
-    if is_text (codes "clock") word then option_map (λ time. clock time) (last_clock words)
-    else if is_text (codes "no-clock") word then alone no_clock words
-    else None
+-- the first words of lines
+abbrev pub line_word : LineKind → List ℕ
+line_word kind.Script = codes "script"
+line_word kind.Message = codes "message"
+line_word kind.Main = codes "main"
+line_word kind.NoMain = codes "no-main"
+line_word kind.Rename = codes "rename"
+line_word kind.DropScript = codes "drop-script"
+line_word kind.DropMessage = codes "drop-message"
+line_word kind.Envelope = codes "envelope"
+line_word kind.Mailbox = codes "mailbox"
+line_word kind.Report = codes "report"
+line_word kind.Dump = codes "dump"
+line_word kind.Expect = codes "expect"
+line_word kind.NoExpect = codes "no-expect"
+line_word kind.Mailboxes = codes "mailboxes"
+line_word kind.MessageEnvelope = codes "message-envelope"
+line_word kind.NoMessageEnvelope = codes "no-message-envelope"
+line_word kind.Clock = codes "clock"
+line_word kind.NoClock = codes "no-clock"
 
--- a command that needs a name of the profile
-abbrev pub extension_command : List ℕ → List (List ℕ) → Option SessionCommand
-extension_command word words =
-    if is_text (codes "mailboxes") word then option_map (λ count. mailboxes count) (last_count words)
-    else if is_text (codes "message-envelope") word then message_envelope_command words
-    else if is_text (codes "no-message-envelope") word then option_map (λ id. no_message_envelope id) (last_value words)
-    else clock_command word words
+abbrev pub is_kind : List ℕ → LineKind → Bool
+is_kind word kind = pointwise nat_eq (line_word kind) word
 
--- a command that says what is expected of a message, or one of those
-abbrev pub expecting_command : List ℕ → List (List ℕ) → Option SessionCommand
-expecting_command word words =
-    if is_text (codes "expect") word then expect_command words
-    else if is_text (codes "no-expect") word then option_map (λ id. no_expect id) (last_value words)
-    else extension_command word words
+abbrev pub line_kind : List ℕ → Option LineKind
+line_kind word = find (is_kind word) (every enum tt)
 
--- a command that prints what there is at a location and a name, or one of those
-abbrev pub print_command : List ℕ → List (List ℕ) → Option SessionCommand
-print_command word words = if is_text (codes "dump") word then dump_command words else expecting_command word words
-
--- a command of a location and a name
-abbrev pub name_command : List ℕ → List (List ℕ) → Option SessionCommand
-name_command word words =
-    if is_text (codes "main") word then main_command words
-    else if is_text (codes "drop-script") word then drop_script_command words
-    else print_command word words
-
--- a command of one word, or one of those
-abbrev pub value_command : List ℕ → List (List ℕ) → Option SessionCommand
-value_command word words =
-    if is_text (codes "drop-message") word then option_map (λ id. drop_message id) (last_value words)
-    else if is_text (codes "mailbox") word then option_map (λ box. mailbox box) (last_value words)
-    else name_command word words
-
--- a command of no words, or one of those
-abbrev pub lone_command : List ℕ → List (List ℕ) → Option SessionCommand
-lone_command word words =
-    if is_text (codes "no-main") word then alone no_main words
-    else if is_text (codes "report") word then alone report words
-    else value_command word words
+-- the command of a kind of line, and the words after its first
+abbrev pub command_of_kind : LineKind → List (List ℕ) → Option SessionCommand
+command_of_kind kind.Script words = script_command words
+command_of_kind kind.Message words = message_command words
+command_of_kind kind.Main words = main_command words
+command_of_kind kind.NoMain words = alone no_main words
+command_of_kind kind.Rename words = rename_command words
+command_of_kind kind.DropScript words = drop_script_command words
+command_of_kind kind.DropMessage words = option_map (λ id. drop_message id) (last_value words)
+command_of_kind kind.Envelope words = envelope_command words
+command_of_kind kind.Mailbox words = option_map (λ box. mailbox box) (last_value words)
+command_of_kind kind.Report words = alone report words
+command_of_kind kind.Dump words = dump_command words
+command_of_kind kind.Expect words = expect_command words
+command_of_kind kind.NoExpect words = option_map (λ id. no_expect id) (last_value words)
+command_of_kind kind.Mailboxes words = option_map (λ count. mailboxes count) (last_count words)
+command_of_kind kind.MessageEnvelope words = message_envelope_command words
+command_of_kind kind.NoMessageEnvelope words = option_map (λ id. no_message_envelope id) (last_value words)
+command_of_kind kind.Clock words = option_map (λ time. clock time) (last_clock words)
+command_of_kind kind.NoClock words = alone no_clock words
 
 -- the command of a first word, and the words after it
 abbrev pub command_by : List ℕ → List (List ℕ) → Option SessionCommand
-command_by word words =
-    if is_text (codes "script") word then script_command words
-    else if is_text (codes "message") word then message_command words
-    else if is_text (codes "rename") word then rename_command words
-    else if is_text (codes "envelope") word then envelope_command words
-    else lone_command word words
+command_by word words = option_and_then (λ kind. command_of_kind kind words) (line_kind word)
 
 -- the command of some words
 abbrev pub command_of_words : List (List ℕ) → Option SessionCommand

@@ -8,6 +8,7 @@ mod input;
 mod known_line;
 pub mod laws;
 mod line;
+mod line_kind;
 mod payload;
 mod session_line;
 mod word;

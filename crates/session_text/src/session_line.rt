@@ -7,7 +7,8 @@ ghost use Rattle.session_text.specs.SessionLine as spec;
 ghost use Rattle.session_text.specs.view.Command.{command_as};
 
 use crate::cutting::next_word;
-use crate::extension_lines::extension_command;
+use crate::extension_lines::{last_clock, message_envelope_command};
+use crate::line_kind::LineKind;
 use crate::word::Word;
 use date_text::Clock;
 use sieve_base::Location;
@@ -101,7 +102,7 @@ pub enum SessionCommand<'a> {
 
 /// Whether a word is this text.
 #[tactic(auto, unfolding(crate::specs::SessionLine::is_text))]
-pub(crate) fn is_text(word: &[u8], text: &[u8]) -> bool
+fn is_text(word: &[u8], text: &[u8]) -> bool
     ensures { result ≡ spec.is_text text.now word.now }
 {
     word == text
@@ -267,80 +268,50 @@ fn dump_command(line: &[u8]) -> Option<SessionCommand<'_>>
     Some(SessionCommand::Dump { location, name })
 }
 
-/// What a line that says what is expected of a message asks for.
-fn expecting_command<'a>(word: &[u8], line: &'a [u8]) -> Option<SessionCommand<'a>>
+/// A command whose line has no further words.
+fn alone<'a>(command: SessionCommand<'a>, line: &[u8]) -> Option<SessionCommand<'a>>
     ensures { option_map command_as result
-        ≡ spec.expecting_command word.now (spec.line_words line.now) }
+        ≡ spec.alone (command_as command.entry) (spec.line_words line.now) }
 {
-    if is_text(word, b"expect") {
-        expect_command(line)
-    } else if is_text(word, b"no-expect") {
-        let id = last_value(line)?;
-        Some(SessionCommand::NoExpect { id })
-    } else {
-        extension_command(word, line)
-    }
+    if is_over(line) { Some(command) } else { None }
 }
 
-/// What a line that prints what there is at a location and a name asks for.
-fn print_command<'a>(word: &[u8], line: &'a [u8]) -> Option<SessionCommand<'a>>
+/// What a line asks for, by what its first word says and by the words after it.
+fn command_of_kind(kind: LineKind, line: &[u8]) -> Option<SessionCommand<'_>>
     ensures { option_map command_as result
-        ≡ spec.print_command word.now (spec.line_words line.now) }
+        ≡ spec.command_of_kind kind (spec.line_words line.now) }
 {
-    if is_text(word, b"dump") {
-        dump_command(line)
-    } else {
-        expecting_command(word, line)
-    }
-}
-
-/// What a line with a location and a name after its first word asks for.
-fn name_command<'a>(word: &[u8], line: &'a [u8]) -> Option<SessionCommand<'a>>
-    ensures { option_map command_as result ≡ spec.name_command word.now (spec.line_words line.now) }
-{
-    if is_text(word, b"main") {
-        main_command(line)
-    } else if is_text(word, b"drop-script") {
-        drop_script_command(line)
-    } else {
-        print_command(word, line)
-    }
-}
-
-/// What a line with one word after its first asks for.
-fn value_command<'a>(word: &[u8], line: &'a [u8]) -> Option<SessionCommand<'a>>
-    ensures { option_map command_as result
-        ≡ spec.value_command word.now (spec.line_words line.now) }
-{
-    if is_text(word, b"drop-message") {
-        let id = last_value(line)?;
-        Some(SessionCommand::DropMessage { id })
-    } else if is_text(word, b"mailbox") {
-        let mailbox = last_value(line)?;
-        Some(SessionCommand::Mailbox { mailbox })
-    } else {
-        name_command(word, line)
-    }
-}
-
-/// What a line of one word asks for.
-fn lone_command<'a>(word: &[u8], line: &'a [u8]) -> Option<SessionCommand<'a>>
-    ensures { option_map command_as result ≡ spec.lone_command word.now (spec.line_words line.now) }
-{
-    if is_text(word, b"no-main") {
-        if is_over(line) {
-            Some(SessionCommand::NoMain)
-        } else {
-            None
-        }
-    } else if is_text(word, b"report") {
-        if is_over(line) {
-            Some(SessionCommand::Report)
-        } else {
-            None
-        }
-    } else {
-        value_command(word, line)
+    match kind {
+        LineKind::Script => script_command(line),
+        LineKind::Message => message_command(line),
+        LineKind::Main => main_command(line),
+        LineKind::NoMain => alone(SessionCommand::NoMain, line),
+        LineKind::Rename => rename_command(line),
+        LineKind::DropScript => drop_script_command(line),
+        LineKind::DropMessage => Some(SessionCommand::DropMessage {
+            id: last_value(line)?,
+        }),
+        LineKind::Envelope => envelope_command(line),
+        LineKind::Mailbox => Some(SessionCommand::Mailbox {
+            mailbox: last_value(line)?,
+        }),
+        LineKind::Report => alone(SessionCommand::Report, line),
+        LineKind::Dump => dump_command(line),
+        LineKind::Expect => expect_command(line),
+        LineKind::NoExpect => Some(SessionCommand::NoExpect {
+            id: last_value(line)?,
+        }),
+        LineKind::Mailboxes => Some(SessionCommand::Mailboxes {
+            count: last_count(line)?,
+        }),
+        LineKind::MessageEnvelope => message_envelope_command(line),
+        LineKind::NoMessageEnvelope => Some(SessionCommand::NoMessageEnvelope {
+            id: last_value(line)?,
+        }),
+        LineKind::Clock => Some(SessionCommand::Clock {
+            clock: last_clock(line)?,
+        }),
+        LineKind::NoClock => alone(SessionCommand::NoClock, line),
     }
 }
 
@@ -348,17 +319,8 @@ fn lone_command<'a>(word: &[u8], line: &'a [u8]) -> Option<SessionCommand<'a>>
 fn command_by<'a>(word: &[u8], line: &'a [u8]) -> Option<SessionCommand<'a>>
     ensures { option_map command_as result ≡ spec.command_by word.now (spec.line_words line.now) }
 {
-    if is_text(word, b"script") {
-        script_command(line)
-    } else if is_text(word, b"message") {
-        message_command(line)
-    } else if is_text(word, b"rename") {
-        rename_command(line)
-    } else if is_text(word, b"envelope") {
-        envelope_command(line)
-    } else {
-        lone_command(word, line)
-    }
+    let kind = LineKind::of(word)?;
+    command_of_kind(kind, line)
 }
 
 /// What a line asks for by its words, whichever names the profile has.
