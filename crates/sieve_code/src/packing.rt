@@ -24,12 +24,12 @@ impl Pools {
         ensures { IfOk result (λ op. Kept (pool_as self.old) (pool_as self.new) (λ p. op_in p op)
             (test_op (exists_ask (texts_as names.items)))) }
     {
-        let names = self.keep_names(names)?;
+        let names = self.add_names(names)?;
         Ok(Op::Exists { names })
     }
 
     /// Keeps the zone in which a date is shown.
-    fn keep_zone(&mut self, zone: DateZone) -> Result<PackedZone, AllocError>
+    fn add_zone(&mut self, zone: DateZone) -> Result<PackedZone, AllocError>
         ensures { IfOk result (λ kept. Kept (pool_as self.old) (pool_as self.new)
             (λ p. zone_in p kept) (date_zone_as zone)) }
     {
@@ -37,30 +37,30 @@ impl Pools {
             DateZone::Local => Ok(PackedZone::Local),
             DateZone::Original => Ok(PackedZone::Original),
             DateZone::Named(zone) => {
-                let place = self.keep_string(zone)?;
+                let place = self.add_string(zone)?;
                 Ok(PackedZone::Named(place))
             }
         }
     }
 
     /// Keeps where a `date` test takes its value from. Answers its place.
-    fn keep_date(&mut self, zone: DateZone, field: Parts, part: Parts) -> Result<u32, AllocError>
+    fn add_date(&mut self, zone: DateZone, field: Parts, part: Parts) -> Result<u32, AllocError>
         ensures { IfOk result (λ place. Kept (pool_as self.old) (pool_as self.new) (λ p. date_in p
             (date_packed_in p place)) (date_values (date_zone_as zone) field part)) }
     {
-        let zone = self.keep_zone(zone)?;
-        let field = self.keep_string(field)?;
-        let part = self.keep_string(part)?;
+        let zone = self.add_zone(zone)?;
+        let field = self.add_string(field)?;
+        let part = self.add_string(part)?;
         self.put_date(PackedDate { zone, field, part })
     }
 
     /// Keeps where a `currentdate` test takes its value from. Answers its place.
-    fn keep_current_date(&mut self, zone: DateZone, part: Parts) -> Result<u32, AllocError>
+    fn add_current_date(&mut self, zone: DateZone, part: Parts) -> Result<u32, AllocError>
         ensures { IfOk result (λ place. Kept (pool_as self.old) (pool_as self.new)
             (λ p. clock_in p (date_packed_in p place)) (clock_values (date_zone_as zone) part)) }
     {
-        let zone = self.keep_zone(zone)?;
-        let part = self.keep_string(part)?;
+        let zone = self.add_zone(zone)?;
+        let part = self.add_string(part)?;
         self.put_date(PackedDate {
             zone,
             field: 0,
@@ -69,7 +69,7 @@ impl Pools {
     }
 
     /// Keeps the variables whose flags a test takes, if it names any. Answers the kind of source, and the place of their list, if there is one.
-    fn keep_flag_lists(
+    fn add_flag_lists(
         &mut self,
         variables: Option<Vec<Text>>,
     ) -> Result<(SourceKind, u32), AllocError>
@@ -79,7 +79,7 @@ impl Pools {
     {
         match variables {
             Some(texts) => {
-                let place = self.keep_list(texts)?;
+                let place = self.add_list(texts)?;
                 Ok((SourceKind::VariableFlags, place))
             }
             None => Ok((SourceKind::InternalFlags, 0)),
@@ -87,14 +87,14 @@ impl Pools {
     }
 
     /// Keeps what is taken of a body. Answers its kind, and the place of its list, if it has one.
-    fn keep_body(&mut self, transform: BodyTransform) -> Result<(SourceKind, u32), AllocError>
+    fn add_body(&mut self, transform: BodyTransform) -> Result<(SourceKind, u32), AllocError>
         ensures { IfOk result (λ kept. Kept (pool_as self.old) (pool_as self.new)
             (λ p. source_in p kept.0 kept.1) (body_values (transform_as transform))) }
     {
         match transform {
             BodyTransform::Raw => Ok((SourceKind::RawBody, 0)),
             BodyTransform::Content { entries } => {
-                let place = self.keep_list(entries)?;
+                let place = self.add_list(entries)?;
                 Ok((SourceKind::BodyContent, place))
             }
             BodyTransform::Text => Ok((SourceKind::BodyText, 0)),
@@ -102,37 +102,37 @@ impl Pools {
     }
 
     /// Keeps where a test takes values from. Answers its kind, and the place of its list or of what a test of dates says.
-    fn keep_source(&mut self, source: ValueSource) -> Result<(SourceKind, u32), AllocError>
+    fn add_source(&mut self, source: ValueSource) -> Result<(SourceKind, u32), AllocError>
         ensures { IfOk result (λ kept. Kept (pool_as self.old) (pool_as self.new)
             (λ p. source_in p kept.0 kept.1) (source_as source)) }
     {
         match source {
             ValueSource::Header { names } => {
-                let place = self.keep_names(names)?;
+                let place = self.add_names(names)?;
                 Ok((SourceKind::Header, place))
             }
             ValueSource::Address { part, names } => {
-                let place = self.keep_names(names)?;
+                let place = self.add_names(names)?;
                 Ok((SourceKind::Address(part), place))
             }
             ValueSource::Envelope { part, names } => {
-                let place = self.keep_list(names)?;
+                let place = self.add_list(names)?;
                 Ok((SourceKind::Envelope(part), place))
             }
             ValueSource::String { texts } => {
-                let place = self.keep_list(texts)?;
+                let place = self.add_list(texts)?;
                 Ok((SourceKind::String, place))
             }
-            ValueSource::Flags { variables } => self.keep_flag_lists(variables),
+            ValueSource::Flags { variables } => self.add_flag_lists(variables),
             ValueSource::Date { zone, field, part } => {
-                let place = self.keep_date(zone, field, part)?;
+                let place = self.add_date(zone, field, part)?;
                 Ok((SourceKind::Date, place))
             }
             ValueSource::CurrentDate { zone, part } => {
-                let place = self.keep_current_date(zone, part)?;
+                let place = self.add_current_date(zone, part)?;
                 Ok((SourceKind::CurrentDate, place))
             }
-            ValueSource::Body { transform } => self.keep_body(transform),
+            ValueSource::Body { transform } => self.add_body(transform),
         }
     }
 
@@ -146,9 +146,9 @@ impl Pools {
         ensures { IfOk result (λ op. Kept (pool_as self.old) (pool_as self.new) (λ p. op_in p op)
             (test_op (compares (source_as source) comparison (texts_as keys.items)))) }
     {
-        let (source, values) = self.keep_source(source)?;
-        let keys = self.keep_list(keys)?;
-        let test = self.keep_test(PackedTest { source, comparison })?;
+        let (source, values) = self.add_source(source)?;
+        let keys = self.add_list(keys)?;
+        let test = self.add_test(PackedTest { source, comparison })?;
         Ok(Op::Compares { test, values, keys })
     }
 
@@ -157,7 +157,7 @@ impl Pools {
         ensures { IfOk result (λ op. Kept (pool_as self.old) (pool_as self.new) (λ p. op_in p op)
             (test_op (mailboxes_ask (texts_as names.items)))) }
     {
-        let names = self.keep_list(names)?;
+        let names = self.add_list(names)?;
         Ok(Op::MailboxExists { names })
     }
 
@@ -185,7 +185,7 @@ impl Pools {
         ensures { IfOk result (λ op. Kept (pool_as self.old) (pool_as self.new) (λ p. op_in p op)
             (act_op (keep_leaf (option_map (λ given. texts_as given.items) flags)) line)) }
     {
-        let flags = self.keep_given(flags)?;
+        let flags = self.add_given(flags)?;
         Ok(Op::Keep { line, flags })
     }
 
@@ -199,8 +199,8 @@ impl Pools {
         ensures { IfOk result (λ op. Kept (pool_as self.old) (pool_as self.new) (λ p. op_in p op)
             (act_op (fileinto_leaf mailbox (settings_as settings)) line)) }
     {
-        let mailbox = self.keep_string(mailbox)?;
-        let settings = self.keep_settings(settings)?;
+        let mailbox = self.add_string(mailbox)?;
+        let settings = self.add_settings(settings)?;
         Ok(Op::Fileinto {
             line,
             mailbox,
@@ -213,7 +213,7 @@ impl Pools {
         ensures { IfOk result (λ op. Kept (pool_as self.old) (pool_as self.new) (λ p. op_in p op)
             (act_op (redirect_leaf address copy) line)) }
     {
-        let address = self.keep_string(address)?;
+        let address = self.add_string(address)?;
         Ok(Op::Redirect {
             line,
             address,
@@ -232,11 +232,11 @@ impl Pools {
         ensures { IfOk result (λ op. Kept (pool_as self.old) (pool_as self.new) (λ p. op_in p op)
             (act_op (set_leaf variable modifiers value) line)) }
     {
-        let target = self.keep_target(Target {
+        let target = self.add_target(Target {
             variable,
             modifiers,
         })?;
-        let value = self.keep_string(value)?;
+        let value = self.add_string(value)?;
         Ok(Op::Set {
             line,
             target,
@@ -255,8 +255,8 @@ impl Pools {
         ensures { IfOk result (λ op. Kept (pool_as self.old) (pool_as self.new) (λ p. op_in p op)
             (act_op (flag_leaf change variable (texts_as flags.items)) line)) }
     {
-        let variable = self.keep_variable(variable)?;
-        let flags = self.keep_list(flags)?;
+        let variable = self.add_variable(variable)?;
+        let flags = self.add_list(flags)?;
         Ok(Op::Flags {
             change,
             line,
@@ -277,7 +277,7 @@ impl Pools {
         ensures { IfOk result (λ op. Kept (pool_as self.old) (pool_as self.new) (λ p. op_in p op)
             (act_op (include_leaf location once optional name) line)) }
     {
-        let name = self.keep_script(name)?;
+        let name = self.add_script(name)?;
         Ok(Op::Include(Inclusion {
             location,
             once,
@@ -292,7 +292,7 @@ impl Pools {
         ensures { IfOk result (λ op. Kept (pool_as self.old) (pool_as self.new) (λ p. op_in p op)
             (act_op (vacation_leaf (vacation_as vacation)) line)) }
     {
-        let vacation = self.keep_vacation(vacation)?;
+        let vacation = self.add_vacation(vacation)?;
         Ok(Op::Vacation { line, vacation })
     }
 
@@ -301,7 +301,7 @@ impl Pools {
         ensures { IfOk result (λ op. Kept (pool_as self.old) (pool_as self.new) (λ p. op_in p op)
             (act_op (reject_leaf how reason) line)) }
     {
-        let reason = self.keep_string(reason)?;
+        let reason = self.add_string(reason)?;
         Ok(Op::Reject { how, line, reason })
     }
 

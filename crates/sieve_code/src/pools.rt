@@ -103,7 +103,7 @@ impl Pools {
     }
 
     /// Keeps a string. Answers its place.
-    pub(crate) fn keep_string(&mut self, string: Parts) -> Result<u32, AllocError>
+    pub(crate) fn add_string(&mut self, string: Parts) -> Result<u32, AllocError>
         ensures string { IfOk result (λ place. Kept (pool_as self.old) (pool_as self.new)
             (λ p. slice_index_or p.strings place []) string) }
         ensures given { IfOk result (λ place. place < 4294967295) }
@@ -114,13 +114,13 @@ impl Pools {
     }
 
     /// Keeps a string that may be left out. Answers its place.
-    fn keep_given_string(&mut self, string: Option<Parts>) -> Result<GivenPlace, AllocError>
+    fn add_given_string(&mut self, string: Option<Parts>) -> Result<GivenPlace, AllocError>
         ensures { IfOk result (λ place. Kept (pool_as self.old) (pool_as self.new)
             (λ p. given_string p place) string) }
     {
         match string {
             Some(string) => {
-                let place = self.keep_string(string)?;
+                let place = self.add_string(string)?;
                 Ok(GivenPlace::at(place))
             }
             None => Ok(GivenPlace::none()),
@@ -128,7 +128,7 @@ impl Pools {
     }
 
     /// Keeps a list. Answers its place.
-    pub(crate) fn keep_list(&mut self, texts: Vec<Text>) -> Result<u32, AllocError>
+    pub(crate) fn add_list(&mut self, texts: Vec<Text>) -> Result<u32, AllocError>
         ensures list { IfOk result (λ place. Kept (pool_as self.old) (pool_as self.new)
             (λ p. list_in p.lists place) (texts_as texts.items)) }
         ensures given { IfOk result (λ place. place < 4294967295) }
@@ -139,13 +139,13 @@ impl Pools {
     }
 
     /// Keeps a list that may be left out. Answers its place.
-    pub(crate) fn keep_given(&mut self, texts: Option<Vec<Text>>) -> Result<GivenPlace, AllocError>
+    pub(crate) fn add_given(&mut self, texts: Option<Vec<Text>>) -> Result<GivenPlace, AllocError>
         ensures { IfOk result (λ place. Kept (pool_as self.old) (pool_as self.new)
             (λ p. given_list p place) (option_map (λ given. texts_as given.items) texts)) }
     {
         match texts {
             Some(texts) => {
-                let place = self.keep_list(texts)?;
+                let place = self.add_list(texts)?;
                 Ok(GivenPlace::at(place))
             }
             None => Ok(GivenPlace::none()),
@@ -153,7 +153,7 @@ impl Pools {
     }
 
     /// Keeps names of fields. Answers the place of their list.
-    pub(crate) fn keep_names(&mut self, texts: Vec<Text>) -> Result<u32, AllocError>
+    pub(crate) fn add_names(&mut self, texts: Vec<Text>) -> Result<u32, AllocError>
         ensures { IfOk result (λ place. Kept (pool_as self.old) (pool_as self.new)
             (λ p. list_in p.names place) (texts_as texts.items)) }
     {
@@ -163,7 +163,7 @@ impl Pools {
     }
 
     /// Keeps what a command changes. Answers its place.
-    pub(crate) fn keep_target(&mut self, target: Target) -> Result<u32, AllocError>
+    pub(crate) fn add_target(&mut self, target: Target) -> Result<u32, AllocError>
         ensures target { IfOk result (λ place. Kept (pool_as self.old) (pool_as self.new)
             (λ p. slice_get p.targets place) (Some target)) }
         ensures given { IfOk result (λ place. place < 4294967295) }
@@ -174,7 +174,7 @@ impl Pools {
     }
 
     /// Keeps a variable that may be left out. Answers the place of its target.
-    pub(crate) fn keep_variable(
+    pub(crate) fn add_variable(
         &mut self,
         variable: Option<Variable>,
     ) -> Result<GivenPlace, AllocError>
@@ -184,7 +184,7 @@ impl Pools {
         match variable {
             Some(variable) => {
                 let modifiers = unmodified();
-                let place = self.keep_target(Target {
+                let place = self.add_target(Target {
                     variable,
                     modifiers,
                 })?;
@@ -195,7 +195,7 @@ impl Pools {
     }
 
     /// Keeps the name of a script. Answers its place.
-    pub(crate) fn keep_script(&mut self, name: Literal) -> Result<u32, AllocError>
+    pub(crate) fn add_script(&mut self, name: Literal) -> Result<u32, AllocError>
         ensures { IfOk result (λ place. Kept (pool_as self.old) (pool_as self.new)
             (λ p. slice_index_or p.scripts place []) name) }
     {
@@ -205,7 +205,7 @@ impl Pools {
     }
 
     /// Keeps what a test that compares says beside. Answers its place.
-    pub(crate) fn keep_test(&mut self, test: PackedTest) -> Result<u32, AllocError>
+    pub(crate) fn add_test(&mut self, test: PackedTest) -> Result<u32, AllocError>
         ensures { IfOk result
             (λ place. Kept (pool_as self.old) (pool_as self.new) (λ p. test_in p place) test) }
     {
@@ -225,7 +225,7 @@ impl Pools {
     }
 
     /// Keeps what a `fileinto` says beside its mailbox. Answers its place.
-    pub(crate) fn keep_settings(&mut self, settings: Settings) -> Result<GivenPlace, AllocError>
+    pub(crate) fn add_settings(&mut self, settings: Settings) -> Result<GivenPlace, AllocError>
         ensures { IfOk result (λ place. Kept (pool_as self.old) (pool_as self.new)
             (λ p. settings_in p place) (settings_as settings)) }
     {
@@ -234,8 +234,8 @@ impl Pools {
         }
         let copy = settings.copy;
         let create = settings.create;
-        let flags = self.keep_given(settings.flags)?;
-        let special_use = self.keep_given_string(settings.special_use)?;
+        let flags = self.add_given(settings.flags)?;
+        let special_use = self.add_given_string(settings.special_use)?;
         self.put_settings(PackedSettings {
             flags,
             copy,
@@ -255,17 +255,17 @@ impl Pools {
     }
 
     /// Keeps what a `vacation` says. Answers its place.
-    pub(crate) fn keep_vacation(&mut self, vacation: Vacation) -> Result<u32, AllocError>
+    pub(crate) fn add_vacation(&mut self, vacation: Vacation) -> Result<u32, AllocError>
         ensures { IfOk result (λ place. Kept (pool_as self.old) (pool_as self.new)
             (λ p. vacation_in p place) (vacation_as vacation)) }
     {
         let days = vacation.days;
         let mime = vacation.mime;
-        let reason = self.keep_string(vacation.reason)?;
-        let subject = self.keep_given_string(vacation.subject)?;
-        let from = self.keep_given_string(vacation.from)?;
-        let addresses = self.keep_given(vacation.addresses)?;
-        let handle = self.keep_given_string(vacation.handle)?;
+        let reason = self.add_string(vacation.reason)?;
+        let subject = self.add_given_string(vacation.subject)?;
+        let from = self.add_given_string(vacation.from)?;
+        let addresses = self.add_given(vacation.addresses)?;
+        let handle = self.add_given_string(vacation.handle)?;
         self.put_vacation(PackedVacation {
             reason,
             days,
