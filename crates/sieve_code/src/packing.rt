@@ -28,7 +28,7 @@ impl Pools {
         Ok(Op::Exists { names })
     }
 
-    /// Keeps the zone in which a date is shown.
+    /// Adds the zone in which a date is shown.
     fn add_zone(&mut self, zone: DateZone) -> Result<PackedZone, AllocError>
         ensures { IfOk result (λ kept. Kept (pool_as self.old) (pool_as self.new)
             (λ p. zone_in p kept) (date_zone_as zone)) }
@@ -43,7 +43,7 @@ impl Pools {
         }
     }
 
-    /// Keeps where a `date` test takes its value from. Answers its place.
+    /// Adds where a `date` test takes its value from. Answers its place.
     fn add_date(&mut self, zone: DateZone, field: Parts, part: Parts) -> Result<u32, AllocError>
         ensures { IfOk result (λ place. Kept (pool_as self.old) (pool_as self.new) (λ p. date_in p
             (date_packed_in p place)) (date_values (date_zone_as zone) field part)) }
@@ -54,7 +54,7 @@ impl Pools {
         self.put_date(PackedDate { zone, field, part })
     }
 
-    /// Keeps where a `currentdate` test takes its value from. Answers its place.
+    /// Adds where a `currentdate` test takes its value from. Answers its place.
     fn add_current_date(&mut self, zone: DateZone, part: Parts) -> Result<u32, AllocError>
         ensures { IfOk result (λ place. Kept (pool_as self.old) (pool_as self.new)
             (λ p. clock_in p (date_packed_in p place)) (clock_values (date_zone_as zone) part)) }
@@ -68,7 +68,7 @@ impl Pools {
         })
     }
 
-    /// Keeps the variables whose flags a test takes, if it names any. Answers the kind of source, and the place of their list, if there is one.
+    /// Adds the variables whose flags a test takes, if it names any. Answers the kind of source, and the place of their list, if there is one.
     fn add_flag_lists(
         &mut self,
         variables: Option<Vec<Text>>,
@@ -86,7 +86,7 @@ impl Pools {
         }
     }
 
-    /// Keeps what is taken of a body. Answers its kind, and the place of its list, if it has one.
+    /// Adds what is taken of a body. Answers its kind, and the place of its list, if it has one.
     fn add_body(&mut self, transform: BodyTransform) -> Result<(SourceKind, u32), AllocError>
         ensures { IfOk result (λ kept. Kept (pool_as self.old) (pool_as self.new)
             (λ p. source_in p kept.0 kept.1) (body_values (transform_as transform))) }
@@ -101,7 +101,7 @@ impl Pools {
         }
     }
 
-    /// Keeps where a test takes values from. Answers its kind, and the place of its list or of what a test of dates says.
+    /// Adds where a test takes values from. Answers its kind, and the place of its list or of what a test of dates says.
     fn add_source(&mut self, source: ValueSource) -> Result<(SourceKind, u32), AllocError>
         ensures { IfOk result (λ kept. Kept (pool_as self.old) (pool_as self.new)
             (λ p. source_in p kept.0 kept.1) (source_as source)) }

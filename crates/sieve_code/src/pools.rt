@@ -102,7 +102,7 @@ impl Pools {
         self.dates.shrink_to_fit();
     }
 
-    /// Keeps a string. Answers its place.
+    /// Adds a string. Answers its place.
     pub(crate) fn add_string(&mut self, string: Parts) -> Result<u32, AllocError>
         ensures string { IfOk result (λ place. Kept (pool_as self.old) (pool_as self.new)
             (λ p. slice_index_or p.strings place []) string) }
@@ -113,7 +113,7 @@ impl Pools {
         Ok(place)
     }
 
-    /// Keeps a string that may be left out. Answers its place.
+    /// Adds a string that may be left out. Answers its place.
     fn add_given_string(&mut self, string: Option<Parts>) -> Result<GivenPlace, AllocError>
         ensures { IfOk result (λ place. Kept (pool_as self.old) (pool_as self.new)
             (λ p. given_string p place) string) }
@@ -127,7 +127,7 @@ impl Pools {
         }
     }
 
-    /// Keeps a list. Answers its place.
+    /// Adds a list. Answers its place.
     pub(crate) fn add_list(&mut self, texts: Vec<Text>) -> Result<u32, AllocError>
         ensures list { IfOk result (λ place. Kept (pool_as self.old) (pool_as self.new)
             (λ p. list_in p.lists place) (texts_as texts.items)) }
@@ -138,7 +138,7 @@ impl Pools {
         Ok(place)
     }
 
-    /// Keeps a list that may be left out. Answers its place.
+    /// Adds a list that may be left out. Answers its place.
     pub(crate) fn add_given(&mut self, texts: Option<Vec<Text>>) -> Result<GivenPlace, AllocError>
         ensures { IfOk result (λ place. Kept (pool_as self.old) (pool_as self.new)
             (λ p. given_list p place) (option_map (λ given. texts_as given.items) texts)) }
@@ -152,7 +152,7 @@ impl Pools {
         }
     }
 
-    /// Keeps names of fields. Answers the place of their list.
+    /// Adds names of fields. Answers the place of their list.
     pub(crate) fn add_names(&mut self, texts: Vec<Text>) -> Result<u32, AllocError>
         ensures { IfOk result (λ place. Kept (pool_as self.old) (pool_as self.new)
             (λ p. list_in p.names place) (texts_as texts.items)) }
@@ -162,7 +162,7 @@ impl Pools {
         Ok(place)
     }
 
-    /// Keeps what a command changes. Answers its place.
+    /// Adds what a command changes. Answers its place.
     pub(crate) fn add_target(&mut self, target: Target) -> Result<u32, AllocError>
         ensures target { IfOk result (λ place. Kept (pool_as self.old) (pool_as self.new)
             (λ p. slice_get p.targets place) (Some target)) }
@@ -173,7 +173,7 @@ impl Pools {
         Ok(place)
     }
 
-    /// Keeps a variable that may be left out. Answers the place of its target.
+    /// Adds a variable that may be left out. Answers the place of its target.
     pub(crate) fn add_variable(
         &mut self,
         variable: Option<Variable>,
@@ -194,7 +194,7 @@ impl Pools {
         }
     }
 
-    /// Keeps the name of a script. Answers its place.
+    /// Adds the name of a script. Answers its place.
     pub(crate) fn add_script(&mut self, name: Literal) -> Result<u32, AllocError>
         ensures { IfOk result (λ place. Kept (pool_as self.old) (pool_as self.new)
             (λ p. slice_index_or p.scripts place []) name) }
@@ -204,7 +204,7 @@ impl Pools {
         Ok(place)
     }
 
-    /// Keeps what a test that compares says beside. Answers its place.
+    /// Adds what a test that compares says beside. Answers its place.
     pub(crate) fn add_test(&mut self, test: PackedTest) -> Result<u32, AllocError>
         ensures { IfOk result
             (λ place. Kept (pool_as self.old) (pool_as self.new) (λ p. test_in p place) test) }
@@ -214,7 +214,7 @@ impl Pools {
         Ok(place)
     }
 
-    /// Keeps what a `fileinto` says beside its mailbox, whose strings lie at their places. Answers its place.
+    /// Adds what a `fileinto` says beside its mailbox, whose strings lie at their places. Answers its place.
     fn put_settings(&mut self, settings: PackedSettings) -> Result<GivenPlace, AllocError>
         ensures { IfOk result (λ place. Kept (pool_as self.old) (pool_as self.new)
             (λ p. packed_in p place) settings) }
@@ -224,7 +224,7 @@ impl Pools {
         Ok(GivenPlace::at(place))
     }
 
-    /// Keeps what a `fileinto` says beside its mailbox. Answers its place.
+    /// Adds what a `fileinto` says beside its mailbox. Answers its place.
     pub(crate) fn add_settings(&mut self, settings: Settings) -> Result<GivenPlace, AllocError>
         ensures { IfOk result (λ place. Kept (pool_as self.old) (pool_as self.new)
             (λ p. settings_in p place) (settings_as settings)) }
@@ -244,7 +244,7 @@ impl Pools {
         })
     }
 
-    /// Keeps what a `vacation` says, whose strings and list lie at their places. Answers its place.
+    /// Adds what a `vacation` says, whose strings and list lie at their places. Answers its place.
     fn put_vacation(&mut self, vacation: PackedVacation) -> Result<u32, AllocError>
         ensures { IfOk result (λ place. Kept (pool_as self.old) (pool_as self.new)
             (λ p. vacation_packed_in p place) vacation) }
@@ -254,7 +254,7 @@ impl Pools {
         Ok(place)
     }
 
-    /// Keeps what a `vacation` says. Answers its place.
+    /// Adds what a `vacation` says. Answers its place.
     pub(crate) fn add_vacation(&mut self, vacation: Vacation) -> Result<u32, AllocError>
         ensures { IfOk result (λ place. Kept (pool_as self.old) (pool_as self.new)
             (λ p. vacation_in p place) (vacation_as vacation)) }
@@ -277,7 +277,7 @@ impl Pools {
         })
     }
 
-    /// Keeps what a test of dates says, whose strings lie at their places. Answers its place.
+    /// Adds what a test of dates says, whose strings lie at their places. Answers its place.
     pub(crate) fn put_date(&mut self, date: PackedDate) -> Result<u32, AllocError>
         ensures { IfOk result (λ place. Kept (pool_as self.old) (pool_as self.new)
             (λ p. date_packed_in p place) date) }
