@@ -4,7 +4,7 @@ use Rattle.date_text.specs.Zone.{west}
 use Rattle.sieve_base.specs.Limits.{text_limit}
 use Rattle.sieve_base.specs.declared.location.Location.TheVariants.{Personal, Global}
 use Rattle.sieve_check.specs.Judgement.{judgement_of, sound, faulty}
-use Rattle.sieve_reading.specs.Reading.{plain_settings, keep_leaf}
+use Rattle.sieve_reading.specs.Reading.{keep_leaf}
 use Rattle.sieve_reading.specs.Script.{acts, no_commands, script_of}
 use Rattle.sieve_reading.specs.Tree.{Node}
 use Rattle.sieve_check.specs.declared.judged.FaultKind.{FaultKind}
@@ -109,7 +109,7 @@ module _ (profile : Profile) where
   unfolding outcome_of
   faulty_row text line kind short judged sample = rw (short, judged) refl
 
-  keep_row : (text : List ℕ) (tree : List Node) → nat_lt text_limit (length text) ≡ false → judgement_of profile text ≡ sound tree → script_of tree ≡ acts (keep_leaf plain_settings) 1 no_commands → IsAlone text
+  keep_row : (text : List ℕ) (tree : List Node) → nat_lt text_limit (length text) ≡ false → judgement_of profile text ≡ sound tree → script_of tree ≡ acts (keep_leaf None) 1 no_commands → IsAlone text
   unfolding outcome_of exec
   keep_row text tree short judged commands sample = rw (short, judged, commands) refl
 

@@ -1,5 +1,5 @@
 -- Worked rows of what the laws speak of.
-use Rattle.std.proofs.Common.{◌≡◌, ℕ, false, List, [], ◌∷◌, map, Some, refl, codes}
+use Rattle.std.proofs.Common.{◌≡◌, ℕ, false, List, [], ◌∷◌, map, None, Some, refl, codes}
 use Rattle.sieve_syntax.specs.Tree as syntax
 use Rattle.sieve_syntax.specs.Symbol.{identifier, number_symbol, string_symbol}
 use Rattle.sieve_check.specs.Bare.{bare_node}
@@ -11,7 +11,7 @@ use Rattle.sieve_check.specs.Parted.{parted}
 use Rattle.sieve_check.specs.Readable.{IsReadable, ReadsBlock, ReadsNode, ReadsNodes, act_mark, choice_mark, marks, return_mark, stop_mark}
 use Rattle.sieve_profile.specs.Profile.{empty_profile}
 use Rattle.sieve_reading.specs.Given.{has_tag}
-use Rattle.sieve_reading.specs.Reading.{plain_settings, discard_leaf, keep_leaf}
+use Rattle.sieve_reading.specs.Reading.{discard_leaf, keep_leaf}
 use Rattle.sieve_reading.specs.Script.{always, block_commands, chain_of, condition_of, conditions_in, never, chain_with, script_of}
 use Rattle.sieve_table.specs.Table.{command_named, test_named}
 use Rattle.sieve_reading.specs.Tree.{node, no_block, no_tests, nodes, strings}
@@ -31,12 +31,12 @@ last line inner = syntax.node (codes "else") line [] syntax.no_tests (syntax.blo
 abbrev branches : List syntax.Node
 branches = branch (codes "if") 1 (codes "true") (plain (codes "keep") 1) ∷ branch (codes "elsif") 2 (codes "false") (plain (codes "stop") 2) ∷ last 3 (plain (codes "discard") 3) ∷ plain (codes "keep") 4 ∷ []
 
-marks_row : marks (script_of (parted empty_profile branches)) ≡ choice_mark always ∷ act_mark (keep_leaf plain_settings) 1 ∷ choice_mark never ∷ stop_mark ∷ act_mark discard_leaf 3 ∷ act_mark (keep_leaf plain_settings) 4 ∷ []
+marks_row : marks (script_of (parted empty_profile branches)) ≡ choice_mark always ∷ act_mark (keep_leaf None) 1 ∷ choice_mark never ∷ stop_mark ∷ act_mark discard_leaf 3 ∷ act_mark (keep_leaf None) 4 ∷ []
 unfolding marks chain_of chain_with block_commands condition_of conditions_in command_named test_named behind has_tag
 marks_row = refl
 
 -- return; keep;
-return_marks_row : marks (script_of (parted empty_profile (plain (codes "return") 1 ∷ plain (codes "keep") 2 ∷ []))) ≡ return_mark ∷ act_mark (keep_leaf plain_settings) 2 ∷ []
+return_marks_row : marks (script_of (parted empty_profile (plain (codes "return") 1 ∷ plain (codes "keep") 2 ∷ []))) ≡ return_mark ∷ act_mark (keep_leaf None) 2 ∷ []
 unfolding marks chain_of chain_with block_commands condition_of conditions_in command_named test_named behind has_tag
 return_marks_row = refl
 
