@@ -5,6 +5,8 @@ pub mod Joining
 pub mod Keyed
 pub mod Known
 pub mod NameFronts
+mod NamedPlaces
+mod OnlyKeys
 mod Counted
 mod Named
 mod NamesInTurn

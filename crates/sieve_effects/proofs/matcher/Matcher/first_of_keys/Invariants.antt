@@ -1,7 +1,7 @@
 use Rattle.std.proofs.Common.{◌≡◌, drop}
 use Rattle.sieve_effects.specs.Matching.{first_some}
 use Rattle.sieve_effects.specs.view.FieldTests.{found_with, key_found}
-use Rattle.sieve_effects.proofs.matcher.Matcher.first_match.Given as goal
+use Rattle.sieve_effects.proofs.matcher.Matcher.first_of_keys.Given as goal
 
 -- what the value gives by the first key that it matches is decided by the keys that are left
 abbrev pub invariant-loop-i : goal.invariant-loop-i

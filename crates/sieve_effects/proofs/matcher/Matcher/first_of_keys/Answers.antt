@@ -3,7 +3,7 @@ use Rattle.sieve_variables.specs.Value.{text_value}
 use Rattle.sieve_effects.specs.view.FieldTests.{cut_key, key_found}
 use Rattle.sieve_effects.proofs.Keyed.{first_of_keys}
 use Rattle.sieve_effects.proofs.Searching.{first_after, first_at}
-use Rattle.sieve_effects.proofs.matcher.Matcher.first_match.Goals as goal
+use Rattle.sieve_effects.proofs.matcher.Matcher.first_of_keys.Goals as goal
 
 pub loop-i-init : goal.loop-i-init
 loop-i-init c =

@@ -1,7 +1,7 @@
 use Rattle.std.proofs.Common.{◌≡◌, drop}
 use Rattle.sieve_effects.specs.Matching.{first_some}
 use Rattle.sieve_effects.specs.view.FieldTests.{found_with, part_found}
-use Rattle.sieve_effects.proofs.field_values.find_in_addresses.Given as goal
+use Rattle.sieve_effects.proofs.field_values.find_keys_in_addresses.Given as goal
 
 -- what the addresses that are left give is what all addresses give
 abbrev pub invariant-loop-address : goal.invariant-loop-address
