@@ -1,6 +1,8 @@
 pub mod Copying
 pub mod Holding
 pub mod Keyed
+mod NamedPlaces
+mod OnlyKeys
 mod Counted
 mod NamesInTurn
 mod Paths

@@ -1,18 +1,29 @@
 //! What a run has read of a message: of its fields, and of what it is made of.
-ghost use Rattle.std.specs.Prelude.{◌≡◌, ◌<◌, length, map, slice_get, IfOk, IfSome, OnOk, Some};
+ghost use Rattle.std.specs.Prelude.{◌≡◌, ◌<◌, ◌≤◌, ◌-◌, ◌^◌, ℕ, length, map, slice_get, IfNone, IfOk, IfSome, OnOk, Some, false, true};
 ghost use Rattle.std.specs.Cow.{cow_slice_items};
-ghost use Rattle.message_text.specs.Fields.{decoded_values_of, fields_of};
+ghost use Rattle.message_text.specs.Fields.{IsNextNamed, decoded_values_of, fields_of, is_field_named};
 ghost use Rattle.mime_text.specs.Entities.{entities_of};
 ghost use Rattle.mime_text.specs.view.Entities.{entity_as};
 ghost use Rattle.sieve_actions.specs.view.Delivery.{arrival_as};
-ghost use Rattle.sieve_matching.specs.view.FieldReads.{HasNoMore, address_lists_of};
+ghost use Rattle.sieve_matching.specs.view.FieldReads.{HasNoMore, IsNamedPlace, address_lists_of};
 
-use message_text::{Address, Message, addresses};
+use match_text::{AsciiCasemap, is};
+use message_text::{Address, FieldName, Message, addresses};
 use mime_text::{Entity, entities_of};
 use sieve_actions::Arrival;
 use std::alloc::{AllocError, Global};
 use std::borrow::CowSlice;
 use std::marker::Model;
+
+/// How many names there are places for.
+const NAMES: usize = 32;
+
+/// Where a field of some name stands: the first of that name, and a place after it such that no other field of the name stands between the two.
+#[derive(Clone, Copy)]
+struct NamedPlace {
+    first: usize,
+    next: usize,
+}
 
 /// What a run has made of a message, so that none of its tests makes it again. Contracts see what is delivered. It has a place for each
 /// field up to the last that a test has looked at.
@@ -25,18 +36,20 @@ pub struct FieldReads<'a> {
     decoded: Vec<Option<CowSlice<'a, u8>>>,
     // The entities of the message, once a test has looked at them.
     entities: Option<Vec<Entity<'a>>>,
+    // Where fields of names stand that tests have looked for. Names that share a place take it from one another.
+    named: Vec<Option<NamedPlace>>,
 }
 
 impl<'a> Model for FieldReads<'a> {
     ghost use Rattle.sieve_actions.specs.Delivery.{Arrival};
     ghost use Rattle.sieve_actions.specs.view.Delivery.{arrival_as};
-    ghost use Rattle.sieve_matching.specs.view.FieldReads.{AreDecoded, AreEntities, AreListed};
+    ghost use Rattle.sieve_matching.specs.view.FieldReads.{AreDecoded, AreEntities, AreListed, AreNamed};
 
     ghost Value = { Arrival };
 
     ghost view = { λ f. arrival_as f.arrival.now };
 
-    ghost invariant = { λ f. let arrival = arrival_as f.arrival.now in AreListed arrival.message f.listed.items × (AreDecoded arrival.profile arrival.message f.decoded.items × AreEntities arrival.message f.entities) };
+    ghost invariant = { λ f. let arrival = arrival_as f.arrival.now in AreListed arrival.message f.listed.items × (AreDecoded arrival.profile arrival.message f.decoded.items × (AreEntities arrival.message f.entities × AreNamed arrival.message f.named.items)) };
 }
 
 /// Takes what lies at a place, if anything does.
@@ -65,6 +78,41 @@ fn reach<T: Drop>(places: &mut Vec<Option<T>>, place: usize) -> Result<(), Alloc
     Ok(())
 }
 
+/// The place of what is kept for a name. It is one for names that differ in the case of letters alone.
+fn place_of(name: &[u8]) -> usize
+    ensures { result < 32 }
+{
+    match name.last() {
+        Some(octet) => (name.len() % NAMES * 7 + usize::from(*octet)) % NAMES,
+        None => 0,
+    }
+}
+
+/// What is kept of the first field of a name.
+fn named_place(message: &Message, name: &FieldName<'_>, first: usize) -> NamedPlace
+    requires first { IsNextNamed (fields_of message.now) name.now 0 first }
+    requires countable { first < 2 ^ 64 - 1 }
+    ensures { IsNamedPlace message.now result }
+{
+    match message.next_named(name, first + 1) {
+        Some(next) => NamedPlace { first, next },
+        None => NamedPlace {
+            first,
+            next: message.fields(),
+        },
+    }
+}
+
+/// What is kept at a place, if anything is.
+fn kept_at(places: &[Option<NamedPlace>], place: usize) -> Option<NamedPlace>
+    ensures { IfSome result (λ named. slice_get places.now place ≡ Some (Some named)) }
+{
+    match places.get(place) {
+        Some(named) => *named,
+        None => None,
+    }
+}
+
 impl<'a> FieldReads<'a> {
     /// Nothing is read yet. Takes no memory.
     pub fn new(alloc: Global, arrival: &'a Arrival<'a>) -> FieldReads<'a>
@@ -75,6 +123,7 @@ impl<'a> FieldReads<'a> {
             listed: Vec::new(alloc),
             decoded: Vec::new(alloc),
             entities: None,
+            named: Vec::new(alloc),
         }
     }
 
@@ -83,6 +132,69 @@ impl<'a> FieldReads<'a> {
         ensures { result.now ≡ self.now.message }
     {
         self.arrival.message
+    }
+
+    /// The place of the first field of that name, where it is kept.
+    fn kept_first(&self, name: &FieldName<'_>) -> Option<usize>
+        ensures some { IfSome result (IsNextNamed (fields_of self.now.message) name.now 0) }
+        ensures countable { IfSome result (λ i. i < 2 ^ 64 - 1) }
+    {
+        let first = kept_at(&self.named, place_of(name.octets()))?.first;
+        if is::<AsciiCasemap>(self.arrival.message.name(first), name.octets()) {
+            Some(first)
+        } else {
+            None
+        }
+    }
+
+    /// Keeps where a field stands that is the first of its name.
+    fn keep_place(&mut self, place: usize, kept: NamedPlace) -> Result<(), AllocError>
+        requires { IsNamedPlace self.old.message kept }
+        ensures { self.new ≡ self.old }
+    {
+        reach(&mut self.named, place)?;
+        self.named[place] = Some(kept);
+        Ok(())
+    }
+
+    /// The place of the first field of that name at or after place `start`, or nothing where no further field has it. The first field of
+    /// a name is found without a search where it is kept, and is kept from then on.
+    pub(crate) fn next_named(&mut self, name: &FieldName<'_>, start: usize) -> Option<usize>
+        ensures arrival { self.new ≡ self.old }
+        ensures some { IfSome result (IsNextNamed (fields_of self.old.message) name.now start) }
+        ensures none { IfNone result
+            ((k : ℕ) → start ≤ k → k < length (fields_of self.old.message) → slice_get
+            (map (is_field_named name.now) (fields_of self.old.message)) k ≡ Some false) }
+        ensures countable { IfSome result (λ i. i < 2 ^ 64 - 1) }
+    {
+        if start > 0 {
+            return self.arrival.message.next_named(name, start);
+        }
+        if let Some(i) = self.kept_first(name) {
+            return Some(i);
+        }
+        let message = self.arrival.message;
+        let i = message.next_named(name, 0)?;
+        // Where memory is refused, nothing is kept.
+        let _is_kept = self.keep_place(place_of(name.octets()), named_place(message, name, i));
+        Some(i)
+    }
+
+    /// A place after field `i`, which has that name, such that no other field of the name stands between the two.
+    pub(crate) fn after_named(&self, name: &FieldName<'_>, i: usize) -> usize
+        requires named { slice_get (map (is_field_named name.now) (fields_of self.now.message)) i
+            ≡ Some true }
+        requires countable { i < 2 ^ 64 - 1 }
+        ensures more { i < result }
+        ensures others { (k : ℕ) → i < k → k < result → slice_get
+            (map (is_field_named name.now) (fields_of self.now.message)) k ≡ Some false }
+    {
+        if let Some(kept) = kept_at(&self.named, place_of(name.octets())) {
+            if kept.first == i {
+                return kept.next;
+            }
+        }
+        i + 1
     }
 
     /// The addresses in the value of field `i`, which is read where they aren't kept. [`keep_addresses`](FieldReads::keep_addresses) takes
@@ -116,6 +228,19 @@ impl<'a> FieldReads<'a> {
         reach(&mut self.listed, i)?;
         self.listed[i] = Some(listed);
         Ok(())
+    }
+
+    /// The value of field `i` with its encoded words replaced, where it is kept.
+    pub(crate) fn kept_decoded(&self, i: usize) -> Option<&[u8]>
+        ensures { IfSome result
+            (λ value. slice_get (decoded_values_of self.now.profile self.now.message) i
+            ≡ Some value.now) }
+    {
+        match self.decoded.get(i) {
+            Some(Some(value)) => Some(value.as_slice()),
+            Some(None) => None,
+            None => None,
+        }
     }
 
     /// The value of field `i` with its encoded words replaced, which is made where it isn't kept.

@@ -3,7 +3,7 @@ ghost use Rattle.std.specs.Prelude.{◌≡◌, ◌<◌, length, map, None, Some,
 ghost use Rattle.std.specs.List.{list_all};
 ghost use Rattle.std.specs.Option.{option_and_then, option_map};
 ghost use Rattle.message_text.specs.Fields.{fields_of};
-ghost use Rattle.sieve_matching.specs.Matching.{first_some, has_field, values_of};
+ghost use Rattle.sieve_matching.specs.Matching.{first_some, has_field, match_of, values_of};
 ghost use Rattle.sieve_actions.specs.view.Delivery.{delivery_as};
 ghost use Rattle.sieve_matching.specs.view.FieldTests.{field_found, field_source, found_with, is_looked_at, name_found, part_found, value_found};
 ghost use Rattle.sieve_actions.specs.view.State.{state_of};
@@ -45,8 +45,44 @@ pub(crate) fn has_fields(
     Ok(true)
 }
 
-/// What the first of these addresses gives whose part matches some key.
-fn find_in_addresses(
+/// What a part gives that is there and matches a key.
+fn find_key_in_part(
+    alloc: Global,
+    part: Option<&[u8]>,
+    matcher: &Matcher<'_>,
+    key: &[u8],
+) -> Result<Option<MatchValues>, AllocError>
+    ensures { IfOk result (λ found. found
+        ≡ option_and_then (λ octets. match_of matcher.now.comparison octets key.now)
+        (option_map (λ octets. octets.now) part.entry)) }
+{
+    match part {
+        Some(octets) => matcher.match_of(alloc, octets, key),
+        None => Ok(None),
+    }
+}
+
+/// What the first of these addresses gives whose part matches a key.
+fn find_key_in_addresses(
+    alloc: Global,
+    part: AddressPart,
+    addresses: &[Address],
+    matcher: &Matcher<'_>,
+    key: &[u8],
+) -> Result<Option<MatchValues>, AllocError>
+    ensures { IfOk result (λ found. found ≡ first_some (part_found
+        (λ octets. match_of matcher.now.comparison octets key.now) part) addresses.now) }
+{
+    for address in addresses {
+        if let Some(values) = find_key_in_part(alloc, address.part(part), matcher, key)? {
+            return Ok(Some(values));
+        }
+    }
+    Ok(None)
+}
+
+/// What the first of these addresses gives whose part matches some key of some.
+fn find_keys_in_addresses(
     alloc: Global,
     part: AddressPart,
     addresses: &[Address],
@@ -61,6 +97,25 @@ fn find_in_addresses(
         }
     }
     Ok(None)
+}
+
+/// What the first of these addresses gives whose part matches some key. A key that is the only one and one literal is looked up once.
+fn find_in_addresses(
+    alloc: Global,
+    part: AddressPart,
+    addresses: &[Address],
+    matcher: &Matcher<'_>,
+) -> Result<Option<MatchValues>, AllocError>
+    ensures { IfOk result
+        (λ found. found ≡ first_some (part_found (found_with matcher.now) part) addresses.now) }
+{
+    match matcher.only_literal() {
+        Some(key) => {
+            let found = find_key_in_addresses(alloc, part, addresses, matcher, key)?;
+            Ok(found)
+        }
+        None => find_keys_in_addresses(alloc, part, addresses, matcher),
+    }
 }
 
 /// What a part gives that is there and matches some key.
@@ -91,6 +146,10 @@ fn find_in_decoded(
         (map (λ field. value_found (found_with matcher.now) fields.old.profile None field.value)
         (fields_of fields.old.message)) i ≡ Some found) }
 {
+    if let Some(value) = fields.kept_decoded(i) {
+        let matched = matcher.first_match(alloc, value)?;
+        return Ok(matched);
+    }
     let value = fields.take_decoded(alloc, i)?;
     let found = matcher.first_match(alloc, value.as_slice())?;
     fields.keep_decoded(i, value)?;
@@ -152,13 +211,13 @@ fn find_in_fields(
     let message = fields.message();
     let mut start = 0;
     while start < message.fields() {
-        let Some(i) = message.next_named(name, start) else {
+        let Some(i) = fields.next_named(name, start) else {
             return Ok(None);
         };
         if let Some(values) = find_in_value(alloc, &mut *fields, i, part, matcher)? {
             return Ok(Some(values));
         }
-        start = i + 1;
+        start = fields.after_named(name, i);
     }
     Ok(None)
 }

@@ -19,7 +19,7 @@ use match_text::{
 use sieve_actions::State;
 use sieve_base::Octets;
 use sieve_operations::Strings;
-use sieve_reading::{Comparison, MatchType};
+use sieve_reading::{Comparison, MatchType, literal_in_parts};
 use sieve_variables::{Part, Values};
 use std::alloc::{AllocError, Global};
 use std::marker::Model;
@@ -276,12 +276,22 @@ impl Matcher<'_> {
         self.match_pieces(alloc, value, key)
     }
 
-    /// What a value gives by the first key that it matches.
-    pub(crate) fn first_match(
-        &self,
-        alloc: Global,
-        value: &[u8],
-    ) -> Result<Option<MatchValues>, AllocError>
+    /// The only key, where there is one that is one literal and isn't cut. Takes no memory.
+    pub(crate) fn only_literal(&self) -> Option<&[u8]>
+        ensures { IfSome result (λ key. (value : List ℕ)
+            → found_with self.now value ≡ match_of self.now.comparison value key.now) }
+    {
+        if self.are_cut || self.keys.len() != 1 {
+            return None;
+        }
+        match literal_in_parts(self.keys.get(0)) {
+            Some(key) => Some(key),
+            None => None,
+        }
+    }
+
+    /// What a value gives by the first key of some that it matches.
+    fn first_of_keys(&self, alloc: Global, value: &[u8]) -> Result<Option<MatchValues>, AllocError>
         ensures { IfOk result (λ found. found ≡ found_with self.now value.now) }
     {
         let mut buffer = Vec::new(alloc);
@@ -291,5 +301,22 @@ impl Matcher<'_> {
             }
         }
         Ok(None)
+    }
+
+    /// What a value gives by the first key that it matches.
+    pub(crate) fn first_match(
+        &self,
+        alloc: Global,
+        value: &[u8],
+    ) -> Result<Option<MatchValues>, AllocError>
+        ensures { IfOk result (λ found. found ≡ found_with self.now value.now) }
+    {
+        match self.only_literal() {
+            Some(key) => {
+                let found = self.match_of(alloc, value, key)?;
+                Ok(found)
+            }
+            None => self.first_of_keys(alloc, value),
+        }
     }
 }

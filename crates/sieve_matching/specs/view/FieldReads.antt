@@ -1,15 +1,16 @@
 -- What is kept of the fields of a message, and of what it is made of.
-use Rattle.std.specs.Prelude.{◌≡◌, ℕ, List, map, slice_get, Option, None, Some}
+use Rattle.std.specs.Prelude.{◌≡◌, ◌<◌, ◌-◌, ◌^◌, ℕ, List, length, map, slice_get, Option, None, Some, false, true}
 use Rattle.std.specs.Cow.{cow_slice_items}
 use Rattle.std.specs.declared.alloc.Global.{Global}
 use Rattle.std.specs.declared.borrow.CowSlice.{CowSlice}
 use Rattle.std.specs.declared.vec.Vec.{Vec}
 use Rattle.sieve_profile.specs.Profile.{Profile}
 use Rattle.message_text.specs.Addresses.{AddrSpec, addresses_of}
-use Rattle.message_text.specs.Fields.{decoded_values_of, values_of}
+use Rattle.message_text.specs.Fields.{decoded_values_of, fields_of, is_field_named, values_of}
 use Rattle.mime_text.specs.Entities.{entities_of}
 use Rattle.mime_text.specs.declared.entities.Entity as entity
 use Rattle.mime_text.specs.view.Entities.{entity_as}
+use Rattle.sieve_matching.specs.declared.field_reads.NamedPlace.{NamedPlace}
 
 -- the addresses in the values of the fields, in order
 abbrev pub address_lists_of : List ℕ → List (List AddrSpec)
@@ -27,6 +28,18 @@ AreDecoded profile message values = (i : ℕ) (value : CowSlice ℕ Global) → 
 abbrev pub AreEntities : List ℕ → Option (Vec entity.Entity Global) → Type 0
 AreEntities message None = Unit {0}
 AreEntities message (Some kept) = map entity_as kept.items ≡ entities_of message
+
+-- the field at the first place is the first that has its name, and none of that name stands between it and the next place
+pub record IsNamedPlace (message : List ℕ) (named : NamedPlace) : Type 0 where
+  pub before : (name : List ℕ) → slice_get (map (is_field_named name) (fields_of message)) named.first ≡ Some true → (k : ℕ) → k < named.first → slice_get (map (is_field_named name) (fields_of message)) k ≡ Some false
+  pub after : (name : List ℕ) → slice_get (map (is_field_named name) (fields_of message)) named.first ≡ Some true → (k : ℕ) → named.first < k → k < named.next → slice_get (map (is_field_named name) (fields_of message)) k ≡ Some false
+  pub within : named.first < length (fields_of message)
+  pub countable : named.first < 2 ^ 64 - 1
+  pub ordered : named.first < named.next
+
+-- each kept place is that of a field that is the first of its name
+abbrev pub AreNamed : List ℕ → List (Option NamedPlace) → Type 0
+AreNamed message places = (i : ℕ) (named : NamedPlace) → slice_get places i ≡ Some (Some named) → IsNamedPlace message named
 
 -- whatever lies at one of these places, lay there before
 abbrev pub HasNoMore : {X : Type 0} → (before places : List (Option X)) → Type 0
