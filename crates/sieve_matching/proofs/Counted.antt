@@ -35,7 +35,7 @@ module _ {X Y : Type 0} (g : X → List Y) where
 -- FIELDS OF A NAME
 
 module _ {X : Type 0} (p : X → Bool) where
-  -- of the elements from a place on, the first that passes a test is followed by those behind it that pass it
+  -- of the elements from a place on, the first that passes a test is followed by those after it that pass it
   next_passes : (xs : List X) (start i : ℕ) (x : X) → start ≤ i → slice_get (map p xs) i ≡ Some true → ((k : ℕ) → start ≤ k → k < i → slice_get (map p xs) k ≡ Some false) → slice_get xs i ≡ Some x
       → filter p (drop start xs) ≡ x ∷ filter p (drop (suc i) xs)
   next_passes [] start i x ordered at fail is = cc

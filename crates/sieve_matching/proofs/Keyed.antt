@@ -72,13 +72,13 @@ module _ (comparison : Comparison) (key : List ℕ) where
       ∙ ap (option_or (first_match comparison (pairs_with rest x))) (found_flag rest xs i n v parts.1 at (omega (arith, below)))
       ∙ sym (or_in_turn (first_match comparison (pairs_with rest x)) (flags_found comparison (take i xs) rest) (Some v))
 
-  -- behind a key that a flag in front of the best matches, that flag is the best
+  -- after a key that a flag before the best matches, that flag is the best
   pub better_found : (flags : List (List ℕ)) (best : Best) (i : ℕ) (v : List (List ℕ)) → first_some (λ flag. match_of comparison flag key) (take i flags) ≡ None
       → slice_get (map (λ flag. match_of comparison flag key) flags) i ≡ Some (Some v) → i < best.before → (rest : List (List ℕ)) → option_or (flags_found comparison (take i flags) rest) (Some v) ≡ best_of comparison flags best (key ∷ rest)
   better_found flags best i v none at below rest =
       sym (ap (λ o. option_or o best.found) (found_flag rest flags i best.before v none at below) ∙ or_found (flags_found comparison (take i flags) rest) best.found v)
 
-  -- behind a key that none of these flags matches, the best is what it was
+  -- after a key that none of these flags matches, the best is what it was
   pub best_stays : (flags : List (List ℕ)) (best : Best) → first_some (λ flag. match_of comparison flag key) (take best.before flags) ≡ None → (rest : List (List ℕ)) → best_of comparison flags best rest ≡ best_of comparison flags best (key ∷ rest)
   best_stays flags best none rest = sym (ap (λ o. option_or o best.found) (passed_flags rest (take best.before flags) none))
 
@@ -111,6 +111,6 @@ any_alone p x = by (p x)
     by true = refl
     by false = refl
 
--- behind all keys none are left
+-- after all keys none are left
 pub no_more_keys : {X : Type 0} (g : List ℕ → List (List ℕ)) (h : X → List ℕ) (keys : List X) (i : ℕ) → length keys ≤ i → [] ≡ flat_map g (drop i (map h keys))
 no_more_keys g h keys i behind = sym (ap (flat_map g) (drop_all i (map h keys) (omega (arith, behind, length-map keys h))))

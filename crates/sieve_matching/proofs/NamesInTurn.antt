@@ -10,7 +10,7 @@ module _ {X Y : Type 0} (find : X → Option Y) (names : List X) (i : ℕ) (name
   pub name_gives : (y : Y) → find name ≡ Some y → Some y ≡ o
   name_gives y is = first_at find names i y o so (get_map find names i name at ∙ ap Some is)
 
-  -- a name that gives nothing leaves the answer to those behind it
+  -- a name that gives nothing leaves the answer to those after it
   pub name_gives_none : find name ≡ None → first_some find (drop (i + 1) names) ≡ o
   name_gives_none is = first_after find names i o so (get_map find names i name at ∙ ap Some is)
 
@@ -29,6 +29,6 @@ module _ {X : Type 0} (has : X → Bool) where
   pub name_fails : (names : List X) (i : ℕ) (name : X) (b : Bool) → list_all has (drop i names) ≡ b → slice_get names i ≡ Some name → has name ≡ false → false ≡ b
   name_fails names i name b so at is = sym (fails_in names i name at is) ∙ so
 
-  -- where a name is there, whether all from it on are is whether all behind it are
+  -- where a name is there, whether all from it on are is whether all after it are
   pub name_passes : (names : List X) (i : ℕ) (name : X) (b : Bool) → list_all has (drop i names) ≡ b → slice_get names i ≡ Some name → has name ≡ true → list_all has (drop (i + 1) names) ≡ b
   name_passes names i name b so at is = ap (λ n. list_all has (drop n names)) (add-one i) ∙ passes_in names i name at is ∙ so

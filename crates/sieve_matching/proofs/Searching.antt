@@ -58,7 +58,7 @@ module _ {X Y : Type 0} (f : X → Option Y) where
   first_past (x ∷ xs) zero at = let e : f x ≡ None = cc in sym (ap (λ a. option_or a (first_some f xs)) e)
   first_past (x ∷ xs) (suc i) at = first_past xs i at
 
-  -- an item that gives nothing leaves the answer to those behind it
+  -- an item that gives nothing leaves the answer to those after it
   pub first_after : (xs : List X) (i : ℕ) (o : Option Y) → first_some f (drop i xs) ≡ o → slice_get (map f xs) i ≡ Some None → first_some f (drop (i + 1) xs) ≡ o
   first_after xs i o so at = ap (λ n. first_some f (drop n xs)) (add-one i) ∙ first_past xs i at ∙ so
 
@@ -111,7 +111,7 @@ has_next None fields name some none = sym (none_passes (is_field_named name) fie
 has_next (Some i) fields name some none = sym (any_at (is_field_named name) fields i some.is)
 
 module _ (find : List ℕ → Option (List (List ℕ))) (profile : Profile) (part : Option AddressPart) (fields : List Field) (name : List ℕ) where
-  -- the next field of a name gives what its value gives, and those in front of it nothing
+  -- the next field of a name gives what its value gives, and those before it nothing
   pub next_found : (start i : ℕ) (found o : Option (List (List ℕ))) → first_some (field_found find profile part name) (drop start fields) ≡ o → IsNextNamed fields name start i
       → slice_get (map (λ field. value_found find profile part field.value) fields) i ≡ Some found → (slice_get (map (field_found find profile part name) fields) i ≡ Some found) × (first_some (field_found find profile part name) (drop i fields) ≡ o)
   next_found start i found o so next at = (
@@ -124,7 +124,7 @@ module _ (find : List ℕ → Option (List (List ℕ))) (profile : Profile) (par
       → ((k : ℕ) → start ≤ k → k < length fields → slice_get (map (is_field_named name) fields) k ≡ Some false) → None ≡ o
   none_left start o so ordered fail = sym (gives_none (is_field_named name) (λ field. value_found find profile part field.value) fields start ordered fail) ∙ so
 
-  -- behind all fields nothing is found
+  -- after all fields nothing is found
   pub none_behind : (start : ℕ) (o : Option (List (List ℕ))) → first_some (field_found find profile part name) (drop start fields) ≡ o → length fields ≤ start → None ≡ o
   none_behind start o so behind = sym (ap (first_some (field_found find profile part name)) (drop_all start fields behind)) ∙ so
 

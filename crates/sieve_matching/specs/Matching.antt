@@ -210,7 +210,7 @@ sets_matched (body_values transform) = false
 abbrev pub with_found_in : ValueSource → MatchType → Option (List (List ℕ)) → Values → Values
 with_found_in source match_type found values = if sets_matched source then with_found match_type found values else values
 
--- the variables behind what a test asks (RFC 5229, section 3.2)
+-- the variables after what a test asks (RFC 5229, section 3.2)
 unfoldable pub values_behind : Delivery → RunState → Ask → Values
 values_behind delivery state (compares source comparison keys) = with_found_in source comparison.match_type (match_found delivery state source comparison keys) state.values
 values_behind delivery state (exists_ask names) = state.values
@@ -219,6 +219,6 @@ values_behind delivery state (under_ask limit) = state.values
 values_behind delivery state (mailboxes_ask names) = state.values
 values_behind delivery state duplicate_ask = state.values
 
--- the state behind what a test asks: match variables are set at most
+-- the state after what a test asks: match variables are set at most
 abbrev pub behind_test : Delivery → Ask → RunState → RunState
 behind_test delivery ask state = record state { values = values_behind delivery state ask }

@@ -26,7 +26,7 @@ use sieve_table::is_address_field;
 use sieve_variables::Values;
 use std::alloc::{AllocError, Global};
 
-/// The sum of two numbers. One of more than 64 bits is answered as want of memory.
+/// The sum of two numbers. One of more than 64 bits is answered as out of memory.
 pub(crate) fn plus(count: usize, more: usize) -> Result<usize, AllocError>
     ensures { IfOk result (λ sum. sum ≡ count + more) }
 {

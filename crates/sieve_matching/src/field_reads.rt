@@ -64,7 +64,7 @@ fn take<T>(places: &mut Vec<Option<T>>, place: usize) -> Option<T>
     }
 }
 
-/// Puts empty places behind others until there is that one.
+/// Puts empty places after others until there is that one.
 fn reach<T: Drop>(places: &mut Vec<Option<T>>, place: usize) -> Result<(), AllocError>
     ensures there { OnOk result (place < length places.new.items) }
     ensures no_more { HasNoMore places.old.items places.new.items }

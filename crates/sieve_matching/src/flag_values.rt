@@ -69,11 +69,11 @@ fn has_some(alloc: Global, flags: &FlagList, matcher: &Matcher<'_>) -> Result<bo
 struct Best {
     // What the first flag gives that matched a key.
     found: Option<MatchValues>,
-    // How many flags stand in front of it; all where none matched. Keys that come later count only for these.
+    // How many flags stand before it; all where none matched. Keys that come later count only for these.
     before: usize,
 }
 
-/// What is best behind one key more.
+/// What is best after one key more.
 fn better(
     alloc: Global,
     flags: &FlagList,
@@ -95,7 +95,7 @@ fn better(
     Ok(so_far)
 }
 
-/// What is best behind the pieces of one key more.
+/// What is best after the pieces of one key more.
 fn better_by_pieces(
     alloc: Global,
     flags: &FlagList,
@@ -118,7 +118,7 @@ fn better_by_pieces(
     Ok(best)
 }
 
-/// What is best behind one key more, or the pieces of it where keys are cut.
+/// What is best after one key more, or the pieces of it where keys are cut.
 fn better_by(
     alloc: Global,
     flags: &FlagList,
@@ -137,7 +137,7 @@ fn better_by(
     }
 }
 
-/// What the first flag gives that matches some key. Each key is made once, and compared with the flags in front of the best so far.
+/// What the first flag gives that matches some key. Each key is made once, and compared with the flags before the best so far.
 fn find_in_each(
     alloc: Global,
     flags: &FlagList,

@@ -183,7 +183,7 @@ impl Matcher<'_> {
         }
     }
 
-    /// What a key is to a value that matches it, where that tells how many octets the value has.
+    /// What a key is to a value that matches it, where that says how many octets the value has.
     fn key_kind(&self) -> Option<KeyKind>
         ensures { IfSome result (λ kind. (value key : List ℕ) → may_match kind (length value) key
             ≡ false → match_of self.now.comparison value key ≡ None) }

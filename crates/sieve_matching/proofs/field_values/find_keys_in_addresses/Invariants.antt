@@ -1,13 +1,7 @@
 use Rattle.std.proofs.Common.{◌≡◌, drop}
-<<<<<<<< HEAD:crates/sieve_matching/proofs/field_values/find_in_addresses/Invariants.antt
-use Rattle.sieve_matching.specs.Matching.{first_some}
-use Rattle.sieve_matching.specs.view.FieldTests.{found_with, part_found}
-use Rattle.sieve_matching.proofs.field_values.find_in_addresses.Given as goal
-========
 use Rattle.sieve_matching.specs.Matching.{first_some}
 use Rattle.sieve_matching.specs.view.FieldTests.{found_with, part_found}
 use Rattle.sieve_matching.proofs.field_values.find_keys_in_addresses.Given as goal
->>>>>>>> costs:crates/sieve_matching/proofs/field_values/find_keys_in_addresses/Invariants.antt
 
 -- what the addresses that are left give is what all addresses give
 abbrev pub invariant-loop-address : goal.invariant-loop-address

@@ -1,16 +1,9 @@
 use Rattle.std.proofs.Common.{◌∙◌, Some, ap, sym}
 use Rattle.sieve_variables.specs.Value.{text_value}
-<<<<<<<< HEAD:crates/sieve_matching/proofs/matcher/Matcher/first_match/Answers.antt
-use Rattle.sieve_matching.specs.view.FieldTests.{cut_key, key_found}
-use Rattle.sieve_matching.proofs.Keyed.{first_of_keys}
-use Rattle.sieve_matching.proofs.Searching.{first_after, first_at}
-use Rattle.sieve_matching.proofs.matcher.Matcher.first_match.Goals as goal
-========
 use Rattle.sieve_matching.specs.view.FieldTests.{cut_key, key_found}
 use Rattle.sieve_matching.proofs.Keyed.{first_of_keys}
 use Rattle.sieve_matching.proofs.Searching.{first_after, first_at}
 use Rattle.sieve_matching.proofs.matcher.Matcher.first_of_keys.Goals as goal
->>>>>>>> costs:crates/sieve_matching/proofs/matcher/Matcher/first_of_keys/Answers.antt
 
 pub loop-i-init : goal.loop-i-init
 loop-i-init c =

@@ -1,13 +1,7 @@
 use Rattle.std.proofs.Common.{◌≡◌, drop}
-<<<<<<<< HEAD:crates/sieve_matching/proofs/matcher/Matcher/first_match/Invariants.antt
-use Rattle.sieve_matching.specs.Matching.{first_some}
-use Rattle.sieve_matching.specs.view.FieldTests.{found_with, key_found}
-use Rattle.sieve_matching.proofs.matcher.Matcher.first_match.Given as goal
-========
 use Rattle.sieve_matching.specs.Matching.{first_some}
 use Rattle.sieve_matching.specs.view.FieldTests.{found_with, key_found}
 use Rattle.sieve_matching.proofs.matcher.Matcher.first_of_keys.Given as goal
->>>>>>>> costs:crates/sieve_matching/proofs/matcher/Matcher/first_of_keys/Invariants.antt
 
 -- what the value gives by the first key that it matches is decided by the keys that are left
 abbrev pub invariant-loop-i : goal.invariant-loop-i
