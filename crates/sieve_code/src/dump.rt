@@ -69,7 +69,7 @@ fn write_keeping<W: Sink>(
     ensures { Writes W.contents W.fault_count result writer.old writer.new
         (operation_text (op_of code.now (Keep line flags))) }
 {
-    write_keep(code.given_list(flags), writer)?;
+    write_keep(&code.given_list(flags), writer)?;
     write_line_number(line, writer)
 }
 

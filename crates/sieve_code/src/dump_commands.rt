@@ -26,12 +26,15 @@ pub(crate) fn write_worded<W: Sink>(
 
 /// Writes the flags of what is stored: those that are named, or that these are the internal ones.
 #[tactic(auto, unfolding(crate::specs::Dump::stored_flags))]
-fn write_stored_flags<W: Sink>(flags: Option<Strings<'_>>, writer: &mut W) -> Result<(), WriteFault>
+fn write_stored_flags<W: Sink>(
+    flags: &Option<Strings<'_>>,
+    writer: &mut W,
+) -> Result<(), WriteFault>
     ensures { Writes W.contents W.fault_count result writer.old writer.new
-        (spec.stored_flags flags.entry) }
+        (spec.stored_flags flags.now) }
 {
     match flags {
-        Some(flags) => write_list(b" flags ", &flags, writer),
+        Some(flags) => write_list(b" flags ", flags, writer),
         None => write_out(b" internal", writer),
     }
 }
@@ -102,18 +105,18 @@ fn write_stored<W: Sink>(settings: &SettingsOp<'_>, writer: &mut W) -> Result<()
     ensures { Writes W.contents W.fault_count result writer.old writer.new
         (spec.stored_text (settings_op_as settings.now)) }
 {
-    write_stored_flags(settings.flags, writer)?;
+    write_stored_flags(&settings.flags, writer)?;
     write_store_words(settings, writer)
 }
 
 /// Writes a `keep`.
 #[tactic(auto, using(sieve_base::proofs::Writing::writing), unfolding(crate::specs::Dump::keep_text))]
 pub(crate) fn write_keep<W: Sink>(
-    flags: Option<Strings<'_>>,
+    flags: &Option<Strings<'_>>,
     writer: &mut W,
 ) -> Result<(), WriteFault>
     ensures { Writes W.contents W.fault_count result writer.old writer.new
-        (spec.keep_text flags.entry) }
+        (spec.keep_text flags.now) }
 {
     write_out(b"keep", writer)?;
     write_stored_flags(flags, writer)

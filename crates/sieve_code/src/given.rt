@@ -14,11 +14,16 @@ pub struct GivenPlace {
 
 impl Model for GivenPlace {
     ghost use Rattle.std.specs.Prelude.{ℕ, Option};
-    ghost use Rattle.sieve_code.specs.view.Given.{given_place};
+    ghost use Rattle.sieve_code.specs.view.Given.{given_place, place_given};
+    ghost use Rattle.sieve_code.proofs.Given.{given_back};
 
     ghost Value = { Option ℕ };
 
     ghost view = { λ g. given_place g.place };
+
+    ghost inverse = { λ g. record { place = place_given g } };
+
+    ghost inverse_ok = { λ g h i. record { place = given_back g.place i } };
 }
 
 impl GivenPlace {
