@@ -6,7 +6,6 @@ pub mod Law
 pub mod Suffixes
 pub mod Putting
 pub mod Placing
-pub mod Given
 pub mod Keeping
 pub mod Dumping
 pub mod Whole

@@ -14,8 +14,7 @@ pub struct GivenPlace {
 
 impl Model for GivenPlace {
     ghost use Rattle.std.specs.Prelude.{ℕ, Option};
-    ghost use Rattle.sieve_code.specs.view.Given.{given_place, place_given};
-    ghost use Rattle.sieve_code.proofs.Given.{given_back};
+    ghost use Rattle.sieve_code.specs.view.Given.{given_back, given_place, place_given};
 
     ghost Value = { Option ℕ };
 

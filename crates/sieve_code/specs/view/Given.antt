@@ -1,5 +1,7 @@
--- What a place that may be left out stands for.
-use Rattle.std.specs.Prelude.{ℕ, ◌==◌, Option, None, Some, if◌then◌else◌}
+-- What a place that may be left out stands for, and that it gives its number back.
+use Rattle.std.specs.Prelude.{◌≡◌, ℕ, ◌==◌, Bool, true, false, Option, None, Some, if◌then◌else◌}
+use Rattle.std.proofs.Common.{refl, sym}
+use Rattle.std.proofs.lemmas.Bool.{eqb-true}
 
 abbrev pub given_place : ℕ → Option ℕ
 given_place place = if place == 4294967295 then None else Some place
@@ -7,3 +9,10 @@ given_place place = if place == 4294967295 then None else Some place
 abbrev pub place_given : Option ℕ → ℕ
 place_given None = 4294967295
 place_given (Some place) = place
+
+pub given_back : (place : ℕ) → place_given (given_place place) ≡ place
+given_back place = by (place == 4294967295) refl
+  where
+    by : (b : Bool) → (place == 4294967295) ≡ b → place_given (if b then None else Some place) ≡ place
+    by true is = sym (eqb-true place 4294967295 is)
+    by false is = refl
