@@ -1,6 +1,5 @@
 -- A key that is the only one of a test, and one literal.
 use Rattle.std.proofs.Common.{◌≡◌, ℕ, false, List, [], ◌∷◌, map, length, Option, None, Some, refl, sym, ap, ◌∙◌, append-nil}
-use Rattle.std.specs.Prelude.{IfOk, Result}
 use Rattle.std.specs.List.{flat_map, slice_get}
 use Rattle.std.specs.Option.{option_and_then}
 use Rattle.message_text.specs.Addresses.{AddrSpec, part_of_address}

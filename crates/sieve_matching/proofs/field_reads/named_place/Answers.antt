@@ -1,6 +1,5 @@
-use Rattle.std.proofs.Common.{◌≡◌, ◌<◌, ◌≤◌, ◌+◌, ℕ, Some, false, length, map, subst, sym, arith}
-use Rattle.std.specs.List.{slice_get}
-use Rattle.message_text.specs.Fields.{fields_of, is_field_named}
+use Rattle.std.proofs.Common.{◌≡◌, length, arith}
+use Rattle.message_text.specs.Fields.{fields_of}
 use Rattle.sieve_matching.proofs.NamedPlaces.{is_named_place}
 use Rattle.sieve_matching.proofs.field_reads.named_place.Goals as goal
 

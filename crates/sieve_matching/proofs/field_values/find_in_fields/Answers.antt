@@ -1,4 +1,4 @@
-use Rattle.std.proofs.Common.{◌≡◌, ◌<◌, ◌≤◌, ℕ, List, Some, false, true, length, map, ap, subst, sym, ◌∙◌, ◌+◌, arith, rules}
+use Rattle.std.proofs.Common.{◌≡◌, ◌<◌, ◌≤◌, ℕ, List, Some, false, true, length, map, ap, subst, sym, ◌∙◌, ◌+◌, arith}
 use Rattle.std.specs.List.{slice_get}
 use Rattle.message_text.specs.Fields.{IsNextNamed, fields_of, is_field_named}
 use Rattle.sieve_actions.specs.Delivery.{Arrival}

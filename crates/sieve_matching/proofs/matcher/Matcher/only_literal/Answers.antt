@@ -1,4 +1,4 @@
-use Rattle.std.proofs.Common.{◌≡◌, List, Some, length, map, ap, sym, ◌∙◌, rules}
+use Rattle.std.proofs.Common.{◌≡◌, Some, length, map, ap, ◌∙◌, rules}
 use Rattle.std.specs.List.{flat_map}
 use Rattle.sieve_reading.specs.Given.{literal_in_parts}
 use Rattle.sieve_variables.specs.Value.{text_value}
