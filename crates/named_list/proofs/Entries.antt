@@ -1,7 +1,7 @@
 -- What calls on slots make of the values in them.
 use Rattle.std.proofs.Common.{◌≡◌, ℕ, zero, suc, ◌+◌, ◌-◌, ◌<◌, Bool, true, false, cond, filter, List, [], ◌∷◌, ◌++◌, length, Option, None, Some, is_some, if◌then◌else◌, nat_eq, refl, sym, ap, ◌∙◌, arith, true≢false}
 use Rattle.std.specs.List.{IsDistinct, AllByRecursion}
-use Rattle.std.specs.Map.{keys_of, lookup, remove_entry}
+use Rattle.std.specs.Map.{keys_of, lookup, remove_entry, set_value, values_of}
 use Rattle.std.specs.Iterator.{MakesProgress, at_most}
 use Rattle.std.specs.Prelude.{⊤, IfSome, position, slice_get, slice_set, slice_index_or, swap_remove}
 use Rattle.std.proofs.lemmas.List.{length-append, length-set, set-append_left}
@@ -10,10 +10,11 @@ use Rattle.std.proofs.lemmas.Option.{slice_get-get_or}
 use Rattle.std.proofs.Math.Seq.{take-append_seam}
 use Rattle.indexmap.proofs.CallerLemmas.{insert_entry-new}
 use Rattle.indexmap.specs.IndexMap.{IndexMap, insert_entry}
+use Rattle.indexmap.specs.Layout.{set_value_at}
 use lib.Pointwise.{pointwise}
 use Rattle.named_list.specs.declared.slot.SlotKey.{SlotKey}
 use Rattle.named_list.specs.declared.slot.SlotKey.TheVariants as key
-use Rattle.named_list.specs.Slots.{before_others, entries_of, entry_in, gap_left, gaps_of, HaveValues, is_gap, is_name}
+use Rattle.named_list.specs.Slots.{before_others, entries_of, entry_in, gap_left, gaps_of, HaveValues, is_gap, is_name, is_named}
 
 -- the value that is found, where a slot has one
 abbrev pub joined : {V : Type 0} → Option (Option V) → Option V
@@ -240,3 +241,65 @@ remove_absent test (e ∷ es) absent = at (test e.0) absent (λ a. remove_absent
 pub put_last : {V S : Type 0} (eq : SlotKey → SlotKey → Bool) → ((a b : ℕ) → eq (key.Gap a) (key.Gap b) ≡ nat_eq a b) → ((a : ℕ) (name : List ℕ) → eq (key.Gap a) (key.Name name) ≡ false) → (m : IndexMap SlotKey (Option V) S) (number : ℕ) (new : List (SlotKey × Option V))
     → new ≡ insert_entry eq m.entries (key.Gap number) None → lookup (is_gap number) m.entries ≡ None → new ≡ m.entries ++ (key.Gap number, None) ∷ []
 put_last eq gaps names m number new put none = put ∙ insert_entry-new eq m (key.Gap number) None (lookup_alike (eq (key.Gap number)) (is_gap number) (same_gap eq gaps names number) m.entries ∙ none)
+
+-- A VALUE THAT IS WRITTEN
+
+module _ {V : Type 0} where
+  pub set-filled : (ss : List (SlotKey × Option V)) (i : ℕ) (w : V) → HaveValues ss → HaveValues (set_value_at ss i (Some w))
+  unfolding HaveValues
+  set-filled [] i w filled = tt
+  set-filled ((key.Name name, value) ∷ ss) zero w filled = (refl, filled.1)
+  set-filled ((key.Gap number, value) ∷ ss) zero w filled = (tt, filled.1)
+  set-filled (s ∷ ss) (suc i) w filled = (filled.0, set-filled ss i w filled.1)
+
+  pub set-gaps : (ss : List (SlotKey × Option V)) (i : ℕ) (w : Option V) → gaps_of (set_value_at ss i w) ≡ gaps_of ss
+  unfolding gaps_of
+  set-gaps [] i w = refl
+  set-gaps (s ∷ ss) zero w = refl
+  set-gaps (s ∷ ss) (suc i) w = ap (λ n. cond (is_name s.0) n (suc n)) (set-gaps ss i w)
+
+  -- the value that was there
+  pub set-same : (ss : List (SlotKey × Option V)) (i : ℕ) (w : Option V) → slice_get (values_of ss) i ≡ Some w → set_value_at ss i w ≡ ss
+  set-same [] i w at = refl
+  set-same (s ∷ ss) zero w at = let same : s.1 ≡ w = cc in ap (λ x. (s.0, x) ∷ ss) (sym same)
+  set-same (s ∷ ss) (suc i) w at = ap (λ l. s ∷ l) (set-same ss i w at)
+
+  -- by a name
+  set-at : (name : List ℕ) (ss : List (SlotKey × Option V)) (i : ℕ) (w : V) (d : SlotKey) → HaveValues ss → i < length ss → is_named name (slice_index_or (keys_of ss) i d) ≡ true → ((k : ℕ) → k < i → is_named name (slice_index_or (keys_of ss) k d) ≡ false)
+      → entries_of (set_value_at ss i (Some w)) ≡ set_value (pointwise nat_eq name) (entries_of ss) w
+  unfolding entries_of HaveValues
+  set-at name [] i w d filled within here before = refl
+  set-at name ((key.Name other, None) ∷ ss) i w d filled within here before = absurd cc
+  set-at name ((key.Name other, Some value) ∷ ss) zero w d filled within here before = rw here refl
+  set-at name ((key.Gap number, value) ∷ ss) zero w d filled within here before = absurd cc
+  set-at name ((key.Name other, Some value) ∷ ss) (suc i) w d filled within here before =
+      rw (before 0 (omega arith)) (ap (λ l. (other, value) ∷ l) (set-at name ss i w d filled.1 (omega (arith, within)) here (λ k below. before (suc k) (omega (arith, below)))))
+  set-at name ((key.Gap number, value) ∷ ss) (suc i) w d filled within here before = set-at name ss i w d filled.1 (omega (arith, within)) here (λ k below. before (suc k) (omega (arith, below)))
+
+  pub set-named : (name : List ℕ) (ss : List (SlotKey × Option V)) (i : ℕ) (w : V) → HaveValues ss → i < length ss → position (is_named name) (keys_of ss) ≡ Some i
+      → entries_of (set_value_at ss i (Some w)) ≡ set_value (pointwise nat_eq name) (entries_of ss) w
+  set-named name ss i w filled within is = let found = position-Some (is_named name) (keys_of ss) i (key.Gap 0) is in set-at name ss i w (key.Gap 0) filled within found.1 found.2
+
+  -- by a place, where there are no gaps
+  pub set-place : (ss : List (SlotKey × Option V)) (i : ℕ) (w : V) → HaveValues ss → gaps_of ss ≡ 0 → entries_of (set_value_at ss i (Some w)) ≡ set_value_at (entries_of ss) i w
+  unfolding entries_of HaveValues gaps_of
+  set-place [] i w filled none = refl
+  set-place ((key.Name name, None) ∷ ss) i w filled none = absurd cc
+  set-place ((key.Name name, Some value) ∷ ss) zero w filled none = refl
+  set-place ((key.Name name, Some value) ∷ ss) (suc i) w filled none = ap (λ l. (name, value) ∷ l) (set-place ss i w filled.1 none)
+  set-place ((key.Gap number, value) ∷ ss) i w filled none = absurd (omega (arith, none))
+
+  pub get-place : (ss : List (SlotKey × Option V)) (i : ℕ) → HaveValues ss → gaps_of ss ≡ 0 → slice_get (values_of (entries_of ss)) i ≡ joined (slice_get (values_of ss) i)
+  unfolding entries_of HaveValues gaps_of
+  get-place [] i filled none = refl
+  get-place ((key.Name name, None) ∷ ss) i filled none = absurd cc
+  get-place ((key.Name name, Some value) ∷ ss) zero filled none = refl
+  get-place ((key.Name name, Some value) ∷ ss) (suc i) filled none = get-place ss i filled.1 none
+  get-place ((key.Gap number, value) ∷ ss) i filled none = absurd (omega (arith, none))
+
+pub lookup_none : {K X : Type 0} (test : K → Bool) (es : List (K × X)) → is_some (lookup test es) ≡ false → lookup test es ≡ None
+lookup_none test es absent = at (lookup test es) absent
+  where
+    at : {X : Type 0} (found : Option X) → is_some found ≡ false → found ≡ None
+    at None absent = refl
+    at (Some x) absent = absurd cc

@@ -1,9 +1,10 @@
 //! A list of values by name.
-ghost use Rattle.std.specs.Prelude.{◌≡◌, ◌<◌, ◌^◌, ℕ, List, [], IsTrue, OnOk, OnErr, None, is_some, length, nat_eq, slice_set};
-ghost use Rattle.std.specs.Map.{lookup, remove_entry};
+ghost use Rattle.std.specs.Prelude.{◌≡◌, ◌<◌, ◌^◌, ℕ, List, [], IsTrue, OnOk, OnErr, None, is_some, length, nat_eq, slice_get, slice_set};
+ghost use Rattle.std.specs.Borrow.{sem};
+ghost use Rattle.std.specs.Map.{lookup, remove_entry, values_of};
 ghost use Rattle.std.specs.Map.Iter.{ShowsInOrder, deref_pair};
 
-ghost use Rattle.std.specs.Option.{option_copied};
+ghost use Rattle.std.specs.Option.{option_copied, option_copied_mut};
 ghost use Rattle.indexmap.specs.IndexMap.{get_by, insert_entry, spare};
 ghost use lib.Pointwise.{pointwise};
 ghost use Rattle.named_list.specs.Named.{IsUnique};
@@ -83,7 +84,20 @@ fn take_out<V: Drop>(
     gaps
 }
 
+/// Removes the gaps, of which there are so many. Takes no memory.
+fn close_gaps<V: Drop>(slots: &mut IndexMap<SlotKey, Option<V>>, gaps: usize)
+    requires { AreFilled slots.old.entries gaps }
+    ensures entries { entries_of slots.new.entries ≡ entries_of slots.old.entries }
+    ensures filled { AreFilled slots.new.entries 0 }
+{
+    if gaps > 0 {
+        slots.retain(|key, _| is_name(key));
+    }
+}
+
 impl<V: Drop> NamedList<V> {
+    ghost use Rattle.named_list.specs.Lends.{lends_at, lends_named};
+
     /// A list of no values. Takes no memory.
     #[tactic(auto, unfolding(crate::specs::Slots::entries_of, crate::specs::Slots::HaveValues, crate::specs::Slots::gaps_of))]
     pub fn new(alloc: Global) -> NamedList<V>
@@ -110,6 +124,37 @@ impl<V: Drop> NamedList<V> {
     {
         match self.slots.get(SoughtKey::Name(name)) {
             Some(value) => value.as_ref(),
+            None => None,
+        }
+    }
+
+    /// The value of a name to write to, where there is one. Takes no memory.
+    pub fn get_mut(&mut self, name: &[u8]) -> Option<&mut V>
+        ensures* writes_back { sem 𝓛 (lends_named V.row self.entry name.now result) }
+        ensures value { option_copied_mut result
+            ≡ lookup (pointwise nat_eq name.now) self.old.entries }
+        ensures unique { IsUnique self.old }
+    {
+        let Some(index) = self.slots.get_index_of(SoughtKey::Name(name)) else {
+            return None;
+        };
+        match self.slots.get_index_mut(index) {
+            Some(value) => value.as_mut(),
+            None => None,
+        }
+    }
+
+    /// The value at a place to write to, where there is one. Takes no memory. The gaps go first, so that many calls take no more time each in a
+    /// long list than in a short one.
+    pub fn get_index_mut(&mut self, index: usize) -> Option<&mut V>
+        ensures* writes_back { sem 𝓛 (lends_at V.row self.entry index result) }
+        ensures value { option_copied_mut result ≡ slice_get (values_of self.old.entries) index }
+        ensures unique { IsUnique self.old }
+    {
+        close_gaps(&mut self.slots, self.gaps);
+        self.gaps = 0;
+        match self.slots.get_index_mut(index) {
+            Some(value) => value.as_mut(),
             None => None,
         }
     }
@@ -143,16 +188,7 @@ impl<V: Drop> NamedList<V> {
     {
         self.gaps = take_out(&mut self.slots, self.gaps, name);
         if self.gaps > self.len() {
-            self.compact();
-        }
-    }
-
-    /// Removes the gaps. Takes no memory.
-    fn compact(&mut self)
-        ensures { self.new ≡ self.old }
-    {
-        if self.gaps > 0 {
-            self.slots.retain(|key, _| is_name(key));
+            close_gaps(&mut self.slots, self.gaps);
             self.gaps = 0;
         }
     }
