@@ -3,7 +3,6 @@ ghost use Rattle.std.specs.Prelude.{◌≡◌, ◌<◌, ◌^◌, ℕ, List, [], 
 ghost use Rattle.std.specs.Borrow.{sem};
 ghost use Rattle.std.specs.Map.{lookup, remove_entry, values_of};
 ghost use Rattle.std.specs.Map.Iter.{ShowsInOrder, deref_pair};
-
 ghost use Rattle.std.specs.Option.{option_copied, option_copied_mut};
 ghost use Rattle.indexmap.specs.IndexMap.{get_by, insert_entry, spare};
 ghost use lib.Pointwise.{pointwise};
@@ -63,11 +62,7 @@ fn leave_gap<V: Drop>(slots: &mut IndexMap<SlotKey, Option<V>>, number: usize, i
 }
 
 /// Takes out the value of a name, if there is one, from slots with so many gaps. Answers how many there are then. Takes no memory.
-fn take_out<V: Drop>(
-    slots: &mut IndexMap<SlotKey, Option<V>>,
-    gaps: usize,
-    name: &[u8],
-) -> usize
+fn take_out<V: Drop>(slots: &mut IndexMap<SlotKey, Option<V>>, gaps: usize, name: &[u8]) -> usize
     requires { AreFilled slots.old.entries gaps }
     ensures entries { entries_of slots.new.entries
         ≡ remove_entry (pointwise nat_eq name.now) (entries_of slots.old.entries) }
