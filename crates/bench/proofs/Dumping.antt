@@ -10,7 +10,7 @@ at_first : (place : ℕ) (op : Operation) (ops : List Operation) → lines_from 
 unfolding lines_from
 at_first place op ops = refl
 
--- the lines of code from a place on are the line at that place and the lines behind it
+-- the lines of code from a place on are the line at that place and the lines after it
 lines_at : (ops : List Operation) (i : ℕ) (op : Operation) → i < length ops → lines_from i (drop i ops) ≡ line_at ops i ++ lines_from (i + 1) (drop (i + 1) ops)
 lines_at ops i op within =
     ap (lines_from i) (drop_more ops i op within)

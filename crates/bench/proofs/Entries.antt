@@ -1,10 +1,8 @@
 -- What is done to the entries of a bench is done to their messages.
-use Rattle.std.proofs.Common.{◌≡◌, ℕ, zero, suc, ◌<◌, List, [], ◌∷◌, length, get_or, slice_get, Bool, true, false, Option, Some, None, is_some, cond, if◌then◌else◌, MatchOption, nat_eq, refl, sym, ap, ◌∙◌, arith}
+use Rattle.std.proofs.Common.{◌≡◌, ℕ, zero, suc, List, [], ◌∷◌, length, map, slice_get, Bool, true, false, Option, Some, None, is_some, cond, if◌then◌else◌, MatchOption, nat_eq, refl, sym, ap, ◌∙◌}
 use Rattle.std.proofs.lemmas.List.{length-map}
 use Rattle.std.proofs.lemmas.Map.Made.{lookup-map_values}
-use Rattle.std.proofs.lemmas.List.Quantifiers.{position-Some}
-use Rattle.std.specs.List.{position}
-use Rattle.std.specs.Map.{keys_of, lookup, remove_entry, values_of}
+use Rattle.std.specs.Map.{lookup, remove_entry, set_value, values_of}
 use Rattle.std.specs.Option.{option_map}
 use lib.Pointwise.{pointwise}
 use Rattle.indexmap.specs.IndexMap as ordered
@@ -112,24 +110,45 @@ changed_absent id change (e ∷ es) absent = by (pointwise nat_eq id e.0) absent
     by true absent rest = absurd cc
     by false absent rest = ap (λ l. e ∷ l) (rest absent)
 
--- to change the entry at the first place of an id is to change the entry of that id
-changed_at : (id : List ℕ) (change : Entry → Entry) (es : List (List ℕ × Entry)) (i : ℕ) (entry : Entry) (d : List ℕ) → slice_get (values_of es) i ≡ Some entry → pointwise nat_eq id (get_or (keys_of es) i d) ≡ true
-    → ((k : ℕ) → k < i → pointwise nat_eq id (get_or (keys_of es) k d) ≡ false) → set_value_at es i (change entry) ≡ changed id change es
-changed_at id change [] i entry d at here before = refl
-changed_at id change (e ∷ es) zero entry d at here before = let same : e.1 ≡ entry = cc in rw here (ap (λ x. (e.0, change x) ∷ es) (sym same))
-changed_at id change (e ∷ es) (suc i) entry d at here before = rw (before 0 (omega arith)) (ap (λ l. e ∷ l) (changed_at id change es i entry d at here (λ k below. before (suc k) (omega arith))))
-
-pub changed_there : (id : List ℕ) (change : Entry → Entry) (es : List (List ℕ × Entry)) (i : ℕ) (entry : Entry) → position (pointwise nat_eq id) (keys_of es) ≡ Some i → slice_get (values_of es) i ≡ Some entry → set_value_at es i (change entry) ≡ changed id change es
-changed_there id change es i entry is at = let found = position-Some (pointwise nat_eq id) (keys_of es) i [] is in changed_at id change es i entry [] at found.1 found.2
-
--- entries of which the one at the place of an id was changed are the entries with the one of that id changed
-pub changed_from : (id : List ℕ) (change : Entry → Entry) (es new : List (List ℕ × Entry)) (i : ℕ) → position (pointwise nat_eq id) (keys_of es) ≡ Some i → is_some (slice_get (values_of es) i) ≡ true
-    → MatchOption (slice_get (values_of es) i) (new ≡ es) (λ entry. new ≡ set_value_at es i (change entry)) → new ≡ changed id change es
-changed_from id change es new i is there made = by (slice_get (values_of es) i) refl there made
+-- to set the value of an id is to change it
+pub set_changed : (id : List ℕ) (change : Entry → Entry) (es : List (List ℕ × Entry)) (entry : Entry) → lookup (pointwise nat_eq id) es ≡ Some entry → set_value (pointwise nat_eq id) es (change entry) ≡ changed id change es
+set_changed id change [] entry there = refl
+set_changed id change (e ∷ es) entry there = by (pointwise nat_eq id e.0) there (λ h. set_changed id change es entry h)
   where
-    by : (found : Option Entry) → slice_get (values_of es) i ≡ found → is_some found ≡ true → MatchOption found (new ≡ es) (λ entry. new ≡ set_value_at es i (change entry)) → new ≡ changed id change es
-    by None at there made = absurd cc
-    by (Some entry) at there made = made ∙ changed_there id change es i entry is at
+    by : (b : Bool) → cond b (Some e.1) (lookup (pointwise nat_eq id) es) ≡ Some entry → (lookup (pointwise nat_eq id) es ≡ Some entry → set_value (pointwise nat_eq id) es (change entry) ≡ changed id change es)
+        → cond b ((e.0, change entry) ∷ es) (e ∷ set_value (pointwise nat_eq id) es (change entry)) ≡ (if b then (e.0, change e.1) ∷ es else e ∷ changed id change es)
+    by true there rest = let same : e.1 ≡ entry = cc in ap (λ (x : Entry). (e.0, change x) ∷ es) (sym same)
+    by false there rest = ap (λ l. e ∷ l) (rest there)
+
+-- entries of which the first ones were changed, each in turn
+abbrev pub so_far : (Entry → Entry) → List (List ℕ × Entry) → ℕ → List (List ℕ × Entry)
+so_far change es zero = es
+so_far change [] (suc i) = []
+so_far change (e ∷ es) (suc i) = (e.0, change e.1) ∷ so_far change es i
+
+pub one_further : (change : Entry → Entry) (es : List (List ℕ × Entry)) (i : ℕ) (entry : Entry) → slice_get (values_of (so_far change es i)) i ≡ Some entry → set_value_at (so_far change es i) i (change entry) ≡ so_far change es (suc i)
+one_further change [] zero entry at = refl
+one_further change [] (suc i) entry at = refl
+one_further change (e ∷ es) zero entry at = let same : e.1 ≡ entry = cc in ap (λ x. (e.0, change x) ∷ es) (sym same)
+one_further change (e ∷ es) (suc i) entry at = ap (λ l. (e.0, change e.1) ∷ l) (one_further change es i entry at)
+
+pub none_further : (change : Entry → Entry) (es : List (List ℕ × Entry)) (i : ℕ) → slice_get (values_of (so_far change es i)) i ≡ None → so_far change es i ≡ so_far change es (suc i)
+none_further change [] zero at = refl
+none_further change [] (suc i) at = refl
+none_further change (e ∷ es) zero at = absurd cc
+none_further change (e ∷ es) (suc i) at = ap (λ l. (e.0, change e.1) ∷ l) (none_further change es i at)
+
+pub all_changed : (change : Entry → Entry) (es : List (List ℕ × Entry)) → so_far change es (length es) ≡ map (λ e. (e.0, change e.1)) es
+all_changed change [] = refl
+all_changed change (e ∷ es) = ap (λ l. (e.0, change e.1) ∷ l) (all_changed change es)
+
+-- a turn of the loop that changes each
+pub one_turn : (change : Entry → Entry) (es now new : List (List ℕ × Entry)) (i : ℕ) → MatchOption (slice_get (values_of now) i) (new ≡ now) (λ entry. new ≡ set_value_at now i (change entry)) → now ≡ so_far change es i → new ≡ so_far change es (suc i)
+one_turn change es now new i made is = by (slice_get (values_of now) i) refl made
+  where
+    by : (found : Option Entry) → slice_get (values_of now) i ≡ found → MatchOption found (new ≡ now) (λ entry. new ≡ set_value_at now i (change entry)) → new ≡ so_far change es (suc i)
+    by None at made = made ∙ is ∙ none_further change es i (sym (ap (λ l. slice_get (values_of l) i) is) ∙ at)
+    by (Some entry) at made = made ∙ ap (λ l. set_value_at l i (change entry)) is ∙ one_further change es i entry (sym (ap (λ l. slice_get (values_of l) i) is) ∙ at)
 
 -- the rules that functions' attributes name
 pub ruleset entries = (length-messages, is_some-messages, messages-put, messages-expecting, messages-readdressed, messages-remove_entry)

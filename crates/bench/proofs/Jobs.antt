@@ -41,14 +41,14 @@ put_refused_for true full content fault is = subst (λ f. Refused f (Err TooLarg
 put_refused_for false true content fault is = subst (λ f. Refused f (Err Full)) (sym is) refl
 put_refused_for false false content fault is = subst (λ f. Refused f (Ok content)) (sym is) tt
 
--- to put the scripts from one on is to put that one, and then those behind it
+-- to put the scripts from one on is to put that one, and then those after it
 puts_cut : (made : Result Content EditFault) (scripts : List TestScript) (i : ℕ) (script : TestScript) → i < length scripts → script ≡ get_or scripts i script
     → fold then_edit made (map put_of (drop i scripts)) ≡ fold then_edit (then_edit made (put_of script)) (map put_of (drop (i + 1) scripts))
 puts_cut made scripts i script within is =
     ap (λ l. fold then_edit made (map put_of l)) (drop_more scripts i script within)
     ∙ ap (λ s. fold then_edit (then_edit made (put_of s)) (map put_of (drop (i + 1) scripts))) (sym is)
 
--- where the next script is put, those behind it make of the new content what all are to make
+-- where the next script is put, those after it make of the new content what all are to make
 pub put_next : (old new : Content) (scripts : List TestScript) (i : ℕ) (script : TestScript) (all : Result Content EditFault) → i < length scripts → script ≡ get_or scripts i script
     → after_all old (map put_of (drop i scripts)) ≡ all → after old (put_of script) ≡ Ok new → after_all new (map put_of (drop (i + 1) scripts)) ≡ all
 put_next old new scripts i script all within is so_far put =

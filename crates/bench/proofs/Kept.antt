@@ -146,7 +146,7 @@ module _ {K X : Type 0} (test : K → Bool) where
       by true found rest = refl
       by false found rest = ap suc (rest found)
 
-  -- there are never more entries behind a removal
+  -- there are never more entries after a removal
   pub none_more : (es : List (K × X)) → length (remove_entry test es) ≤ length es
   none_more [] = omega arith
   none_more (e ∷ es) = by (test e.0) (none_more es)

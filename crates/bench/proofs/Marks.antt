@@ -40,11 +40,11 @@ unlisted id (e ∷ es) apart = by (is_stale e.1) (unlisted id es apart.1)
     by true rest = or_false (pointwise nat_eq id e.0) (is_among id (stale_of es)) apart.0 ∙ rest
     by false rest = rest
 
--- a test tells which entries are stale
+-- a test says which entries are stale
 abbrev pub Tells : (List ℕ × Sample → Bool) → List (List ℕ × Entry) → Type 0
 Tells test es = AllByRecursion (λ e. test (e.0, sample_of e.1) ≡ is_stale e.1) es
 
--- where a list of ids tells which entries are stale, it still does with an id in front that no entry has
+-- where a list of ids says which entries are stale, it still does with an id in front that no entry has
 more_told : (id : List ℕ) (b : Bool) (ids : List (List ℕ)) (es : List (List ℕ × Entry)) → AllByRecursion (λ k. pointwise nat_eq id k ≡ false) (keys_of es) → Tells (λ m. is_among m.0 ids) es → Tells (λ m. is_among m.0 (cond b (id ∷ ids) ids)) es
 more_told id b ids [] apart told = tt
 more_told id b ids (e ∷ es) apart told = (by b told.0, more_told id b ids es apart.1 told.1)
@@ -65,7 +65,7 @@ told (e ∷ es) distinct =
     by true absent = or_true (pointwise nat_eq e.0 e.0) (is_among e.0 (stale_of es)) (same_id e.0)
     by false absent = absent
 
--- the stale ids are those of the messages that pass a test that tells which entries are stale
+-- the stale ids are those of the messages that pass a test that says which entries are stale
 pub passing : (test : List ℕ × Sample → Bool) (es : List (List ℕ × Entry)) → Tells test es → stale_of es ≡ ids_where test (messages_of es)
 unfolding stale_of messages_of ids_where
 passing test [] tells = refl
@@ -75,7 +75,7 @@ passing test (e ∷ es) tells = rw (← tells.0) (by (test (e.0, sample_of e.1))
     by true rest = ap (λ l. e.0 ∷ l) rest
     by false rest = rest
 
--- a test that is another in other words tells which entries are stale where the other does
+-- a test that is another in other words says which entries are stale where the other does
 pub tells_too : (test other : List ℕ × Sample → Bool) (es : List (List ℕ × Entry)) → ((m : List ℕ × Sample) → other m ≡ test m) → Tells test es → Tells other es
 tells_too test other [] alike tells = tt
 tells_too test other (e ∷ es) alike tells = (alike (e.0, sample_of e.1) ∙ tells.0, tells_too test other es alike tells.1)
@@ -98,7 +98,7 @@ stale_for due name before (Some verdict) is tells = rw (tells, ← is) (by (is_r
     by true = refl
     by false = refl
 
--- behind a mark for a name those entries are stale whose runs looked the name up, and those that were stale
+-- after a mark for a name those entries are stale whose runs looked the name up, and those that were stale
 pub tells-marked : (due : Sample → Verdict) (name : ScriptName) (test : List ℕ × Sample → Bool) (es : List (List ℕ × Entry)) → KeepsDue due es → Tells test es → Tells (λ m. is_read name (due m.1).reads || test m) (marked name es)
 unfolding KeepsDue
 tells-marked due name test [] kept tells = tt
@@ -177,7 +177,7 @@ messages-all_marked (e ∷ es) = ap (λ l. (e.0, sample_of e.1) ∷ l) (messages
 
 -- AN ENTRY THAT IS PUT
 
--- a test that tells which entries are stale still does with an id added that is the same as one that no entry has
+-- a test that says which entries are stale still does with an id added that is the same as one that no entry has
 apart_from : (id other : List ℕ) (test : List ℕ × Sample → Bool) (es : List (List ℕ × Entry)) → pointwise nat_eq id other ≡ true → AllByRecursion (λ k. pointwise nat_eq other k ≡ false) (keys_of es) → Tells test es → Tells (λ m. pointwise nat_eq id m.0 || test m) es
 apart_from id other test [] is apart tells = tt
 apart_from id other test (e ∷ es) is apart tells =

@@ -33,7 +33,7 @@ pub passed_over : (content : Content) (edit : Edit) (edits : List Edit) (fault :
 unfolding content_after
 passed_over content edit edits fault refused = ap (λ made. content_after (behind content made) edits) refused
 
--- where none of some edits is refused, the content behind them is what they make
+-- where none of some edits is refused, the content after them is what they make
 pub all_made : (content : Content) (edits : List Edit) (new : Content) → after_all content edits ≡ Ok new → content_after content edits ≡ new
 unfolding content_after
 all_made content [] new made = cc
@@ -78,7 +78,7 @@ put_last name text [] below = refl
 put_last name text (e ∷ scripts) below =
     ap (λ r. match_ordering r ((name, text) ∷ e ∷ scripts) ((e.0, text) ∷ scripts) (e ∷ with_script name text scripts)) below.0 ∙ ap (λ l. e ∷ l) (put_last name text scripts below.1)
 
--- putting scripts in their order puts each behind those before it
+-- putting scripts in their order puts each after those before it
 scripts_again : (content : Content) (done rest : List (ScriptName × List ℕ)) → AreOrdered (done ++ rest) → length (done ++ rest) ≤ script_count_limit
     → All (λ name. length name.name ≤ name_limit) (keys_of rest) → All (λ text. length text ≤ text_limit) (values_of rest)
     → after_all (record content { scripts = done }) (map (λ script. put_script script.0 script.1) rest) ≡ Ok (record content { scripts = done ++ rest })
@@ -186,7 +186,7 @@ addresses_again content done id octets expected (Some own) apart short small =
     (ap is_none (there_behind id (awaited octets expected) done apart)))
     ∙ ap (λ messages. Ok (record content { messages = messages })) (changed_last id (λ sample. record sample { addresses = Some own }) (awaited octets expected) done apart)
 
--- putting messages in their order puts each behind those before it
+-- putting messages in their order puts each after those before it
 messages_again : (content : Content) (done rest : List (List ℕ × Sample)) → AreDistinct (keys_of (done ++ rest)) → length (done ++ rest) ≤ message_count_limit
     → All (λ id. length id ≤ id_limit) (keys_of rest) → All (λ sample. length sample.octets ≤ message_limit) (values_of rest) → All (λ sample. IfSome sample.expected (λ text. length text ≤ expected_limit)) (values_of rest)
     → All (λ sample. IfSome sample.addresses AreAddressesWithin) (values_of rest)

@@ -50,7 +50,7 @@ module _ (due : Sample → Verdict) where
   is_fresh due_verdict None = refl
   is_fresh due_verdict (Some verdict) = refl
 
-  -- where the entries in front of a place are fresh, the entries up to that place are fresh with the one there refreshed
+  -- where the entries before a place are fresh, the entries up to that place are fresh with the one there refreshed
   pub fresh-refreshed : (es : List (List ℕ × Entry)) (i : ℕ) (entry : Entry) → slice_get (values_of es) i ≡ Some entry → stale_of (take i es) ≡ [] → stale_of (take (suc i) (set_value_at es i (refreshed due entry))) ≡ []
   unfolding stale_of
   fresh-refreshed [] i entry at fresh = refl

@@ -1,4 +1,4 @@
--- Worked rows of which messages are stale behind an edit, and behind a report that memory was refused to.
+-- Worked rows of which messages are stale after an edit, and after a report that memory was refused to.
 use Rattle.std.proofs.Common.{◌≡◌, ℕ, ◌<◌, true, false, List, [], ◌∷◌, length, length-append, None, Some, Result, Ok, Err, nat_lt, refl, ap, codes, arith}
 use Rattle.date_text.specs.Zone.{west}
 use Rattle.sieve_base.specs.Limits.{text_limit}
@@ -44,7 +44,7 @@ module _ (profile : Profile) where
     messages = (codes "m1", record { octets = codes "Subject: one\n\n"; expected = None; addresses = None }) ∷ (codes "m2", record { octets = codes "Subject: two\n\n"; expected = Some (codes "keep\n"); addresses = None }) ∷ [];
   }
 
-  -- the stale messages behind an edit: where it is refused, those that were stale
+  -- the stale messages after an edit: where it is refused, those that were stale
   abbrev behind : Result Content EditFault → Content → Edit → List (List ℕ) → List (List ℕ)
   behind (Ok new) old edit stale = stale_after old edit stale new
   behind (Err fault) old edit stale = stale

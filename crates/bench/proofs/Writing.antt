@@ -11,7 +11,7 @@ pub record Writing {S : Type 0} (contents : S → Option (List ℕ)) (fault_coun
   pub wrote : Wrote contents fault_count old new done
   pub whole : done ++ left ≡ all
 
--- the texts of the items from one on are the text of that one, and those of the items behind it
+-- the texts of the items from one on are the text of that one, and those of the items after it
 flat_map-drop : {X : Type 0} (f : X → List ℕ) (xs : List X) (i : ℕ) (x : X) → i < length xs → x ≡ get_or xs i x → flat_map f (drop i xs) ≡ f x ++ flat_map f (drop (i + 1) xs)
 flat_map-drop f xs i x within is = rw (drop_more xs i x within) (ap (λ y. f y ++ flat_map f (drop (i + 1) xs)) (sym is))
 
@@ -23,7 +23,7 @@ begins contents fault_count s all = record {
   whole = refl;
 }
 
--- where the next part of a text is written, what is behind the part is left
+-- where the next part of a text is written, what is after the part is left
 pub goes_on : {S : Type 0} (contents : S → Option (List ℕ)) (fault_count : S → ℕ) (a b c : S) (part left all : List ℕ)
     → Writing contents fault_count a b (part ++ left) all → Wrote contents fault_count b c part → Writing contents fault_count a c left all
 goes_on contents fault_count a b c part left all so_far step = record {
@@ -64,7 +64,7 @@ ends_last contents fault_count (Ok x) a b c part all so_far step =
     subst (Wrote contents fault_count a c) so_far.whole (wrote_both contents fault_count a b c so_far.done part so_far.wrote step)
 ends_last contents fault_count (Err e) a b c part all so_far step = breaks_off contents fault_count a b c part [] all (rw append-nil so_far) step
 
--- where the next item's text is written, those of the items behind it are left
+-- where the next item's text is written, those of the items after it are left
 pub goes_on_at : {S X : Type 0} (contents : S → Option (List ℕ)) (fault_count : S → ℕ) (a b c : S) (f : X → List ℕ) (xs : List X) (i : ℕ) (x : X) (all : List ℕ)
     → i < length xs → x ≡ get_or xs i x → Writing contents fault_count a b (flat_map f (drop i xs)) all → Wrote contents fault_count b c (f x) → Writing contents fault_count a c (flat_map f (drop (i + 1) xs)) all
 goes_on_at contents fault_count a b c f xs i x all within is so_far step =

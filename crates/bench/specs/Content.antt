@@ -73,7 +73,7 @@ with_script name text scripts = tree.insert_entry name_cmp scripts name text
 abbrev pub with_message : List ℕ → List ℕ → List (List ℕ × Sample) → List (List ℕ × Sample)
 with_message id bytes messages = ordered.insert_entry (pointwise nat_eq) messages id (put_over bytes (message_at messages id))
 
--- what is told by ids, with what is at the id changed; the others stay as they are
+-- what is said by ids, with what is at the id changed; the others stay as they are
 abbrev pub changed : {X : Type 0} → List ℕ → (X → X) → List (List ℕ × X) → List (List ℕ × X)
 changed id change [] = []
 changed id change (m ∷ ms) = if pointwise nat_eq id m.0 then (m.0, change m.1) ∷ ms else m ∷ changed id change ms

@@ -15,23 +15,23 @@ use Rattle.bench.specs.declared.fault.EditFault.{EditFault}
 
 -- EDITS IN TURN
 
--- the content behind an edit that made this of it: a refused edit leaves it as it was
+-- the content after an edit that made this of it: a refused edit leaves it as it was
 abbrev pub behind : Content → Result Content EditFault → Content
 behind content (Ok new) = new
 behind content (Err fault) = content
 
--- the content behind edits in turn
+-- the content after edits in turn
 unfoldable pub content_after : Content → List Edit → Content
 content_after content [] = content
 content_after content (edit ∷ edits) = content_after (behind content (after content edit)) edits
 
 -- WHAT EVERY CONTENT HAS
 
--- each script's name is below the names behind it
+-- each script's name is below the names after it
 abbrev pub AreOrdered : List (ScriptName × List ℕ) → Type 0
 AreOrdered scripts = IsStrictlySortedBy name_cmp (keys_of scripts)
 
--- no id is the same as one behind it
+-- no id is the same as one after it
 abbrev pub AreDistinct : List (List ℕ) → Type 0
 AreDistinct ids = IsDistinct (pointwise nat_eq) ids
 

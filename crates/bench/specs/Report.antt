@@ -166,7 +166,7 @@ total_line messages errors (Some unexpected) = codes "total " ++ decimal message
 unfoldable pub profile_lines : Profile → Envelope → List ℕ
 profile_lines profile envelope = profile_line profile ++ (clock_line profile envelope.clock ++ mailboxes_line profile envelope.mailboxes)
 
--- the lines in front of the messages
+-- the lines before the messages
 unfoldable pub site_lines : Site → List ℕ
 site_lines site =
     main_line site.main

@@ -44,7 +44,7 @@ touches content clear_clock message = true
 unfoldable pub ids_where : (List ℕ × Sample → Bool) → List (List ℕ × Sample) → List (List ℕ)
 ids_where test messages = map (λ m. m.0) (filter test messages)
 
--- the stale messages behind an edit that makes a content of another, told by their ids in the list's order: of those that are there then,
+-- the stale messages after an edit that makes a content of another, told by their ids in the list's order: of those that are there then,
 -- those that the edit touches and those that were stale
 abbrev pub stale_after : Content → Edit → List (List ℕ) → Content → List (List ℕ)
 stale_after old edit stale new = ids_where (λ message. touches old edit message || is_among message.0 stale) new.messages

@@ -29,8 +29,7 @@ use crate::refusal::{
 use crate::report::{is_clean, run_stale, write_report};
 use crate::scripts::Scripts;
 use crate::site::Site;
-use crate::sought::{SoughtId, remove_sought};
-use indexmap::IndexMap;
+use named_list::NamedList;
 use sieve_base::{Octets, ScriptName, Sink};
 use sieve_profile::Profile;
 use sieve_run::{Envelope, Found, Meter, Outcome, find};
@@ -46,7 +45,7 @@ pub struct Bench {
     main: Option<ScriptName>,
     pub(crate) envelope: Envelope,
     scripts: Scripts,
-    pub(crate) messages: IndexMap<Octets, EntryBox>,
+    pub(crate) messages: NamedList<EntryBox>,
 }
 
 impl Model for Bench {
@@ -108,7 +107,7 @@ impl Bench {
             main: None,
             envelope,
             scripts: Scripts::new(alloc, profile),
-            messages: IndexMap::new(alloc),
+            messages: NamedList::new(alloc),
         })
     }
 
@@ -174,11 +173,11 @@ impl Bench {
         ensures { TriesInPlace (edit.remove_message id.now) result self.old self.new }
     {
         refuse_absent(&self.messages, id)?;
-        remove_sought(&mut self.messages, SoughtId { octets: id });
+        self.messages.remove(id);
         Ok(())
     }
 
-    /// Expects a text of a message's verdict, in place of what was expected. Each report tells whether
+    /// Expects a text of a message's verdict, in place of what was expected. Each report says whether
     /// the verdict's lines are those of the text, as `Outcome::agrees` does. Makes no message stale.
     /// Takes no memory.
     #[tactic(auto, using(crate::proofs::Entries::entries))]
@@ -186,7 +185,7 @@ impl Bench {
         ensures { TriesInPlace (edit.set_expected id.now text) result self.old self.new }
     {
         refuse_expected(&self.messages, id, text.as_slice())?;
-        expect(&mut self.messages, SoughtId { octets: id }, Some(text));
+        expect(&mut self.messages, id, Some(text));
         Ok(())
     }
 
@@ -197,7 +196,7 @@ impl Bench {
         ensures { TriesInPlace (edit.clear_expected id.now) result self.old self.new }
     {
         refuse_absent(&self.messages, id)?;
-        expect(&mut self.messages, SoughtId { octets: id }, None);
+        expect(&mut self.messages, id, None);
         Ok(())
     }
 
@@ -219,7 +218,7 @@ impl Bench {
         ensures listed { self.now.stale
             ≡ ids_where (λ message. is_among message.0 self.now.stale) self.now.content.messages }
     {
-        match self.messages.get(id) {
+        match self.messages.get(id.as_slice()) {
             Some(entry) => entry.kept(),
             None => None,
         }

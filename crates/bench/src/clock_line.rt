@@ -1,4 +1,4 @@
-//! The line of a report that tells what time it is.
+//! The line of a report that says what time it is.
 ghost use Rattle.sieve_base.specs.Writers.{Writes};
 ghost use Rattle.bench.specs.Report.{clock_line, clock_text};
 

@@ -9,7 +9,6 @@ use crate::messages::readdress;
 use crate::refusal::{
     refuse_absent, refuse_addresses, refuse_envelope, refuse_mailbox, refuse_mailboxes,
 };
-use crate::sought::SoughtId;
 use date_text::Clock;
 use sieve_base::Octets;
 use sieve_run::Addresses;
@@ -79,7 +78,7 @@ impl Bench {
     {
         refuse_addresses(&self.messages, id, from.as_slice(), to.as_slice())?;
         let addresses = Addresses { from, to };
-        readdress(&mut self.messages, SoughtId { octets: id }, Some(addresses));
+        readdress(&mut self.messages, id, Some(addresses));
         Ok(())
     }
 
@@ -90,7 +89,7 @@ impl Bench {
         ensures { TriesInPlace (edit.clear_message_envelope id.now) result self.old self.new }
     {
         refuse_absent(&self.messages, id)?;
-        readdress(&mut self.messages, SoughtId { octets: id }, None);
+        readdress(&mut self.messages, id, None);
         Ok(())
     }
 }

@@ -14,7 +14,7 @@ ghost use Rattle.sieve_run.specs.Lines.{read_lines, verdict_lines};
 ghost use Rattle.sieve_run.specs.Verdict.{Verdict};
 ghost use Rattle.bench.specs.declared.fault.EditFault as faults;
 
-/// A refused edit leaves a content as it was, and those behind it are made of that. Where none is refused, each is made of what the one
+/// A refused edit leaves a content as it was, and those after it are made of that. Where none is refused, each is made of what the one
 /// before it made.
 pub fn refused_edits_leave_the_content()
     ensures refused { (content : Content) (edit : Edit) (edits : List Edit)

@@ -17,7 +17,6 @@ mod report;
 mod report_lines;
 mod scripts;
 mod site;
-mod sought;
 mod test_end;
 mod test_job;
 mod testing;

@@ -6,8 +6,7 @@ ghost use Rattle.bench.specs.view.Entry.{messages_of};
 use crate::entry::EntryBox;
 use crate::fault::EditFault;
 use crate::scripts::Scripts;
-use crate::sought::SoughtId;
-use indexmap::IndexMap;
+use named_list::NamedList;
 use sieve_base::limits::{
     MAX_ADDRESS, MAX_EXPECTED, MAX_ID, MAX_MAILBOX, MAX_MAILBOXES, MAX_MESSAGE, MAX_MESSAGES,
     MAX_NAME, MAX_SCRIPTS, MAX_TEXT,
@@ -41,7 +40,7 @@ pub(crate) fn refuse_script(
 /// Why a message isn't put, apart from memory.
 #[tactic(auto, using(crate::proofs::Entries::entries))]
 pub(crate) fn refuse_message(
-    messages: &IndexMap<Octets, EntryBox>,
+    messages: &NamedList<EntryBox>,
     id: &Octets,
     bytes: &[u8],
 ) -> Result<(), EditFault>
@@ -51,7 +50,7 @@ pub(crate) fn refuse_message(
     if id.as_slice().len() > MAX_ID || bytes.len() > MAX_MESSAGE {
         return Err(EditFault::TooLarge);
     }
-    if !messages.contains_key(id) && messages.len() >= MAX_MESSAGES {
+    if !messages.contains(id.as_slice()) && messages.len() >= MAX_MESSAGES {
         return Err(EditFault::Full);
     }
     Ok(())
@@ -59,15 +58,12 @@ pub(crate) fn refuse_message(
 
 /// Why a message isn't removed, or why what is expected of it or its own addresses aren't.
 #[tactic(auto, using(crate::proofs::Entries::entries))]
-pub(crate) fn refuse_absent(
-    messages: &IndexMap<Octets, EntryBox>,
-    id: &[u8],
-) -> Result<(), EditFault>
+pub(crate) fn refuse_absent(messages: &NamedList<EntryBox>, id: &[u8]) -> Result<(), EditFault>
     ensures { spec.Finds (spec.absent_refusal (messages_of messages.now.entries) id.now) result }
 {
     if id.len() > MAX_ID {
         Err(EditFault::TooLarge)
-    } else if !messages.contains_key(SoughtId { octets: id }) {
+    } else if !messages.contains(id) {
         Err(EditFault::NoSuchMessage)
     } else {
         Ok(())
@@ -77,7 +73,7 @@ pub(crate) fn refuse_absent(
 /// Why a text isn't expected of a message, apart from memory.
 #[tactic(auto, using(crate::proofs::Entries::entries))]
 pub(crate) fn refuse_expected(
-    messages: &IndexMap<Octets, EntryBox>,
+    messages: &NamedList<EntryBox>,
     id: &[u8],
     text: &[u8],
 ) -> Result<(), EditFault>
@@ -86,7 +82,7 @@ pub(crate) fn refuse_expected(
 {
     if id.len() > MAX_ID || text.len() > MAX_EXPECTED {
         Err(EditFault::TooLarge)
-    } else if !messages.contains_key(SoughtId { octets: id }) {
+    } else if !messages.contains(id) {
         Err(EditFault::NoSuchMessage)
     } else {
         Ok(())
@@ -146,7 +142,7 @@ fn are_long(from: &[u8], to: &[u8]) -> bool
 /// Why a message isn't given addresses of its own, apart from memory.
 #[tactic(auto, using(crate::proofs::Entries::entries))]
 pub(crate) fn refuse_addresses(
-    messages: &IndexMap<Octets, EntryBox>,
+    messages: &NamedList<EntryBox>,
     id: &[u8],
     from: &[u8],
     to: &[u8],
@@ -156,7 +152,7 @@ pub(crate) fn refuse_addresses(
 {
     if id.len() > MAX_ID || are_long(from, to) {
         Err(EditFault::TooLarge)
-    } else if !messages.contains_key(SoughtId { octets: id }) {
+    } else if !messages.contains(id) {
         Err(EditFault::NoSuchMessage)
     } else {
         Ok(())

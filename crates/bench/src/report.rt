@@ -1,8 +1,7 @@
 //! What a report runs, and what it writes (docs/FORMATS.md).
-ghost use Rattle.std.specs.Prelude.{◌≡◌, [], ◌∷◌, OnOk, OnErr, count_by, is_some, length, nat_eq};
+ghost use Rattle.std.specs.Prelude.{◌≡◌, [], ◌∷◌, OnOk, OnErr, count_by, is_some, length};
 ghost use Rattle.std.specs.List.{flat_map, list_any, zip};
-ghost use Rattle.indexmap.specs.IndexMap.{IsUnique};
-ghost use lib.Pointwise.{pointwise};
+ghost use Rattle.named_list.specs.Named.{IsUnique};
 ghost use Rattle.sieve_base.specs.Writers.{Writes};
 ghost use Rattle.bench.specs.Bench.{RefusedAmong};
 ghost use Rattle.bench.specs.Report.{script_line, verdict_by, message_lines, error_count, profile_lines, unexpected_count, site_lines, total_line, report_with};
@@ -21,7 +20,7 @@ use crate::report_lines::{
 };
 use crate::scripts::Scripts;
 use crate::site::Site;
-use indexmap::IndexMap;
+use named_list::NamedList;
 use sieve_base::{Octets, Sink, WriteFault};
 use sieve_profile::Profile;
 use sieve_run::{Action, Envelope, Meter, Origin, Outcome};
@@ -31,13 +30,13 @@ use std::alloc::{AllocError, Global};
 pub(crate) fn run_stale(
     alloc: Global,
     site: &Site<'_>,
-    messages: &mut IndexMap<Octets, EntryBox>,
+    messages: &mut NamedList<EntryBox>,
     meter: &mut Meter,
 ) -> Result<(), AllocError>
     requires { KeepsDue (verdict_by (site_as site.now)) messages.old.entries }
     ensures messages { messages_of messages.new.entries ≡ messages_of messages.old.entries }
     ensures due { KeepsDue (verdict_by (site_as site.now)) messages.new.entries }
-    ensures unique { IsUnique (pointwise nat_eq) messages.new }
+    ensures unique { IsUnique messages.new }
     ensures stale { OnOk result (stale_of messages.new.entries ≡ []) }
     ensures runs { OnOk result
         (meter.new ≡ runs_after (length (stale_of messages.old.entries)) meter.old) }
@@ -180,20 +179,20 @@ fn write_judged<W: Sink>(
 #[tactic(auto, using(crate::proofs::Writing::writing))]
 fn write_kept<W: Sink>(
     site: &Site<'_>,
-    messages: &IndexMap<Octets, EntryBox>,
+    messages: &NamedList<EntryBox>,
     writer: &mut W,
 ) -> Result<(), WriteFault>
     ensures { Writes W.contents W.fault_count result writer.old writer.new
         (flat_map (message_lines (site_as site.now)) (judged_of messages.now.entries)) }
 {
-    for (id, entry) in messages {
+    for (id, entry) in messages.iter() {
         write_entry(site, id, entry, writer)?;
     }
     Ok(())
 }
 
 /// How many of the verdicts that are kept have an error.
-fn error_count(messages: &IndexMap<Octets, EntryBox>) -> usize
+fn error_count(messages: &NamedList<EntryBox>) -> usize
     ensures { result ≡ error_count (judged_of messages.now.entries) }
 {
     messages
@@ -203,14 +202,14 @@ fn error_count(messages: &IndexMap<Octets, EntryBox>) -> usize
 }
 
 /// Whether a text is expected of some message's verdict.
-fn are_expecting(messages: &IndexMap<Octets, EntryBox>) -> bool
+fn are_expecting(messages: &NamedList<EntryBox>) -> bool
     ensures { result ≡ list_any (λ e. is_some e.1.expected) messages.now.entries }
 {
     messages.iter().any(|(_, entry)| entry.is_expecting())
 }
 
 /// How many of the verdicts that are kept are not as they are expected to be.
-fn unlike_count(mailbox: &[u8], messages: &IndexMap<Octets, EntryBox>) -> usize
+fn unlike_count(mailbox: &[u8], messages: &NamedList<EntryBox>) -> usize
     ensures { result
         ≡ count_by (λ e. disagrees mailbox.now e.1.expected e.1.kept) messages.now.entries }
 {
@@ -221,7 +220,7 @@ fn unlike_count(mailbox: &[u8], messages: &IndexMap<Octets, EntryBox>) -> usize
 }
 
 /// How many verdicts are not as expected, where a text is expected of some.
-fn unexpected_count(mailbox: &[u8], messages: &IndexMap<Octets, EntryBox>) -> Option<u64>
+fn unexpected_count(mailbox: &[u8], messages: &NamedList<EntryBox>) -> Option<u64>
     requires { stale_of messages.now.entries ≡ [] }
     ensures { result ≡ unexpected_count mailbox.now (judged_of messages.now.entries) }
 {
@@ -233,7 +232,7 @@ fn unexpected_count(mailbox: &[u8], messages: &IndexMap<Octets, EntryBox>) -> Op
 }
 
 /// Whether no script has a fault, and no verdict that is kept an error.
-pub(crate) fn is_clean(site: &Site<'_>, messages: &IndexMap<Octets, EntryBox>) -> bool
+pub(crate) fn is_clean(site: &Site<'_>, messages: &NamedList<EntryBox>) -> bool
     ensures { result ≡ is_clean_with (site_as site.now) (judged_of messages.now.entries) }
 {
     site.scripts.are_sound() && error_count(messages) == 0
@@ -253,7 +252,7 @@ fn write_profile_lines<W: Sink>(
     write_mailboxes(profile, envelope.mailboxes.as_slice(), writer)
 }
 
-/// Writes the lines in front of the messages.
+/// Writes the lines before the messages.
 fn write_site<W: Sink>(site: &Site<'_>, writer: &mut W) -> Result<(), WriteFault>
     ensures { Writes W.contents W.fault_count result writer.old writer.new
         (site_lines (site_as site.now)) }
@@ -267,7 +266,7 @@ fn write_site<W: Sink>(site: &Site<'_>, writer: &mut W) -> Result<(), WriteFault
 /// Writes a report with the verdicts that are kept.
 pub(crate) fn write_report<W: Sink>(
     site: &Site<'_>,
-    messages: &IndexMap<Octets, EntryBox>,
+    messages: &NamedList<EntryBox>,
     writer: &mut W,
 ) -> Result<(), WriteFault>
     requires { stale_of messages.now.entries ≡ [] }
@@ -282,7 +281,7 @@ pub(crate) fn write_report<W: Sink>(
 /// Writes the last line.
 fn write_totals<W: Sink>(
     envelope: &Envelope,
-    messages: &IndexMap<Octets, EntryBox>,
+    messages: &NamedList<EntryBox>,
     writer: &mut W,
 ) -> Result<(), WriteFault>
     requires { stale_of messages.now.entries ≡ [] }

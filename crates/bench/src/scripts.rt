@@ -10,7 +10,7 @@ ghost use Rattle.bench.specs.Test.{is_sound};
 
 use crate::entry::EntryBox;
 use crate::marking::forget_readers;
-use indexmap::IndexMap;
+use named_list::NamedList;
 use sieve_base::{Octets, ScriptName};
 use sieve_profile::Profile;
 use sieve_run::{Found, Library, Script};
@@ -107,7 +107,7 @@ impl Scripts {
     /// whose runs looked the name up. An error changes nothing.
     fn keep(
         &mut self,
-        messages: &mut IndexMap<Octets, EntryBox>,
+        messages: &mut NamedList<EntryBox>,
         name: ScriptName,
         script: Script,
     ) -> Result<(), AllocError>
@@ -140,7 +140,7 @@ impl Scripts {
     pub(crate) fn put(
         &mut self,
         alloc: Global,
-        messages: &mut IndexMap<Octets, EntryBox>,
+        messages: &mut NamedList<EntryBox>,
         name: ScriptName,
         text: Octets,
     ) -> Result<(), AllocError>
@@ -161,7 +161,7 @@ impl Scripts {
     pub(crate) fn rename(
         &mut self,
         alloc: Global,
-        messages: &mut IndexMap<Octets, EntryBox>,
+        messages: &mut NamedList<EntryBox>,
         from: &ScriptName,
         to: ScriptName,
     ) -> Result<(), AllocError>
