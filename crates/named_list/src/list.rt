@@ -191,6 +191,7 @@ impl<V: Drop> NamedList<V> {
     /// The values in their order, each with its name.
     pub fn iter(&self) -> Iter<'_, V>
         ensures rest { result ≡ self.now.entries }
+        ensures fits { length self.now.entries < 2 ^ 63 }
         ensures runs { ShowsInOrder (deref_pair {K = List ℕ} {X = V}) }
     {
         Iter::new(self.slots.iter())
