@@ -162,13 +162,13 @@ filing_words settings = create_word settings.create ++ given_string_text (codes 
 unfoldable pub store_words : Settings → List ℕ
 store_words settings = filing_words settings ++ copy_word settings.copy
 
--- what a command that stores says beside
+-- what a `fileinto` says beside its mailbox
 unfoldable pub stored_text : Settings → List ℕ
 stored_text settings = stored_flags settings.flags ++ store_words settings
 
--- what a command says beside, after its word
-unfoldable pub keep_text : Option (List (List Part)) → List ℕ
-keep_text flags = codes "keep" ++ stored_flags flags
+-- the flags of what a `keep` stores, after its word
+unfoldable pub worded_flags : List ℕ → Option (List (List Part)) → List ℕ
+worded_flags word flags = word ++ stored_flags flags
 
 -- the words of modifiers, those of higher precedence first
 abbrev pub case_word : Option LetterCase → List ℕ
@@ -239,7 +239,7 @@ unfoldable pub reject_text : Rejection → List Part → List ℕ
 reject_text how reason = rejection_word how ++ worded_text (codes " ") reason
 
 unfoldable pub leaf_text : Leaf → List ℕ
-leaf_text (keep_leaf flags) = keep_text flags
+leaf_text (keep_leaf flags) = worded_flags (codes "keep") flags
 leaf_text (fileinto_leaf mailbox settings) = worded_text (codes "fileinto ") mailbox ++ stored_text settings
 leaf_text (redirect_leaf address copy) = worded_text (codes "redirect ") address ++ copy_word copy
 leaf_text discard_leaf = codes "discard"

@@ -8,8 +8,8 @@ ghost use Rattle.sieve_code.specs.view.Code.{jump_place_of, op_of};
 
 use crate::code::Code;
 use crate::dump_commands::{
-    write_fileinto, write_flags, write_include, write_keep, write_line_number, write_redirect,
-    write_set,
+    write_fileinto, write_flags, write_include, write_line_number, write_redirect, write_set,
+    write_worded_flags,
 };
 use crate::dump_responses::{write_reject, write_vacation};
 use crate::dump_strings::{write_list, write_number};
@@ -69,7 +69,7 @@ fn write_keeping<W: Sink>(
     ensures { Writes W.contents W.fault_count result writer.old writer.new
         (operation_text (op_of code.now (Keep line flags))) }
 {
-    write_keep(&code.given_list(flags), writer)?;
+    write_worded_flags(b"keep", &code.given_list(flags), writer)?;
     write_line_number(line, writer)
 }
 

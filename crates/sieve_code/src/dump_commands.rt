@@ -99,7 +99,7 @@ fn write_store_words<W: Sink>(settings: &SettingsOp<'_>, writer: &mut W) -> Resu
     write_copy(settings.copy, writer)
 }
 
-/// Writes what a command that stores says beside.
+/// Writes what a `fileinto` says beside its mailbox.
 #[tactic(auto, using(sieve_base::proofs::Writing::writing), unfolding(crate::specs::Dump::stored_text))]
 fn write_stored<W: Sink>(settings: &SettingsOp<'_>, writer: &mut W) -> Result<(), WriteFault>
     ensures { Writes W.contents W.fault_count result writer.old writer.new
@@ -109,16 +109,17 @@ fn write_stored<W: Sink>(settings: &SettingsOp<'_>, writer: &mut W) -> Result<()
     write_store_words(settings, writer)
 }
 
-/// Writes a `keep`.
-#[tactic(auto, using(sieve_base::proofs::Writing::writing), unfolding(crate::specs::Dump::keep_text))]
-pub(crate) fn write_keep<W: Sink>(
+/// Writes a command's word and then the flags of what is stored.
+#[tactic(auto, using(sieve_base::proofs::Writing::writing), unfolding(crate::specs::Dump::worded_flags))]
+pub(crate) fn write_worded_flags<W: Sink>(
+    word: &[u8],
     flags: &Option<Strings<'_>>,
     writer: &mut W,
 ) -> Result<(), WriteFault>
     ensures { Writes W.contents W.fault_count result writer.old writer.new
-        (spec.keep_text flags.now) }
+        (spec.worded_flags word.now flags.now) }
 {
-    write_out(b"keep", writer)?;
+    write_out(word, writer)?;
     write_stored_flags(flags, writer)
 }
 

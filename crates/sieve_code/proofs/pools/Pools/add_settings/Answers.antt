@@ -13,7 +13,7 @@ use Rattle.sieve_code.proofs.pools.Pools.add_settings.Goals as goal
 pub returns-then-are_plain : goal.returns-then-are_plain
 returns-then-are_plain c =
     let p = pool_as c.args.self.now in
-    kept_at p p _ None (λ g q. settings_in q g) _ c.none-then-are_plain.ensures (subst (λ (s : Settings). Kept p p (λ q. settings_in q None) s) (sym (c.are_plain.ensures c.if-are_plain.true)) (kept_still p _))
+    kept_at p p _ None (λ g q. settings_in q g) _ c.none.ensures (subst (λ (s : Settings). Kept p p (λ q. settings_in q None) s) (sym (c.are_plain.ensures c.if-are_plain.true)) (kept_still p _))
 
 pub returns : goal.returns
 returns c =
