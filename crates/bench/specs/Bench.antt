@@ -21,8 +21,8 @@ verdict_at state id = if is_among id state.stale then None else verdict_of state
 abbrev pub Makes : Edit → BenchState → BenchState → Type 0
 Makes edit old new = (after old.content edit ≡ Ok new.content) × (new.stale ≡ stale_after old.content edit old.stale new.content)
 
--- An edit that memory may be refused to is made, or it is said why not, and nothing has changed. Where the edit has a refusal, that is the answer,
--- and no memory is asked for; where it has none, only memory may be refused.
+-- An edit that memory may be refused to is made, or it is said why not, and nothing has changed. Where the edit has a refusal, that is the answer;
+-- where it has none, only memory may be refused.
 abbrev pub Tries : Edit → Result Unit EditFault → BenchState → BenchState → Type 0
 Tries edit outcome old new = OnOk outcome (Makes edit old new) × OnErr outcome (new ≡ old) × Refuses (after old.content edit) outcome
 

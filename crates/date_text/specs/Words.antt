@@ -39,7 +39,7 @@ unfoldable pub is_closed : Spot → List ℕ → Bool
 is_closed spot [] = is_outside spot
 is_closed spot (c ∷ rest) = is_closed (after_octet spot c) rest
 
--- a text with a space for each comment, or nothing where one isn't closed (RFC 5322, sections 3.2.2 and 4.2)
+-- a text with a space for each comment, or nothing where one isn't closed (RFC 5322, sections 3.2.2 and 4.3)
 abbrev pub without_comments : List ℕ → Option (List ℕ)
 without_comments text = if is_closed Outside text then Some (kept Outside text) else None
 

@@ -76,7 +76,7 @@ in_utf8 (Tabled codepage) octets = tabled (table_of codepage) octets
 abbrev pub octets_in : EncodedWord → Option (List ℕ)
 octets_in word = if is_b word.letter then b_octets word.text else q_octets word.text
 
--- what a word stands for, if it can be decoded (RFC 2047, sections 2 and 5)
+-- what a word stands for, if it can be decoded (RFC 2047, sections 3 and 4)
 unfoldable pub meaning : Profile → EncodedWord → Option (List ℕ)
 meaning profile word = option_and_then (λ charset. option_and_then (in_utf8 charset) (octets_in word)) (charset_named profile word.charset)
 

@@ -7,8 +7,7 @@ use Rattle.base64.specs.GeneralPurpose.{decode_of}
 use Rattle.sieve_base.specs.Hex.{hex_octet}
 use Rattle.sieve_base.specs.Octet.{octet_of}
 
--- B is base64 (RFC 4648, section 4), with its padding and with zeros in the bits that are left over
--- (RFC 2047, section 4.1; RFC 4648, section 4)
+-- B is base64 (RFC 2047, section 4.1; RFC 4648, section 4), with its padding and with zeros in the bits that are left over
 unfoldable pub b_octets : List ℕ → Option (List ℕ)
 b_octets text = result_ok (decode_of standard text)
 

@@ -12,9 +12,9 @@ takes_one Star = false
 takes_one Question = true
 takes_one (Literal b) = true
 
--- Whether a value of so many octets can match a key: under `:is` one of as many octets, under `:contains` one of no fewer, and
--- under `:matches` one that has an octet for each item of the pattern that takes one. No octet is compared. A value that
--- matches is never refused, by `laws::keys_need_octets`.
+-- Whether a value of so many octets can match a key under a comparator that folds octets: under `:is` one of as many octets, under
+-- `:contains` one of no fewer, and under `:matches` one that has an octet for each item of the pattern that takes one. No octet is
+-- compared. A value that matches is never refused, by `laws::keys_need_octets`.
 abbrev pub may_match : KeyKind → (size : ℕ) → (key : List ℕ) → Bool
 may_match Whole size key = size == length key
 may_match Part size key = nat_le (length key) size

@@ -160,8 +160,8 @@ pub fn flags_are_taken_out_in_turn()
         (flag ∷ others) ≡ flags_without (flags_without flags (flag ∷ [])) others }
 {}
 
-/// A value that matches a key has the octets that the key needs (RFC 5228, section 2.7.1): under `:is` as many as the key has, under
-/// `:contains` no fewer, and under `:matches` one for each item of the pattern that takes one.
+/// A value that matches a key under a comparator that folds octets has the octets that the key needs (RFC 5228, section 2.7.1): under
+/// `:is` as many as the key has, under `:contains` no fewer, and under `:matches` one for each item of the pattern that takes one.
 pub fn keys_need_octets()
     ensures is { (fold : ℕ → ℕ) (value key : List ℕ) → same fold value key ≡ true
         → may_match Whole (length value) key ≡ true }

@@ -4,7 +4,7 @@ ghost use Rattle.match_text.specs.Room.{may_match};
 ghost use Rattle.match_text.specs.declared.room.KeyKind.TheVariants.{Pattern};
 ghost use Rattle.match_text.specs.view.Room.{has_room, is_room, takes_octet};
 
-/// What a key is to a value (RFC 5228, section 2.7.1).
+/// What a key is to a value under a comparator that folds octets (RFC 5228, section 2.7.1); `i;ascii-numeric` doesn't go by lengths.
 #[derive(Clone, Copy)]
 pub enum KeyKind {
     /// All of it: the match type `:is`.

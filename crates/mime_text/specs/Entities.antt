@@ -143,7 +143,7 @@ given_by leaf encoding octets = content encoding octets
 abbrev pub entity_of : (in_digest : Bool) → (text : List ℕ) → Entity
 entity_of in_digest text = record { type = type_of in_digest text; given = given_by (shape_of (type_of in_digest text)) (encoding_of text) (content_of text) }
 
--- the texts of the entities directly in one (RFC 2046, section 5.2.1)
+-- the texts of the entities directly in one (RFC 2046, sections 5.1.1 and 5.2.1)
 abbrev pub inner_texts : Shape → (octets : List ℕ) → List (List ℕ)
 inner_texts (multipart is_digest (Some boundary)) octets = part_texts (content_cut boundary octets)
 inner_texts (multipart is_digest None) octets = []

@@ -3,7 +3,8 @@ ghost use Rattle.std.specs.Prelude.{◌≡◌, ◌<◌, ℕ, List, None, Some, I
 ghost use Rattle.std.specs.List.{All, list_all};
 ghost use Rattle.sieve_base.specs.Writers.{quoted};
 ghost use Rattle.session_text.specs.LineOf.{IsLineOf, IsWord, joined};
-ghost use Rattle.session_text.specs.SessionLine.{SessionCommand, command_of_line, extension_of, line_words, word_value};
+ghost use Rattle.session_text.specs.SessionLine.{SessionCommand, command_of_line, extension_of, line_kind, line_word, line_words, word_value};
+ghost use Rattle.session_text.specs.declared.line_kind.LineKind.{LineKind};
 ghost use Rattle.sieve_profile.specs.Profile.{Profile, empty_profile, has};
 ghost use Rattle.sieve_base.specs.Octet.{is_printable};
 
@@ -11,6 +12,11 @@ ghost use Rattle.sieve_base.specs.Octet.{is_printable};
 pub fn a_quoted_word_stands_for_its_octets()
     ensures { (octets : List ℕ) → All (λ octet. octet < 256) octets
         → word_value (quoted octets) ≡ Some octets }
+{}
+
+/// The first word of each line that asks for something is that of no other.
+pub fn lines_are_found_by_their_words()
+    ensures { (kind : LineKind) → line_kind (line_word kind) ≡ Some kind }
 {}
 
 /// The words of a line that is made of words, bare or in the quoted form that reports print, with one space or more between each two and any in front and after, are these words.

@@ -29,11 +29,10 @@ pub data Sort : Type 0 where
   one_variable : Sort
   one_number : Sort
 
--- whether it is there: always, or it may be left out, or the row never has it, and another command is read alike that may
+-- whether it is there: always, or it may be left out
 pub data Presence : Type 0 where
   always : Presence
   perhaps : Presence
-  never : Presence
 
 -- an argument in a role
 pub record Asked : Type 0 where
@@ -46,9 +45,6 @@ must sort role = record { sort = sort; role = role; presence = always }
 
 abbrev pub may : Sort → Role → Asked
 may sort role = record { sort = sort; role = role; presence = perhaps }
-
-abbrev pub never_is : Sort → Role → Asked
-never_is sort role = record { sort = sort; role = role; presence = never }
 
 -- a test that compares values with keys
 abbrev pub comparing : List Asked
@@ -136,10 +132,6 @@ is_one wanted [] = false
 is_one wanted (slot ∷ []) = sameb the_type slot.form wanted
 is_one wanted (slot ∷ other ∷ slots) = false
 
-abbrev pub is_none_of : List Slot → Bool
-is_none_of [] = true
-is_none_of (slot ∷ slots) = false
-
 -- there are some slots, and each is of the form
 abbrev pub are_all : Form → List Slot → Bool
 are_all wanted [] = false
@@ -150,7 +142,6 @@ are_all wanted (slot ∷ slots) = list_all (λ s. sameb the_type s.form wanted) 
 abbrev pub gives_slot : Row → Role → Form → Presence → Bool
 gives_slot row role wanted always = is_one wanted (filter (is_in_role role) (slots_of_row row)) && list_any (is_in_role role) row.slots
 gives_slot row role wanted perhaps = are_all wanted (filter (is_in_role role) (slots_of_row row)) && not (list_any (is_in_role role) row.slots)
-gives_slot row role wanted never = is_none_of (filter (is_in_role role) (slots_of_row row))
 
 -- a row gives what is asked for
 abbrev pub gives : Row → Asked → Bool
@@ -165,18 +156,14 @@ gives_all row asked = list_all (gives row) asked
 abbrev pub ReadsSame : Sort → Presence → (argument other : Option Argument) → Type 0
 ReadsSame texts always argument other = texts_in argument ≡ texts_in other
 ReadsSame texts perhaps argument other = given_texts argument ≡ given_texts other
-ReadsSame texts never argument other = given_texts argument ≡ given_texts other
 ReadsSame one_text always argument other = text_in argument ≡ text_in other
 ReadsSame one_text perhaps argument other = given_text argument ≡ given_text other
-ReadsSame one_text never argument other = given_text argument ≡ given_text other
 ReadsSame one_literal presence argument other = literal_in argument ≡ literal_in other
 ReadsSame variables presence argument other = given_texts argument ≡ given_texts other
 ReadsSame one_variable always argument other = variable_in argument ≡ variable_in other
 ReadsSame one_variable perhaps argument other = given_variable argument ≡ given_variable other
-ReadsSame one_variable never argument other = given_variable argument ≡ given_variable other
 ReadsSame one_number always argument other = number_in argument ≡ number_in other
 ReadsSame one_number perhaps argument other = given_number argument ≡ given_number other
-ReadsSame one_number never argument other = given_number argument ≡ given_number other
 
 abbrev pub AreAlike : List Asked → (labels others : List Label) → (args arguments : List Argument) → Type 0
 AreAlike [] labels others args arguments = Unit {0}

@@ -70,7 +70,7 @@ abbrev pub test_breaks : Context → Option TestKind → List Argument → Tests
 test_breaks context None args ts rule = unknown_breaks rule
 test_breaks context (Some kind) args ts rule = row_breaks (use_lacks context.profile context.required (test_row kind) args) (test_row kind) (known_shapes context.profile (test_row kind).tags args) ts false rule
 
--- a string that has no reference in it is known before the script runs (RFC 5228, sections 5.1 and 5.4)
+-- a string that has no reference in it is known before the script runs (RFC 5229, section 3)
 abbrev pub is_known : Required → Option Role → List ℕ → Bool
 is_known required role octets = not (takes_references required role && has_reference octets)
 

@@ -78,7 +78,7 @@ unpacked pool packed = record { flags = given_list pool packed.flags; copy = pac
 abbrev pub settings_in : Pool → Option ℕ → Settings
 settings_in pool place = unpacked pool (packed_in pool place)
 
--- what a `vacation` says; past the end, nothing
+-- what a `vacation` says; past the end, the first string and nothing else
 abbrev pub no_vacation : PackedVacation
 no_vacation = record { reason = 0; days = None; subject = None; from = None; addresses = None; mime = false; handle = None }
 
@@ -99,7 +99,7 @@ vacation_unpacked pool packed = record {
 abbrev pub vacation_in : Pool → ℕ → Vacation
 vacation_in pool place = vacation_unpacked pool (vacation_packed_in pool place)
 
--- what a test of dates says, as it is kept; past the end, nothing
+-- what a test of dates says, as it is kept; past the end, the first string in the local zone
 abbrev pub no_date : PackedDate
 no_date = record { zone = zone.Local; field = 0; part = 0 }
 

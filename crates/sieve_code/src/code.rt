@@ -58,7 +58,7 @@ fn plain_packed() -> PackedSettings
     }
 }
 
-/// What a place past the end says: a `vacation` of which nothing is given.
+/// What a place past the end says: a `vacation` of the first string.
 fn no_vacation() -> PackedVacation
     ensures { result ≡ no_vacation }
 {
@@ -73,7 +73,7 @@ fn no_vacation() -> PackedVacation
     }
 }
 
-/// What a place past the end says: a test of dates of which nothing is given.
+/// What a place past the end says: a test of dates by the first string.
 fn no_date() -> PackedDate
     ensures { result ≡ no_date }
 {

@@ -26,7 +26,7 @@ struct NamedPlace {
 }
 
 /// What a run has made of a message, so that none of its tests makes it again. Contracts see what is delivered. It has a place for each
-/// field up to the last that a test has looked at.
+/// field up to the last that a test has looked at, and 32 for the first fields of names.
 #[derive(Drop)]
 pub struct FieldReads<'a> {
     arrival: &'a Arrival<'a>,

@@ -19,7 +19,7 @@ use sieve_reading::MatchType;
 use std::alloc::{AllocError, Global};
 use std::borrow::CowSlice;
 
-/// Whether a key, or a piece of it where keys are cut, is among flags.
+/// Whether a piece of a key is among flags.
 fn has_piece(flags: &FlagList, collation: Collation, key: &[u8]) -> bool
     ensures { result ≡ list_any (has_key (are_equal collation) flags.now) (flag_keys key.now) }
 {

@@ -77,8 +77,9 @@ abbrev pub rejection_word : Rejection → List ℕ
 rejection_word Reject = codes "reject"
 rejection_word Ereject = codes "ereject"
 
--- A command that acts. A `keep` may name flags (RFC 5232, section 5), and a `redirect` may be a copy (RFC 3894, section 3). One that changes flags changes those that a variable holds, or else the internal ones (RFC 5232, section 3).
--- One that includes a script names its place and its name, and says whether the script runs once at most, and whether it may be
+-- A command that acts. A `keep` may name flags (RFC 5232, section 5), and a `redirect` may be a copy (RFC 3894, section 3). One that
+-- changes flags changes those that a variable holds, or else the internal ones (RFC 5232, section 3). One that includes a script names
+-- its location and its name, and says whether the script runs once at most, and whether it may be
 -- missing (RFC 6609, section 3.2). One that answers the sender is a `vacation` (RFC 5230); one that rejects the message says by which action, and
 -- for which reason (RFC 5429).
 pub data Leaf : Type 0 where

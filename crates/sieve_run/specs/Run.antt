@@ -162,7 +162,7 @@ abbrev pub implicit_of : RunState → Option (List (List ℕ))
 implicit_of state = if state.cancelled then None else Some state.flags
 
 -- In the main script a return is the end (RFC 6609, section 3.3). After an error no action is taken, and the implicit keep stands
--- (RFC 5228, section 2.10.6), without flags (RFC 5228, section 2.10.2).
+-- (RFC 5228, sections 2.10.2 and 2.10.6), without flags.
 abbrev pub verdict_of : Ending → Verdict
 verdict_of (goes_on state) = record { actions = state.actions; origins = state.origins; implicit = implicit_of state; error = None; reads = state.reads }
 verdict_of (returned state) = record { actions = state.actions; origins = state.origins; implicit = implicit_of state; error = None; reads = state.reads }

@@ -16,7 +16,7 @@ line_feeds octets = count_by (λ octet. octet == octet_of "\n") octets
 abbrev pub line_at : List ℕ → ℕ → ℕ
 line_at text place = line_feeds (take place text) + 1
 
--- white space alone stands from one place to the other, or nothing (RFC 5228, section 2.2)
+-- white space and comments alone stand from one place to the other, or nothing (RFC 5228, sections 2.2 and 2.3)
 pub data White (text : List ℕ) : ℕ → ℕ → Type 0 where
   nothing : (place : ℕ) → White text place place
   white : (place n end : ℕ) → white_at (drop place text) ≡ Some n → White text (place + n) end → White text place end

@@ -20,8 +20,8 @@ abbrev pub decimal_from : ℕ → List ℕ → ℕ
 decimal_from n [] = n
 decimal_from n (c ∷ cs) = decimal_from (10 * n + (c - octet_of "0")) cs
 
--- The number of a match variable, by its decimal value. All past the limit are refused alike (RFC 5229, section 6), so they
--- count as the first of them (RFC 5229, section 3.2).
+-- The number of a match variable, by its decimal value (RFC 5229, section 3.2). All past the limit are refused alike (section 6), so
+-- they count as the first of them.
 abbrev pub index_of : List ℕ → ℕ
 index_of digits = min (decimal_from 0 digits) (match_limit + 1)
 
