@@ -12,7 +12,7 @@ OWN = "Rattle."
 MADE_OF_CODE = re.compile(r"\.specs\.(?:declared|contracts)\b")
 # What a contract sees of an argument, and fields that the toolchain's records and traits have.
 FIELDS = {
-    *"now old new entry cmp eq D make".split(),
+    *"now old new entry cmp eq D make Denot".split(),
     *"has_globals has_version subcommand_required arg_required_else_help value_names long short write".split(),
 }
 

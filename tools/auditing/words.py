@@ -4,7 +4,7 @@ import re
 TOKEN = re.compile(r'--[^\n]*|⟦[^⟧]*⟧|"(?:\\.|[^"\\\n])*"|«[^»]*»|[(){}.;,@]|[^\s(){}.;,@"«»]+')
 BRACKETS = {"(": ")", "{": "}", "[": "]"}
 # Words that stand for no definition.
-RESERVED = set("→ × λ ↦ = | : ∀ ¬ ⊥ _ Type as in where elim let record open use unfolding Unit tt absurd ] ∗ ↔ refl ∥ ∥₁".split())
+RESERVED = set("→ × λ ↦ = | : ∀ ¬ ⊥ _ Type as in where elim let record open use unfolding Unit tt absurd ] ∗ ↔ refl ∥ ∥₁ 𝓛".split())
 NUMERAL = re.compile(r"[0-9]\w*$")
 
 

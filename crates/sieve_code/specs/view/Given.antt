@@ -10,9 +10,9 @@ abbrev pub place_given : Option ℕ → ℕ
 place_given None = 4294967295
 place_given (Some place) = place
 
+back_by : (place : ℕ) (none : Bool) → (place == 4294967295) ≡ none → place_given (if none then None else Some place) ≡ place
+back_by place true is = sym (eqb-true place 4294967295 is)
+back_by place false is = refl
+
 pub given_back : (place : ℕ) → place_given (given_place place) ≡ place
-given_back place = by (place == 4294967295) refl
-  where
-    by : (b : Bool) → (place == 4294967295) ≡ b → place_given (if b then None else Some place) ≡ place
-    by true is = sym (eqb-true place 4294967295 is)
-    by false is = refl
+given_back place = back_by place (place == 4294967295) refl
