@@ -1,5 +1,4 @@
-use Rattle.std.proofs.Common.{◌≡◌, List, ℕ, map, refl, ap, ◌∙◌, add-one, length, arith}
-use Rattle.bench.specs.declared.entry.Entry.{Entry}
+use Rattle.std.proofs.Common.{◌≡◌, refl, ap, ◌∙◌, add-one, length, arith}
 use Rattle.bench.specs.view.Entry.{forgotten, messages_of}
 use Rattle.bench.proofs.Entries.{all_changed, one_turn, so_far}
 use Rattle.bench.proofs.Marks.{messages-all_marked}

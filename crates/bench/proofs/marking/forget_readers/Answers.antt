@@ -1,5 +1,4 @@
-use Rattle.std.proofs.Common.{◌≡◌, List, ℕ, map, refl, ap, ◌∙◌, add-one, length, arith}
-use Rattle.bench.specs.declared.entry.Entry.{Entry}
+use Rattle.std.proofs.Common.{◌≡◌, map, refl, ap, ◌∙◌, add-one, length, arith}
 use Rattle.bench.specs.view.Entry.{messages_of, unread}
 use Rattle.bench.proofs.Entries.{all_changed, one_turn, so_far}
 use Rattle.bench.proofs.Marks.{due-marked, messages-marked}
