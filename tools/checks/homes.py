@@ -1,6 +1,6 @@
 """What stands in several places has one home, and is the same in each other one.
 
-- A limit has its home in the sources, as a constant: `limits.rt` of `sieve_base` has most. It stands in the documents, the help, the table of
+- A limit has its home in the sources, as a constant: `sieve_limits` has most. It stands in the documents, the help, the table of
   faults, and the tools.
 - What a status means has its home in the help of a program: each status has words of its own, which stand there and in the help of its commands,
   and in no other status.
@@ -17,7 +17,7 @@ TOP = pathlib.Path(__file__).resolve().parent.parent.parent
 FORMATS, LANGUAGE, SITE = (f"docs/{name}.md" for name in ("FORMATS", "LANGUAGE", "SITE"))
 FAULTS, FRONT = "docs/faults.tsv", "docs/ARCHITECTURE.md"
 HELP, OPTIONS = "crates/command_line/src/help.rt", "tools/site/sievebench_site/options.py"
-SOURCES, SAYS = "crates/sieve_base/src/limits.rt", "crates/sievebench_cli/src"
+SOURCES, SAYS = "crates/sieve_limits/src/lib.rt", "crates/sievebench_cli/src"
 AMOUNTS, BODIES, SITE_DATES, TOOL, CLOCK = "tools/checks/amounts.py", "tools/checks/bodies.py", "tools/checks/dates.py", "tools/site/sievebench_site/words.py", "tools/site/sievebench_site/clock.py"
 NUMBER = r"(\d[\d,_]*\d|\d|[Tt]en)"
 # Of each limit the places beside its home: a file and a pattern, whose groups are numbers, each of them the limit; or the name of a constant of a

@@ -20,9 +20,8 @@ mod test_code;
 
 pub use code::Code;
 pub use compiler::compile;
+pub use devices::{Counted, Faults, Sink, Source, WriteFault, write_out, write_quoted};
 pub use given::GivenPlace;
 pub use op::{Inclusion, Op, PackedTest, SourceKind};
 pub use pools::Target;
-pub use sieve_base::{
-    Counted, Faults, Location, Sink, Source, WriteFault, write_out, write_quoted,
-};
+pub use script_names::Location;

@@ -2,7 +2,7 @@
 
 use crate::given::GivenPlace;
 use message_text::AddressPart;
-use sieve_base::Location;
+use script_names::Location;
 use sieve_reading::{Comparison, FlagChange, Rejection};
 use std::mem::size_of;
 

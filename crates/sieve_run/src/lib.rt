@@ -26,12 +26,13 @@ pub use lines::{write_action, write_error, write_implicit, write_origin, write_r
 pub use match_text::FlagList;
 pub use message_text::{Message, MessageFault};
 pub use meter::Meter;
+pub use octets::Octets;
 pub use outcome::Outcome;
 pub use script::Script;
+pub use script_names::{Location, ScriptName};
 pub use shelf::Shelf;
 pub use sieve_actions::{
     Action, Addresses, Envelope, ErrorKind, Filing, Origin, Response, RunError, Texts,
 };
-pub use sieve_base::{Location, Octets, ScriptName};
 pub use sieve_matching::mailbox_count;
 pub use sieve_reading::Rejection;
