@@ -146,7 +146,7 @@ fn tail_len(value: &[u8]) -> usize
         .count()
 }
 
-/// What stands after the last `;`, or all where there is none.
+/// What stands after the last `;`, or all where there is none. A `;` in a comment counts too: a value is cut before its comments are found.
 fn after_last_semicolon(value: &[u8]) -> &[u8]
     ensures { result.now ≡ after_last (λ c. c == octet_of ";") value.now }
 {

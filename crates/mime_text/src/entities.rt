@@ -179,7 +179,8 @@ fn header_of(alloc: Global, header: &[u8]) -> Result<Message, AllocError>
     }
 }
 
-/// What the header of a text says of its content, and that.
+/// What the header of a text says of its content, and that. The encoding is looked at first: octets of an unknown one have no type that tells
+/// what they are.
 fn head_of<'m>(alloc: Global, in_digest: bool, text: &'m [u8]) -> Result<Head<'m>, AllocError>
     ensures { IfOk result (IsHead in_digest text.now) }
 {

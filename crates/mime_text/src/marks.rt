@@ -152,7 +152,8 @@ fn push_mark(marks: &mut Vec<Mark>, spot: Spot, octet: u8) -> Result<(), AllocEr
     }
 }
 
-/// The marks of a value, or nothing where a comment or a quoted string isn't closed.
+/// The marks of a value, or nothing where a comment or a quoted string isn't closed. A comment is a space, since it may stand between any two
+/// words. In comments and quoted strings any octet may stand, as mail has it.
 pub(crate) fn marks_of(alloc: Global, text: &[u8]) -> Result<Option<Vec<Mark>>, AllocError>
     ensures { IfOk result (λ marks. marks_as marks ≡ marks_of text.now) }
 {

@@ -159,7 +159,7 @@ pub(crate) struct Pieces<'t> {
     pub(crate) epilogue: Option<&'t [u8]>,
 }
 
-/// The further parts of a content, from the first delimiter or closing line on, and the epilogue.
+/// The further parts of a content, from the first delimiter or closing line on, and the epilogue. A closing line ends them also before any part.
 fn parts_from<'t>(
     alloc: Global,
     boundary: &Boundary,

@@ -219,6 +219,7 @@ fn check_text(
 {
     let line = text.line as u64;
     let Some(said) = said(alloc, context.spot.required, role, text.octets())? else {
+        // what it says isn't known, so no other rule is asked
         let rule = Rule::BadCharacter;
         return Err(CheckFault::Breach { line, rule });
     };

@@ -1,5 +1,5 @@
 //! What operations of code say by its place: strings, variables, names of scripts, and what stands beside.
-ghost use Rattle.std.specs.Prelude.{◌≡◌, ◌<◌, [], true, IfOk, None, Some, slice_index_or};
+ghost use Rattle.std.specs.Prelude.{◌≡◌, ◌<◌, ◌≤◌, [], true, IfOk, None, OnErr, Some, slice_index_or};
 ghost use Rattle.std.specs.List.{slice_get};
 ghost use Rattle.std.specs.Option.{option_map};
 ghost use Rattle.sieve_reading.specs.Reading.{plain_settings};
@@ -42,6 +42,7 @@ pub(crate) struct Pools {
 fn place_of(len: usize) -> Result<u32, AllocError>
     ensures is { IfOk result (λ place. place ≡ len) }
     ensures given { IfOk result (λ place. place < 4294967295) }
+    ensures err { OnErr result (4294967295 ≤ len) }
 {
     match u32::try_from(len) {
         Ok(place) if place < u32::MAX => Ok(place),

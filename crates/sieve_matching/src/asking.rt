@@ -59,7 +59,7 @@ fn find_in_source(
     }
 }
 
-/// What the number of the values of a source gives, in decimal (RFC 5231, section 4.2).
+/// What the number of the values of a source gives, in decimal (RFC 5231, section 4.2): it is compared as a text, by the test's comparator.
 fn find_by_count(
     delivery: &Delivery<'_>,
     fields: &mut FieldCache<'_>,

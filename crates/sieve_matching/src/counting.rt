@@ -1,5 +1,5 @@
 //! How many values a test has that counts them (RFC 5231, section 4.2).
-ghost use Rattle.std.specs.Prelude.{◌≡◌, ◌<◌, ◌+◌, length, filter, map, None, Some, slice_get, IfOk};
+ghost use Rattle.std.specs.Prelude.{◌≡◌, ◌<◌, ◌≤◌, ◌+◌, ◌^◌, length, filter, map, None, Some, slice_get, IfOk, OnErr};
 ghost use Rattle.std.specs.List.{flat_map};
 ghost use Rattle.match_text.specs.Flags.{flag_list};
 ghost use Rattle.message_text.specs.Fields.{fields_of};
@@ -28,7 +28,8 @@ use std::alloc::{AllocError, Global};
 
 /// The sum of two numbers. One of more than 64 bits is answered as out of memory.
 pub(crate) fn plus(count: usize, more: usize) -> Result<usize, AllocError>
-    ensures { IfOk result (λ sum. sum ≡ count + more) }
+    ensures ok { IfOk result (λ sum. sum ≡ count + more) }
+    ensures err { OnErr result (2 ^ 64 ≤ count + more) }
 {
     match count.checked_add(more) {
         Some(sum) => Ok(sum),

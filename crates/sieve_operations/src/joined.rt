@@ -1,5 +1,5 @@
 //! The strings of compiled code, one after another.
-ghost use Rattle.std.specs.Prelude.{◌≡◌, ◌∷◌, ◌++◌, ◌<◌, [], length, slice_get, slice_index_or, IfOk, OnOk, Some};
+ghost use Rattle.std.specs.Prelude.{◌≡◌, ◌∷◌, ◌++◌, ◌<◌, ◌≤◌, ◌^◌, [], length, slice_get, slice_index_or, IfOk, OnErr, OnOk, Some};
 ghost use Rattle.sieve_operations.specs.Joined.{between, start};
 
 use sieve_variables::{Part, Parts};
@@ -8,7 +8,8 @@ use std::marker::Model;
 
 /// The number of items as the place where they end. More than 4,294,967,295 are answered as out of memory.
 pub(crate) fn end_of(len: usize) -> Result<u32, AllocError>
-    ensures { IfOk result (λ end. end ≡ len) }
+    ensures ok { IfOk result (λ end. end ≡ len) }
+    ensures err { OnErr result (2 ^ 32 ≤ len) }
 {
     match u32::try_from(len) {
         Ok(end) => Ok(end),

@@ -273,7 +273,8 @@ fn look_up<L: Library>(
     }
 }
 
-/// Includes a script (RFC 6609, section 3.2).
+/// Includes a script (RFC 6609, section 3.2). What doesn't depend on its text is checked before it is looked up, so a verdict names no script that
+/// can't matter to it.
 #[cycle(execute)]
 fn include<L: Library>(
     running: &Running<'_, L>,

@@ -1,5 +1,5 @@
 //! What strings stand for while a script runs (RFC 5229, section 3).
-ghost use Rattle.std.specs.Prelude.{◌≡◌, [], length, take, IfOk, IsOk, IsOkAnd, OnOk};
+ghost use Rattle.std.specs.Prelude.{◌≡◌, ◌≤◌, ◌^◌, [], length, take, IfOk, IsOk, IsOkAnd, OnErr, OnOk};
 ghost use Rattle.std.specs.Cow.{IsBorrowedSlice, cow_slice_items};
 ghost use Rattle.sieve_variables.specs.Modifier.{modified};
 ghost use Rattle.sieve_variables.specs.Value.{text_value};
@@ -14,7 +14,8 @@ use std::borrow::CowSlice;
 impl Values {
     /// How many octets the parts of a string stand for. More than a number holds are out of memory.
     fn joined_len(&self, parts: &[Part]) -> Result<usize, AllocError>
-        ensures { IfOk result (λ len. len ≡ length (text_value self.now parts.now)) }
+        ensures ok { IfOk result (λ len. len ≡ length (text_value self.now parts.now)) }
+        ensures err { OnErr result (2 ^ 64 ≤ length (text_value self.now parts.now)) }
     {
         let mut len: usize = 0;
         for part in parts {
