@@ -39,12 +39,12 @@ def runs(count):
 
 class Told:
     """What a call may tell: the answer, what it leaves, and where its requests are refused, what stands after that it was; further answers
-    that a refusal may have; and where requests behind the call may be refused, what stands behind the answer then."""
+    that a refusal may have; and where requests after the call may be refused, what stands after the answer then."""
 
-    def __init__(self, answer, left=b"", kept=(b"",), others=(), behind=()):
+    def __init__(self, answer, left=b"", kept=(b"",), others=(), after=()):
         self.whole = answer + left
-        self.refused = {self.whole, *others, *(REFUSED + it for it in kept), *(answer + it for it in behind)}
-        self.behind = {self.whole, *(answer + it for it in behind)}
+        self.refused = {self.whole, *others, *(REFUSED + it for it in kept), *(answer + it for it in after)}
+        self.after = {self.whole, *(answer + it for it in after)}
 
 
 # The bench on which edits are made, after the report that made its verdict: a message that the main script discards, as is expected.
@@ -63,8 +63,8 @@ def missing(name):
 
 def edited(report, stale=True):
     """An edit that takes memory. Behind it the message is stale or not."""
-    behind = [REFUSED + runs(2)] if stale else []
-    return Told(lines("ok"), report + runs(2 if stale else 1), [BEFORE + runs(1)], behind=behind)
+    after = [REFUSED + runs(2)] if stale else []
+    return Told(lines("ok"), report + runs(2 if stale else 1), [BEFORE + runs(1)], after=after)
 
 
 VALUE = b"The quick brown fox jumps over the lazy dog, and then over the lazy cat, twice."
@@ -271,7 +271,7 @@ class Call:
             return {UNPREPARED, self.told.whole}
         if number <= before + self.requests:
             return self.told.refused
-        return self.told.behind if number <= count else {self.told.whole}
+        return self.told.after if number <= count else {self.told.whole}
 
     def differences(self, path):
         marks = self.room / "marks"

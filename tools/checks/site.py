@@ -366,9 +366,9 @@ def of_lints(room):
     write(room / "ring", {"personal/main.sieve": b'require "include"; include :once "t";', "personal/t.sieve": b'require "include"; include "main";', "mains": b"main\n"})
     yield run("an include once enters", room, "lint ring", lines('ring/personal/t.sieve:1: recursive-include: The script personal "main" runs already.'), status=1)
     ring = {name: f'require "include"; include "{goal}";'.encode() for name, goal in (("main", "a"), ("a", "b"), ("b", "a"))}
-    write(room / "behind", {f"personal/{name}.sieve": text for name, text in ring.items()})
-    told_of = [f'behind/personal/{name}.sieve:1: recursive-include: The script personal "{goal}" runs already.' for name, goal in ("ab", "ba")]
-    yield run("a script that a ring is behind isn't in it", room, "lint behind", lines(*told_of), status=1)
+    write(room / "after", {f"personal/{name}.sieve": text for name, text in ring.items()})
+    told_of = [f'after/personal/{name}.sieve:1: recursive-include: The script personal "{goal}" runs already.' for name, goal in ("ab", "ba")]
+    yield run("a script that leads into a ring isn't in it", room, "lint after", lines(*told_of), status=1)
     write(room / "clean", {"personal/main.sieve": b"keep;", "personal/.x.sieve": b"keep;"})
     yield run("no faults", room, "lint clean")
     write(room / "marked", {"personal/main.sieve": codecs.BOM_UTF8 + b"keep;", "personal/other.sieve": b"keep;\n" + codecs.BOM_UTF8, "mains": b"main\nother\n"})

@@ -197,7 +197,7 @@ impl<'a> FieldCache<'a> {
         i + 1
     }
 
-    /// The addresses in the value of field `i`, which is read where they aren't kept. [`keep_addresses`](FieldCache::keep_addresses) takes
+    /// The addresses in the value of field `i`, which is read where they aren't kept. [`cache_addresses`](FieldCache::cache_addresses) takes
     /// them back.
     pub(crate) fn take_addresses(
         &mut self,
@@ -244,7 +244,7 @@ impl<'a> FieldCache<'a> {
     }
 
     /// The value of field `i` with its encoded words replaced, which is made where it isn't kept.
-    /// [`keep_decoded`](FieldCache::keep_decoded) takes it back.
+    /// [`cache_decoded`](FieldCache::cache_decoded) takes it back.
     pub(crate) fn take_decoded(
         &mut self,
         alloc: Global,
@@ -282,7 +282,7 @@ impl<'a> FieldCache<'a> {
         Ok(())
     }
 
-    /// The entities of the message, which are found where they aren't kept. [`keep_entities`](FieldCache::keep_entities) takes them back.
+    /// The entities of the message, which are found where they aren't kept. [`cache_entities`](FieldCache::cache_entities) takes them back.
     pub(crate) fn take_entities(&mut self, alloc: Global) -> Result<Vec<Entity<'a>>, AllocError>
         ensures arrival { self.new ≡ self.old }
         ensures entities { IfOk result
