@@ -11,6 +11,7 @@ use Rattle.sieve_profile.specs.Every.{every}
 use Rattle.sieve_profile.specs.Profile.{Profile, has}
 use Rattle.sieve_profile.specs.declared.extension.Extension.{Extension}
 use Rattle.sieve_profile.specs.declared.extension.Extension.TheVariants as extension
+use Rattle.script_names.specs.Name.{location_word}
 use Rattle.script_names.specs.declared.location.Location.{Location}
 use Rattle.script_names.specs.declared.location.Location.TheVariants.{Personal, Global}
 use Rattle.sieve_limits.specs.Limits.{line_limit}
@@ -152,7 +153,7 @@ unfoldable pub is_text : List ℕ → List ℕ → Bool
 is_text text word = pointwise nat_eq word text
 
 abbrev pub location_of : List ℕ → Option Location
-location_of word = if is_text (codes "personal") word then Some Personal else if is_text (codes "global") word then Some Global else None
+location_of word = if is_text (location_word Personal) word then Some Personal else if is_text (location_word Global) word then Some Global else None
 
 -- the value of digits, after digits of that value
 abbrev pub value_after : ℕ → List ℕ → Option ℕ

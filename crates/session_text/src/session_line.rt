@@ -112,9 +112,9 @@ fn is_text(word: &[u8], text: &[u8]) -> bool
 fn location_of(word: &[u8]) -> Option<Location>
     ensures { result ≡ spec.location_of word.now }
 {
-    if is_text(word, b"personal") {
+    if is_text(word, Location::Personal.word()) {
         Some(Location::Personal)
-    } else if is_text(word, b"global") {
+    } else if is_text(word, Location::Global.word()) {
         Some(Location::Global)
     } else {
         None
