@@ -158,7 +158,7 @@ class Reader:
         return at + 1
 
     def let(self, at, bound):
-        """A name for a term, with its type where one is told."""
+        """A name for a term, with its type where one is given."""
         inner = set(bound)
         at = self.pattern(at, inner, ("=", ":"))
         if self.tokens[at].is_mark(":"):

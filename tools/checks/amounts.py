@@ -258,7 +258,7 @@ def of_flags(room):
 
 
 def of_includes(room):
-    """Names at their limit and past it, and which bound of a run is told where two are reached."""
+    """Names at their limit and past it, and which bound of a run is reported where two are reached."""
     require = b'require ["include", "variables", "imap4flags"];\n'
     for size, told in [(NAME_LIMIT, "ok"), (NAME_LIMIT + 1, "no too-large")]:
         name = b"n" * size

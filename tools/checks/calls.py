@@ -265,8 +265,8 @@ class Call:
         return done.stdout if done.returncode == 0 else (done.stdout, done.returncode)
 
     def allowed(self, number, before, count):
-        """What may be told where the request of that number is refused, of so many in all, and so many before the call. A refusal may go
-        unfelt: a list that is refused room ahead goes on with less."""
+        """What may be answered where the request of that number is refused, of so many in all, and so many before the call. A refusal may go
+        unfelt: a list that is refused room ahead makes do with less."""
         if number <= before:
             return {UNPREPARED, self.told.whole}
         if number <= before + self.requests:
@@ -293,7 +293,7 @@ class Call:
             if found not in self.allowed(number, before, count)
         ]
         if self.takes and not set(told) & self.told.refused - {self.told.whole}:
-            wrong.append("no refusal is told")
+            wrong.append("no refusal is reported")
         return wrong[:3]
 
 
@@ -308,7 +308,7 @@ class Words:
     def differences(self, path):
         done = subprocess.run([self.program], capture_output=True, timeout=SECONDS)
         told, wanted = done.stdout.decode().split(), [*CALLS, *UNREFUSED]
-        return [] if sorted(told) == sorted(wanted) else [f"{sorted(set(told) ^ set(wanted))} are told or made alone"]
+        return [] if sorted(told) == sorted(wanted) else [f"{sorted(set(told) ^ set(wanted))} are reported or made alone"]
 
 
 def of_calls(room, program):

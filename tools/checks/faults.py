@@ -116,7 +116,7 @@ def of_table(room):
 
 
 def run(title, folder, told, wrong, names):
-    """The run of a script that is told so, or of the one that isn't wrong."""
+    """The run of a script that is reported so, or of the one that isn't wrong."""
     asked = f" --with '{names}'" if names else ""
     test = f"sievebench test{asked} --personal . main.sieve mail"
     if told.startswith("script "):

@@ -94,7 +94,7 @@ def of_limits(room):
     for words in ["/dev/zero small.eml", "small.sieve /dev/zero"]:
         yield Run(f"a file without an end: {words}", folder, f"ulimit -v 131072; sievebench test {words}", b"", b'sievebench: too large "/dev/zero"\n', 2)
     yield Run("a script of a folder past it", folder, "sievebench test --global large past.sieve small.eml", b"", b'sievebench: too large "large/past.sieve"\n', 2)
-    yield Run("what can't be read is told before what is too large", folder, "sievebench test past.sieve absent", b"", b'sievebench: cannot read "absent"\n', 3)
+    yield Run("what can't be read is reported before what is too large", folder, "sievebench test past.sieve absent", b"", b'sievebench: cannot read "absent"\n', 3)
     yield Run(
         "words at their limits",
         folder,
@@ -109,7 +109,7 @@ def of_limits(room):
     yield Run("a mailbox past it before files", folder, f"sievebench test -m {mailbox}b {mail}", b"", f'sievebench: too large "{mailbox}b"\n'.encode(), 2)
     full = f"-m {mailbox} --to {address} -f {address} {mail}"
     yield Run("words at their limits before a script past it", folder, f"sievebench test {full}", b"", b'sievebench: too large "past.sieve"\n', 2)
-    yield Run("what can't be read is told before a word past its limit", folder, f"sievebench test -f {address}a past.sieve absent", b"", b'sievebench: cannot read "absent"\n', 3)
+    yield Run("what can't be read is reported before a word past its limit", folder, f"sievebench test -f {address}a past.sieve absent", b"", b'sievebench: cannot read "absent"\n', 3)
     yield Run("a mailbox past it", folder, f"sievebench test -m {mailbox}b small.sieve small.eml", b"", f'sievebench: too large "{mailbox}b"\n'.encode(), 2)
     path = "./" * (NAME_LIMIT // 2) + "small.eml"
     yield Run("a script past it before a mail whose path is", folder, f"sievebench test past.sieve {path}", b"", b'sievebench: too large "past.sieve"\n', 2)

@@ -1,4 +1,4 @@
-"""Sessions that are cut off after their octets. What must come of a cut is told by the grammar of lines, which is written here once more,
+"""Sessions that are cut off after their octets. What must come of a cut follows from the grammar of lines, which is written here once more,
 as patterns, and by the replies of the whole lines, which are written out."""
 import re
 

@@ -30,7 +30,7 @@ class Proving:
         self.title, self.command = "README", command
 
     def differences(self, path):
-        """What is missing for it to be run, or to be told."""
+        """What is missing for it to be run, or to be reported."""
         if self.command == INSTALL:
             return []
         file = shlex.split(self.command, comments=True)[0]

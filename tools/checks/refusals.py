@@ -108,7 +108,7 @@ class Refusals:
             refused += found != whole
             if found not in told and found != (b"", 4):
                 wrong.append(f"request {number} of {count} refused: got {found!r:.2000}")
-        return wrong[:3] + ([] if refused else [f"none of {count} refusals is told"])
+        return wrong[:3] + ([] if refused else [f"none of {count} refusals is reported"])
 
 
 class Words:

@@ -23,7 +23,7 @@ def write(folder, files):
 
 
 def counted(*numbers, further=()):
-    """The last line of a check. The last counts are told where they aren't 0."""
+    """The last line of a check. The last counts are printed where they aren't 0."""
     return ", ".join([*(f"{number} {what}" for number, what in zip(numbers, COUNTS)), *further])
 
 
@@ -81,7 +81,7 @@ def of_spellings(room):
     yield run("odd names", room, "check -- -odd", lines(counted(1, 1, 1, 1, 0, 0, 0, 0)))
     shown = "-bare/mails/-\\xc3\\xbc \"x\" \\\\ y.eml under -\\xc3\\xbc \"x\" \\\\ y: nothing is expected"
     write(room / "-bare", {f"mails/{odd}.eml": b"", f"personal/{odd}.sieve": b"discard;", "mains": f"{odd}\n".encode(), "envelope": NOBODY})
-    yield run("odd names are told", room, "check --strict --no-utf8 -- -bare", lines(shown, counted(1, 1, 1, 0, 0, 1, 0, 0)), status=1)
+    yield run("odd names are reported", room, "check --strict --no-utf8 -- -bare", lines(shown, counted(1, 1, 1, 0, 0, 1, 0, 0)), status=1)
     write(room / "utf8", site({"\u00fc.eml": b"", "\u00fc.eml.expect": b'[main]\nstore "\\xe4" "\\\\Seen"\n'}, main='require "fileinto"; fileinto "B\u00fcro";'.encode()))
     shown = lines("utf8/mails/\u00fc.eml under main", '  - store "\\xe4" "\\\\Seen"', '  + store "B\u00fcro"  (utf8/personal/main.sieve:1)', counted(1, 1, 1, 0, 1, 0, 0, 0))
     yield run("octets of UTF-8 are shown as characters, and others as they were", room, "check --utf8 utf8", shown, status=1)
@@ -279,7 +279,7 @@ def of_junit(room):
         ("where all is wanted", "", [[*SUITE, "4", "4", "0", ""], *wrong, ["failure", *["nothing is expected"] * 2], *wrong_file, stale, ["failure", *["its mail isn't there"] * 2]]),
     ]:
         yield run(f"results of tests, {title}", room, f"check {words} --junit out.xml marks > /dev/null; python3 read out.xml", lines(*map(ascii, rows)))
-    yield run("a file of results that can't be written is told before the run", room, "check --program ./absent --junit nowhere/out.xml both", b"", told('cannot write "nowhere/out.xml": No such file or directory'), 2)
+    yield run("a file of results that can't be written is reported before the run", room, "check --program ./absent --junit nowhere/out.xml both", b"", told('cannot write "nowhere/out.xml": No such file or directory'), 2)
     yield run("a folder of results", room, "check --junit marks both", b"", told('cannot write "marks": Is a directory'), 2)
 
 
@@ -380,7 +380,7 @@ def of_lints(room):
 
 def of_sievec(room):
     """What sievec says otherwise."""
-    # In place of sievec: it compiles what has no `reject`, and is told where the scripts are that those include.
+    # In place of sievec: it compiles what has no `reject`, and is given where the scripts are that those include.
     fake = '#!/bin/sh\n[ "$2 $4" = "plugin/sieve=file:$PWD/peer/personal plugin/sieve_global=file:$PWD/peer/global" ] || exit 9\n! grep -n reject "$5" > /dev/null || { echo "x: line 2: error: there is a reject" >&2; exit 89; }\n'
     write(room / "peer", {"bin/sievec": fake.encode(), "personal/main.sieve": b'require "include"; include "a";\ninclude "gone";', "personal/a.sieve": b"\nkep;", "personal/b.sieve": b"# reject", "personal/both.sieve": b"keep;", "personal/c.sieve": b"reject;", "mains": b"main\n"})
     (room / "peer/bin/sievec").chmod(0o755)

@@ -53,7 +53,7 @@ def of_envelopes(room):
     files.update({f"mails/{name}.eml.expect": DISCARDS for name in "234"})
     write(room / "fields", {"personal/main.sieve": script, "mains": b"main\n", **files, "mails/1.eml.expect": b'[main]\nredirect "a@b.example"\n'})
     yield run("envelopes of fields, and a mail without one", room, "check fields", lines(counted(4, 1, 4, 4, 0, 0, 0, 0, further=["1 mails without an envelope"])))
-    yield run("it is told by record too", room, "record fields", lines("4 mails, 0 written, 0 left, 1 mails without an envelope"))
+    yield run("record reports it too", room, "record fields", lines("4 mails, 0 written, 0 left, 1 mails without an envelope"))
     write(room / "fields", {"envelope": b"x@y.example c@d.example\n", "mails/4.eml.expect": b'[main]\nredirect "a@b.example"\n'})
     yield run("the envelope of a site", room, "check fields", lines(counted(4, 1, 4, 4, 0, 0, 0, 0)))
     for octets, what, why in [
@@ -94,7 +94,7 @@ def of_unjudged(room):
     wanted = [f"names5/mails/{number}.EML: {first}" for number in range(3)] + [f"and 2 more: {first[10:]}"]
     wanted += ["names5/mails/1795931695.M1P2.host:2,S: left out: it has the name of a Maildir's file: `import` takes it"]
     wanted += ["names5/mails/cur/1795931695.M1P2.host:2,S: left out: it is in a folder inside of mails"]
-    yield run("names that are told", room, "check names5", lines(*wanted, counted(1, 1, 1, 1, 0, 0, 0, 0, further=["7 left out"])))
+    yield run("names that are reported", room, "check names5", lines(*wanted, counted(1, 1, 1, 1, 0, 0, 0, 0, further=["7 left out"])))
 
 
 def of_expectations(room):

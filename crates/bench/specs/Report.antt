@@ -157,7 +157,7 @@ is_unlike mailbox verdict (Some text) = not (agrees mailbox verdict text)
 unfoldable pub unexpected_count : (mailbox : List ℕ) → List Judged → Option ℕ
 unexpected_count mailbox judged = if list_any (λ j. is_some j.expected) judged then Some (count_by (λ j. is_unlike mailbox j.verdict j.expected) judged) else None
 
--- the last line: how many messages there are, how many of them have an error, and where that is told, how many are not as expected
+-- the last line: how many messages there are, how many of them have an error, and, if that is printed, how many are not as expected
 unfoldable pub total_line : ℕ → ℕ → Option ℕ → List ℕ
 total_line messages errors None = codes "total " ++ decimal messages ++ codes " messages " ++ decimal errors ++ codes " errors\n"
 total_line messages errors (Some unexpected) = codes "total " ++ decimal messages ++ codes " messages " ++ decimal errors ++ codes " errors " ++ decimal unexpected ++ codes " unexpected\n"

@@ -81,7 +81,7 @@ fn write_traced_actions<W: Sink>(
     Ok(())
 }
 
-/// Writes the lines of the actions, and of where each comes from if that is told.
+/// Writes the lines of the actions, and of where each comes from if that is printed.
 fn write_told_actions<W: Sink>(
     traced: bool,
     outcome: &Outcome,

@@ -362,7 +362,7 @@ pub(crate) fn write_expectation<W: Sink>(
     }
 }
 
-/// Writes the last line: how many messages there are, how many of them have an error, and where that is told, how many are not as expected.
+/// Writes the last line: how many messages there are, how many of them have an error, and, if that is printed, how many are not as expected.
 pub(crate) fn write_total<W: Sink>(
     messages: u64,
     errors: u64,

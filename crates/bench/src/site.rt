@@ -18,7 +18,7 @@ pub(crate) struct Site<'a> {
 }
 
 impl Site<'_> {
-    /// Whether it is told where each action comes from.
+    /// Whether a report says where each action comes from.
     pub(crate) fn is_traced(&self) -> bool
         ensures { result ≡ has (site_as self.now).profile Lines }
     {

@@ -20,7 +20,7 @@ Standard error, each line after \"sievebench: \":
   too many scripts            test: more than there may be
   too many reads              a session made 1000000000 reads, and its input had not ended
   out of memory               memory was refused
-A mistake in the command line is told in words of its own.
+A mistake in the command line is reported in words of its own.
 
 Quoted text, as \"PATH\" above, has a \\ before \" and \\, and \\xHH with two hexadecimal digits for
 each octet outside 32 to 126.

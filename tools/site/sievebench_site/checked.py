@@ -57,7 +57,7 @@ class Checked:
         }
 
     def further(self) -> Dict[str, int]:
-        """The counts that are told where they aren't 0."""
+        """The counts that are printed where they aren't 0."""
         return {
             "not judged": len(self.unjudged),
             "mails without an envelope": len(self.judged.bare),

@@ -68,7 +68,7 @@ class Survey(NamedTuple):
 
 
 def requires(names: Iterable[bytes]) -> str:
-    """What a script requires, as it is told."""
+    """What a script requires, as it is reported."""
     return "requires " + ", ".join(quoted(name)[1:-1] for name in names)
 
 

@@ -136,7 +136,7 @@ def refuse_unwritable(path: bytes) -> None:
 
 
 def who() -> str:
-    """This process, as others are told of it."""
+    """This process, as others see it."""
     user = os.environ.get("LOGNAME") or os.environ.get("USER") or str(os.getuid())
     return f"process {os.getpid()} of {user} on {socket.gethostname()}"
 

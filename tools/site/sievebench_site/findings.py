@@ -1,4 +1,4 @@
-"""What is found, each with a file and a line, and how servers that build are told of it."""
+"""What is found, each with a file and a line, and how build servers get it."""
 
 from __future__ import annotations
 
@@ -9,7 +9,7 @@ from typing import Dict, Iterable, List, NamedTuple, Optional
 
 from .shown import Look
 
-# A finding that fails the run, one that is told only, and how SARIF and GitHub call them.
+# A finding that fails the run, one that is only reported, and how SARIF and GitHub call them.
 ERROR, NOTE = "error", "note"
 GITHUB = {ERROR: "error", NOTE: "notice"}
 SARIF = "https://json.schemastore.org/sarif-2.1.0.json"

@@ -26,7 +26,7 @@ class Group(NamedTuple):
     cases: List[Case]
 
     def first(self) -> List[Case]:
-        """Those that are told by name."""
+        """Those that are listed by name."""
         return self.cases[:FIRST]
 
     def sizes(self) -> str:

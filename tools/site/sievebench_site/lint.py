@@ -119,7 +119,7 @@ def unreached(site: Site, reached: List[Optional[Set[bytes]]]) -> Iterator[Findi
 
 
 def sievec_differences(site: Site, linted: Linted) -> Iterator[Finding]:
-    """The scripts that sievec compiles though something was told of them, or of a script that they come to, and the other way round.
+    """The scripts that sievec compiles though something was reported of them, or of a script that they come to, and the other way round.
     One that can't be judged here is passed over, and so is one that comes to it."""
     first = {fault.path: fault.line for fault in sorted(linted.faults, reverse=True)}
     personal, shared = os.path.join(linted.user.home, b"personal"), os.path.join(site.wanted.folder, b"global")

@@ -290,7 +290,7 @@ def changed_cases(before: Seen, now: Seen) -> List[Tuple[Case, str]]:
 
 
 def is_news(was: Optional[Case], case: Case) -> bool:
-    """Whether it wasn't told before, nor is told by its having changed, that a verdict isn't as expected."""
+    """Whether it wasn't reported before, nor follows from a reported change, that a verdict isn't as expected."""
     if was is None or was.agrees() is None:
         return True
     same = was.lines() == case.lines()
