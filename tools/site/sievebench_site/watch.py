@@ -105,7 +105,7 @@ class Desk:
 
 class Seen(NamedTuple):
     """What was seen at a look: the site, the verdicts, those that aren't as expected, and the faults by the files of their scripts, each
-    as it is told."""
+    as it is reported."""
 
     users: List[User]
     cases: Dict[Which, Case]
