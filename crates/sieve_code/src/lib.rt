@@ -21,7 +21,7 @@ mod test_code;
 pub use code::Code;
 pub use compiler::compile;
 pub use given::GivenPlace;
-pub use op::{Inclusion, Op, PackedTest, SourceKind};
+pub use op::{Inclusion, Op, PackedSource, PackedTest};
 pub use pools::Target;
 pub use sieve_base::{
     Counted, Faults, Location, Sink, Source, WriteFault, write_out, write_quoted,

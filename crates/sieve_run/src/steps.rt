@@ -113,9 +113,7 @@ fn carry_out<L: Library>(
         Op::True => Ok(proceed(true, behind)),
         Op::False => Ok(proceed(false, behind)),
         Op::Not => Ok(proceed(!register, behind)),
-        Op::Compares { test, values, keys } => ask_compares(
-            turn, test, values, keys, fields, state,
-        ),
+        Op::Compares { test, keys } => ask_compares(turn, test, keys, fields, state),
         Op::Exists { names } => ask_exists(turn, names, state),
         Op::Over { limit } => Ok(ask_over(turn, limit)),
         Op::Under { limit } => Ok(ask_under(turn, limit)),
