@@ -29,7 +29,7 @@ impl Pools {
     }
 
     /// Adds the zone in which a date is shown.
-    fn add_zone(&mut self, zone: DateZone) -> Result<DateZone<u32>, AllocError>
+    fn add_zone(&mut self, zone: DateZone<Parts>) -> Result<DateZone<u32>, AllocError>
         ensures { IfOk result (λ kept. Kept (pool_as self.old) (pool_as self.new)
             (λ p. zone_in p kept) (date_zone_as zone)) }
     {
@@ -44,7 +44,10 @@ impl Pools {
     }
 
     /// Adds what is taken of a body.
-    fn add_body(&mut self, transform: BodyTransform) -> Result<BodyTransform<u32>, AllocError>
+    fn add_body(
+        &mut self,
+        transform: BodyTransform<Vec<Text>>,
+    ) -> Result<BodyTransform<u32>, AllocError>
         ensures { IfOk result (λ kept. Kept (pool_as self.old) (pool_as self.new)
             (λ p. body_in p kept) (transform_as transform)) }
     {
@@ -59,7 +62,10 @@ impl Pools {
     }
 
     /// Adds where a test takes values from.
-    fn add_source(&mut self, source: ValueSource) -> Result<PackedSource, AllocError>
+    fn add_source(
+        &mut self,
+        source: ValueSource<Vec<Text>, Vec<Text>, Parts>,
+    ) -> Result<PackedSource, AllocError>
         ensures { IfOk result (λ kept. Kept (pool_as self.old) (pool_as self.new)
             (λ p. source_in p kept) (source_as source)) }
     {
@@ -105,7 +111,7 @@ impl Pools {
     /// The operation of a test that compares values with keys.
     fn pack_compares(
         &mut self,
-        source: ValueSource,
+        source: ValueSource<Vec<Text>, Vec<Text>, Parts>,
         comparison: Comparison,
         keys: Vec<Text>,
     ) -> Result<Op, AllocError>
@@ -159,7 +165,7 @@ impl Pools {
     fn pack_fileinto(
         &mut self,
         mailbox: Parts,
-        settings: Settings,
+        settings: Settings<Vec<Text>, Parts>,
         line: u32,
     ) -> Result<Op, AllocError>
         ensures { IfOk result (λ op. Kept (pool_as self.old) (pool_as self.new) (λ p. op_in p op)
@@ -254,7 +260,11 @@ impl Pools {
     }
 
     /// The operation of a `vacation`.
-    fn pack_vacation(&mut self, vacation: Vacation, line: u32) -> Result<Op, AllocError>
+    fn pack_vacation(
+        &mut self,
+        vacation: Vacation<Vec<Text>, Parts>,
+        line: u32,
+    ) -> Result<Op, AllocError>
         ensures { IfOk result (λ op. Kept (pool_as self.old) (pool_as self.new) (λ p. op_in p op)
             (act_op (vacation_leaf (vacation_as vacation)) line)) }
     {

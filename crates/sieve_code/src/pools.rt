@@ -59,7 +59,7 @@ fn unmodified() -> Modifiers {
 }
 
 /// Whether a `fileinto` says nothing beside its mailbox.
-fn are_plain(settings: &Settings) -> bool
+fn are_plain(settings: &Settings<Vec<Text>, Parts>) -> bool
     ensures { result ≡ true → settings_as settings.now ≡ plain_settings }
 {
     match (&settings.flags, &settings.special_use) {
@@ -220,7 +220,10 @@ impl Pools {
     }
 
     /// Adds what a `fileinto` says beside its mailbox. Answers its place.
-    pub(crate) fn add_settings(&mut self, settings: Settings) -> Result<GivenPlace, AllocError>
+    pub(crate) fn add_settings(
+        &mut self,
+        settings: Settings<Vec<Text>, Parts>,
+    ) -> Result<GivenPlace, AllocError>
         ensures { IfOk result (λ place. Kept (pool_as self.old) (pool_as self.new)
             (λ p. settings_in p place) (settings_as settings)) }
     {
@@ -250,7 +253,10 @@ impl Pools {
     }
 
     /// Adds what a `vacation` says. Answers its place.
-    pub(crate) fn add_vacation(&mut self, vacation: Vacation) -> Result<u32, AllocError>
+    pub(crate) fn add_vacation(
+        &mut self,
+        vacation: Vacation<Vec<Text>, Parts>,
+    ) -> Result<u32, AllocError>
         ensures { IfOk result (λ place. Kept (pool_as self.old) (pool_as self.new)
             (λ p. vacation_in p place) (vacation_as vacation)) }
     {

@@ -36,7 +36,7 @@ pub struct Comparison {
 
 /// The zone in which a date is shown (RFC 5260, section 4.1).
 #[derive(Clone, Copy, Drop)]
-pub enum DateZone<S = Parts> {
+pub enum DateZone<S> {
     /// The local one.
     Local,
     /// The one in which the date was written.
@@ -47,7 +47,7 @@ pub enum DateZone<S = Parts> {
 
 /// What is taken of a body (RFC 5173, section 5).
 #[derive(Clone, Copy, Drop)]
-pub enum BodyTransform<L = Vec<Text>> {
+pub enum BodyTransform<L> {
     /// All of it as it stands.
     Raw,
     /// The contents of some types.
@@ -61,7 +61,7 @@ pub enum BodyTransform<L = Vec<Text>> {
 
 /// Where a test takes values from.
 #[derive(Clone, Copy, Drop)]
-pub enum ValueSource<N = Vec<Text>, L = Vec<Text>, S = Parts> {
+pub enum ValueSource<N, L, S> {
     /// From the fields of some names (RFC 5228, section 5.7).
     Header {
         /// The names of fields.
@@ -120,7 +120,7 @@ pub enum Ask {
     /// Whether some value matches some key (RFC 5228, section 2.7).
     Compares {
         /// Where the values are from.
-        source: ValueSource,
+        source: ValueSource<Vec<Text>, Vec<Text>, Parts>,
         /// How a value is compared with a key.
         comparison: Comparison,
         /// The keys.
@@ -180,7 +180,7 @@ pub enum FlagChange {
 
 /// What a `fileinto` says beside its mailbox.
 #[derive(Clone, Copy, Drop)]
-pub struct Settings<L = Vec<Text>, S = Parts> {
+pub struct Settings<L, S> {
     /// The flags of what the command stores, where it names them (RFC 5232, section 5).
     pub flags: Option<L>,
     /// Whether the command's action leaves the implicit keep as it is (RFC 3894, section 3).
@@ -193,7 +193,7 @@ pub struct Settings<L = Vec<Text>, S = Parts> {
 
 /// What a `vacation` says (RFC 5230, section 4).
 #[derive(Clone, Copy, Drop)]
-pub struct Vacation<L = Vec<Text>, S = Parts> {
+pub struct Vacation<L, S> {
     /// The text of the response.
     pub reason: S,
     /// For how many days a sender gets no other response, where that is said (section 4.1).
@@ -244,7 +244,7 @@ pub enum Leaf {
         /// The name, as its parts.
         mailbox: Parts,
         /// What the command says beside.
-        settings: Settings,
+        settings: Settings<Vec<Text>, Parts>,
     },
     /// A command that sends the message on to that address (RFC 5228, section 4.2).
     Redirect {
@@ -287,7 +287,7 @@ pub enum Leaf {
     /// A command that answers the sender (RFC 5230).
     Vacation {
         /// What the command says.
-        vacation: Vacation,
+        vacation: Vacation<Vec<Text>, Parts>,
     },
     /// A command that rejects the message (RFC 5429).
     Reject {
