@@ -1,9 +1,9 @@
 -- What edits in turn make of a content, and what is known of the edits of a job.
-use Rattle.sieve_base.specs.Octet.{is_among}
+use Rattle.octets.specs.Octet.{is_among}
 use Rattle.std.proofs.Common.{◌≡◌, ℕ, ◌+◌, ◌<◌, Bool, true, false, ◌||◌, if◌then◌else◌, List, [], ◌∷◌, length, drop, get_or, map, fold, Option, None, Some, Result, Ok, Err, IfOk, OnOk, refl, sym, ap, ◌∙◌, subst}
 use Rattle.std.proofs.lemmas.List.{drop_more}
 use Rattle.date_text.specs.Clock.{Clock}
-use Rattle.sieve_base.specs.declared.name.ScriptName.{ScriptName}
+use Rattle.script_names.specs.declared.name.ScriptName.{ScriptName}
 use Rattle.bench.specs.Bench.{BenchState, Makes}
 use Rattle.bench.specs.Content.{Content, Edit, Sample, after, put_message, set_main, set_envelope, set_mailbox, set_mailboxes, Refuses, unless, script_refusal, message_refusal, main_refusal, envelope_refusal, mailbox_refusal, mailboxes_refusal, with_message}
 use Rattle.bench.specs.Edits.{clock_edits}

@@ -11,10 +11,10 @@ use Rattle.std.specs.Ordering.{is_eq, match_ordering, ordering_reverse}
 use Rattle.std.specs.declared.cmp.Ordering.{Ordering}
 use Rattle.std.specs.declared.cmp.Ordering.TheVariants.{Less, Equal, Greater}
 use lib.Pointwise.{pointwise}
-use Rattle.sieve_base.specs.declared.location.Location.{Location}
-use Rattle.sieve_base.specs.declared.location.Location.TheVariants.{Personal, Global}
-use Rattle.sieve_base.specs.Name.{name_cmp, location_cmp}
-use Rattle.sieve_base.specs.declared.name.ScriptName.{ScriptName}
+use Rattle.script_names.specs.declared.location.Location.{Location}
+use Rattle.script_names.specs.declared.location.Location.TheVariants.{Personal, Global}
+use Rattle.script_names.specs.Name.{name_cmp, location_cmp}
+use Rattle.script_names.specs.declared.name.ScriptName.{ScriptName}
 use Rattle.bench.specs.Content.{Content, Edit, Sample, after, new_content, put_script, put_message, set_main, rename_script, remove_script, remove_message, clear_main, set_envelope, set_mailbox, set_expected, clear_expected, set_mailboxes, set_message_envelope, clear_message_envelope, set_clock, clear_clock, unless, text_at, message_at, put_over, with_script, changed, with_renamed}
 use Rattle.bench.specs.Edits.{IsInOrder, AreOrdered, AreDistinct, behind, content_after}
 use Rattle.sieve_profile.specs.Profile.{Profile}

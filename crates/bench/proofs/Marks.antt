@@ -1,5 +1,5 @@
 -- What the marks of the entries say of the stale messages, and which verdicts stay due.
-use Rattle.sieve_base.specs.Octet.{is_among}
+use Rattle.octets.specs.Octet.{is_among}
 use Rattle.std.proofs.Common.{◌≡◌, ℕ, List, [], ◌∷◌, map, filter, Bool, true, false, cond, ◌||◌, if◌then◌else◌, Option, None, Some, IfSome, is_none, nat_eq, refl, sym, ap, subst, ◌∙◌}
 use Rattle.std.proofs.lemmas.Map.Keys.{IsDistinct-head, IsDistinct-tail}
 use Rattle.std.specs.List.{AllByRecursion, IsDistinct}
@@ -7,9 +7,9 @@ use Rattle.std.specs.Map.{keys_of, lookup, remove_entry}
 use Rattle.std.specs.Option.{option_map}
 use lib.Pointwise.{pointwise}
 use Rattle.indexmap.specs.IndexMap as ordered
-use Rattle.sieve_base.specs.Name.{name_eq}
+use Rattle.script_names.specs.Name.{name_eq}
 use Rattle.sieve_actions.specs.Delivery.{Arrival}
-use Rattle.sieve_base.specs.declared.name.ScriptName.{ScriptName}
+use Rattle.script_names.specs.declared.name.ScriptName.{ScriptName}
 use Rattle.sieve_actions.specs.declared.envelope.Addresses.{Addresses}
 use Rattle.sieve_run.specs.Frame.{Agree, Texts, outcome_over}
 use Rattle.sieve_run.specs.Run.{is_read}

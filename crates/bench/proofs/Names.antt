@@ -8,10 +8,10 @@ use Rattle.std.specs.Ordering.{nat_cmp, ordering_then, match_ordering, is_eq}
 use Rattle.std.specs.declared.cmp.Ordering.{Ordering}
 use Rattle.std.specs.declared.cmp.Ordering.TheVariants.{Less, Equal, Greater}
 use lib.Pointwise.{pointwise}
-use Rattle.sieve_base.specs.declared.location.Location.{Location}
-use Rattle.sieve_base.specs.declared.location.Location.TheVariants.{Personal, Global}
-use Rattle.sieve_base.specs.Name.{name_cmp, name_eq, location_cmp, location_eq}
-use Rattle.sieve_base.specs.declared.name.ScriptName.{ScriptName}
+use Rattle.script_names.specs.declared.location.Location.{Location}
+use Rattle.script_names.specs.declared.location.Location.TheVariants.{Personal, Global}
+use Rattle.script_names.specs.Name.{name_cmp, name_eq, location_cmp, location_eq}
+use Rattle.script_names.specs.declared.name.ScriptName.{ScriptName}
 use Rattle.bench.specs.Content.{text_at, with_renamed, with_script, without_script}
 
 -- IDS

@@ -11,9 +11,9 @@ use Rattle.std.specs.declared.cmp.Ordering.TheVariants.{Less, Greater}
 use lib.Pointwise.{pointwise}
 use Rattle.indexmap.specs.IndexMap as ordered
 use Rattle.date_text.specs.Clock.{Clock}
-use Rattle.sieve_base.specs.Limits.{address_limit, expected_limit, id_limit, mailbox_limit, mailboxes_limit, message_count_limit, message_limit, name_limit, script_count_limit, text_limit}
-use Rattle.sieve_base.specs.Name.{name_cmp}
-use Rattle.sieve_base.specs.declared.name.ScriptName.{ScriptName}
+use Rattle.sieve_limits.specs.Limits.{address_limit, expected_limit, id_limit, mailbox_limit, mailboxes_limit, message_count_limit, message_limit, name_limit, script_count_limit, text_limit}
+use Rattle.script_names.specs.Name.{name_cmp}
+use Rattle.script_names.specs.declared.name.ScriptName.{ScriptName}
 use Rattle.sieve_actions.specs.declared.envelope.Addresses.{Addresses}
 use Rattle.bench.specs.Content.{Content, Edit, Sample, after, new_content, put_script, put_message, set_envelope, set_mailbox, set_mailboxes, unless, text_at, message_at, put_over, with_script, with_message, changed, with_expected, with_addresses, are_long, is_long, is_long_id, script_refusal, message_refusal}
 use Rattle.bench.specs.Edits.{IsInOrder, IsWithinLimits, AreAddressesWithin, AreOrdered, AreDistinct, addresses_edits, behind, clock_edits, content_after, expected_edits, main_edits, message_edits, rebuild}

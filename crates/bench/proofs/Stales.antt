@@ -1,15 +1,15 @@
 -- Worked rows of which messages are stale after an edit, and after a report that memory was refused to.
 use Rattle.std.proofs.Common.{◌≡◌, ℕ, ◌<◌, true, false, List, [], ◌∷◌, length, length-append, None, Some, Result, Ok, Err, nat_lt, refl, ap, codes, arith}
 use Rattle.date_text.specs.Zone.{west}
-use Rattle.sieve_base.specs.Limits.{text_limit}
-use Rattle.sieve_base.specs.declared.location.Location.TheVariants.{Personal, Global}
+use Rattle.sieve_limits.specs.Limits.{text_limit}
+use Rattle.script_names.specs.declared.location.Location.TheVariants.{Personal, Global}
 use Rattle.sieve_check.specs.Judgement.{judgement_of, sound, faulty}
 use Rattle.sieve_reading.specs.Reading.{keep_leaf}
 use Rattle.sieve_reading.specs.Script.{acts, no_commands, script_of}
 use Rattle.sieve_reading.specs.Tree.{Node}
 use Rattle.sieve_check.specs.declared.judged.FaultKind.{FaultKind}
 use Rattle.sieve_run.specs.Run.{outcome_of, exec}
-use Rattle.sieve_base.specs.declared.name.ScriptName.{ScriptName}
+use Rattle.script_names.specs.declared.name.ScriptName.{ScriptName}
 use Rattle.sieve_profile.specs.Profile.{Profile}
 use Rattle.bench.specs.Bench.{RefusedAmong}
 use Rattle.bench.specs.Content.{Content, Edit, Sample, after, put_script, put_message, set_main, rename_script, remove_script, remove_message, clear_main, set_envelope, set_mailbox, set_expected, clear_expected, set_mailboxes, set_message_envelope, clear_message_envelope, set_clock, clear_clock}

@@ -1,6 +1,6 @@
 -- What an edit that is tried answers.
 use Rattle.std.proofs.Common.{◌≡◌, Bool, true, false, ◌||◌, if◌then◌else◌, List, ℕ, Option, None, Some, is_none, is_some, refl}
-use Rattle.sieve_base.specs.declared.name.ScriptName.{ScriptName}
+use Rattle.script_names.specs.declared.name.ScriptName.{ScriptName}
 use Rattle.bench.specs.Content.{is_long, rename_refusal, text_at}
 use Rattle.bench.specs.declared.fault.EditFault.TheVariants.{TooLarge, NoSuchScript, NameTaken}
 

@@ -7,9 +7,9 @@ use Rattle.std.specs.BTreeMap as tree
 use Rattle.std.specs.List.{All}
 use Rattle.std.specs.Map.{keys_of, values_of}
 use lib.Pointwise.{pointwise}
-use Rattle.sieve_base.specs.Limits.{address_limit, expected_limit, id_limit, mailbox_limit, mailboxes_limit, message_count_limit, message_limit, name_limit, script_count_limit, text_limit}
-use Rattle.sieve_base.specs.Name.{name_cmp, name_eq}
-use Rattle.sieve_base.specs.declared.name.ScriptName.{ScriptName}
+use Rattle.sieve_limits.specs.Limits.{address_limit, expected_limit, id_limit, mailbox_limit, mailboxes_limit, message_count_limit, message_limit, name_limit, script_count_limit, text_limit}
+use Rattle.script_names.specs.Name.{name_cmp, name_eq}
+use Rattle.script_names.specs.declared.name.ScriptName.{ScriptName}
 use Rattle.sieve_actions.specs.declared.envelope.Addresses.{Addresses}
 use Rattle.bench.specs.Content.{Content, Edit, Sample, after, new_content, put_script, put_message, set_main, rename_script, remove_script, remove_message, clear_main, set_envelope, set_mailbox, set_expected, clear_expected, set_mailboxes, set_message_envelope, clear_message_envelope, set_clock, clear_clock, text_at, message_at, put_over, with_script, with_message, changed, with_expected, with_addresses, with_renamed, without_script, without_message, is_long, is_long_id, script_refusal, message_refusal, main_refusal, rename_refusal, remove_script_refusal, absent_refusal, expected_refusal, addresses_refusal, envelope_refusal, mailbox_refusal, mailboxes_refusal, are_long}
 use Rattle.bench.specs.Edits.{IsInOrder, IsWithinLimits, AreScriptsWithin, AreMessagesWithin, AreAddressesWithin, AreOrdered, behind, content_after}

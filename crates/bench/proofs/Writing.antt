@@ -2,8 +2,8 @@
 use Rattle.std.proofs.Common.{◌≡◌, ℕ, List, [], ◌++◌, sym, ap, ◌∙◌, append_assoc, append-nil, refl, Option, Result, Ok, Err, IsErr, ◌<◌, ◌+◌, length, get_or, drop, subst}
 use Rattle.std.specs.List.{flat_map}
 use Rattle.std.proofs.lemmas.List.{drop_more}
-use Rattle.sieve_base.proofs.Writing.{last_of_three, middle_failed, wrote_nothing, wrote_both, wrote_then_front, wrote_front_of, writes_failed}
-use Rattle.sieve_base.specs.Writers.{Wrote, WroteFront, Writes}
+use Rattle.devices.proofs.Writing.{last_of_three, middle_failed, wrote_nothing, wrote_both, wrote_then_front, wrote_front_of, writes_failed}
+use Rattle.devices.specs.Writers.{Wrote, WroteFront, Writes}
 
 -- Between two states of a device all of a text was written, but for what is left.
 pub record Writing {S : Type 0} (contents : S → Option (List ℕ)) (fault_count : S → ℕ) (old new : S) (left all : List ℕ) : Type 0 where

@@ -1,5 +1,5 @@
 -- What a bench is.
-use Rattle.sieve_base.specs.Octet.{is_among}
+use Rattle.octets.specs.Octet.{is_among}
 use Rattle.std.specs.Prelude.{◌≡◌, ℕ, suc, ◌<◌, List, ◌++◌, length, Option, None, Result, Ok, OnOk, OnErr, if◌then◌else◌}
 use Rattle.sieve_run.specs.Meter.{runs_after}
 use Rattle.sieve_run.specs.Verdict.{Verdict}

@@ -1,12 +1,12 @@
 -- Code as it is printed.
 use Rattle.std.specs.Prelude.{◌≡◌, ℕ, ◌+◌, Bool, true, false, ◌||◌, nat_lt, List, [], ◌∷◌, ◌++◌, length}
-use Rattle.sieve_base.specs.Limits.{name_limit, text_limit}
+use Rattle.sieve_limits.specs.Limits.{name_limit, text_limit}
 use Rattle.sieve_check.specs.Judgement.{Judgement, judgement_of, sound, faulty}
 use Rattle.sieve_reading.specs.Tree.{Node}
 use Rattle.sieve_code.specs.Choice.{code_of}
 use Rattle.sieve_code.specs.Dump.{line_text}
 use Rattle.sieve_code.specs.Operation.{Operation}
-use Rattle.sieve_base.specs.declared.name.ScriptName.{ScriptName}
+use Rattle.script_names.specs.declared.name.ScriptName.{ScriptName}
 use Rattle.sieve_profile.specs.Profile.{Profile}
 use Rattle.bench.specs.Report.{script_line}
 use Rattle.bench.specs.declared.test_end.TestEnd.{TestEnd}

@@ -5,11 +5,11 @@ use Rattle.std.specs.List.Sorted.{IsStrictlySortedBy}
 use Rattle.std.specs.Map.{keys_of, values_of}
 use lib.Pointwise.{pointwise}
 use Rattle.date_text.specs.Clock.{Clock}
-use Rattle.sieve_base.specs.Limits.{address_limit, expected_limit, id_limit, mailbox_limit, mailboxes_limit, message_count_limit, message_limit, name_limit, script_count_limit, text_limit}
-use Rattle.sieve_base.specs.Name.{name_cmp}
+use Rattle.sieve_limits.specs.Limits.{address_limit, expected_limit, id_limit, mailbox_limit, mailboxes_limit, message_count_limit, message_limit, name_limit, script_count_limit, text_limit}
+use Rattle.script_names.specs.Name.{name_cmp}
 use Rattle.sieve_actions.specs.declared.envelope.Addresses.{Addresses}
 use Rattle.sieve_actions.specs.declared.envelope.Envelope.{Envelope}
-use Rattle.sieve_base.specs.declared.name.ScriptName.{ScriptName}
+use Rattle.script_names.specs.declared.name.ScriptName.{ScriptName}
 use Rattle.bench.specs.Content.{Content, Edit, Sample, after, put_script, put_message, set_main, set_envelope, set_mailbox, set_expected, set_mailboxes, set_message_envelope, set_clock}
 use Rattle.bench.specs.declared.fault.EditFault.{EditFault}
 

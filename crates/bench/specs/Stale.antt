@@ -1,9 +1,9 @@
 -- Which messages are stale: the next report runs these. An edit makes those stale whose verdict it may change.
-use Rattle.sieve_base.specs.Octet.{is_among}
+use Rattle.octets.specs.Octet.{is_among}
 use Rattle.std.specs.Prelude.{ℕ, Bool, true, false, ◌||◌, List, map, filter, nat_eq, Option}
 use Rattle.std.specs.Option.{option_map}
 use lib.Pointwise.{pointwise}
-use Rattle.sieve_base.specs.declared.name.ScriptName.{ScriptName}
+use Rattle.script_names.specs.declared.name.ScriptName.{ScriptName}
 use Rattle.sieve_run.specs.Run.{is_read}
 use Rattle.sieve_run.specs.Verdict.{Verdict}
 use Rattle.bench.specs.Content.{Content, Edit, Sample, message_at, put_script, put_message, set_main, rename_script, remove_script, remove_message, clear_main, set_envelope, set_mailbox, set_expected, clear_expected, set_mailboxes, set_message_envelope, clear_message_envelope, set_clock, clear_clock}

@@ -1,12 +1,12 @@
 //! The bench: its edits, its report and the verdicts that it keeps.
-ghost use Rattle.sieve_base.specs.Octet.{is_among};
+ghost use Rattle.octets.specs.Octet.{is_among};
 ghost use Rattle.std.specs.Prelude.{◌≡◌, ⊤, [], IfOk, OnOk, IfErr, length};
 ghost use Rattle.std.specs.Map as map;
 ghost use Rattle.std.specs.Option.{option_copied};
 ghost use Rattle.bench.specs.Bench.{Makes, RefusedAmong, Tries, TriesInPlace, verdict_at};
 ghost use Rattle.bench.specs.Edits.{AreDistinct};
 ghost use Rattle.bench.specs.Stale.{ids_where};
-ghost use Rattle.sieve_base.specs.Writers.{Wrote, WroteFront};
+ghost use Rattle.devices.specs.Writers.{Wrote, WroteFront};
 ghost use Rattle.sieve_profile.specs.Profile.{empty_profile};
 ghost use Rattle.sieve_run.specs.Library.{found_at, library_of};
 ghost use Rattle.sieve_run.specs.Meter.{runs_after};
@@ -29,8 +29,10 @@ use crate::refusal::{
 use crate::report::{is_clean, run_stale, write_report};
 use crate::scripts::Scripts;
 use crate::site::Site;
+use devices::Sink;
 use named_list::NamedList;
-use sieve_base::{Octets, ScriptName, Sink};
+use octets::Octets;
+use script_names::ScriptName;
 use sieve_profile::Profile;
 use sieve_run::{Envelope, Found, Meter, Outcome, find};
 use std::alloc::{AllocError, Global};

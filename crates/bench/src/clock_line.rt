@@ -1,9 +1,9 @@
 //! The line of a report that says what time it is.
-ghost use Rattle.sieve_base.specs.Writers.{Writes};
+ghost use Rattle.devices.specs.Writers.{Writes};
 ghost use Rattle.bench.specs.Report.{clock_line, clock_text};
 
 use date_text::Clock;
-use sieve_base::{Piece, Sink, WriteFault, write_out, write_pieces};
+use devices::{Piece, Sink, WriteFault, write_out, write_pieces};
 use sieve_profile::{Extension, Profile};
 
 /// Writes the line of a clock: its seconds, and its zone.

@@ -1,16 +1,18 @@
 //! Prints the code of a script.
 ghost use Rattle.std.specs.Prelude.{◌≡◌, ◌≤◌, IfOk, length};
-ghost use Rattle.sieve_base.specs.Limits.{text_limit};
-ghost use Rattle.sieve_base.specs.Writers.{Wrote, WroteFront, Writes};
+ghost use Rattle.sieve_limits.specs.Limits.{text_limit};
+ghost use Rattle.devices.specs.Writers.{Wrote, WroteFront, Writes};
 ghost use Rattle.sieve_check.specs.Judgement.{judgement_of};
 ghost use Rattle.sieve_code.specs.view.Code.{ops_of};
 ghost use Rattle.bench.specs.Dump.{DumpEnds, code_text, dump_end_of, dump_text_of};
 
 use crate::report_lines::write_script;
 use crate::test_end::TestEnd;
-use sieve_base::limits::{MAX_NAME, MAX_TEXT};
-use sieve_base::{Octets, ScriptName, Sink, WriteFault};
+use devices::{Sink, WriteFault};
+use octets::Octets;
+use script_names::ScriptName;
 use sieve_code::Code;
+use sieve_limits::{MAX_NAME, MAX_TEXT};
 use sieve_profile::Profile;
 use sieve_run::{Found, Script};
 use std::alloc::{AllocError, Global};

@@ -8,7 +8,8 @@ ghost use Rattle.bench.specs.view.Entry.{disagrees, expecting, forgotten, has_er
 ghost use Rattle.bench.specs.view.Site.{site_as};
 
 use crate::site::Site;
-use sieve_base::{Octets, ScriptName};
+use octets::Octets;
+use script_names::ScriptName;
 use sieve_run::{Addresses, Message, Meter, Outcome, run};
 use std::alloc::{AllocError, Global};
 use std::marker::Model;

@@ -10,7 +10,7 @@ use crate::refusal::{
     refuse_absent, refuse_addresses, refuse_envelope, refuse_mailbox, refuse_mailboxes,
 };
 use date_text::Clock;
-use sieve_base::Octets;
+use octets::Octets;
 use sieve_run::Addresses;
 
 impl Bench {

@@ -8,7 +8,7 @@ ghost use Rattle.bench.specs.view.Site.{ForgetsReaders};
 
 use crate::entry::EntryBox;
 use named_list::NamedList;
-use sieve_base::ScriptName;
+use script_names::ScriptName;
 use sieve_run::laws::a_verdict_depends_on_what_it_looked_up;
 
 /// Marks the message at a place stale.

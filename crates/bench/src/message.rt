@@ -1,8 +1,8 @@
 //! Messages of octets.
 ghost use Rattle.std.specs.Prelude.{◌≡◌, ◌≤◌, IfOk, length};
-ghost use Rattle.sieve_base.specs.Limits.{message_limit};
+ghost use Rattle.sieve_limits.specs.Limits.{message_limit};
 
-use sieve_base::Octets;
+use octets::Octets;
 use sieve_run::{Message, MessageFault};
 use std::alloc::{AllocError, Global};
 

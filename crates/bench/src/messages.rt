@@ -6,7 +6,7 @@ ghost use Rattle.bench.specs.view.Entry.{expecting, put_entry, readdressed, rene
 
 use crate::entry::{Entry, EntryBox};
 use named_list::NamedList;
-use sieve_base::Octets;
+use octets::Octets;
 use sieve_run::{Addresses, Message};
 use std::alloc::{AllocError, Global};
 

@@ -2,7 +2,7 @@
 ghost use Rattle.std.specs.Prelude.{◌≡◌, [], ◌∷◌, OnOk, OnErr, count_by, is_some, length};
 ghost use Rattle.std.specs.List.{flat_map, list_any, zip};
 ghost use Rattle.named_list.specs.Named.{IsUnique};
-ghost use Rattle.sieve_base.specs.Writers.{Writes};
+ghost use Rattle.devices.specs.Writers.{Writes};
 ghost use Rattle.bench.specs.Bench.{RefusedAmong};
 ghost use Rattle.bench.specs.Report.{script_line, verdict_by, message_lines, error_count, profile_lines, unexpected_count, site_lines, total_line, report_with};
 ghost use Rattle.bench.specs.view.Lines.{action_text, action_texts, read_text, traced_text, verdict_texts};
@@ -20,8 +20,9 @@ use crate::report_lines::{
 };
 use crate::scripts::Scripts;
 use crate::site::Site;
+use devices::{Sink, WriteFault};
 use named_list::NamedList;
-use sieve_base::{Octets, Sink, WriteFault};
+use octets::Octets;
 use sieve_profile::Profile;
 use sieve_run::{Action, Envelope, Meter, Origin, Outcome};
 use std::alloc::{AllocError, Global};

@@ -2,14 +2,16 @@
 ghost use Rattle.std.specs.Prelude.{◌≡◌, [], ◌∷◌, ◌++◌, codes, filter};
 ghost use Rattle.std.specs.List.{flat_map, list_any};
 ghost use Rattle.std.specs.Option.{option_copied};
-ghost use Rattle.sieve_base.specs.Writers.{Writes};
+ghost use Rattle.devices.specs.Writers.{Writes};
 ghost use Rattle.bench.specs.Report.{addresses_line, addresses_text, main_line, envelope_line, extension_text, mailboxes_line, profile_line, script_line, indent, indented, message_line, expectation_line, expectation_text, total_line};
 ghost use Rattle.bench.specs.view.Lines.{action_text, error_text, implicit_text, read_text, traced_text};
 ghost use Rattle.sieve_profile.specs.Extension.{extensions};
 ghost use Rattle.sieve_profile.specs.Profile.{has};
 ghost use Rattle.sieve_run.specs.Lines.{error_line, implicit_line, origin_line};
 
-use sieve_base::{Octets, Piece, ScriptName, Sink, WriteFault, write_out, write_pieces};
+use devices::{Piece, Sink, WriteFault, write_out, write_pieces};
+use octets::Octets;
+use script_names::ScriptName;
 use sieve_profile::{EXTENSIONS, Extension, Profile};
 use sieve_run::{
     Action, Addresses, Envelope, FlagList, Origin, Outcome, RunError, Script, mailbox_count,
@@ -246,7 +248,7 @@ fn write_origin_line<W: Sink>(origin: &Origin, writer: &mut W) -> Result<(), Wri
 }
 
 /// Writes the line of an action, and that of where it comes from.
-#[tactic(auto, using(sieve_base::proofs::Writing::writing))]
+#[tactic(auto, using(devices::proofs::Writing::writing))]
 pub(crate) fn write_traced_line<W: Sink>(
     action: &Action,
     origin: &Origin,

@@ -3,15 +3,16 @@ ghost use Rattle.std.specs.Prelude.{◌≡◌, ◌≤◌, [], IfOk, length, true
 ghost use Rattle.std.specs.BTreeMap.{is_at};
 ghost use Rattle.std.specs.List.{list_all};
 ghost use Rattle.std.specs.Map.{lookup};
-ghost use Rattle.sieve_base.specs.Limits.{text_limit};
+ghost use Rattle.sieve_limits.specs.Limits.{text_limit};
 ghost use Rattle.sieve_check.specs.Judgement.{judgement_of};
-ghost use Rattle.sieve_base.specs.Name.{name_cmp};
+ghost use Rattle.script_names.specs.Name.{name_cmp};
 ghost use Rattle.bench.specs.Test.{is_sound};
 
 use crate::entry::EntryBox;
 use crate::marking::forget_readers;
 use named_list::NamedList;
-use sieve_base::{Octets, ScriptName};
+use octets::Octets;
+use script_names::ScriptName;
 use sieve_profile::Profile;
 use sieve_run::{Found, Library, Script};
 use std::alloc::{AllocError, Global};

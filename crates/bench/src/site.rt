@@ -5,7 +5,7 @@ ghost use Rattle.sieve_profile.specs.declared.extension.Extension.TheVariants.{L
 ghost use Rattle.bench.specs.view.Site.{site_as};
 
 use crate::scripts::Scripts;
-use sieve_base::ScriptName;
+use script_names::ScriptName;
 use sieve_profile::Extension;
 use sieve_run::Envelope;
 

@@ -1,6 +1,7 @@
 //! What the test of a message is given.
 use date_text::Clock;
-use sieve_base::{Octets, ScriptName};
+use octets::Octets;
+use script_names::ScriptName;
 use sieve_profile::Profile;
 
 /// A script of a job: its name, of at most 1,024 octets, and its text, of at most 1,048,576.

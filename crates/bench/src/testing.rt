@@ -1,6 +1,6 @@
 //! Tests a message by a bench that is made for it.
 ghost use Rattle.std.specs.Prelude.{◌≡◌, [], ◌∷◌, ◌++◌, IfErr, IfOk, Ok, OnOk, length, map};
-ghost use Rattle.sieve_base.specs.Writers.{Wrote, WroteFront};
+ghost use Rattle.devices.specs.Writers.{Wrote, WroteFront};
 ghost use Rattle.sieve_run.specs.Meter.{next_run};
 ghost use Rattle.bench.specs.Content.{after, put_message, set_envelope, set_mailbox, set_mailboxes, set_main};
 ghost use Rattle.bench.specs.Edits.{clock_edits};
@@ -12,7 +12,8 @@ use crate::bench::Bench;
 use crate::fault::{EditFault, ReportFault};
 use crate::test_end::TestEnd;
 use crate::test_job::{TestJob, TestScript};
-use sieve_base::{Octets, Sink};
+use devices::Sink;
+use octets::Octets;
 use sieve_run::Meter;
 use std::alloc::Global;
 

@@ -3,7 +3,7 @@ use Rattle.std.proofs.Common.{◌≡◌, ℕ, zero, suc, ◌/◌, ◌%◌, ◌<�
 use Rattle.std.specs.List.{list_all, onto_first}
 use Rattle.std.specs.Option.{option_map}
 use Rattle.std.proofs.lemmas.Bool.{and_from}
-use Rattle.sieve_base.specs.Octet.{is_digit, octet_of}
+use Rattle.octets.specs.Octet.{is_digit, octet_of}
 use Rattle.date_text.specs.Number.{digit, four_digits, two_digits}
 use Rattle.date_text.specs.Reading.{is_weekday, month_number}
 use Rattle.date_text.specs.Shown.{month_name, weekday_name}

@@ -3,7 +3,7 @@ use Rattle.std.proofs.Common.{◌≡◌, ℕ, ◌+◌, ◌-◌, ◌*◌, ◌/◌
 use Rattle.std.specs.Option.{option_and_then, option_map}
 use Rattle.std.proofs.lemmas.Bool.Decides.{nat_tests}
 use Rattle.jiff_core.specs.Calendar.{days_in_month}
-use Rattle.sieve_base.specs.Octet.{is_between, octet_of}
+use Rattle.octets.specs.Octet.{is_between, octet_of}
 use Rattle.date_text.specs.Calendar.{CivilDate, IsInCalendar, date_of}
 use Rattle.date_text.specs.Number.{digit, digit_number, four_digits, four_number, pair_number, two_digits, up_to}
 use Rattle.date_text.specs.Reading.{pair_of_word, year_of_word}

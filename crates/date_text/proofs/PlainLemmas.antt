@@ -6,7 +6,7 @@ use Rattle.std.proofs.lemmas.Bool.{and_from, and_parts}
 use Rattle.std.proofs.lemmas.Bool.Decides.{nat_tests}
 use Rattle.std.proofs.lemmas.List.Folds.{list_all-append}
 use Rattle.std.proofs.lemmas.List.Sums.{suffix_len_is}
-use Rattle.sieve_base.specs.Octet.{is_digit, is_white, octet_of}
+use Rattle.octets.specs.Octet.{is_digit, is_white, octet_of}
 use Rattle.date_text.specs.Number.{digit}
 use Rattle.date_text.specs.Reading.{date_in, moment_read}
 use Rattle.date_text.specs.Words.{is_closed, is_joined, is_letter, kept, without_comments}

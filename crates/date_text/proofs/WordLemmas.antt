@@ -6,7 +6,7 @@ use Rattle.std.proofs.lemmas.Bool.Decides.{nat_tests}
 use Rattle.std.proofs.lemmas.Grind.{common_steps}
 use Rattle.std.proofs.lemmas.List.Sums.{prefix_len-le-length}
 use Rattle.std.specs.List.{onto_first, prefix_len}
-use Rattle.sieve_base.specs.Octet.{is_digit, is_white, octet_of}
+use Rattle.octets.specs.Octet.{is_digit, is_white, octet_of}
 use Rattle.date_text.specs.Words.{after_octet, is_closed, is_joined, is_joined_to, is_letter, is_outside, kept, words_of}
 use Rattle.date_text.specs.declared.spot.Spot.{Spot}
 use Rattle.date_text.specs.declared.spot.Spot.TheVariants.{Escaped, Inside, Outside}

@@ -2,7 +2,7 @@
 -- by the calendar of `jiff_core`.
 use Rattle.std.specs.Prelude.{ℕ, zero, suc, ◌+◌, ◌%◌, Bool, ◌&&◌, nat_lt, ℤ, pos, ◌-ℤ◌, int_le, unsigned_abs, Option, Some, None, if◌then◌else◌}
 use Rattle.jiff_core.specs.Calendar.{days_from_civil, days_in_month, weekday_number, IsCivilDate}
-use Rattle.sieve_base.specs.Octet.{is_between}
+use Rattle.octets.specs.Octet.{is_between}
 
 -- a year, a month from 1 and a day from 1
 pub record CivilDate : Type 0 where

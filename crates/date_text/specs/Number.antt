@@ -1,7 +1,7 @@
 -- Numbers of as many digits as dates and zones have.
 use Rattle.std.specs.Prelude.{ℕ, ◌+◌, ◌-◌, ◌*◌, ◌/◌, ◌%◌, nat_le, List, [], ◌∷◌, ◌++◌, Option, Some, None, if◌then◌else◌}
 use Rattle.std.specs.Option.{option_and_then, option_map}
-use Rattle.sieve_base.specs.Octet.{is_digit, octet_of}
+use Rattle.octets.specs.Octet.{is_digit, octet_of}
 
 -- the number of a digit
 abbrev pub digit_number : ℕ → Option ℕ

@@ -2,7 +2,7 @@
 use Rattle.std.specs.Prelude.{ℕ, ◌+◌, ◌*◌, Bool, false, ◌&&◌, ◌==◌, nat_le, nat_lt, List, [], ◌∷◌, Option, Some, None, codes, position, if◌then◌else◌}
 use Rattle.std.specs.List.{after_last, list_any}
 use Rattle.std.specs.Option.{option_and_then, option_map}
-use Rattle.sieve_base.specs.Octet.{octet_of}
+use Rattle.octets.specs.Octet.{octet_of}
 use Rattle.date_text.specs.Calendar.{CivilDate, date_of, day_number}
 use Rattle.date_text.specs.Moment.{Moment, moment_at}
 use Rattle.date_text.specs.Number.{digit_number, four_number, pair_number, up_to}

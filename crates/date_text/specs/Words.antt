@@ -1,7 +1,7 @@
 -- The words of a field's value (RFC 5322, sections 3.2.2 and 4.3): between any two of them white space and comments may stand.
 use Rattle.std.specs.Prelude.{ℕ, ◌+◌, ◌-◌, Bool, true, false, ◌&&◌, ◌||◌, ◌==◌, List, [], ◌∷◌, ◌++◌, Option, Some, None, if◌then◌else◌}
 use Rattle.std.specs.List.{onto_first}
-use Rattle.sieve_base.specs.Octet.{is_between, is_digit, is_white, octet_of}
+use Rattle.octets.specs.Octet.{is_between, is_digit, is_white, octet_of}
 use Rattle.date_text.specs.declared.spot.Spot.{Spot}
 use Rattle.date_text.specs.declared.spot.Spot.TheVariants.{Escaped, Inside, Outside}
 

@@ -2,7 +2,7 @@
 ghost use Rattle.std.specs.Prelude.{◌≡◌, ◌<◌, ◌≤◌, ◌++◌, IfSome, OnOk};
 ghost use Rattle.date_text.specs.Number.{digit, digit_number, four_digits, four_number, pair_number, two_digits, up_to};
 
-use sieve_base::octet::is_digit;
+use octets::is_digit;
 use std::alloc::AllocError;
 
 /// The number of a digit.

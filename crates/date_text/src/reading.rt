@@ -3,7 +3,7 @@ ghost use Rattle.std.specs.Prelude.{◌≡◌, ◌≤◌, ◌<◌, ◌==◌, pos
 ghost use Rattle.std.specs.Int.{IsInRange};
 ghost use Rattle.std.specs.List.{after_last, suffix_len};
 ghost use Rattle.std.specs.Option.{option_map};
-ghost use Rattle.sieve_base.specs.Octet.{octet_of};
+ghost use Rattle.octets.specs.Octet.{octet_of};
 ghost use Rattle.date_text.specs.Number.{pair_number};
 ghost use Rattle.date_text.specs.Reading.{date_in, date_of_words, day_of_word, minute_of_words, moment_of_words, month_number};
 ghost use Rattle.date_text.specs.Reading.{pair_of_word, second_of_word, year_of_pair, year_of_word};

@@ -1,6 +1,6 @@
 //! Comments, which nest (RFC 5322, section 3.2.2).
 ghost use Rattle.std.specs.Prelude.{◌≡◌, ◌+◌, ◌<◌, ◌≤◌, ◌^◌};
-ghost use Rattle.sieve_base.specs.Octet.{octet_of};
+ghost use Rattle.octets.specs.Octet.{octet_of};
 ghost use Rattle.date_text.specs.Words.{after_octet, is_closed, is_outside};
 ghost use Rattle.date_text.specs.declared.spot.Spot.TheVariants.{Inside, Outside};
 ghost use Rattle.date_text.specs.view.Words.{depth_of};

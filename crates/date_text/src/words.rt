@@ -6,7 +6,7 @@ ghost use Rattle.date_text.specs.declared.spot.Spot.TheVariants.{Outside};
 ghost use Rattle.date_text.specs.view.Words.{begins_word, closes, depth_of, is_of_word, is_word_at, words_from, words_in};
 
 use crate::spot::Spot;
-use sieve_base::octet::{is_digit, is_white};
+use octets::{is_digit, is_white};
 
 /// A letter (RFC 5234, appendix B.1: ALPHA).
 fn is_letter(octet: u8) -> bool

@@ -8,8 +8,8 @@ use Rattle.std.proofs.lemmas.List.{length-map, take-append-drop}
 use Rattle.std.proofs.lemmas.List.Folds.{list_all-append}
 use Rattle.std.specs.Str.{bytes_eq}
 use lib.Pointwise.{bytes_decides}
-use Rattle.sieve_base.proofs.Both.{both, first_of_both, last_of_both}
-use Rattle.sieve_base.specs.Octet.{is_blank, is_filled, octet_of}
+use Rattle.octets.proofs.Both.{both, first_of_both, last_of_both}
+use Rattle.octets.specs.Octet.{is_blank, is_filled, octet_of}
 use Rattle.text_cut.specs.Scan.{Finds}
 use Rattle.encoded_characters.specs.Cut.{IsLegal}
 use Rattle.encoded_characters.specs.Scan.{before_brace, after_run, after_word, by_word, further, inside_of, may_stand, run, sequence_at, word_at}

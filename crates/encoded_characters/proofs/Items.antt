@@ -5,8 +5,8 @@ use Rattle.std.proofs.lemmas.Bool.{not-true, not_from_false}
 use Rattle.std.proofs.lemmas.Bool.Decides.{nat_tests}
 use Rattle.std.proofs.lemmas.List.{take-append-drop}
 use Rattle.std.proofs.lemmas.List.Sums.{take_while-cons}
-use Rattle.sieve_base.proofs.Both.{both, first_of_both, last_of_both}
-use Rattle.sieve_base.specs.Octet.{is_filled}
+use Rattle.octets.proofs.Both.{both, first_of_both, last_of_both}
+use Rattle.octets.specs.Octet.{is_filled}
 use Rattle.encoded_characters.specs.Scan.{blank_before, digit_before, inside_of, octet_onto}
 use Rattle.encoded_characters.specs.Sequence.{Inside, Item, are_blanks, are_items, inside_written, is_hex_digit, is_inside, is_item}
 use Rattle.encoded_characters.specs.view.Sequence.{item_before, last_alone}

@@ -2,8 +2,8 @@
 use Rattle.std.proofs.Common.{◌≡◌, ℕ, zero, suc, ◌+◌, ◌*◌, ◌<◌, Bool, false, cond, List, [], ◌∷◌, ◌++◌, length, drop, get_or, Option, None, Some, refl, sym, ◌∙◌, ap, append_assoc, arith}
 use Rattle.std.specs.Option.{option_and_then, option_map}
 use Rattle.std.proofs.lemmas.Bool.Decides.{nat_tests}
-use Rattle.sieve_base.specs.Hex.{hex_octet, hex_value}
-use Rattle.sieve_base.specs.Octet.{octet_of}
+use Rattle.octets.specs.Hex.{hex_octet, hex_value}
+use Rattle.octets.specs.Octet.{octet_of}
 use Rattle.encoded_characters.specs.Sequence.{Inside}
 use Rattle.encoded_characters.specs.Value.{character_of, if_character, is_character, joined, number_from, octets_before, octets_of_digits}
 use Rattle.encoded_characters.specs.view.Sequence.{grown}

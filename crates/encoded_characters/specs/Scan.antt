@@ -1,7 +1,7 @@
 -- The one cut of a text into encoded characters and octets, computed, and the text with what they stand for in their place.
 use Rattle.std.specs.Prelude.{ℕ, ◌+◌, Bool, true, false, ◌&&◌, ◌||◌, ◌==◌, List, [], ◌∷◌, length, take, drop, Option, None, Some, if◌then◌else◌}
 use Rattle.std.specs.List.{list_any, prefix_len, take_while}
-use Rattle.sieve_base.specs.Octet.{is_white, octet_of}
+use Rattle.octets.specs.Octet.{is_white, octet_of}
 use Rattle.text_cut.specs.Cut.{octet, sequence}
 use Rattle.text_cut.specs.Scan as scan
 use Rattle.encoded_characters.specs.Cut.{TextPiece, octets_of_pieces}

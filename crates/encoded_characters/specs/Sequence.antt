@@ -3,8 +3,8 @@
 use Rattle.std.specs.Prelude.{ℕ, Bool, true, false, not, ◌&&◌, ◌||◌, ◌==◌, nat_le, List, [], ◌∷◌, ◌++◌, length, is_some, codes, if◌then◌else◌}
 use Rattle.std.specs.List.{flat_map, list_all}
 use Rattle.std.specs.Str.{str_eq_ignore_ascii_case}
-use Rattle.sieve_base.specs.Hex.{hex_value}
-use Rattle.sieve_base.specs.Octet.{is_blank, is_filled, octet_of}
+use Rattle.octets.specs.Hex.{hex_value}
+use Rattle.octets.specs.Octet.{is_blank, is_filled, octet_of}
 
 -- digits with the blanks before them
 pub record Item : Type 0 where

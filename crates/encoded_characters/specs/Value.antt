@@ -1,8 +1,8 @@
 -- What encoded characters stand for (RFC 5228, section 2.4.2.4).
 use Rattle.std.specs.Prelude.{ℕ, ◌+◌, ◌*◌, Bool, true, false, ◌||◌, nat_lt, List, [], ◌∷◌, ◌++◌, Option, None, Some, encode_utf8, if◌then◌else◌}
 use Rattle.std.specs.Option.{option_and_then, option_map}
-use Rattle.sieve_base.specs.Hex.{hex_octet, hex_value}
-use Rattle.sieve_base.specs.Octet.{is_between}
+use Rattle.octets.specs.Hex.{hex_octet, hex_value}
+use Rattle.octets.specs.Octet.{is_between}
 use Rattle.encoded_characters.specs.Sequence.{Sequence, is_hex}
 
 -- octets with what stands before them, if there is both

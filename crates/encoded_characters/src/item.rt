@@ -5,8 +5,7 @@ ghost use Rattle.encoded_characters.specs.Scan.{inside_of};
 ghost use Rattle.encoded_characters.specs.Sequence.{are_blanks, is_hex_digit, is_inside, is_item};
 ghost use Rattle.encoded_characters.specs.view.Sequence.{item_before, item_of, last_alone};
 
-use sieve_base::hex::hex_octet;
-use sieve_base::octet::is_blank;
+use octets::{hex_octet, is_blank};
 
 /// A run of digits, with what stands before it.
 #[derive(Clone, Copy)]

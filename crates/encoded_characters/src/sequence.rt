@@ -6,7 +6,7 @@ ghost use Rattle.encoded_characters.specs.Sequence.{is_hex, is_unicode};
 ghost use Rattle.encoded_characters.specs.view.Sequence.{sequence_of};
 
 use crate::item::{is_hex_digit, is_inside};
-use sieve_base::octet::is_white;
+use octets::is_white;
 
 /// Encoded characters.
 #[derive(Clone, Copy)]

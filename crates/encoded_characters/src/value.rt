@@ -5,7 +5,7 @@ ghost use Rattle.encoded_characters.specs.view.Sequence.{grown, if_right, sequen
 
 use crate::item::next_item;
 use crate::sequence::{EncodedSequence, is_hex};
-use sieve_base::hex::hex_octet;
+use octets::hex_octet;
 use std::alloc::AllocError;
 
 /// The octet of one digit or of two.

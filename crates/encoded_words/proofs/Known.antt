@@ -7,7 +7,7 @@ use Rattle.std.proofs.Math.Utf8.{low_scalar, scalar, scalars}
 use Rattle.std.proofs.lemmas.Bool.Decides.{nat_tests}
 use Rattle.std.proofs.lemmas.Str.{IsUtf8-from_ascii, is_utf8-from_IsUtf8}
 use Rattle.base64.specs.GeneralPurpose.{IsBytes}
-use Rattle.sieve_base.proofs.Both.{both}
+use Rattle.octets.proofs.Both.{both}
 use Rattle.encoded_words.proofs.Octets.{below_at, word_are}
 use Rattle.sieve_profile.specs.Profile.{Profile, empty_profile, has}
 use Rattle.sieve_profile.specs.declared.extension.Extension.TheVariants.{Charsets}

@@ -14,9 +14,9 @@ use Rattle.base64.specs.declared.decode.DecodeError.{DecodeError}
 use Rattle.base64.specs.declared.engine.general_purpose.GeneralPurpose.{GeneralPurpose}
 use Rattle.base64.proofs.Decoding.{IsLeftover, IsLeftover_next, ok_value}
 use Rattle.base64.proofs.Tables.{IsDecodeTable_from, are_tables_inverse}
-use Rattle.sieve_base.proofs.Both.{both, first_of_both, last_of_both}
-use Rattle.sieve_base.specs.Hex.{hex_octet, hex_value}
-use Rattle.sieve_base.specs.Octet.{is_between, is_digit, is_filled, is_visible, octet_of}
+use Rattle.octets.proofs.Both.{both, first_of_both, last_of_both}
+use Rattle.octets.specs.Hex.{hex_octet, hex_value}
+use Rattle.octets.specs.Octet.{is_between, is_digit, is_filled, is_visible, octet_of}
 use Rattle.encoded_words.specs.Charset.{octets_in}
 use Rattle.encoded_words.specs.Encoding.{b_octets, octet_before, plain_octet, q_octets}
 use Rattle.encoded_words.specs.Word.{EncodedWord, is_b, is_legal, is_letter, is_word_octet}

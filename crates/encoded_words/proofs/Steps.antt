@@ -15,7 +15,7 @@ use Rattle.text_cut.proofs.Cut.{cuts_from, pieces-octet, pieces-sequence}
 use Rattle.text_cut.specs.Cut.{octet, sequence}
 use Rattle.text_cut.specs.Scan.{pieces_from}
 use Rattle.encoded_words.specs.Cut.{Cuts, ReplacedWord, ValuePiece, joined, kept, leads_to_word, replaced}
-use Rattle.sieve_base.specs.Octet.{is_blank, octet_of}
+use Rattle.octets.specs.Octet.{is_blank, octet_of}
 use Rattle.encoded_words.specs.Charset.{charset_named, in_utf8, meaning, octets_in}
 use Rattle.encoded_words.specs.declared.charset.Charset.{Charset}
 use Rattle.encoded_words.specs.Scan.{decoded_of, further, has_word, replaced_at, replaced_of, has_known, is_known, is_word, pieces_of, run, with_meaning, word_at}

@@ -5,7 +5,7 @@ use Rattle.sieve_profile.specs.Profile.{Profile}
 use Rattle.text_cut.specs.Cut as cut
 use Rattle.text_cut.specs.Cut.{Piece, octet, sequence}
 use Rattle.encoded_words.specs.Charset.{meaning}
-use Rattle.sieve_base.specs.Octet.{is_blank}
+use Rattle.octets.specs.Octet.{is_blank}
 use Rattle.encoded_words.specs.Word.{EncodedWord, is_legal, written}
 
 -- a word, with the octets that it stands for

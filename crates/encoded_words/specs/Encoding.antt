@@ -4,8 +4,8 @@ use Rattle.std.specs.Option.{option_and_then, option_map}
 use Rattle.std.specs.Result.{result_ok}
 use Rattle.base64.specs.Engines.{standard}
 use Rattle.base64.specs.GeneralPurpose.{decode_of}
-use Rattle.sieve_base.specs.Hex.{hex_octet}
-use Rattle.sieve_base.specs.Octet.{octet_of}
+use Rattle.octets.specs.Hex.{hex_octet}
+use Rattle.octets.specs.Octet.{octet_of}
 
 -- B is base64 (RFC 2047, section 4.1; RFC 4648, section 4), with its padding and with zeros in the bits that are left over
 unfoldable pub b_octets : List ℕ → Option (List ℕ)

@@ -1,7 +1,7 @@
 -- What a search for words reads that tries each place of a value. Beside these octets a try reads no more than its seven signs.
 use Rattle.std.specs.Prelude.{ℕ, ◌+◌, ◌==◌, ◌&&◌, List, [], ◌∷◌, if◌then◌else◌}
 use Rattle.std.specs.List.{prefix_len}
-use Rattle.sieve_base.specs.Octet.{octet_of}
+use Rattle.octets.specs.Octet.{octet_of}
 use Rattle.encoded_words.specs.Scan.{behind_run}
 use Rattle.encoded_words.specs.Word.{is_letter, is_word_octet}
 

@@ -7,7 +7,7 @@ use Rattle.encoded_words.specs.Charset.{charset_named, meaning}
 use Rattle.text_cut.specs.Cut.{octet, sequence}
 use Rattle.text_cut.specs.Scan as scan
 use Rattle.encoded_words.specs.Cut.{ReplacedWord, ValuePiece, joined}
-use Rattle.sieve_base.specs.Octet.{is_filled, octet_of}
+use Rattle.octets.specs.Octet.{is_filled, octet_of}
 use Rattle.encoded_words.specs.Word.{EncodedWord, is_letter, is_word_octet}
 
 -- the octets of a charset or a text that stand in front

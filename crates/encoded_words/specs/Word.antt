@@ -2,7 +2,7 @@
 -- have no limit of length, and may have each visible octet but `?`.
 use Rattle.std.specs.Prelude.{ℕ, Bool, not, ◌&&◌, ◌||◌, ◌==◌, List, ◌∷◌, ◌++◌, codes}
 use Rattle.std.specs.List.{list_all}
-use Rattle.sieve_base.specs.Octet.{is_filled, is_visible, octet_of}
+use Rattle.octets.specs.Octet.{is_filled, is_visible, octet_of}
 
 -- an encoded word
 pub record EncodedWord : Type 0 where

@@ -2,7 +2,7 @@
 ghost use Rattle.std.specs.Prelude.{◌≡◌, ◌++◌, ◌≤◌, IfOk, IsOk, OnOk, drop, length, map, take, true, false};
 ghost use Rattle.std.specs.Cow.{IsBorrowedSlice, IsOwnedSlice, cow_slice_items};
 ghost use Rattle.std.specs.List.{list_all};
-ghost use Rattle.sieve_base.specs.Octet.{is_blank};
+ghost use Rattle.octets.specs.Octet.{is_blank};
 ghost use Rattle.encoded_words.specs.Scan.{decoded_of, has_known, has_word, pieces_of, replaced_of};
 ghost use Rattle.encoded_words.specs.Cut.{kept};
 ghost use Rattle.text_cut.specs.Cut.{octet};
@@ -13,7 +13,7 @@ ghost use Rattle.sieve_profile.specs.view.Profile.{profile_as};
 use crate::charset::meaning;
 use crate::word::{SIGN_COUNT, word_at};
 use memchr::memchr;
-use sieve_base::octet::is_blank;
+use octets::is_blank;
 use sieve_profile::Profile;
 use std::alloc::{AllocError, Global};
 use std::borrow::CowSlice;

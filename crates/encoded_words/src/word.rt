@@ -5,7 +5,7 @@ ghost use Rattle.encoded_words.specs.Scan.{behind_run, run, word_at};
 ghost use Rattle.encoded_words.specs.Word.{is_b, is_letter, is_word_octet};
 ghost use Rattle.encoded_words.specs.view.Word.{word_of};
 
-use sieve_base::octet::is_visible;
+use octets::is_visible;
 
 /// An encoded word.
 #[derive(Clone, Copy)]

@@ -1,5 +1,5 @@
 -- Texts that have octets.
-use Rattle.sieve_base.specs.Octet.{is_filled}
+use Rattle.octets.specs.Octet.{is_filled}
 use Rattle.std.proofs.Common.{◌≡◌, ℕ, false, true, ◌==◌, suc, List, [], ◌∷◌, length, sym, arith}
 use Rattle.std.proofs.lemmas.Bool.{lt-ltb}
 

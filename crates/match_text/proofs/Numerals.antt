@@ -12,7 +12,7 @@ use Rattle.std.proofs.lemmas.Bool.{and_from, eqb-false, eqb-true, le-leb, leb-tr
 use Rattle.std.proofs.lemmas.Fmt.{decimal_is_IsNumeral_wide}
 use Rattle.std.proofs.lemmas.Str.{digit_value_digit}
 use Rattle.std.proofs.lemmas.Str.Parse.{digit_from_value}
-use Rattle.sieve_base.specs.Octet.{is_digit, octet_of}
+use Rattle.octets.specs.Octet.{is_digit, octet_of}
 use Rattle.match_text.specs.Order.{decimal_from, first_digits, number_cmp, number_of, number_of_digits, order_of}
 use Rattle.match_text.specs.declared.comparators.Collation.TheVariants.{Numeric}
 use Rattle.match_text.specs.view.Digits.{digits_cmp, without_zeros}

@@ -1,5 +1,5 @@
 -- The pieces of a text, and flags that are added one after the other.
-use Rattle.sieve_base.specs.Octet.{octet_of}
+use Rattle.octets.specs.Octet.{octet_of}
 use Rattle.std.proofs.Common.{◌≡◌, ℕ, ◌+◌, true, length, take, drop, get_or, List, [], ◌∷◌, ◌++◌, SomeIndex, refl, sym, ap, subst, ◌∙◌, append_assoc, arith}
 use Rattle.std.specs.List.{All, position_or_len}
 use Rattle.std.proofs.lemmas.Bool.{false_from_ne_true}

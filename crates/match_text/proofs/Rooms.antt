@@ -4,7 +4,7 @@ use Rattle.std.specs.Prelude.{nat_le, option_to_list, if◌then◌else◌}
 use Rattle.std.proofs.lemmas.Bool.{eqb-true, le-leb, false≢true}
 use Rattle.std.proofs.lemmas.List.{length-drop}
 use Rattle.std.specs.Option.{option_map}
-use Rattle.sieve_base.specs.Octet.{octet_of}
+use Rattle.octets.specs.Octet.{octet_of}
 use Rattle.match_text.specs.Comparator.{is_part, same}
 use Rattle.match_text.specs.Room.{may_match, takes_one}
 use Rattle.match_text.specs.Wildcard.{Fits, items_from, items_of, least_fit, matched, taken}

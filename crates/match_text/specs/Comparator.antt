@@ -5,7 +5,7 @@ use Rattle.std.specs.Prelude.{◌≡◌, ℕ, Bool, ◌-◌, ◌<◌, ◌≤◌,
 use lib.Pointwise.{pointwise}
 use Rattle.match_text.specs.declared.comparators.Collation.{Collation}
 use Rattle.match_text.specs.declared.comparators.Collation.TheVariants.{Octet, Casemap, Numeric}
-use Rattle.sieve_base.specs.Octet.{is_between, octet_of}
+use Rattle.octets.specs.Octet.{is_between, octet_of}
 
 -- i;octet: each octet is equal to itself alone (RFC 4790, section 9.3.1)
 abbrev pub octet : ℕ → ℕ

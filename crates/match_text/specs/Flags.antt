@@ -2,7 +2,7 @@
 -- A flag is known by its spelling: two are the same where they are equal under i;ascii-casemap.
 use Rattle.std.specs.Prelude.{ℕ, Bool, not, ◌&&◌, ◌||◌, ◌==◌, List, [], ◌∷◌, ◌++◌, filter, codes}
 use Rattle.std.specs.List.{IsDistinct, flat_map, list_all, list_any, slice_split}
-use Rattle.sieve_base.specs.Octet.{is_filled, is_visible, octet_of}
+use Rattle.octets.specs.Octet.{is_filled, is_visible, octet_of}
 use Rattle.match_text.specs.Comparator.{ascii_casemap, same}
 
 -- FLAGS (RFC 3501, section 9: flag, without flag-extension)

@@ -2,7 +2,7 @@
 -- RFC 5229, section 3.2).
 use Rattle.std.specs.Prelude.{◌≡◌, ℕ, suc, ◌<◌, ◌≤◌, Bool, true, false, not, ◌&&◌, ◌==◌, ◌⊎◌, if◌then◌else◌, List, [], ◌∷◌, ◌++◌, length, take, drop, filter, option_to_list, Option, None, Some}
 use Rattle.std.specs.Option.{option_map, option_or}
-use Rattle.sieve_base.specs.Octet.{octet_of}
+use Rattle.octets.specs.Octet.{octet_of}
 use Rattle.match_text.specs.declared.pattern.Item.{Item}
 use Rattle.match_text.specs.declared.pattern.Item.TheVariants.{Star, Question, Literal}
 

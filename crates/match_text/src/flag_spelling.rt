@@ -6,7 +6,7 @@ ghost use Rattle.match_text.specs.view.Pieces.{pieces_behind};
 
 use crate::comparators::{AsciiCasemap, is};
 use memchr::memchr;
-use sieve_base::octet::is_visible;
+use octets::is_visible;
 
 /// Whether an octet may stand in a keyword.
 fn is_flag_octet(octet: u8) -> bool

@@ -7,13 +7,13 @@ ghost use Rattle.match_text.specs.Flags.{flags_of_texts, flags_without};
 ghost use Rattle.match_text.specs.Order.{are_equal};
 ghost use Rattle.match_text.specs.view.Hashing.{flag_hash, same_alike, same_equiv, same_per};
 ghost use Rattle.std.specs.Cmp.{on_equiv, partial_equiv_from_equiv};
-ghost use Rattle.sieve_base.specs.view.Texts.{octets_of_each};
+ghost use Rattle.octets.specs.view.Texts.{octets_of_each};
 
 use crate::comparators::{AsciiCasemap, Collation, Comparator, Octet, is};
 use crate::flag_spelling::next_flag;
 use crate::order::equals;
 use indexmap::{Equivalent, IndexSet};
-use sieve_base::Octets;
+use octets::Octets;
 use std::alloc::{AllocError, Global};
 use std::borrow::CowSlice;
 use std::hash::{Hash, Hasher};

@@ -3,7 +3,7 @@ ghost use Rattle.std.specs.Prelude.{◌≡◌};
 ghost use Rattle.match_text.specs.Order.{first_digits, number_cmp, number_of};
 ghost use Rattle.match_text.specs.view.Digits.{digits_cmp, without_zeros};
 
-use sieve_base::octet::is_digit;
+use octets::is_digit;
 use std::cmp::Ordering;
 
 /// The digits that a text begins with.

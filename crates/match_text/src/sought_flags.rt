@@ -1,8 +1,8 @@
 //! Flags to look for (RFC 5232, section 4).
-ghost use Rattle.sieve_base.specs.Octet.{is_filled};
+ghost use Rattle.octets.specs.Octet.{is_filled};
 ghost use Rattle.std.specs.Prelude.{◌≡◌, ◌++◌, ◌∷◌, ◌<◌, [], IfNone, IfOk, IfSome, OnOk, filter, length};
 ghost use Rattle.match_text.specs.Flags.{filled_pieces, flag_keys, flag_keys_of_texts, pieces};
-ghost use Rattle.sieve_base.specs.view.Texts.{octets_of_each};
+ghost use Rattle.octets.specs.view.Texts.{octets_of_each};
 
 use crate::flag_spelling::next_piece;
 use std::alloc::{AllocError, Global};

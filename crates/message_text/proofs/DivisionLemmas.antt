@@ -2,7 +2,7 @@
 use Rattle.std.proofs.Common.{◌≡◌, ℕ, ◌+◌, ◌-◌, ◌<◌, ◌≤◌, List, [], ◌∷◌, length, take, drop, Some, refl, sym, ap, ◌∙◌, arith}
 use Rattle.std.specs.List.{after_last}
 use Rattle.std.proofs.lemmas.List.{drop-map, length-drop, length-map, length-take-le, take-map}
-use Rattle.sieve_base.specs.Octet.{octet_of}
+use Rattle.octets.specs.Octet.{octet_of}
 use Rattle.message_text.specs.Addresses.{AddrSpec, address_by, divided, is_free, octets_of}
 use Rattle.message_text.specs.view.Divisions.{IsBehindLast, divided_at}
 use Rattle.message_text.specs.declared.marks.Marked.{Marked}

@@ -1,5 +1,5 @@
 -- Groups of lines, one line at a time.
-use Rattle.sieve_base.specs.Octet.{is_filled}
+use Rattle.octets.specs.Octet.{is_filled}
 use Rattle.std.proofs.Common.{◌≡◌, ℕ, ◌+◌, ◌-◌, ◌<◌, ◌≤◌, Bool, not, true, false, cond, List, [], ◌∷◌, ◌++◌, length, take, drop, filter, map, slice_range, refl, sym, ap, ◌∙◌, arith}
 use Rattle.std.specs.List.{All, take_while}
 use Rattle.std.specs.Str.Lines.{lines}

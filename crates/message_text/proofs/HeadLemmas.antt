@@ -6,7 +6,7 @@ use Rattle.std.proofs.lemmas.List.{get_or_default, length-take-le, take-take}
 use Rattle.std.proofs.lemmas.List.Folds.{list_any_at, list_any_none}
 use Rattle.std.proofs.lemmas.List.Sums.{position_or_len_is}
 use Rattle.memchr.specs.Find.{NoneBefore, Nowhere, Passes, is_byte}
-use Rattle.sieve_base.specs.Octet.{is_blank, octet_of}
+use Rattle.octets.specs.Octet.{is_blank, octet_of}
 use Rattle.message_text.specs.Blanks.{trim_end}
 use Rattle.message_text.specs.Fields.{begins_field, is_colon, is_name, name_in}
 use Rattle.message_text.specs.view.Heads.{IsHead}

@@ -5,7 +5,7 @@ use Rattle.std.proofs.lemmas.Bool.{and_parts, eqb-true, not-false}
 use Rattle.std.proofs.lemmas.List.{drop_more, get_or-reverse, length-reverse, length-map, length-take-le, map-append, take-append-drop}
 use Rattle.std.proofs.lemmas.List.Elements.{All-cons, All-nil}
 use Rattle.std.proofs.lemmas.List.Sums.{prefix_len_stops}
-use Rattle.sieve_base.specs.Octet.{octet_of}
+use Rattle.octets.specs.Octet.{octet_of}
 use Rattle.message_text.specs.Addresses.{IsAddrSpec, address_by, address_in, address_marks, addresses_of, divided, is_free, is_mark_plain, marks_from, marks_of, octets_of, separates, surroundings_behind, value_start}
 use Rattle.message_text.specs.declared.marks.Marked.{Marked}
 use Rattle.message_text.specs.declared.marks.Surroundings.{Surroundings}

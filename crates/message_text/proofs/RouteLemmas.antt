@@ -3,7 +3,7 @@ use Rattle.std.proofs.Common.{◌≡◌, ℕ, ◌+◌, ◌-◌, Bool, true, List
 use Rattle.std.specs.List.{after_first, before_first, list_any}
 use Rattle.std.proofs.lemmas.Bool.{and_from, and_right, cond-false, cond-true}
 use Rattle.std.proofs.lemmas.List.{take_all, length-drop}
-use Rattle.sieve_base.specs.Octet.{octet_of}
+use Rattle.octets.specs.Octet.{octet_of}
 use Rattle.message_text.specs.Addresses.{begins_route, closes_angle, in_first_angle, is_free, opens_angle, without_route}
 use Rattle.message_text.specs.declared.marks.Marked.{Marked}
 use Rattle.message_text.proofs.PieceLemmas.{first_place, none_passes, place_is, some_passes}

@@ -3,7 +3,7 @@ use Rattle.std.proofs.Common.{◌≡◌, ℕ, ◌+◌, ◌-◌, ◌<◌, ◌≤�
 use Rattle.std.specs.List.{prefix_len, suffix_len}
 use Rattle.std.proofs.lemmas.Bool.{cond-true}
 use Rattle.std.proofs.lemmas.List.{append-nil, length-drop, length-take-le}
-use Rattle.sieve_base.specs.Octet.{is_blank}
+use Rattle.octets.specs.Octet.{is_blank}
 use Rattle.message_text.specs.Blanks.{trim_end, trim_start}
 
 drop_by : (b : Bool) (n x : ℕ) (xs : List ℕ) → drop (cond b (1 + n) 0) (x ∷ xs) ≡ cond b (drop n xs) (x ∷ xs)

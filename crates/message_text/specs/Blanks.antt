@@ -1,7 +1,7 @@
 -- Spaces and tabs round a text.
 use Rattle.std.specs.Prelude.{ℕ, ◌-◌, List, length, take, drop}
 use Rattle.std.specs.List.{prefix_len, suffix_len}
-use Rattle.sieve_base.specs.Octet.{is_blank}
+use Rattle.octets.specs.Octet.{is_blank}
 
 -- the text without the spaces and tabs at its front
 abbrev pub trim_start : List ℕ → List ℕ

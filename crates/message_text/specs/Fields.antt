@@ -5,7 +5,7 @@ use Rattle.std.specs.Str.Lines.{lines}
 use Rattle.encoded_words.specs.Scan.{decoded_of, has_known, has_word}
 use Rattle.sieve_profile.specs.Profile.{Profile}
 use Rattle.match_text.specs.Comparator.{ascii_casemap, same}
-use Rattle.sieve_base.specs.Octet.{is_blank, is_filled, is_visible, octet_of}
+use Rattle.octets.specs.Octet.{is_blank, is_filled, is_visible, octet_of}
 use Rattle.message_text.specs.Blanks.{trim, trim_end}
 
 -- a field: its name, and its value on one line

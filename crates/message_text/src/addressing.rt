@@ -1,7 +1,7 @@
 //! The addresses of a value.
 ghost use Rattle.std.specs.Prelude.{◌≡◌, ◌<◌, ◌++◌, IfOk, OnOk, Some, length, option_to_list};
 ghost use Rattle.std.specs.Option.{option_map};
-ghost use Rattle.sieve_base.specs.Octet.{octet_of};
+ghost use Rattle.octets.specs.Octet.{octet_of};
 ghost use Rattle.message_text.specs.Addresses.{address_by, address_in, addresses_of, detail_in, is_free, octets_of, part_of_address, user_in};
 ghost use Rattle.message_text.specs.view.Divisions.{IsBehindLast, divided_at};
 

@@ -2,7 +2,7 @@
 ghost use Rattle.std.specs.Prelude.{◌≡◌};
 ghost use Rattle.message_text.specs.Blanks.{trim, trim_end, trim_start};
 
-use sieve_base::octet::is_blank;
+use octets::is_blank;
 
 /// The text without the spaces and tabs at its front.
 pub(crate) fn trim_start(text: &[u8]) -> &[u8]

@@ -11,7 +11,7 @@ use crate::blanks::trim_end;
 use crate::lines::{LineSpan, line_at};
 use crate::names::name_hash;
 use memchr::memchr;
-use sieve_base::octet::{is_blank, is_visible};
+use octets::{is_blank, is_visible};
 use std::alloc::{AllocError, Global};
 
 /// Where a field stands among the octets of its message.

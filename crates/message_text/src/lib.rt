@@ -1,6 +1,6 @@
 //! Messages, their header fields and the addresses of a field's value (RFC 5322).
 //!
-//! Every octet string up to [`MAX_MESSAGE`](sieve_base::limits::MAX_MESSAGE) is a [`Message`]. It keeps its octets once, with the places
+//! Every octet string up to [`MAX_MESSAGE`](sieve_limits::MAX_MESSAGE) is a [`Message`]. It keeps its octets once, with the places
 //! of its fields. [`addresses`] reads any octets as a list of addresses.
 #![tactic(auto)]
 

@@ -4,7 +4,7 @@ ghost use Rattle.std.specs.Str.Lines.{lines};
 ghost use Rattle.message_text.specs.view.Positions.{IsLineAt};
 
 use memchr::memchr;
-use sieve_base::without_return;
+use octets::without_return;
 
 /// The places of a line in a text.
 #[derive(Clone, Copy)]

@@ -1,7 +1,7 @@
 //! A message and its header fields.
 ghost use Rattle.std.specs.Prelude.{◌≡◌, ◌<◌, ◌≤◌, ◌↔◌, ◌^◌, ◌-◌, [], IfErr, IfOk, IsErrAnd, IfNone, IfSome, IsOk, IsOkAnd, Some, false, length, map, slice_get, ℕ};
 ghost use Rattle.std.specs.Cow.{IsBorrowedSlice, IsOwnedSlice, cow_slice_items};
-ghost use Rattle.sieve_base.specs.Limits.{message_limit};
+ghost use Rattle.sieve_limits.specs.Limits.{message_limit};
 ghost use Rattle.message_text.specs.Fields as spec;
 ghost use Rattle.sieve_profile.specs.view.Profile.{profile_as};
 
@@ -9,7 +9,7 @@ use crate::fields::{FieldSpan, span_in, spans_of};
 use crate::names::{FieldName, next_named};
 use crate::values::value_at;
 use encoded_words::decoded_value;
-use sieve_base::limits::MAX_MESSAGE;
+use sieve_limits::MAX_MESSAGE;
 use sieve_profile::Profile;
 use std::alloc::{AllocError, Global};
 use std::borrow::CowSlice;

@@ -4,7 +4,7 @@ ghost use Rattle.std.specs.List.{before_first};
 ghost use Rattle.message_text.specs.Addresses as spec;
 
 use crate::marks::{Mark, Marked};
-use sieve_base::octet::is_white;
+use octets::is_white;
 use std::alloc::{AllocError, Global};
 
 /// Whether a marked octet is this one, outside of quoted strings, comments and literals, and no sign of an angle.

@@ -5,7 +5,7 @@ use Rattle.std.proofs.lemmas.Bool.{eqb-true}
 use Rattle.std.proofs.lemmas.List.{drop_all, drop_more, take-append-drop, take_all, take_more}
 use Rattle.memchr.specs.Find.{Nowhere, Passes, is_byte}
 use Rattle.message_text.proofs.LineLemmas.{plain_before}
-use Rattle.sieve_base.specs.Octet.{octet_of}
+use Rattle.octets.specs.Octet.{octet_of}
 use Rattle.mime_text.specs.Lines.{ended_lines}
 
 abbrev Plain : List ℕ → Type 0

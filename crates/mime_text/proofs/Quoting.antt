@@ -3,8 +3,8 @@ use Rattle.std.proofs.Common.{◌≡◌, ℕ, suc, ◌+◌, ◌-◌, ◌<◌, �
 use Rattle.std.specs.List.{prefix_len}
 use Rattle.std.proofs.lemmas.Bool.Decides.{nat_tests}
 use Rattle.std.proofs.lemmas.List.{length-take-le, take_all}
-use Rattle.sieve_base.specs.Hex.{hex_octet}
-use Rattle.sieve_base.specs.Octet.{is_blank, octet_of}
+use Rattle.octets.specs.Hex.{hex_octet}
+use Rattle.octets.specs.Octet.{is_blank, octet_of}
 use Rattle.text_cut.specs.Cut.{sequence}
 use Rattle.text_cut.specs.Scan.{pieces_from}
 use Rattle.text_cut.proofs.Cut.{pieces-octet, pieces-sequence}

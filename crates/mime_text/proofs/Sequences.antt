@@ -4,8 +4,8 @@ use Rattle.std.specs.List.{starts_with}
 use Rattle.std.proofs.lemmas.Bool.{eqb-true, or_cases}
 use Rattle.std.proofs.lemmas.List.{take-append-drop}
 use lib.Pointwise.{pointwise, bytes_decides}
-use Rattle.sieve_base.specs.Hex.{hex_octet}
-use Rattle.sieve_base.specs.Octet.{octet_of}
+use Rattle.octets.specs.Hex.{hex_octet}
+use Rattle.octets.specs.Octet.{octet_of}
 use Rattle.text_cut.specs.Scan.{Finds}
 use Rattle.mime_text.specs.Lines.{end_len, is_line_end}
 use Rattle.mime_text.specs.QuotedPrintable.{IsLegal, Sequence, after_sign, escape, escape_at, further, is_legal, sequence_at, soft_end, written}

@@ -3,7 +3,7 @@ use Rattle.std.proofs.Common.{◌≡◌, ℕ, ◌-◌, Bool, true, false, ◌==�
 use Rattle.std.specs.List.{concat, onto_first}
 use Rattle.std.proofs.lemmas.List.{append-nil}
 use Rattle.std.proofs.Math.Seq.{take-append_seam}
-use Rattle.sieve_base.specs.Octet.{octet_of}
+use Rattle.octets.specs.Octet.{octet_of}
 use Rattle.mime_text.specs.Lines.{ended_lines, without_end}
 use Rattle.mime_text.specs.Multipart.{Cut, Ending, Line, Part, closed_by, content_cut, cut_of, epilogue_of, epilogue_text, is_closing, is_delimiter, is_padded, nothing_cut, part_texts, prologue_text, stops, text_of, texts_of_parts}
 use Rattle.mime_text.specs.declared.multipart.LineKind.TheVariants as kind

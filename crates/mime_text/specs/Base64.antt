@@ -1,7 +1,7 @@
 -- What base64 stands for (RFC 2045, section 6.8).
 use Rattle.std.specs.Prelude.{ℕ, ◌+◌, ◌-◌, ◌*◌, ◌/◌, ◌%◌, ◌==◌, not, Bool, List, [], ◌∷◌, Option, None, Some, if◌then◌else◌}
 use Rattle.std.specs.List.{filter_map, take_while}
-use Rattle.sieve_base.specs.Octet.{is_between, is_digit, octet_of}
+use Rattle.octets.specs.Octet.{is_between, is_digit, octet_of}
 
 -- the number of a digit of the alphabet, or nothing where an octet is none
 abbrev pub digit_value : ℕ → Option ℕ

@@ -3,7 +3,7 @@ use Rattle.std.specs.Prelude.{ℕ, ◌-◌, ◌==◌, Bool, true, false, not, �
 use Rattle.std.specs.List.{after_first, before_first, list_all, list_any, prefix_len, slice_split, suffix_len}
 use Rattle.std.specs.Option.{option_and_then, option_map}
 use Rattle.std.specs.Str.{str_eq_ignore_ascii_case}
-use Rattle.sieve_base.specs.Octet.{is_visible, is_white, octet_of}
+use Rattle.octets.specs.Octet.{is_visible, is_white, octet_of}
 use Rattle.mime_text.specs.Marks.{marks_of}
 use Rattle.mime_text.specs.declared.marks.Mark.{Mark}
 use Rattle.mime_text.specs.declared.marks.Mark.TheVariants.{Plain, Quote, Quoted}

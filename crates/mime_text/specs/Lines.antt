@@ -3,7 +3,7 @@ use Rattle.std.specs.Prelude.{ℕ, ◌-◌, Bool, ◌||◌, ◌==◌, nat_eq, Li
 use Rattle.std.specs.List.{onto_first, starts_with}
 use Rattle.std.specs.Str.Lines.{strip_carriage_return}
 use lib.Pointwise.{pointwise}
-use Rattle.sieve_base.specs.Octet.{octet_of}
+use Rattle.octets.specs.Octet.{octet_of}
 
 -- A text is cut after each LF. What follows the last one is a line too, if it has octets.
 unfoldable pub ended_lines : List ℕ → List (List ℕ)

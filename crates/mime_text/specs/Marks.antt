@@ -1,6 +1,6 @@
 -- A structured value with its comments and quoted strings told apart (RFC 2045, section 5.1; RFC 5322, sections 3.2.1 to 3.2.4).
 use Rattle.std.specs.Prelude.{ℕ, ◌+◌, ◌-◌, ◌==◌, Bool, true, false, List, [], ◌∷◌, ◌++◌, Option, Some, None, if◌then◌else◌}
-use Rattle.sieve_base.specs.Octet.{octet_of}
+use Rattle.octets.specs.Octet.{octet_of}
 use Rattle.mime_text.specs.declared.marks.Mark.{Mark}
 use Rattle.mime_text.specs.declared.marks.Mark.TheVariants.{Plain, Quote, Quoted}
 use Rattle.mime_text.specs.declared.marks.Spot.{Spot}

@@ -1,7 +1,7 @@
 -- A multipart's content, cut by its delimiters into prologue, parts and epilogue (RFC 2046, section 5.1.1).
 use Rattle.std.specs.Prelude.{◌≡◌, ℕ, nat_eq, Bool, true, false, not, ◌&&◌, ◌||◌, List, [], ◌∷◌, ◌++◌, length, drop, Option, Some, None, codes, if◌then◌else◌}
 use Rattle.std.specs.List.{All, concat, list_all, starts_with}
-use Rattle.sieve_base.specs.Octet.{is_blank}
+use Rattle.octets.specs.Octet.{is_blank}
 use Rattle.mime_text.specs.Lines.{ended_lines, without_end}
 
 abbrev pub Line : Type 0

@@ -2,8 +2,8 @@
 -- soft line ends and octets.
 use Rattle.std.specs.Prelude.{◌≡◌, ℕ, nat_lt, ◌==◌, Bool, true, ◌&&◌, ◌||◌, List, [], ◌∷◌, ◌++◌, length, take, drop, Option, None, Some, is_some, if◌then◌else◌, option_to_list}
 use Rattle.std.specs.List.{prefix_len}
-use Rattle.sieve_base.specs.Hex.{hex_octet}
-use Rattle.sieve_base.specs.Octet.{is_blank, octet_of}
+use Rattle.octets.specs.Hex.{hex_octet}
+use Rattle.octets.specs.Octet.{is_blank, octet_of}
 use Rattle.text_cut.specs.Cut as cut
 use Rattle.text_cut.specs.Cut.{Piece, octet, sequence}
 use Rattle.text_cut.specs.Scan as scan

@@ -1,7 +1,7 @@
 -- Which entities an entry of `:content` names (RFC 5173, section 5.2).
 use Rattle.std.specs.Prelude.{ℕ, Bool, true, false, not, ◌&&◌, ◌==◌, List, Option, None, Some, length, if◌then◌else◌}
 use Rattle.std.specs.List.{after_first, before_first, list_any}
-use Rattle.sieve_base.specs.Octet.{is_filled, octet_of}
+use Rattle.octets.specs.Octet.{is_filled, octet_of}
 use Rattle.mime_text.specs.ContentType.{ContentType, is_main, is_type}
 
 -- any type, a main type, a type with its subtype, or none

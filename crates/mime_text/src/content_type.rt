@@ -7,7 +7,7 @@ ghost use Rattle.mime_text.specs.view.ContentTypes.{both_as, named_as, or_else, 
 ghost use Rattle.mime_text.specs.view.Marks.{octets_as};
 
 use crate::marks::{Mark, marks_of};
-use sieve_base::octet::{is_visible, is_white};
+use octets::{is_visible, is_white};
 use std::alloc::{AllocError, Global};
 
 /// The type of a content, and the parameters that are looked at.

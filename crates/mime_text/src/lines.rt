@@ -3,7 +3,7 @@ ghost use Rattle.std.specs.Prelude.{◌≡◌, ◌<◌, ◌≤◌, ◌++◌, ◌
 ghost use Rattle.mime_text.specs.Lines.{end_len, ended_lines, is_line_end, without_end};
 
 use memchr::memchr;
-use sieve_base::without_return;
+use octets::without_return;
 
 /// The first line of a text, with its end, and what follows it; none where the text is empty.
 pub(crate) fn next_line(text: &[u8]) -> Option<(&[u8], &[u8])>

@@ -1,6 +1,6 @@
 //! Structured values with their comments and quoted strings told apart (RFC 2045, section 5.1; RFC 5322, sections 3.2.1 to 3.2.4).
 ghost use Rattle.std.specs.Prelude.{◌≡◌, ◌+◌, ◌<◌, ◌≤◌, ◌^◌, ◌++◌, ◌∷◌, [], IfOk, OnOk, Some, length, option_to_list};
-ghost use Rattle.sieve_base.specs.Octet.{octet_of};
+ghost use Rattle.octets.specs.Octet.{octet_of};
 ghost use Rattle.mime_text.specs.Marks.{after_octet, is_outside, marks_at, marks_of};
 ghost use Rattle.mime_text.specs.declared.marks.Spot.TheVariants.{InComment, InString, Outside};
 ghost use Rattle.mime_text.specs.view.Marks.{marks_as};

@@ -4,11 +4,11 @@ ghost use Rattle.std.specs.Option.{option_map};
 ghost use Rattle.mime_text.specs.Multipart.{content_cut, is_padded, prologue_text};
 ghost use Rattle.mime_text.specs.Lines.{without_end};
 ghost use Rattle.std.specs.List.{list_all};
-ghost use Rattle.sieve_base.specs.Octet.{is_blank};
+ghost use Rattle.octets.specs.Octet.{is_blank};
 ghost use Rattle.mime_text.specs.view.Cuts.{ArePieces, IsBoundary, StopsAt, epilogue_at, kind_of, left_after, parts_at};
 
 use crate::lines::{next_line, without_end};
-use sieve_base::octet::is_blank;
+use octets::is_blank;
 use std::alloc::{AllocError, Global};
 
 /// A boundary, as the lines that have it begin.

@@ -1,13 +1,12 @@
 //! Quoted-printable (RFC 2045, section 6.7).
 ghost use Rattle.std.specs.Prelude.{◌≡◌, ◌++◌, [], ◌∷◌, if◌then◌else◌, ◌<◌, ◌≤◌, IfOk, MatchOption, None, OnOk, Some, drop, length, option_to_list, slice_index};
 ghost use Rattle.std.specs.List.{prefix_len};
-ghost use Rattle.sieve_base.specs.Hex.{hex_octet};
-ghost use Rattle.sieve_base.specs.Octet.{is_blank};
+ghost use Rattle.octets.specs.Hex.{hex_octet};
+ghost use Rattle.octets.specs.Octet.{is_blank};
 ghost use Rattle.mime_text.specs.QuotedPrintable.{escape_at, is_at_end, octets_of_pieces, pieces_of, quoted_octets, without_padding};
 
 use crate::lines::end_len;
-use sieve_base::hex::hex_octet;
-use sieve_base::octet::is_blank;
+use octets::{hex_octet, is_blank};
 use std::alloc::{AllocError, Global};
 
 /// How many blanks stand in front.

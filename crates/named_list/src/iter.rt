@@ -7,7 +7,7 @@ ghost use Rattle.named_list.specs.Slots.{entry_in};
 
 use crate::slot::SlotKey;
 use indexmap::map;
-use sieve_base::Octets;
+use octets::Octets;
 use std::marker::Model;
 
 /// The value in a slot with its name, where it has both.

@@ -13,7 +13,7 @@ ghost use Rattle.named_list.specs.declared.slot.SlotKey.TheVariants.{Gap};
 use crate::iter::Iter;
 use crate::slot::{SlotKey, SoughtKey, is_name};
 use indexmap::IndexMap;
-use sieve_base::Octets;
+use octets::Octets;
 use std::alloc::{AllocError, Global};
 use std::marker::Model;
 

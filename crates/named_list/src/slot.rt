@@ -5,7 +5,7 @@ ghost use Rattle.std.proofs.Common.{rules};
 ghost use Rattle.std.specs.Cmp.Rules.{comparing, hashing};
 
 use indexmap::Equivalent;
-use sieve_base::Octets;
+use octets::Octets;
 
 /// The name of the value in a slot, or the number of a gap, where a value was.
 #[derive(PartialEq, Eq, Hash, Drop)]

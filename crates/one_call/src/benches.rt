@@ -2,7 +2,8 @@
 
 use crate::telling::{Host, personal, prepared, tell_refused};
 use bench::{Bench, ReportFault};
-use sieve_base::{Counted, Octets};
+use devices::Counted;
+use octets::Octets;
 use sieve_run::Meter;
 use std::io;
 

@@ -2,7 +2,7 @@
 
 use crate::telling::{Host, mark, tell, tell_refused};
 use date_text::{DatePart, Moment, clock_named, date_in, shown, zone_named};
-use sieve_base::Piece;
+use devices::Piece;
 use std::io;
 use std::io::ErrorKind;
 

@@ -5,7 +5,7 @@ use crate::benches::{ID, bench_of, make_verdicts, tell_report};
 use crate::telling::{Host, mark, personal, tell_refused};
 use bench::{Bench, EditFault};
 use date_text::clock_named;
-use sieve_base::Octets;
+use octets::Octets;
 use sieve_run::Meter;
 use std::io;
 use std::io::ErrorKind;

@@ -5,7 +5,8 @@ use crate::runs::tell_found;
 use crate::scripts::tell_end;
 use crate::telling::{Host, mark, personal, prepared, tell_outcome, tell_refused};
 use bench::{Bench, TestJob, TestScript, test_bench};
-use sieve_base::{Counted, Octets};
+use devices::Counted;
+use octets::Octets;
 use sieve_profile::Profile;
 use sieve_run::Meter;
 use sievebench::{

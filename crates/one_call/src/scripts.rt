@@ -2,8 +2,8 @@
 
 use crate::telling::{Host, end_line, mark, personal, prepared, tell, tell_refused, written};
 use bench::{TestEnd, dump_text, write_code};
-use sieve_base::hex::hex_octet;
-use sieve_base::{Counted, Piece, write_quoted};
+use devices::{Counted, Piece, write_quoted};
+use octets::hex_octet;
 use sieve_check::{CheckFault, Checked, JudgeFault, Judged, check, judge};
 use sieve_code::{Code, compile};
 use sieve_profile::Profile;

@@ -2,7 +2,8 @@
 
 ghost use Rattle.std.specs.Prelude.{◌≤◌, IfOk, length};
 
-use sieve_base::{Counted, Location, Piece, ScriptName, WriteFault, write_pieces};
+use devices::{Counted, Piece, WriteFault, write_pieces};
+use script_names::{Location, ScriptName};
 use sieve_run::{Outcome, write_action, write_error, write_implicit, write_read};
 use std::alloc::AllocError;
 use std::borrow::CowSlice;

@@ -1,7 +1,8 @@
 //! Variables: strings as their parts, and what these stand for.
 
 use crate::telling::{Host, mark, tell, tell_done, tell_octets, tell_refused};
-use sieve_base::{Octets, Piece};
+use devices::Piece;
+use octets::Octets;
 use sieve_variables::{Part, PartRef, Values, Variable, VariableRef, parts_of_text};
 use std::io;
 

@@ -1,10 +1,10 @@
 -- Where lines end.
-use Rattle.sieve_base.specs.Octet.{octet_of}
+use Rattle.octets.specs.Octet.{octet_of}
 use Rattle.std.proofs.Common.{◌≡◌, ◌≢◌, ℕ, ◌+◌, ◌<◌, ◌≤◌, List, [], ◌∷◌, ◌++◌, length, get_or, take, drop, sym, ap, ◌∙◌, refl, arith, Option, None, Some, Bool, true, false, eqb, suc, cond, take-append-drop, length-take, get_or-take, append_assoc, append-nil, length-append, ◌⊎◌, inl, inr}
 use Rattle.std.specs.Option.{option_map}
 use Rattle.std.proofs.lemmas.Bool.Decides.{nat_tests}
 use Rattle.std.proofs.lemmas.List.{drop_more, take_more, take_all}
-use Rattle.sieve_base.specs.Limits.{line_limit}
+use Rattle.sieve_limits.specs.Limits.{line_limit}
 use Rattle.session_text.specs.SessionLine.{cut_line, in_front, without_cr, first_line, line_from, is_long_so_far}
 
 -- a cut with these octets before its line

@@ -4,10 +4,10 @@ use Rattle.std.specs.List.{All, AllByRecursion, flat_map, list_all}
 use Rattle.std.proofs.lemmas.Bool.Decides.{nat_tests}
 use Rattle.std.proofs.lemmas.List.Elements.{recursion_from_All}
 use Rattle.std.proofs.lemmas.List.Folds.{list_all-append}
-use Rattle.sieve_base.specs.Hex.{hex_digit}
-use Rattle.sieve_base.specs.Writers.{octet_spelling, quoted}
+use Rattle.octets.specs.Hex.{hex_digit}
+use Rattle.devices.specs.Writers.{octet_spelling, quoted}
 use Rattle.session_text.specs.LineOf.{joined}
-use Rattle.sieve_base.specs.Octet.{is_printable, octet_of}
+use Rattle.octets.specs.Octet.{is_printable, octet_of}
 
 plain_both : (a b : List ℕ) → list_all is_printable a ≡ true → list_all is_printable b ≡ true → list_all is_printable (a ++ b) ≡ true
 plain_both a b first second = list_all-append is_printable a b ∙ rw first second

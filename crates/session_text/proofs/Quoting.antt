@@ -1,11 +1,11 @@
 -- What is quoted is read back.
-use Rattle.sieve_base.specs.Octet.{octet_of}
+use Rattle.octets.specs.Octet.{octet_of}
 use Rattle.std.proofs.Common.{◌≡◌, ℕ, ◌/◌, ◌%◌, ◌<◌, ◌||◌, Bool, true, false, eqb, cond, List, [], ◌∷◌, ◌++◌, append_assoc, nat_lt, Some, refl, ap, ◌∙◌, arith}
 use Rattle.std.specs.List.{All, AllByRecursion, flat_map}
 use Rattle.std.proofs.lemmas.Bool.Decides.{nat_tests}
 use Rattle.std.proofs.lemmas.List.Elements.{recursion_from_All}
-use Rattle.sieve_base.specs.Hex.{hex_digit, hex_octet, hex_value}
-use Rattle.sieve_base.specs.Writers.{octet_spelling, quoted}
+use Rattle.octets.specs.Hex.{hex_digit, hex_octet, hex_value}
+use Rattle.devices.specs.Writers.{octet_spelling, quoted}
 use Rattle.session_text.specs.SessionLine.{behind, escaped_value, hex_octets, quoted_value, word_value}
 
 -- the digit of a number below 16 has this number as its value

@@ -2,7 +2,7 @@
 use Rattle.std.proofs.Common.{◌≡◌, ℕ, ◌+◌, ◌-◌, ◌^◌, ◌<◌, ◌≤◌, ◌⊎◌, inl, inr, Bool, false, List, length, length-append, ap, sym, arith, Option, None, Some, true, ◌∙◌}
 use Rattle.std.proofs.lemmas.Bool.{cases_lt}
 use Rattle.std.specs.Io.KnownBytes.{Consumes, Keeps}
-use Rattle.sieve_base.specs.Devices.{HasRisen}
+use Rattle.devices.specs.Devices.{HasRisen}
 use Rattle.session_text.specs.view.Input.{CallsMade, Input, Reads, TurnsGave}
 
 -- where no turn is taken, no octet need be given and no fault counted

@@ -1,12 +1,12 @@
 -- Words with spaces between them.
-use Rattle.sieve_base.specs.Octet.{octet_of}
+use Rattle.octets.specs.Octet.{octet_of}
 use Rattle.std.proofs.Common.{◌≡◌, ◌≢◌, ℕ, ◌+◌, ◌/◌, ◌%◌, ◌<◌, ◌||◌, Bool, true, false, eqb, cond, inl, inr, List, [], ◌∷◌, ◌++◌, length, map, drop, length-append, append-nil, append_assoc, nat_lt, Some, refl, sym, ap, ◌∙◌, arith}
 use Rattle.std.specs.List.{All, AllByRecursion, flat_map}
 use Rattle.std.proofs.Math.Seq.{drop-append_seam, take-append_seam}
 use Rattle.std.proofs.lemmas.Bool.Decides.{nat_tests}
 use Rattle.std.proofs.lemmas.List.Elements.{recursion_from_All}
-use Rattle.sieve_base.specs.Hex.{hex_digit}
-use Rattle.sieve_base.specs.Writers.{octet_spelling, quoted}
+use Rattle.octets.specs.Hex.{hex_digit}
+use Rattle.devices.specs.Writers.{octet_spelling, quoted}
 use Rattle.session_text.specs.LineOf.{IsLineOf, IsWord, behind_space, first_word, joined, last_word, no_words}
 use Rattle.session_text.specs.SessionLine.{Quoting, inside, is_bare, line_words, outside, piece_length, word_value}
 use Rattle.session_text.proofs.Quoting.{quoted_stands}

@@ -1,6 +1,6 @@
 -- Worked rows of what the laws say of lines and their words.
 use Rattle.std.proofs.Common.{◌≡◌, [], ◌∷◌, refl, inr, codes}
-use Rattle.sieve_base.specs.Writers.{quoted}
+use Rattle.devices.specs.Writers.{quoted}
 use Rattle.session_text.specs.LineOf.{IsLineOf, behind_space, first_word, joined, no_words}
 
 joined_row : joined (codes "main" ∷ codes "personal" ∷ quoted (codes "a b") ∷ []) ≡ codes "main personal \"a b\""

@@ -1,8 +1,8 @@
 -- How a line is made of words.
 use Rattle.std.specs.Prelude.{◌≡◌, ℕ, ◌<◌, true, ◌⊎◌, List, [], ◌∷◌, ◌++◌, length}
 use Rattle.std.specs.List.{All}
-use Rattle.sieve_base.specs.Octet.{octet_of}
-use Rattle.sieve_base.specs.Writers.{quoted}
+use Rattle.octets.specs.Octet.{octet_of}
+use Rattle.devices.specs.Writers.{quoted}
 use Rattle.session_text.specs.SessionLine.{is_bare}
 
 -- some octets, each of which may stand in a bare word

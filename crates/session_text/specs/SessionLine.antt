@@ -11,11 +11,11 @@ use Rattle.sieve_profile.specs.Every.{every}
 use Rattle.sieve_profile.specs.Profile.{Profile, has}
 use Rattle.sieve_profile.specs.declared.extension.Extension.{Extension}
 use Rattle.sieve_profile.specs.declared.extension.Extension.TheVariants as extension
-use Rattle.sieve_base.specs.declared.location.Location.{Location}
-use Rattle.sieve_base.specs.declared.location.Location.TheVariants.{Personal, Global}
-use Rattle.sieve_base.specs.Limits.{line_limit}
-use Rattle.sieve_base.specs.Hex.{hex_octet}
-use Rattle.sieve_base.specs.Octet.{octet_of, is_digit, is_printable, is_visible}
+use Rattle.script_names.specs.declared.location.Location.{Location}
+use Rattle.script_names.specs.declared.location.Location.TheVariants.{Personal, Global}
+use Rattle.sieve_limits.specs.Limits.{line_limit}
+use Rattle.octets.specs.Hex.{hex_octet}
+use Rattle.octets.specs.Octet.{octet_of, is_digit, is_printable, is_visible}
 
 -- a line with an octet before it, and what follows
 abbrev pub in_front : ℕ → List ℕ × List ℕ → List ℕ × List ℕ

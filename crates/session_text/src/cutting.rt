@@ -1,6 +1,6 @@
 //! How a line is cut into words.
 ghost use Rattle.std.specs.Prelude.{◌≡◌, ◌≢◌, ◌<◌, ◌≤◌, ◌∷◌, drop, slice_index, None, Some, length, MatchOption, []};
-ghost use Rattle.sieve_base.specs.Octet.{octet_of};
+ghost use Rattle.octets.specs.Octet.{octet_of};
 ghost use Rattle.session_text.specs.SessionLine.{outside, quoting_behind, is_gap, piece_length, line_words};
 ghost use Rattle.session_text.specs.view.Command.{quoting_as};
 

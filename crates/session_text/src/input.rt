@@ -1,10 +1,10 @@
 //! Reads a session's octets in large pieces, and hands them out as lines and counted octets.
 ghost use Rattle.std.specs.Prelude.{◌≡◌, false, true, ◌<◌, ◌≤◌, ◌+◌, [], length, take, drop, ◌-◌, slice_range, IfOk, OnErr, MatchResult, vec_len};
 ghost use Rattle.std.specs.Io.KnownBytes.{Keeps, Consumes, IsAtEnd};
-ghost use Rattle.sieve_base.specs.Devices.{HasRisen, next_count};
+ghost use Rattle.devices.specs.Devices.{HasRisen, next_count};
 ghost use Rattle.session_text.specs.view.Input.{capacity};
 
-use sieve_base::Source;
+use devices::Source;
 use std::alloc::{AllocError, Global};
 use std::io;
 use std::io::ErrorKind;

@@ -1,12 +1,12 @@
 //! Laws over the definitions. Each of these functions does nothing: its contract is the law.
 ghost use Rattle.std.specs.Prelude.{◌≡◌, ◌<◌, ℕ, List, None, Some, IfSome, map, true};
 ghost use Rattle.std.specs.List.{All, list_all};
-ghost use Rattle.sieve_base.specs.Writers.{quoted};
+ghost use Rattle.devices.specs.Writers.{quoted};
 ghost use Rattle.session_text.specs.LineOf.{IsLineOf, IsWord, joined};
 ghost use Rattle.session_text.specs.SessionLine.{SessionCommand, command_of_line, extension_of, line_kind, line_word, line_words, word_value};
 ghost use Rattle.session_text.specs.declared.line_kind.LineKind.{LineKind};
 ghost use Rattle.sieve_profile.specs.Profile.{Profile, empty_profile, has};
-ghost use Rattle.sieve_base.specs.Octet.{is_printable};
+ghost use Rattle.octets.specs.Octet.{is_printable};
 
 /// The quoted form of octets, as reports print it, is a word that stands for these octets.
 pub fn a_quoted_word_stands_for_its_octets()

@@ -1,14 +1,14 @@
 //! The lines of a session's input.
 ghost use Rattle.std.specs.Prelude.{◌≡◌, ◌<◌, ◌≤◌, ◌+◌, ◌++◌, ℕ, List, [], None, Some, length, take, drop, false, ⊤, MatchOption, IfSome, IsTrue, true};
 ghost use Rattle.std.specs.Io.KnownBytes.{Keeps, IsAtEnd};
-ghost use Rattle.sieve_base.specs.Devices.{HasRisen};
-ghost use Rattle.sieve_base.specs.Limits.{line_limit};
+ghost use Rattle.devices.specs.Devices.{HasRisen};
+ghost use Rattle.sieve_limits.specs.Limits.{line_limit};
 ghost use Rattle.session_text.specs.SessionLine.{cut_line, without_cr};
 ghost use Rattle.session_text.specs.view.Input.{unused, fuel, Knows, Reads};
 
 use crate::input::{Filled, Input};
-use sieve_base::Source;
-use sieve_base::limits::MAX_LINE;
+use devices::Source;
+use sieve_limits::MAX_LINE;
 
 /// Where the first LF is.
 fn find_lf(octets: &[u8]) -> Option<usize>

@@ -1,12 +1,12 @@
 //! The counted octets of a session's input.
 ghost use Rattle.std.specs.Prelude.{◌≡◌, ⊤, false, true, ◌≤◌, [], None, IfSome, length};
 ghost use Rattle.std.specs.Option.{option_map};
-ghost use Rattle.sieve_base.specs.Devices.{HasRisen};
+ghost use Rattle.devices.specs.Devices.{HasRisen};
 ghost use Rattle.session_text.specs.view.Input.{unused, fuel, Knows, Reads};
 ghost use Rattle.session_text.specs.view.Payload.{BreaksOff, MatchTaken, Grows, Takes, FallsShort, octets_kept};
 
 use crate::input::{Filled, Input};
-use sieve_base::Source;
+use devices::Source;
 use std::alloc::Global;
 
 /// How taking octets went.

@@ -2,7 +2,7 @@
 ghost use Rattle.std.specs.Prelude.{◌≡◌, ◌<◌, None, Some, IsTrue, ◌↔◌, []};
 ghost use Rattle.std.specs.List.{list_all};
 ghost use Rattle.std.specs.Option.{option_map};
-ghost use Rattle.sieve_base.specs.Octet.{is_printable};
+ghost use Rattle.octets.specs.Octet.{is_printable};
 ghost use Rattle.session_text.specs.SessionLine as spec;
 ghost use Rattle.session_text.specs.view.Command.{command_as};
 
@@ -11,8 +11,8 @@ use crate::extension_lines::{last_clock, message_envelope_command};
 use crate::line_kind::LineKind;
 use crate::word::Word;
 use date_text::Clock;
-use sieve_base::Location;
-use sieve_base::octet::{is_digit, is_printable};
+use octets::{is_digit, is_printable};
+use script_names::Location;
 
 /// What a line asks for. The words are those of the line, and no copies.
 #[derive(Drop)]

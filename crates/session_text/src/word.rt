@@ -5,9 +5,7 @@ ghost use Rattle.session_text.specs.SessionLine.{is_bare, behind, quoted_value, 
 ghost use Rattle.session_text.specs.view.Word.{MatchNext};
 
 use arrayvec::ArrayVec;
-use sieve_base::Octets;
-use sieve_base::hex::hex_octet;
-use sieve_base::octet::is_visible;
+use octets::{Octets, hex_octet, is_visible};
 use std::alloc::{AllocError, Global};
 use std::marker::Model;
 

@@ -6,13 +6,13 @@ use Rattle.std.specs.Option.{option_map, option_or}
 use lib.Pointwise.{pointwise}
 use Rattle.match_text.specs.Flags.{flag_list, is_keyword, flag_text, flag_union, flags_of_texts, flags_without}
 use Rattle.message_text.specs.Addresses.{AddrSpec, addresses_of}
-use Rattle.sieve_base.specs.Limits.{action_limit, mailbox_limit, value_limit}
-use Rattle.sieve_base.specs.Octet.{octet_of}
+use Rattle.sieve_limits.specs.Limits.{action_limit, mailbox_limit, value_limit}
+use Rattle.octets.specs.Octet.{octet_of}
 use Rattle.sieve_reading.specs.Reading.{Settings, plain_settings, Vacation, Leaf, keep_leaf, fileinto_leaf, redirect_leaf, discard_leaf, set_leaf, flag_leaf, include_leaf, vacation_leaf, reject_leaf}
 use Rattle.sieve_reading.specs.declared.reading.FlagChange.{FlagChange}
 use Rattle.sieve_reading.specs.declared.reading.FlagChange.TheVariants as change
 use Rattle.sieve_reading.specs.declared.reading.Rejection.{Rejection}
-use Rattle.sieve_base.specs.declared.name.ScriptName.{ScriptName}
+use Rattle.script_names.specs.declared.name.ScriptName.{ScriptName}
 use Rattle.sieve_actions.specs.declared.action.Action.{Action}
 use Rattle.sieve_actions.specs.declared.action.Deed.{Deed}
 use Rattle.sieve_actions.specs.declared.action.Filing.{Filing}

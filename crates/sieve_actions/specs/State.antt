@@ -1,7 +1,7 @@
 -- The state of a run.
 use Rattle.std.specs.Prelude.{ℕ, Bool, List}
 use Rattle.sieve_variables.specs.Value.{Values}
-use Rattle.sieve_base.specs.declared.name.ScriptName.{ScriptName}
+use Rattle.script_names.specs.declared.name.ScriptName.{ScriptName}
 use Rattle.sieve_actions.specs.declared.action.Action.{Action}
 use Rattle.sieve_actions.specs.declared.action.Origin.{Origin}
 

@@ -4,7 +4,8 @@ ghost use Rattle.sieve_actions.specs.Act as spec;
 
 use crate::response::Response;
 use match_text::FlagList;
-use sieve_base::{Octets, ScriptName};
+use octets::Octets;
+use script_names::ScriptName;
 use sieve_reading::Rejection;
 
 /// What is done with a message (RFC 5228, section 2.10).

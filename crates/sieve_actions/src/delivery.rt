@@ -1,7 +1,7 @@
 //! A delivery, as tests and commands know it.
 use crate::envelope::{Addresses, Envelope};
 use message_text::Message;
-use sieve_base::ScriptName;
+use script_names::ScriptName;
 use sieve_profile::Profile;
 use std::alloc::Global;
 

@@ -1,6 +1,6 @@
 //! The envelope of a delivery (RFC 5228, section 5.4).
 use date_text::Clock;
-use sieve_base::Octets;
+use octets::Octets;
 
 /// What a run knows of a delivery beside the message: the envelope (RFC 5228, section 5.4), and what the site has set.
 #[derive(Drop)]

@@ -2,7 +2,7 @@
 ghost use Rattle.std.specs.Prelude.{◌≡◌};
 ghost use Rattle.sieve_actions.specs.ErrorKind.{error_word};
 
-use sieve_base::ScriptName;
+use script_names::ScriptName;
 
 /// Why a run failed.
 #[derive(Clone, Copy, Debug, PartialEq, Eq)]

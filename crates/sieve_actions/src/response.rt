@@ -15,7 +15,7 @@ use crate::error::ErrorKind;
 use crate::flow::{Flow, fail};
 use crate::state::State;
 use message_text::addresses;
-use sieve_base::Octets;
+use octets::Octets;
 use sieve_operations::{Strings, VacationOp};
 use sieve_reading::Rejection;
 use sieve_variables::{Part, Values};

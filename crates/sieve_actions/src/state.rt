@@ -3,7 +3,7 @@
 use crate::action::Origin;
 use crate::actions::Actions;
 use indexmap::IndexMap;
-use sieve_base::ScriptName;
+use script_names::ScriptName;
 use sieve_variables::Values;
 
 /// The state of a run. Where a call that may change it fails, it is of no further use.

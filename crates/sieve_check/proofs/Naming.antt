@@ -1,5 +1,5 @@
 -- The variables that a text sets are those that the names written in it set.
-use Rattle.sieve_base.specs.Octet.{is_among}
+use Rattle.octets.specs.Octet.{is_among}
 use Rattle.std.proofs.Common.{◌≡◌, ℕ, Bool, true, false, not, ◌&&◌, ◌||◌, List, [], ◌∷◌, ◌++◌, map, drop, Option, None, Some, refl, sym, ap, ◌∙◌, append-nil, append_assoc}
 use Rattle.std.proofs.lemmas.Grind.{flat_map-append}
 use Rattle.std.proofs.lemmas.List.{map-append}

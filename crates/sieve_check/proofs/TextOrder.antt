@@ -6,8 +6,8 @@ use Rattle.std.proofs.lemmas.List.Sums.{sum_by-take-le}
 use Rattle.std.specs.List.{All, filter, flat_map, slice_range}
 use Rattle.std.specs.List.Sorted.{IsNonDecreasing}
 use Rattle.std.specs.Prelude.{◌==◌, IsTrue}
-use Rattle.sieve_base.specs.Limits.{test_depth, block_room}
-use Rattle.sieve_base.specs.Octet.{octet_of}
+use Rattle.sieve_limits.specs.Limits.{test_depth, block_room}
+use Rattle.octets.specs.Octet.{octet_of}
 use Rattle.sieve_syntax.specs.Grammar.{WritesSymbols}
 use Rattle.sieve_syntax.specs.Line.{lines_of}
 use Rattle.sieve_syntax.specs.Spelling.{are_multi_line, is_identifier, is_multi_line, is_number, is_one, is_quoted, is_tag, spells}

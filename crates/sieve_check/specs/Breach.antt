@@ -3,7 +3,7 @@ use Rattle.std.specs.Prelude.{◌≡◌, ℕ, Bool, true, false, not, ◌&&◌, 
 use Rattle.std.specs.List.{flat_map}
 use Rattle.sieve_profile.specs.Profile.{Profile}
 use Rattle.sieve_syntax.specs.Tree.{Node, Block, Tests, Argument}
-use Rattle.sieve_base.specs.Limits.{local_limit}
+use Rattle.sieve_limits.specs.Limits.{local_limit}
 use Rattle.sieve_table.specs.Address.{is_address_field, is_envelope_part}
 use Rattle.sieve_variables.specs.Name.{is_global_name, is_identifier}
 use Rattle.sieve_variables.specs.Scan.{has_reference, has_namespace, has_foreign_namespace, has_far_index}

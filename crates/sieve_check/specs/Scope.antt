@@ -1,6 +1,6 @@
 -- The names of variables in a script's text up to a place: those of its own that it sets (RFC 5229, section 4), and those that it
 -- declares to be shared (RFC 6609, section 3.4.1).
-use Rattle.sieve_base.specs.Octet.{is_among}
+use Rattle.octets.specs.Octet.{is_among}
 use Rattle.std.specs.Prelude.{ℕ, Bool, not, ◌&&◌, List, [], ◌∷◌, ◌++◌, Option, drop, if◌then◌else◌}
 use Rattle.std.specs.List.{list_any}
 use Rattle.std.specs.Str.{str_eq_ignore_ascii_case}

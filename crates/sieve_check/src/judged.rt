@@ -1,6 +1,6 @@
 //! What a text is: a checked script, or its first fault.
 ghost use Rattle.std.specs.Prelude.{◌≡◌, ◌<◌, ◌↔◌, length, IfOk, IsErrOf};
-ghost use Rattle.sieve_base.specs.Limits.{text_limit};
+ghost use Rattle.sieve_limits.specs.Limits.{text_limit};
 ghost use Rattle.sieve_check.specs.Judgement.{judgement_of, fault_word};
 ghost use Rattle.sieve_profile.specs.view.Profile.{profile_as};
 ghost use Rattle.sieve_check.specs.view.Judged.{judged_as};

@@ -1,7 +1,7 @@
 //! Laws over the definitions. Each of these functions does nothing: its contract is the law.
 ghost use Rattle.std.specs.Prelude.{◌≡◌, ◌∷◌, ℕ, true, false, map, slice_get, take, All, List, [], Option, None, Some};
 ghost use Rattle.std.specs.List.{flat_map};
-ghost use Rattle.sieve_base.specs.Limits.{test_depth, block_room};
+ghost use Rattle.sieve_limits.specs.Limits.{test_depth, block_room};
 ghost use Rattle.sieve_profile.specs.Profile.{Profile, with_extension};
 ghost use Rattle.sieve_profile.specs.declared.extension.Extension.TheVariants.{Unused};
 ghost use Rattle.sieve_check.specs.Absent.{lacks};

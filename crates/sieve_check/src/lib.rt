@@ -19,7 +19,7 @@ mod validator;
 
 pub use checked::Checked;
 pub use judged::{FaultKind, JudgeFault, Judged, judge};
-pub use sieve_base::SmallOctets;
+pub use octets::SmallOctets;
 pub use sieve_reading::{
     Argument, Command, Part, PartRef, Parts, Test, Tests, Text, Variable, VariableRef,
 };

@@ -8,7 +8,7 @@ ghost use Rattle.sieve_table.specs.view.Required.{required_as};
 
 use crate::labels::{after_first, first_role};
 use encoded_characters::replaced;
-use sieve_base::SmallOctets;
+use octets::SmallOctets;
 use sieve_reading::Label;
 use sieve_syntax::{Argument, Text, octets_in};
 use sieve_table::{Capability, Required, Role, has_role};

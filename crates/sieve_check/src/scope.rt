@@ -1,5 +1,5 @@
 //! The names of variables in a script's text up to a place (RFC 5229, section 4; RFC 6609, section 3.4.1).
-ghost use Rattle.sieve_base.specs.Octet.{is_among};
+ghost use Rattle.octets.specs.Octet.{is_among};
 ghost use Rattle.std.specs.Prelude.{◌≡◌, map, IfOk, OnOk};
 ghost use Rattle.sieve_syntax.specs.view.Tree.{argument_of, text_of};
 ghost use Rattle.sieve_variables.specs.Name.{folded_name};
@@ -8,8 +8,8 @@ ghost use Rattle.sieve_check.specs.Breach.{is_past_locals};
 ghost use Rattle.sieve_check.specs.Scope as spec;
 
 use crate::labels::{after_first, first_role};
-use sieve_base::Octets;
-use sieve_base::limits::MAX_LOCALS;
+use octets::Octets;
+use sieve_limits::MAX_LOCALS;
 use sieve_reading::Label;
 use sieve_syntax::{Argument, Text};
 use sieve_table::{Role, has_role};

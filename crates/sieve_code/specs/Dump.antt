@@ -4,9 +4,9 @@ use Rattle.std.specs.List.{flat_map}
 use Rattle.match_text.specs.declared.comparators.Collation.{Collation}
 use Rattle.match_text.specs.declared.comparators.Collation.TheVariants.{Octet, Casemap, Numeric}
 use Rattle.match_text.specs.Relation.{relation_word}
-use Rattle.sieve_base.specs.Name.{location_word}
-use Rattle.sieve_base.specs.Writers.{quoted}
-use Rattle.sieve_base.specs.declared.location.Location.{Location}
+use Rattle.script_names.specs.Name.{location_word}
+use Rattle.devices.specs.Writers.{quoted}
+use Rattle.script_names.specs.declared.location.Location.{Location}
 use Rattle.message_text.specs.declared.addressing.AddressPart.{AddressPart}
 use Rattle.message_text.specs.declared.addressing.AddressPart.TheVariants as address_part
 use Rattle.sieve_reading.specs.Reading.{BodyTransform, raw_transform, content_transform, text_transform, DateZone, local_zone, original_zone, named_zone, header_values, address_values, envelope_values, string_values, flag_values, date_values, clock_values, body_values, ValueSource, Ask, compares, exists_ask, over_ask, under_ask, mailboxes_ask, duplicate_ask, Settings, Vacation, Leaf, keep_leaf, fileinto_leaf, redirect_leaf, discard_leaf, set_leaf, flag_leaf, include_leaf, vacation_leaf, reject_leaf, rejection_word}

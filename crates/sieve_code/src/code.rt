@@ -1,7 +1,7 @@
 //! Compiled code.
 ghost use Rattle.std.specs.Prelude.{◌≡◌, ◌<◌, [], length, Some, slice_get, slice_index_or};
 ghost use Rattle.std.specs.Option.{option_copied};
-ghost use Rattle.sieve_base.specs.Writers.{Writes};
+ghost use Rattle.devices.specs.Writers.{Writes};
 ghost use Rattle.sieve_operations.specs.Joined.{list_in};
 ghost use Rattle.sieve_operations.specs.view.Ops.{body_op_as, settings_op_as, source_op_as, vacation_op_as, zone_op_as};
 ghost use Rattle.sieve_code.specs.Choice.{AllGoForward};
@@ -15,8 +15,8 @@ use crate::dump::write_line;
 use crate::given::GivenPlace;
 use crate::op::{Op, PackedSettings, PackedSource, PackedTest, PackedVacation};
 use crate::pools::{Pools, Target};
+use devices::{Sink, WriteFault};
 use match_text::Collation;
-use sieve_base::{Sink, WriteFault};
 use sieve_operations::{BodyOp, FieldNames, SettingsOp, SourceOp, Strings, VacationOp, ZoneOp};
 use sieve_reading::{BodyTransform, Comparison, DateZone, MatchType};
 use sieve_variables::{Part, Variable};

@@ -1,6 +1,6 @@
 //! The lines of a dump.
 ghost use Rattle.std.specs.Prelude.{◌++◌, codes, decimal};
-ghost use Rattle.sieve_base.specs.Writers.{Writes};
+ghost use Rattle.devices.specs.Writers.{Writes};
 ghost use Rattle.sieve_reading.specs.Reading.{discard_leaf};
 ghost use Rattle.sieve_code.specs.Dump.{at_line, leaf_text, line_text, operation_text};
 ghost use Rattle.sieve_code.specs.declared.op.Op.TheVariants.{Compares, Fileinto, Flags, Include, Keep, MailboxExists, Redirect, Reject, Set, Vacation};
@@ -16,7 +16,7 @@ use crate::dump_strings::{write_list, write_number};
 use crate::dump_tests::write_compares;
 use crate::given::GivenPlace;
 use crate::op::{Inclusion, Op};
-use sieve_base::{Piece, Sink, WriteFault, write_out, write_pieces};
+use devices::{Piece, Sink, WriteFault, write_out, write_pieces};
 use sieve_reading::{FlagChange, Rejection};
 
 /// Writes a test that compares values with keys.
@@ -58,7 +58,7 @@ fn write_jump<W: Sink>(
 }
 
 /// Writes a `keep` and its line.
-#[tactic(auto, using(sieve_base::proofs::Writing::writing), unfolding(crate::specs::Dump::operation_text, crate::specs::Dump::leaf_text))]
+#[tactic(auto, using(devices::proofs::Writing::writing), unfolding(crate::specs::Dump::operation_text, crate::specs::Dump::leaf_text))]
 fn write_keeping<W: Sink>(
     code: &Code,
     flags: Option<u32>,
@@ -73,7 +73,7 @@ fn write_keeping<W: Sink>(
 }
 
 /// Writes a `fileinto` and its line.
-#[tactic(auto, using(sieve_base::proofs::Writing::writing), unfolding(crate::specs::Dump::operation_text, crate::specs::Dump::leaf_text))]
+#[tactic(auto, using(devices::proofs::Writing::writing), unfolding(crate::specs::Dump::operation_text, crate::specs::Dump::leaf_text))]
 fn write_filing<W: Sink>(
     code: &Code,
     mailbox: u32,
@@ -89,7 +89,7 @@ fn write_filing<W: Sink>(
 }
 
 /// Writes a `redirect` and its line.
-#[tactic(auto, using(sieve_base::proofs::Writing::writing), unfolding(crate::specs::Dump::operation_text, crate::specs::Dump::leaf_text))]
+#[tactic(auto, using(devices::proofs::Writing::writing), unfolding(crate::specs::Dump::operation_text, crate::specs::Dump::leaf_text))]
 fn write_sending<W: Sink>(
     code: &Code,
     address: u32,
@@ -105,7 +105,7 @@ fn write_sending<W: Sink>(
 }
 
 /// Writes a `discard` and its line.
-#[tactic(auto, using(sieve_base::proofs::Writing::writing), unfolding(crate::specs::Dump::leaf_text))]
+#[tactic(auto, using(devices::proofs::Writing::writing), unfolding(crate::specs::Dump::leaf_text))]
 fn write_discard<W: Sink>(line: u32, writer: &mut W) -> Result<(), WriteFault>
     ensures { Writes W.contents W.fault_count result writer.old writer.new
         (leaf_text discard_leaf ++ at_line line) }
@@ -115,7 +115,7 @@ fn write_discard<W: Sink>(line: u32, writer: &mut W) -> Result<(), WriteFault>
 }
 
 /// Writes a `set` and its line.
-#[tactic(auto, using(sieve_base::proofs::Writing::writing), unfolding(crate::specs::Dump::operation_text, crate::specs::Dump::leaf_text))]
+#[tactic(auto, using(devices::proofs::Writing::writing), unfolding(crate::specs::Dump::operation_text, crate::specs::Dump::leaf_text))]
 fn write_setting<W: Sink>(
     code: &Code,
     target: u32,
@@ -136,7 +136,7 @@ fn write_setting<W: Sink>(
 }
 
 /// Writes a command that changes flags, and its line.
-#[tactic(auto, using(sieve_base::proofs::Writing::writing), unfolding(crate::specs::Dump::operation_text, crate::specs::Dump::leaf_text))]
+#[tactic(auto, using(devices::proofs::Writing::writing), unfolding(crate::specs::Dump::operation_text, crate::specs::Dump::leaf_text))]
 fn write_changing<W: Sink>(
     code: &Code,
     change: FlagChange,
@@ -153,7 +153,7 @@ fn write_changing<W: Sink>(
 }
 
 /// Writes an `include` and its line.
-#[tactic(auto, using(sieve_base::proofs::Writing::writing), unfolding(crate::specs::Dump::operation_text, crate::specs::Dump::leaf_text))]
+#[tactic(auto, using(devices::proofs::Writing::writing), unfolding(crate::specs::Dump::operation_text, crate::specs::Dump::leaf_text))]
 fn write_including<W: Sink>(
     code: &Code,
     inclusion: Inclusion,
@@ -174,7 +174,7 @@ fn write_including<W: Sink>(
 }
 
 /// Writes a `vacation` and its line.
-#[tactic(auto, using(sieve_base::proofs::Writing::writing), unfolding(crate::specs::Dump::operation_text, crate::specs::Dump::leaf_text))]
+#[tactic(auto, using(devices::proofs::Writing::writing), unfolding(crate::specs::Dump::operation_text, crate::specs::Dump::leaf_text))]
 fn write_answering<W: Sink>(
     code: &Code,
     vacation: u32,
@@ -189,7 +189,7 @@ fn write_answering<W: Sink>(
 }
 
 /// Writes a command that rejects the message, and its line.
-#[tactic(auto, using(sieve_base::proofs::Writing::writing), unfolding(crate::specs::Dump::operation_text, crate::specs::Dump::leaf_text))]
+#[tactic(auto, using(devices::proofs::Writing::writing), unfolding(crate::specs::Dump::operation_text, crate::specs::Dump::leaf_text))]
 fn write_rejecting<W: Sink>(
     code: &Code,
     how: Rejection,
@@ -205,7 +205,7 @@ fn write_rejecting<W: Sink>(
 }
 
 /// Writes an operation.
-#[tactic(auto, using(sieve_base::proofs::Writing::writing), unfolding(crate::specs::Dump::operation_text, crate::specs::Dump::ask_text, crate::specs::Dump::leaf_text))]
+#[tactic(auto, using(devices::proofs::Writing::writing), unfolding(crate::specs::Dump::operation_text, crate::specs::Dump::ask_text, crate::specs::Dump::leaf_text))]
 fn write_op<W: Sink>(code: &Code, op: Op, writer: &mut W) -> Result<(), WriteFault>
     ensures { Writes W.contents W.fault_count result writer.old writer.new
         (operation_text (op_of code.now op)) }
@@ -263,7 +263,7 @@ fn write_place<W: Sink>(place: usize, writer: &mut W) -> Result<(), WriteFault>
 }
 
 /// Writes the line of an operation.
-#[tactic(auto, using(sieve_base::proofs::Writing::writing), unfolding(crate::specs::Dump::line_text))]
+#[tactic(auto, using(devices::proofs::Writing::writing), unfolding(crate::specs::Dump::line_text))]
 pub(crate) fn write_line<W: Sink>(
     place: usize,
     code: &Code,

@@ -1,12 +1,13 @@
 //! The commands of a dump.
 ghost use Rattle.std.specs.Prelude.{◌≡◌, ◌++◌, codes};
 ghost use Rattle.std.specs.Option.{option_copied};
-ghost use Rattle.sieve_base.specs.Writers.{Writes};
+ghost use Rattle.devices.specs.Writers.{Writes};
 ghost use Rattle.sieve_code.specs.Dump as spec;
 ghost use Rattle.sieve_operations.specs.view.Ops.{settings_op_as};
 
 use crate::dump_strings::{name_of, scope_word, write_list, write_number, write_string};
-use sieve_base::{Location, Piece, Sink, WriteFault, write_out, write_pieces};
+use devices::{Piece, Sink, WriteFault, write_out, write_pieces};
+use script_names::Location;
 use sieve_operations::{SettingsOp, Strings};
 use sieve_reading::FlagChange;
 use sieve_variables::{LetterCase, Modifiers, Part, Variable};
@@ -80,7 +81,7 @@ pub(crate) fn write_given_string<W: Sink>(
 }
 
 /// Writes what a command says of the mailbox that it stores into.
-#[tactic(auto, using(sieve_base::proofs::Writing::writing), unfolding(crate::specs::Dump::filing_words))]
+#[tactic(auto, using(devices::proofs::Writing::writing), unfolding(crate::specs::Dump::filing_words))]
 fn write_filing_words<W: Sink>(settings: &SettingsOp<'_>, writer: &mut W) -> Result<(), WriteFault>
     ensures { Writes W.contents W.fault_count result writer.old writer.new
         (spec.filing_words (settings_op_as settings.now)) }
@@ -90,7 +91,7 @@ fn write_filing_words<W: Sink>(settings: &SettingsOp<'_>, writer: &mut W) -> Res
 }
 
 /// Writes what a command says of the store, beside its flags.
-#[tactic(auto, using(sieve_base::proofs::Writing::writing), unfolding(crate::specs::Dump::store_words))]
+#[tactic(auto, using(devices::proofs::Writing::writing), unfolding(crate::specs::Dump::store_words))]
 fn write_store_words<W: Sink>(settings: &SettingsOp<'_>, writer: &mut W) -> Result<(), WriteFault>
     ensures { Writes W.contents W.fault_count result writer.old writer.new
         (spec.store_words (settings_op_as settings.now)) }
@@ -100,7 +101,7 @@ fn write_store_words<W: Sink>(settings: &SettingsOp<'_>, writer: &mut W) -> Resu
 }
 
 /// Writes what a `fileinto` says beside its mailbox.
-#[tactic(auto, using(sieve_base::proofs::Writing::writing), unfolding(crate::specs::Dump::stored_text))]
+#[tactic(auto, using(devices::proofs::Writing::writing), unfolding(crate::specs::Dump::stored_text))]
 fn write_stored<W: Sink>(settings: &SettingsOp<'_>, writer: &mut W) -> Result<(), WriteFault>
     ensures { Writes W.contents W.fault_count result writer.old writer.new
         (spec.stored_text (settings_op_as settings.now)) }
@@ -110,7 +111,7 @@ fn write_stored<W: Sink>(settings: &SettingsOp<'_>, writer: &mut W) -> Result<()
 }
 
 /// Writes a command's word and then the flags of what is stored.
-#[tactic(auto, using(sieve_base::proofs::Writing::writing), unfolding(crate::specs::Dump::worded_flags))]
+#[tactic(auto, using(devices::proofs::Writing::writing), unfolding(crate::specs::Dump::worded_flags))]
 pub(crate) fn write_worded_flags<W: Sink>(
     word: &[u8],
     flags: &Option<Strings<'_>>,
@@ -124,7 +125,7 @@ pub(crate) fn write_worded_flags<W: Sink>(
 }
 
 /// Writes a `redirect`.
-#[tactic(auto, using(sieve_base::proofs::Writing::writing))]
+#[tactic(auto, using(devices::proofs::Writing::writing))]
 pub(crate) fn write_redirect<W: Sink>(
     address: &[Part],
     copy: bool,
@@ -138,7 +139,7 @@ pub(crate) fn write_redirect<W: Sink>(
 }
 
 /// Writes a `fileinto`.
-#[tactic(auto, using(sieve_base::proofs::Writing::writing))]
+#[tactic(auto, using(devices::proofs::Writing::writing))]
 pub(crate) fn write_fileinto<W: Sink>(
     mailbox: &[Part],
     settings: &SettingsOp<'_>,
@@ -213,7 +214,7 @@ fn write_modifiers<W: Sink>(modifiers: Modifiers, writer: &mut W) -> Result<(), 
 }
 
 /// Writes what a `set` does, apart from the value.
-#[tactic(auto, using(sieve_base::proofs::Writing::writing), unfolding(crate::specs::Dump::set_words))]
+#[tactic(auto, using(devices::proofs::Writing::writing), unfolding(crate::specs::Dump::set_words))]
 fn write_set_words<W: Sink>(
     variable: &Variable,
     modifiers: Modifiers,
@@ -227,7 +228,7 @@ fn write_set_words<W: Sink>(
 }
 
 /// Writes a `set`.
-#[tactic(auto, using(sieve_base::proofs::Writing::writing), unfolding(crate::specs::Dump::worded_text))]
+#[tactic(auto, using(devices::proofs::Writing::writing), unfolding(crate::specs::Dump::worded_text))]
 pub(crate) fn write_set<W: Sink>(
     variable: &Variable,
     modifiers: Modifiers,
@@ -282,7 +283,7 @@ fn write_changing_words<W: Sink>(
 }
 
 /// Writes a command that changes flags.
-#[tactic(auto, using(sieve_base::proofs::Writing::writing))]
+#[tactic(auto, using(devices::proofs::Writing::writing))]
 pub(crate) fn write_flags<W: Sink>(
     change: FlagChange,
     variable: Option<&Variable>,

@@ -1,12 +1,12 @@
 //! Commands of a dump that answer the sender or reject the message.
 ghost use Rattle.std.specs.Prelude.{◌++◌};
-ghost use Rattle.sieve_base.specs.Writers.{Writes};
+ghost use Rattle.devices.specs.Writers.{Writes};
 ghost use Rattle.sieve_code.specs.Dump as spec;
 ghost use Rattle.sieve_operations.specs.view.Ops.{vacation_op_as};
 
 use crate::dump_commands::{given_word, write_given_string, write_worded};
 use crate::dump_strings::{write_list, write_number};
-use sieve_base::{Sink, WriteFault, write_out};
+use devices::{Sink, WriteFault, write_out};
 use sieve_operations::{Strings, VacationOp};
 use sieve_reading::Rejection;
 use sieve_variables::Part;
@@ -46,7 +46,7 @@ fn write_mime<W: Sink>(mime: bool, writer: &mut W) -> Result<(), WriteFault>
 }
 
 /// Writes how often a sender gets a response, its subject and whom it is from, where they are given.
-#[tactic(auto, using(sieve_base::proofs::Writing::writing), unfolding(crate::specs::Dump::sending_words))]
+#[tactic(auto, using(devices::proofs::Writing::writing), unfolding(crate::specs::Dump::sending_words))]
 fn write_sending<W: Sink>(vacation: &VacationOp<'_>, writer: &mut W) -> Result<(), WriteFault>
     ensures { Writes W.contents W.fault_count result writer.old writer.new
         (spec.sending_words (vacation_op_as vacation.now)) }
@@ -57,7 +57,7 @@ fn write_sending<W: Sink>(vacation: &VacationOp<'_>, writer: &mut W) -> Result<(
 }
 
 /// Writes what else is given of a `vacation` beside its text.
-#[tactic(auto, using(sieve_base::proofs::Writing::writing, sieve_base::proofs::Writing::middle_failed), unfolding(crate::specs::Dump::further_words))]
+#[tactic(auto, using(devices::proofs::Writing::writing, devices::proofs::Writing::middle_failed), unfolding(crate::specs::Dump::further_words))]
 fn write_further<W: Sink>(vacation: &VacationOp<'_>, writer: &mut W) -> Result<(), WriteFault>
     ensures { Writes W.contents W.fault_count result writer.old writer.new
         (spec.further_words (vacation_op_as vacation.now)) }
@@ -68,7 +68,7 @@ fn write_further<W: Sink>(vacation: &VacationOp<'_>, writer: &mut W) -> Result<(
 }
 
 /// Writes a command's word and then what is given of a `vacation` beside its text.
-#[tactic(auto, using(sieve_base::proofs::Writing::writing, sieve_base::proofs::Writing::middle_failed), unfolding(crate::specs::Dump::vacation_words))]
+#[tactic(auto, using(devices::proofs::Writing::writing, devices::proofs::Writing::middle_failed), unfolding(crate::specs::Dump::vacation_words))]
 fn write_vacation_words<W: Sink>(
     word: &[u8],
     vacation: &VacationOp<'_>,
@@ -83,7 +83,7 @@ fn write_vacation_words<W: Sink>(
 }
 
 /// Writes a `vacation`.
-#[tactic(auto, using(sieve_base::proofs::Writing::writing), unfolding(crate::specs::Dump::vacation_text))]
+#[tactic(auto, using(devices::proofs::Writing::writing), unfolding(crate::specs::Dump::vacation_text))]
 pub(crate) fn write_vacation<W: Sink>(
     vacation: &VacationOp<'_>,
     writer: &mut W,
@@ -96,7 +96,7 @@ pub(crate) fn write_vacation<W: Sink>(
 }
 
 /// Writes a command that rejects the message.
-#[tactic(auto, using(sieve_base::proofs::Writing::writing), unfolding(crate::specs::Dump::reject_text))]
+#[tactic(auto, using(devices::proofs::Writing::writing), unfolding(crate::specs::Dump::reject_text))]
 pub(crate) fn write_reject<W: Sink>(
     how: Rejection,
     reason: &[Part],

@@ -1,12 +1,12 @@
 //! The parts, strings and numbers of a dump.
 ghost use Rattle.std.specs.Prelude.{◌≡◌, ◌++◌, codes, decimal, drop};
 ghost use Rattle.std.specs.List.{flat_map};
-ghost use Rattle.sieve_base.specs.Writers.{Writes};
+ghost use Rattle.devices.specs.Writers.{Writes};
 ghost use Rattle.sieve_code.specs.Dump.{further_list, list_text, name_of, part_text, scope_word, separated, string_text};
 ghost use Rattle.sieve_variables.specs.view.Variable.{variable_ref_as};
 ghost use Rattle.sieve_code.specs.view.Marked.{marked_part, marked_string};
 
-use sieve_base::{Piece, Sink, WriteFault, write_out, write_pieces};
+use devices::{Piece, Sink, WriteFault, write_out, write_pieces};
 use sieve_operations::Strings;
 use sieve_variables::{Part, PartRef, VariableRef};
 
@@ -66,7 +66,7 @@ fn write_part<'x, W: Sink>(
 }
 
 /// Writes parts after another.
-#[tactic(auto, using(sieve_base::proofs::Writing::writing_items), unfolding(crate::specs::view::Marked::marked_part))]
+#[tactic(auto, using(devices::proofs::Writing::writing_items), unfolding(crate::specs::view::Marked::marked_part))]
 fn write_marked_parts<W: Sink>(parts: &[Part], writer: &mut W) -> Result<(), WriteFault>
     ensures { Writes W.contents W.fault_count result writer.old writer.new
         (flat_map marked_part parts.now) }
@@ -107,7 +107,7 @@ fn write_marked_strings<W: Sink>(strings: &Strings<'_>, writer: &mut W) -> Resul
 }
 
 /// Writes these octets and then strings with commas between them.
-#[tactic(auto, using(sieve_base::proofs::Writing::writing))]
+#[tactic(auto, using(devices::proofs::Writing::writing))]
 fn write_strings<W: Sink>(
     front: &[u8],
     strings: &Strings<'_>,
@@ -124,7 +124,7 @@ fn write_strings<W: Sink>(
 }
 
 /// Writes these octets and then strings in brackets.
-#[tactic(auto, using(sieve_base::proofs::Writing::writing))]
+#[tactic(auto, using(devices::proofs::Writing::writing))]
 pub(crate) fn write_list<W: Sink>(
     front: &[u8],
     strings: &Strings<'_>,

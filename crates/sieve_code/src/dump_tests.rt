@@ -1,14 +1,14 @@
 //! The tests of a dump.
 ghost use Rattle.std.specs.Prelude.{◌≡◌, ◌++◌, codes};
 ghost use Rattle.match_text.specs.Relation.{relation_word};
-ghost use Rattle.sieve_base.specs.Writers.{Writes};
+ghost use Rattle.devices.specs.Writers.{Writes};
 ghost use Rattle.sieve_code.specs.Dump.{address_part_word, address_words, collation_word, comparing_words, date_words, further_list, further_string, internal_list, match_word, source_text, transform_words, zone_words};
 ghost use Rattle.sieve_operations.specs.view.Ops.{body_op_as, source_op_as, zone_op_as};
 
 use crate::dump_strings::{write_further_list, write_string};
+use devices::{Piece, Sink, WriteFault, write_out, write_pieces};
 use match_text::{Collation, Relation};
 use message_text::AddressPart;
-use sieve_base::{Piece, Sink, WriteFault, write_out, write_pieces};
 use sieve_operations::{BodyOp, SourceOp, Strings, ZoneOp};
 use sieve_reading::{Comparison, MatchType};
 use sieve_variables::Part;
@@ -101,7 +101,7 @@ fn write_comparing<W: Sink>(
 }
 
 /// Writes the words of a test that compares a part of addresses.
-#[tactic(auto, using(sieve_base::proofs::Writing::writing), unfolding(crate::specs::Dump::address_words))]
+#[tactic(auto, using(devices::proofs::Writing::writing), unfolding(crate::specs::Dump::address_words))]
 fn write_address_words<W: Sink>(
     test: &[u8],
     comparison: Comparison,
@@ -134,7 +134,7 @@ fn write_internal_list<W: Sink>(
 }
 
 /// Writes a test of this name that compares values, with its values.
-#[tactic(auto, using(sieve_base::proofs::Writing::writing))]
+#[tactic(auto, using(devices::proofs::Writing::writing))]
 fn write_values<W: Sink>(
     test: &[u8],
     comparison: Comparison,
@@ -149,7 +149,7 @@ fn write_values<W: Sink>(
 }
 
 /// Writes a test of this name that compares a part of addresses, with its names.
-#[tactic(auto, using(sieve_base::proofs::Writing::writing))]
+#[tactic(auto, using(devices::proofs::Writing::writing))]
 fn write_address<W: Sink>(
     test: &[u8],
     comparison: Comparison,
@@ -165,7 +165,7 @@ fn write_address<W: Sink>(
 }
 
 /// Writes a `hasflag` with the variables whose flags it looks at.
-#[tactic(auto, using(sieve_base::proofs::Writing::writing))]
+#[tactic(auto, using(devices::proofs::Writing::writing))]
 fn write_hasflag<W: Sink>(
     comparison: Comparison,
     variables: &Option<Strings<'_>>,
@@ -201,7 +201,7 @@ fn write_zone<W: Sink>(zone: &ZoneOp<'_>, writer: &mut W) -> Result<(), WriteFau
 }
 
 /// Writes the words of a test that compares a part of a date, up to the zone.
-#[tactic(auto, using(sieve_base::proofs::Writing::writing), unfolding(crate::specs::Dump::date_words))]
+#[tactic(auto, using(devices::proofs::Writing::writing), unfolding(crate::specs::Dump::date_words))]
 fn write_date_words<W: Sink>(
     test: &[u8],
     comparison: Comparison,
@@ -216,7 +216,7 @@ fn write_date_words<W: Sink>(
 }
 
 /// Writes the name of a field, and which part of its date.
-#[tactic(auto, using(sieve_base::proofs::Writing::writing))]
+#[tactic(auto, using(devices::proofs::Writing::writing))]
 fn write_field_part<W: Sink>(
     field: &[Part],
     part: &[Part],
@@ -230,7 +230,7 @@ fn write_field_part<W: Sink>(
 }
 
 /// Writes a `date` with its field and its part.
-#[tactic(auto, using(sieve_base::proofs::Writing::writing))]
+#[tactic(auto, using(devices::proofs::Writing::writing))]
 fn write_date<W: Sink>(
     comparison: Comparison,
     zone: &ZoneOp<'_>,
@@ -247,7 +247,7 @@ fn write_date<W: Sink>(
 }
 
 /// Writes a `currentdate` with its part.
-#[tactic(auto, using(sieve_base::proofs::Writing::writing))]
+#[tactic(auto, using(devices::proofs::Writing::writing))]
 fn write_current_date<W: Sink>(
     comparison: Comparison,
     zone: &ZoneOp<'_>,
@@ -262,7 +262,7 @@ fn write_current_date<W: Sink>(
 }
 
 /// Writes a word and a list.
-#[tactic(auto, using(sieve_base::proofs::Writing::writing))]
+#[tactic(auto, using(devices::proofs::Writing::writing))]
 fn write_word_and_list<W: Sink>(
     word: &[u8],
     list: &Strings<'_>,
@@ -289,7 +289,7 @@ fn write_transform<W: Sink>(transform: &BodyOp<'_>, writer: &mut W) -> Result<()
 }
 
 /// Writes a `body` with what is taken of the body.
-#[tactic(auto, using(sieve_base::proofs::Writing::writing))]
+#[tactic(auto, using(devices::proofs::Writing::writing))]
 fn write_body<W: Sink>(
     comparison: Comparison,
     transform: &BodyOp<'_>,
@@ -333,7 +333,7 @@ fn write_source<W: Sink>(
 }
 
 /// Writes a test that compares values with keys.
-#[tactic(auto, using(sieve_base::proofs::Writing::writing))]
+#[tactic(auto, using(devices::proofs::Writing::writing))]
 pub(crate) fn write_compares<W: Sink>(
     source: &SourceOp<'_>,
     comparison: Comparison,

@@ -23,6 +23,5 @@ pub use compiler::compile;
 pub use given::GivenPlace;
 pub use op::{Inclusion, Op, PackedSource, PackedTest};
 pub use pools::Target;
-pub use sieve_base::{
-    Counted, Faults, Location, Sink, Source, WriteFault, write_out, write_quoted,
-};
+pub use devices::{Counted, Faults, Sink, Source, WriteFault, write_out, write_quoted};
+pub use script_names::Location;

@@ -1,7 +1,7 @@
 //! The operations of code.
 
 use crate::given::GivenPlace;
-use sieve_base::Location;
+use script_names::Location;
 use sieve_reading::{Comparison, FlagChange, Rejection, Settings, Vacation, ValueSource};
 use std::mem::size_of;
 

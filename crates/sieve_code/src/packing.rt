@@ -10,7 +10,7 @@ ghost use Rattle.sieve_code.specs.view.Pools.{pool_as};
 
 use crate::op::{Inclusion, Op, PackedSource, PackedTest};
 use crate::pools::{Pools, Target};
-use sieve_base::Location;
+use script_names::Location;
 use sieve_reading::{
     Ask, BodyTransform, Comparison, DateZone, FlagChange, Leaf, Rejection, Settings, Text,
     Vacation, ValueSource,

@@ -8,7 +8,7 @@ use Rattle.message_text.specs.Addresses.{AddrSpec, IsAddrSpec, addresses_of, is_
 use Rattle.message_text.specs.Fields.{Field, IsNextNamed, fields_of, is_field_named}
 use Rattle.message_text.specs.declared.addressing.AddressPart.TheVariants as part
 use Rattle.message_text.proofs.LawLemmas.{addresses_are_whole}
-use Rattle.sieve_base.specs.Octet.{is_filled}
+use Rattle.octets.specs.Octet.{is_filled}
 use Rattle.sieve_profile.specs.Profile.{Profile}
 use Rattle.sieve_matching.specs.Matching.{address_parts, decoded_named, parts_of_envelope, parts_of_value, values_named}
 use Rattle.sieve_matching.specs.view.FieldReads.{address_lists_of}

@@ -18,7 +18,7 @@ use Rattle.message_text.specs.Addresses.{AddrSpec, part_of_address, addresses_of
 use Rattle.message_text.specs.Fields.{Field, fields_of, is_field_named}
 use Rattle.message_text.specs.declared.addressing.AddressPart.{AddressPart}
 use Rattle.message_text.specs.declared.addressing.AddressPart.TheVariants.{All}
-use Rattle.sieve_base.specs.Octet.{is_filled}
+use Rattle.octets.specs.Octet.{is_filled}
 use Rattle.sieve_reading.specs.Reading.{ValueSource, header_values, address_values, envelope_values, string_values, flag_values, date_values, clock_values, body_values, Ask, compares, exists_ask, over_ask, under_ask, mailboxes_ask, duplicate_ask}
 use Rattle.sieve_reading.specs.declared.reading.Comparison.{Comparison}
 use Rattle.sieve_reading.specs.declared.reading.MatchType.{MatchType}

@@ -4,7 +4,7 @@ ghost use Rattle.std.specs.Option.{option_map};
 ghost use Rattle.mime_text.specs.Entities as entities;
 ghost use Rattle.mime_text.specs.Values.{is_named_by, texts_given, texts_if_named, texts_named, texts_of};
 ghost use Rattle.mime_text.specs.view.Entities.{entity_as};
-ghost use Rattle.sieve_base.specs.view.Texts.{octets_of_each};
+ghost use Rattle.octets.specs.view.Texts.{octets_of_each};
 ghost use Rattle.sieve_profile.specs.Profile as profiles;
 ghost use Rattle.sieve_profile.specs.view.Profile.{profile_as};
 ghost use Rattle.sieve_reading.specs.Reading.{body_values};

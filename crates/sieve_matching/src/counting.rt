@@ -4,7 +4,7 @@ ghost use Rattle.std.specs.List.{flat_map};
 ghost use Rattle.match_text.specs.Flags.{flag_list};
 ghost use Rattle.message_text.specs.Fields.{fields_of};
 ghost use Rattle.message_text.specs.declared.addressing.AddressPart.TheVariants.{All};
-ghost use Rattle.sieve_base.specs.Octet.{is_filled};
+ghost use Rattle.octets.specs.Octet.{is_filled};
 ghost use Rattle.sieve_reading.specs.Reading.{address_values, envelope_values, flag_values, header_values};
 ghost use Rattle.sieve_actions.specs.Delivery.{envelope_of};
 ghost use Rattle.sieve_matching.specs.Matching.{counted_of, envelope_named, parts_named, parts_of_envelope, parts_of_value, values_named, values_of};

@@ -9,7 +9,7 @@ ghost use Rattle.sieve_actions.specs.view.Delivery.{delivery_as};
 ghost use Rattle.sieve_matching.specs.view.FieldTests.{cut_key, found_with, key_texts};
 ghost use Rattle.sieve_matching.specs.view.FlagTests.{best_of};
 ghost use Rattle.sieve_actions.specs.view.State.{state_of};
-ghost use Rattle.sieve_base.specs.view.Texts.{octets_of_each};
+ghost use Rattle.octets.specs.view.Texts.{octets_of_each};
 
 use crate::matcher::{MatchValues, Matcher, plain_match};
 use match_text::{Collation, FlagList, flags_of, next_key};

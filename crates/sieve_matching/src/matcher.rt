@@ -16,8 +16,8 @@ use match_text::{
     AsciiCasemap, Captures, Collation, Comparator, KeyKind, Octet, Relation, Room, contains,
     contains_in, equals, matches, next_key, stands,
 };
+use octets::Octets;
 use sieve_actions::State;
-use sieve_base::Octets;
 use sieve_operations::Strings;
 use sieve_reading::{Comparison, MatchType, literal_in_parts};
 use sieve_variables::{Part, Values};

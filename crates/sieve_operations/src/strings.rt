@@ -1,6 +1,6 @@
 //! Lists of strings of compiled code.
 ghost use Rattle.std.specs.Prelude.{◌≡◌, ◌∷◌, ◌++◌, ◌<◌, ◌+◌, [], drop, length, map, slice_get, slice_index_or, IfOk, OnOk, Some};
-ghost use Rattle.sieve_base.specs.view.Texts.{octets_of_each};
+ghost use Rattle.octets.specs.view.Texts.{octets_of_each};
 ghost use Rattle.sieve_operations.specs.Joined.{Lists, between, lists_plus, lists_with, list_in, no_lists, start};
 ghost use Rattle.sieve_reading.specs.view.Reading.{texts_as};
 ghost use Rattle.sieve_variables.specs.Value.{text_value};

@@ -2,8 +2,8 @@
 -- section 3; RFC 5490, section 3.2; RFC 8579, section 4; RFC 5230, section 4; RFC 5429, section 2), by its arguments and their labels.
 use Rattle.std.specs.Prelude.{List, Option, Some, None}
 use Rattle.std.specs.Option.{option_map}
-use Rattle.sieve_base.specs.declared.location.Location.{Location}
-use Rattle.sieve_base.specs.declared.location.Location.TheVariants.{Personal, Global}
+use Rattle.script_names.specs.declared.location.Location.{Location}
+use Rattle.script_names.specs.declared.location.Location.TheVariants.{Personal, Global}
 use Rattle.sieve_table.specs.Table.{command_named, command_row}
 use Rattle.sieve_reading.specs.Tree.{Argument, Node, node}
 use Rattle.sieve_reading.specs.declared.label.Label.{Label}

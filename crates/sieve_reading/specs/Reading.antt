@@ -1,7 +1,7 @@
 -- What the commands and tests of a checked tree are (RFC 5228, sections 3, 4 and 5), with defaults filled in.
 use Rattle.std.specs.Prelude.{ℕ, Bool, false, List, Option, None, codes}
 use Rattle.message_text.specs.declared.addressing.AddressPart.{AddressPart}
-use Rattle.sieve_base.specs.declared.location.Location.{Location}
+use Rattle.script_names.specs.declared.location.Location.{Location}
 use Rattle.sieve_reading.specs.declared.reading.FlagChange.{FlagChange}
 use Rattle.sieve_reading.specs.declared.reading.Comparison.{Comparison}
 use Rattle.sieve_reading.specs.declared.reading.Rejection.{Rejection}

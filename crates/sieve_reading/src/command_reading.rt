@@ -18,7 +18,7 @@ use crate::given::{
 use crate::reading::{CommandReading, FlagChange, Leaf, Rejection, Settings};
 use crate::tags::Tags;
 use crate::vacation::vacation_leaf;
-use sieve_base::Location;
+use script_names::Location;
 use sieve_syntax::Argument;
 use sieve_table::{CommandKind, Role, Row, Tag, TagKind};
 use sieve_variables::{LetterCase, Modifiers};

@@ -22,7 +22,7 @@ pub use reading::{
     Rejection, Settings, TestReading, Vacation, ValueSource,
 };
 pub use shape::{AsOctets, AsParts, RowLabels, StringView, known_labels};
-pub use sieve_base::Location;
+pub use script_names::Location;
 pub use sieve_syntax::{Argument, Command, CommandName, Test, TestName, Tests, Text};
 pub use sieve_table::{CommandKind, TestKind};
 pub use sieve_variables::{

@@ -6,7 +6,7 @@ ghost use Rattle.sieve_reading.specs.Reading.{rejection_word};
 
 use match_text::{Collation, Relation};
 use message_text::AddressPart;
-use sieve_base::Location;
+use script_names::Location;
 use sieve_syntax::Text;
 use sieve_variables::{Literal, Modifiers, Parts, Variable};
 

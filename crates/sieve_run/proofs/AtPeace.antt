@@ -7,7 +7,7 @@ use Rattle.sieve_actions.specs.Delivery.{Arrival}
 use Rattle.sieve_actions.specs.declared.action.Action.{Action}
 use Rattle.sieve_actions.specs.declared.action.Action.TheVariants.{Store, Discard, Respond, Reject}
 use Rattle.sieve_actions.specs.declared.error.ErrorKind.{ErrorKind}
-use Rattle.sieve_base.specs.declared.name.ScriptName.{ScriptName}
+use Rattle.script_names.specs.declared.name.ScriptName.{ScriptName}
 use Rattle.sieve_actions.specs.Act.{brought_by, conflict_among, conflict_of, goes_with_rejections, is_rejection, is_response, joined_with, same_action}
 use Rattle.sieve_run.specs.Library.{Lookup}
 use Rattle.sieve_run.specs.Run.{outcome_of}

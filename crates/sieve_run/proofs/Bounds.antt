@@ -5,7 +5,7 @@ use Rattle.std.proofs.lemmas.List.{length_push, length-map}
 use Rattle.std.specs.Prelude.{if◌then◌else◌}
 use Rattle.std.specs.List.{list_any}
 use Rattle.message_text.specs.Addresses.{addresses_of}
-use Rattle.sieve_base.specs.Limits.{action_limit, include_depth, include_limit}
+use Rattle.sieve_limits.specs.Limits.{action_limit, include_depth, include_limit}
 use Rattle.sieve_reading.specs.Reading.{Settings, plain_settings, Leaf, keep_leaf, fileinto_leaf, redirect_leaf, discard_leaf, set_leaf, flag_leaf, include_leaf, vacation_leaf, reject_leaf}
 use Rattle.sieve_reading.specs.declared.reading.FlagChange.{FlagChange}
 use Rattle.sieve_reading.specs.Script.{script_of}
@@ -20,7 +20,7 @@ use Rattle.sieve_run.specs.Run.{entering, included, include_of, includes, is_run
 use Rattle.sieve_actions.specs.State.{RunState}
 use Rattle.sieve_actions.specs.declared.flow.Flow.{Flow}
 use Rattle.sieve_actions.specs.declared.flow.Flow.TheVariants as flow
-use Rattle.sieve_base.specs.declared.name.ScriptName.{ScriptName}
+use Rattle.script_names.specs.declared.name.ScriptName.{ScriptName}
 use Rattle.sieve_actions.specs.declared.action.Deed.{Deed}
 use Rattle.sieve_actions.specs.declared.action.Origin.{Origin}
 use Rattle.sieve_actions.specs.declared.action.Action.{Action}

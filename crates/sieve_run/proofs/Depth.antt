@@ -3,7 +3,7 @@ use Rattle.std.proofs.Common.{◌≡◌, ℕ, zero, suc, ◌+◌, ◌-◌, ◌�
 use Rattle.std.proofs.lemmas.Bool.Decides.{nat_tests}
 use Rattle.std.proofs.lemmas.List.{length_push}
 use Rattle.std.specs.Prelude.{if◌then◌else◌}
-use Rattle.sieve_base.specs.Limits.{include_depth}
+use Rattle.sieve_limits.specs.Limits.{include_depth}
 use Rattle.sieve_reading.specs.Script.{script_of}
 use Rattle.sieve_reading.specs.Tree.{Node}
 use Rattle.sieve_actions.specs.Delivery.{Arrival, Delivery, inside}
@@ -12,7 +12,7 @@ use Rattle.sieve_run.specs.Library.{Lookup}
 use Rattle.sieve_actions.specs.Act.{Ending, goes_on, act_by, state_behind}
 use Rattle.sieve_run.specs.Run.{answer_of, begun, delivery_to, exec, include_of, included, is_running, is_script, run_of, running}
 use Rattle.sieve_actions.specs.State.{RunState}
-use Rattle.sieve_base.specs.declared.name.ScriptName.{ScriptName}
+use Rattle.script_names.specs.declared.name.ScriptName.{ScriptName}
 
 -- the main script has all depth left
 pub main_first : (find : ScriptName → Lookup) (arrival : Arrival) (main : ScriptName) (tree : List Node) → run_of find arrival main tree ≡ running find (depth_left (delivery_to arrival main)) (delivery_to arrival main) tree (begun main)

@@ -9,7 +9,7 @@ use Rattle.sieve_actions.specs.Delivery.{Arrival}
 use Rattle.sieve_actions.specs.State.{RunState}
 use Rattle.sieve_actions.specs.declared.action.Action.{Action}
 use Rattle.sieve_actions.specs.declared.action.Action.TheVariants.{Store, Redirect, Discard, Respond, Reject}
-use Rattle.sieve_base.specs.declared.name.ScriptName.{ScriptName}
+use Rattle.script_names.specs.declared.name.ScriptName.{ScriptName}
 use Rattle.sieve_actions.specs.Act.{brought_by, joined_with, same_action}
 use Rattle.sieve_run.specs.Distinct.{AreDistinct}
 use Rattle.sieve_run.specs.Library.{Lookup}

@@ -4,9 +4,9 @@ use Rattle.std.proofs.lemmas.Map.Made.{lookup-map_values}
 use Rattle.std.specs.Map.{lookup}
 use Rattle.std.specs.Option.{option_map}
 use Rattle.indexmap.specs.IndexMap as ordered
-use Rattle.sieve_base.specs.Name.{name_eq}
-use Rattle.sieve_base.specs.contracts.name.ScriptNamePartialEq.TheImpl as equality
-use Rattle.sieve_base.specs.declared.name.ScriptName.{ScriptName}
+use Rattle.script_names.specs.Name.{name_eq}
+use Rattle.script_names.specs.contracts.name.ScriptNamePartialEq.TheImpl as equality
+use Rattle.script_names.specs.declared.name.ScriptName.{ScriptName}
 use Rattle.sieve_profile.specs.Profile.{Profile}
 use Rattle.sieve_run.specs.Shelf.{text_on}
 use Rattle.sieve_run.specs.declared.shelf.Shelved.{Shelved}

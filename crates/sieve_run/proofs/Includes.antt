@@ -1,7 +1,7 @@
 -- What an include does, by what it looks at.
 use Rattle.std.proofs.Common.{◌≡◌, ℕ, zero, suc, Bool, true, false, ◌&&◌, Option, None, Some, List, ◌-◌, nat_lt, length, refl, sym, ap, ◌∙◌, arith}
 use Rattle.std.specs.Prelude.{if◌then◌else◌}
-use Rattle.sieve_base.specs.Limits.{include_limit}
+use Rattle.sieve_limits.specs.Limits.{include_limit}
 use Rattle.sieve_reading.specs.Script.{script_of}
 use Rattle.sieve_reading.specs.Tree.{Node}
 use Rattle.sieve_code.specs.Operation.{Operation}
@@ -13,7 +13,7 @@ use Rattle.sieve_run.specs.Run.{act_of, answer_of, entering, exec, include_of, i
 use Rattle.sieve_actions.specs.State.{RunState}
 use Rattle.sieve_actions.specs.declared.flow.Flow.{Flow}
 use Rattle.sieve_actions.specs.declared.flow.Flow.TheVariants.{GoesOn, Returned, Stopped, Failed}
-use Rattle.sieve_base.specs.declared.name.ScriptName.{ScriptName}
+use Rattle.script_names.specs.declared.name.ScriptName.{ScriptName}
 use Rattle.sieve_actions.specs.declared.error.ErrorKind.TheVariants.{IncludeCount, IncludeDepth, RecursiveInclude}
 use Rattle.sieve_actions.specs.view.Flow.{ending_by}
 use Rattle.sieve_run.specs.view.Include.{enters, looks_up, resumed_by}

@@ -2,10 +2,10 @@
 use Rattle.std.proofs.Common.{◌≡◌, Bool, true, false, ◌||◌, List, [], ◌∷◌, ◌++◌, is_some, Some, cond, if◌then◌else◌, refl, sym, ap, ◌∙◌, rules}
 use Rattle.std.specs.Map.{lookup}
 use Rattle.indexmap.specs.IndexMap as ordered
-use Rattle.sieve_base.specs.Name.{name_eq}
+use Rattle.script_names.specs.Name.{name_eq}
 use Rattle.sieve_run.specs.Run.{is_read, with_read}
-use Rattle.sieve_base.specs.declared.name.ScriptName.{ScriptName}
-use Rattle.sieve_base.specs.contracts.name.ScriptNamePartialEq.TheImpl as equality
+use Rattle.script_names.specs.declared.name.ScriptName.{ScriptName}
+use Rattle.script_names.specs.contracts.name.ScriptNamePartialEq.TheImpl as equality
 
 -- names are compared by the test of their type, which is that of the definition
 pub names_alike : (a b : ScriptName) → equality.eq-value.it a b ≡ name_eq a b

@@ -5,12 +5,12 @@ use Rattle.sieve_reading.specs.Script.{Condition, always, never, asks, negated, 
 use Rattle.sieve_reading.specs.Tree.{Node}
 use Rattle.sieve_code.specs.Walk.{Walk, at_end, by_stop, by_return, cut_off, asked, acted, code_walk, condition_walk, gone, commands_walk, tree_walk}
 use Rattle.sieve_code.specs.Operation.{Operation}
-use Rattle.sieve_base.specs.Limits.{include_depth}
+use Rattle.sieve_limits.specs.Limits.{include_depth}
 use Rattle.sieve_code.specs.Compiles.{Compiles}
 use Rattle.sieve_actions.specs.Delivery.{Arrival, Delivery, inside}
 use Rattle.sieve_run.specs.Library.{HasCode, Lookup, missing, invalid, present}
 use Rattle.sieve_run.specs.Perform.{answers_after, answers_of, chosen_answers, do_gone, do_met, end_of, perform}
-use Rattle.sieve_base.specs.declared.name.ScriptName.{ScriptName}
+use Rattle.script_names.specs.declared.name.ScriptName.{ScriptName}
 use Rattle.sieve_run.specs.view.Include.{enters}
 use Rattle.sieve_run.specs.view.Step.{doing}
 use Rattle.sieve_actions.specs.Act.{Ending, goes_on, returned, stopped, failed}

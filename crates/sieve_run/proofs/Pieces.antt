@@ -2,7 +2,7 @@
 use Rattle.std.proofs.Common.{◌≡◌, ℕ, zero, suc, ◌<◌, ◌+◌, List, [], ◌∷◌, ◌++◌, length, take, get_or, slice_get, sym, ap, ◌∙◌, append-nil, append_assoc, Some, codes, decimal}
 use Rattle.std.proofs.lemmas.Grind.{flat_map-append}
 use Rattle.std.proofs.lemmas.List.{take_more}
-use Rattle.sieve_base.specs.Writers.{name_text}
+use Rattle.devices.specs.Writers.{name_text}
 use Rattle.sieve_actions.specs.ErrorKind.{error_word}
 use Rattle.sieve_actions.specs.declared.error.RunError.{RunError}
 use Rattle.sieve_run.specs.Lines.{error_line, spaced_word, spaced_words}

@@ -6,9 +6,9 @@ use Rattle.sieve_reading.specs.Script.{chain_of, chain_with, block_commands, con
 use Rattle.sieve_table.specs.Table.{command_named}
 use Rattle.sieve_variables.specs.Value.{begun_values, no_values}
 use Rattle.sieve_reading.specs.Tree.{Node}
-use Rattle.sieve_base.specs.declared.location.Location.TheVariants.{Personal}
-use Rattle.sieve_base.specs.Limits.{name_limit}
-use Rattle.sieve_base.specs.Name.{name_eq}
+use Rattle.script_names.specs.declared.location.Location.TheVariants.{Personal}
+use Rattle.sieve_limits.specs.Limits.{name_limit}
+use Rattle.script_names.specs.Name.{name_eq}
 use Rattle.sieve_actions.specs.Act.{Ending, goes_on}
 use Rattle.sieve_actions.specs.Delivery.{Arrival, Delivery, inside}
 use Rattle.sieve_actions.specs.State.{RunState}
@@ -17,7 +17,7 @@ use Rattle.sieve_profile.specs.Profile.{empty_profile}
 use Rattle.sieve_actions.specs.declared.action.Action.TheVariants.{Store, Discard}
 use Rattle.sieve_actions.specs.declared.action.Filing.{Filing}
 use Rattle.sieve_actions.specs.declared.error.ErrorKind.TheVariants.{MissingScript}
-use Rattle.sieve_base.specs.declared.name.ScriptName.{ScriptName}
+use Rattle.script_names.specs.declared.name.ScriptName.{ScriptName}
 use Rattle.sieve_run.specs.Depth.{watched_include}
 use Rattle.sieve_run.specs.Distinct.{AreDistinct}
 use Rattle.sieve_run.specs.Library.{Lookup, missing, present, found_at}

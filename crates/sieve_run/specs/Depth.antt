@@ -1,6 +1,6 @@
 -- How deep scripts include one another, counted by those that include the running one (RFC 6609, section 3.1).
 use Rattle.std.specs.Prelude.{ℕ, zero, suc, ◌-◌, ◌≤◌, Bool, List, length, Option, None, Some, if◌then◌else◌, nat_lt}
-use Rattle.sieve_base.specs.Limits.{include_depth}
+use Rattle.sieve_limits.specs.Limits.{include_depth}
 use Rattle.sieve_reading.specs.Script.{script_of}
 use Rattle.sieve_reading.specs.Tree.{Node}
 use Rattle.sieve_actions.specs.Delivery.{Arrival, Delivery, inside}
@@ -8,7 +8,7 @@ use Rattle.sieve_run.specs.Library.{Lookup}
 use Rattle.sieve_actions.specs.Act.{Ending, act_by}
 use Rattle.sieve_run.specs.Run.{answer_of, begun, delivery_to, exec, include_of, running}
 use Rattle.sieve_actions.specs.State.{RunState}
-use Rattle.sieve_base.specs.declared.name.ScriptName.{ScriptName}
+use Rattle.script_names.specs.declared.name.ScriptName.{ScriptName}
 
 -- how many scripts may still include one another below the running one: one less for each that includes it
 abbrev pub depth_left : Delivery → ℕ

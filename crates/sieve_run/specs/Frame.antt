@@ -5,7 +5,7 @@ use Rattle.sieve_actions.specs.Delivery.{Arrival}
 use Rattle.sieve_run.specs.Library.{library_of}
 use Rattle.sieve_run.specs.Run.{is_read, outcome_of}
 use Rattle.sieve_run.specs.Verdict.{Verdict}
-use Rattle.sieve_base.specs.declared.name.ScriptName.{ScriptName}
+use Rattle.script_names.specs.declared.name.ScriptName.{ScriptName}
 
 -- the texts of a library: at each name one, or none
 abbrev pub Texts : Type 0

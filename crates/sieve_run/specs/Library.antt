@@ -1,12 +1,12 @@
 -- What a library has at a name, by its profile and the text there.
 use Rattle.std.specs.Prelude.{ℕ, List, length, Option, None, Some, if◌then◌else◌, nat_lt}
-use Rattle.sieve_base.specs.Limits.{text_limit, name_limit}
+use Rattle.sieve_limits.specs.Limits.{text_limit, name_limit}
 use Rattle.sieve_profile.specs.Profile.{Profile}
 use Rattle.sieve_check.specs.Judgement.{Judgement, judgement_of, sound, faulty}
 use Rattle.sieve_reading.specs.Tree.{Node}
 use Rattle.sieve_code.specs.Compiles.{Compiles}
 use Rattle.sieve_code.specs.Operation.{Operation}
-use Rattle.sieve_base.specs.declared.name.ScriptName.{ScriptName}
+use Rattle.script_names.specs.declared.name.ScriptName.{ScriptName}
 
 -- nothing, a text with a fault, or the tree of a text without one
 pub data Lookup : Type 0 where

@@ -3,8 +3,8 @@ use Rattle.std.specs.Prelude.{ℕ, Bool, true, false, List, [], ◌∷◌, ◌++
 use Rattle.std.specs.List.{flat_map}
 use Rattle.std.specs.Str.Lines.{lines}
 use lib.Pointwise.{pointwise}
-use Rattle.sieve_base.specs.Writers.{name_text, quoted}
-use Rattle.sieve_base.specs.declared.name.ScriptName.{ScriptName}
+use Rattle.devices.specs.Writers.{name_text, quoted}
+use Rattle.script_names.specs.declared.name.ScriptName.{ScriptName}
 use Rattle.sieve_actions.specs.ErrorKind.{error_word}
 use Rattle.sieve_actions.specs.declared.action.Action.{Action}
 use Rattle.sieve_actions.specs.declared.action.Action.TheVariants.{Store, Redirect, Discard, Respond, Reject}

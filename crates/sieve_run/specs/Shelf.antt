@@ -2,8 +2,8 @@
 use Rattle.std.specs.Prelude.{ℕ, List, Option}
 use Rattle.std.specs.Map.{lookup}
 use Rattle.indexmap.specs.IndexMap as ordered
-use Rattle.sieve_base.specs.Name.{name_eq}
-use Rattle.sieve_base.specs.declared.name.ScriptName.{ScriptName}
+use Rattle.script_names.specs.Name.{name_eq}
+use Rattle.script_names.specs.declared.name.ScriptName.{ScriptName}
 use Rattle.sieve_profile.specs.Profile.{Profile}
 
 pub record ShelfState : Type 0 where

@@ -1,6 +1,6 @@
 -- What a run answers.
 use Rattle.std.specs.Prelude.{ℕ, List, Bool, Option}
-use Rattle.sieve_base.specs.declared.name.ScriptName.{ScriptName}
+use Rattle.script_names.specs.declared.name.ScriptName.{ScriptName}
 use Rattle.sieve_actions.specs.declared.action.Action.{Action}
 use Rattle.sieve_actions.specs.declared.action.Origin.{Origin}
 use Rattle.sieve_actions.specs.declared.error.RunError.{RunError}

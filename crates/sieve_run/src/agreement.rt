@@ -2,18 +2,18 @@
 ghost use Rattle.std.specs.Prelude.{◌≡◌, ℕ, List, ◌∷◌, ◌++◌, [], codes, map};
 ghost use Rattle.std.specs.List.{flat_map};
 ghost use Rattle.std.specs.Option.{option_copied};
-ghost use Rattle.sieve_base.specs.Writers.{octet_spelling, quoted, name_text, piece_text, pieces_text};
+ghost use Rattle.devices.specs.Writers.{octet_spelling, quoted, name_text, piece_text, pieces_text};
 ghost use Rattle.sieve_run.specs.Lines as spec;
 ghost use Rattle.sieve_run.specs.view.Left.{behind_front, is_whole, left_says};
 
 use crate::response_agreement::{skip_reject, skip_response};
+use devices::Piece;
 use itoa::Buffer;
 use match_text::FlagList;
 use message_text::next_line;
+use octets::{Octets, hex_digit, is_printable};
+use script_names::ScriptName;
 use sieve_actions::{Action, Filing, RunError};
-use sieve_base::hex::hex_digit;
-use sieve_base::octet::is_printable;
-use sieve_base::{Octets, Piece, ScriptName};
 
 /// What follows these octets, where the text begins with them.
 pub(crate) fn skip_octets<'a>(text: &'a [u8], octets: &[u8]) -> Option<&'a [u8]>
@@ -49,7 +49,7 @@ fn skip_spelled<'a>(text: &'a [u8], octets: &[u8]) -> Option<&'a [u8]>
 }
 
 /// What follows octets in their quoted form.
-#[tactic(auto, using(crate::proofs::Left::left), unfolding(sieve_base::specs::Writers::quoted))]
+#[tactic(auto, using(crate::proofs::Left::left), unfolding(devices::specs::Writers::quoted))]
 fn skip_quoted<'a>(text: &'a [u8], octets: &[u8]) -> Option<&'a [u8]>
     ensures { option_copied result ≡ behind_front (quoted octets.now) text.now }
 {
@@ -59,7 +59,7 @@ fn skip_quoted<'a>(text: &'a [u8], octets: &[u8]) -> Option<&'a [u8]>
 }
 
 /// What follows the name of a script.
-#[tactic(auto, using(crate::proofs::Left::left), unfolding(sieve_base::specs::Writers::name_text))]
+#[tactic(auto, using(crate::proofs::Left::left), unfolding(devices::specs::Writers::name_text))]
 fn skip_name<'a>(text: &'a [u8], name: &ScriptName) -> Option<&'a [u8]>
     ensures { option_copied result ≡ behind_front (name_text name.now) text.now }
 {

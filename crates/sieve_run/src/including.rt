@@ -9,9 +9,9 @@ ghost use Rattle.sieve_run.specs.view.Found.{FoundAs};
 ghost use Rattle.sieve_run.specs.view.Include.{resumed_by, there_as};
 
 use crate::library::{Found, Library};
+use script_names::ScriptName;
 use sieve_actions::{Delivery, Flow, State};
-use sieve_base::ScriptName;
-use sieve_base::limits::MAX_NAME;
+use sieve_limits::MAX_NAME;
 use sieve_variables::Own;
 use std::alloc::{AllocError, Global};
 

@@ -6,7 +6,7 @@ ghost use Rattle.sieve_run.specs.Meter.{next_run};
 ghost use Rattle.sieve_run.specs.Run.{act_of, begun, delivery_to, outcome_of, verdict_of};
 ghost use Rattle.sieve_code.specs.Walk.{code_walk};
 ghost use Rattle.sieve_code.specs.view.Code.{ops_of};
-ghost use Rattle.sieve_base.specs.Limits.{action_limit, include_depth};
+ghost use Rattle.sieve_limits.specs.Limits.{action_limit, include_depth};
 ghost use Rattle.sieve_actions.specs.view.Delivery.{arrival_as};
 ghost use Rattle.sieve_actions.specs.view.Flow.{ending_by};
 ghost use Rattle.sieve_actions.specs.view.State.{state_of};
@@ -20,12 +20,12 @@ use crate::steps::{Running, execute};
 use indexmap::IndexMap;
 use match_text::FlagList;
 use message_text::Message;
+use script_names::ScriptName;
 use sieve_actions::{
     Actions, Addresses, Arrival, Delivery, Envelope, ErrorKind, Flow, RunError, State,
 };
-use sieve_base::ScriptName;
-use sieve_base::limits::MAX_INCLUDE_DEPTH;
 use sieve_code::Code;
+use sieve_limits::MAX_INCLUDE_DEPTH;
 use sieve_matching::FieldReads;
 use sieve_variables::Values;
 use std::alloc::{AllocError, Global};

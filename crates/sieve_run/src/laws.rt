@@ -6,7 +6,7 @@ ghost use Rattle.sieve_reading.specs.Reading.{Ask, Leaf};
 ghost use Rattle.sieve_reading.specs.Script.{Commands, Condition, returns, script_of, stops};
 ghost use Rattle.sieve_reading.specs.Tree.{Node};
 ghost use Rattle.sieve_code.specs.Walk.{gone, tree_walk};
-ghost use Rattle.sieve_base.specs.Limits.{action_limit, include_limit};
+ghost use Rattle.sieve_limits.specs.Limits.{action_limit, include_limit};
 ghost use Rattle.sieve_actions.specs.Delivery.{Arrival, Delivery};
 ghost use Rattle.sieve_run.specs.Depth.{IsDeepest, depth_left, entered_within, watched_run};
 ghost use Rattle.sieve_run.specs.Distinct.{AreDistinct};
@@ -16,7 +16,7 @@ ghost use Rattle.sieve_run.specs.Perform.{answers_of, do_gone, perform};
 ghost use Rattle.sieve_actions.specs.Act.{Ending, goes_with_rejections, is_rejection, is_response, returned, state_behind, stopped};
 ghost use Rattle.sieve_run.specs.Run as spec;
 ghost use Rattle.sieve_actions.specs.State.{RunState};
-ghost use Rattle.sieve_base.specs.declared.name.ScriptName as names;
+ghost use Rattle.script_names.specs.declared.name.ScriptName as names;
 
 /// Commands after a `stop` change nothing, whatever they are, whatever tests ask and whatever commands that act do, be they after it in
 /// its own block or after that (RFC 5228, section 3.3).

@@ -32,6 +32,7 @@ pub use shelf::Shelf;
 pub use sieve_actions::{
     Action, Addresses, Envelope, ErrorKind, Filing, Origin, Response, RunError, Texts,
 };
-pub use sieve_base::{Location, Octets, ScriptName};
+pub use octets::Octets;
+pub use script_names::{Location, ScriptName};
 pub use sieve_matching::mailbox_count;
 pub use sieve_reading::Rejection;

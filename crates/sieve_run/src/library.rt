@@ -3,7 +3,7 @@ ghost use Rattle.sieve_profile.specs.view.Profile.{profile_as};
 ghost use Rattle.sieve_run.specs.Library.{lookup_of};
 ghost use Rattle.sieve_run.specs.view.Found.{FoundAs};
 
-use sieve_base::ScriptName;
+use script_names::ScriptName;
 use sieve_code::Code;
 use sieve_profile::Profile;
 
@@ -21,7 +21,7 @@ pub enum Found<'a> {
 /// Where a run finds scripts by their names: what is there is by the texts and the profile.
 pub trait Library {
     ghost use Rattle.std.specs.Prelude.{◌≡◌, ℕ, List, Option};
-    ghost use Rattle.sieve_base.specs.declared.name.ScriptName.{ScriptName};
+    ghost use Rattle.script_names.specs.declared.name.ScriptName.{ScriptName};
     ghost use Rattle.sieve_profile.specs.Profile as profiles;
 
     /// What is known beyond what always is.

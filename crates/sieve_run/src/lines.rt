@@ -1,12 +1,14 @@
 //! The lines of a verdict: what becomes of a message, and which names were looked up. Writing them takes no memory.
-ghost use Rattle.sieve_base.specs.Writers.{Writes};
+ghost use Rattle.devices.specs.Writers.{Writes};
 ghost use Rattle.std.specs.Prelude.{◌++◌, codes};
 ghost use Rattle.sieve_run.specs.Lines.{action_line, create_word, error_line, filing_words, given_words, implicit_line, mailbox_line, origin_line, read_line, spaced_word, spaced_words, worded_text};
 
 use crate::response_lines::{write_reject, write_response};
+use devices::{Piece, Sink, WriteFault, write_out, write_pieces};
 use match_text::FlagList;
+use octets::Octets;
+use script_names::ScriptName;
 use sieve_actions::{Action, Filing, Origin, RunError};
-use sieve_base::{Octets, Piece, ScriptName, Sink, WriteFault, write_out, write_pieces};
 
 /// Writes a text after a space.
 pub(crate) fn write_spaced<W: Sink>(text: &[u8], writer: &mut W) -> Result<(), WriteFault>
@@ -16,7 +18,7 @@ pub(crate) fn write_spaced<W: Sink>(text: &[u8], writer: &mut W) -> Result<(), W
 }
 
 /// Writes flags, each after a space.
-#[tactic(auto, using(sieve_base::proofs::Writing::writing_items))]
+#[tactic(auto, using(devices::proofs::Writing::writing_items))]
 fn write_flags<W: Sink>(flags: &FlagList, writer: &mut W) -> Result<(), WriteFault>
     ensures { Writes W.contents W.fault_count result writer.old writer.new
         (spaced_words flags.now) }
@@ -41,7 +43,7 @@ pub(crate) fn write_worded<W: Sink>(
 }
 
 /// Writes the line of a word and a mailbox with flags.
-#[tactic(auto, using(sieve_base::proofs::Writing::writing), unfolding(crate::specs::Lines::mailbox_line))]
+#[tactic(auto, using(devices::proofs::Writing::writing), unfolding(crate::specs::Lines::mailbox_line))]
 fn write_mailbox_line<W: Sink>(
     word: &[u8],
     mailbox: &[u8],
@@ -56,7 +58,7 @@ fn write_mailbox_line<W: Sink>(
 }
 
 /// Writes what a store asks for beside its mailbox.
-#[tactic(auto, using(sieve_base::proofs::Writing::writing), unfolding(crate::specs::Lines::filing_words))]
+#[tactic(auto, using(devices::proofs::Writing::writing), unfolding(crate::specs::Lines::filing_words))]
 fn write_filing<W: Sink>(filing: &Filing, writer: &mut W) -> Result<(), WriteFault>
     ensures { Writes W.contents W.fault_count result writer.old writer.new
         (filing_words filing.now) }
@@ -89,7 +91,7 @@ pub(crate) fn write_given<W: Sink>(
 }
 
 /// Writes the line of a store.
-#[tactic(auto, using(sieve_base::proofs::Writing::writing))]
+#[tactic(auto, using(devices::proofs::Writing::writing))]
 fn write_store<W: Sink>(
     mailbox: &[u8],
     flags: &FlagList,

@@ -1,6 +1,6 @@
 //! The verdict on a message.
 ghost use Rattle.std.specs.Prelude.{◌≡◌, ◌<◌, ◌≤◌, ◌↔◌, IsTrue, length};
-ghost use Rattle.sieve_base.specs.Limits.{action_limit};
+ghost use Rattle.sieve_limits.specs.Limits.{action_limit};
 ghost use Rattle.std.specs.Option.{option_copied};
 ghost use Rattle.std.specs.Str.Lines.{lines};
 ghost use Rattle.sieve_run.specs.Lines.{agrees, verdict_lines};
@@ -8,8 +8,8 @@ ghost use Rattle.sieve_run.specs.Lines.{agrees, verdict_lines};
 use crate::agreement::says;
 use indexmap::IndexMap;
 use match_text::FlagList;
+use script_names::ScriptName;
 use sieve_actions::{Action, Origin, RunError};
-use sieve_base::ScriptName;
 use std::marker::Model;
 
 /// The verdict on a message, and the scripts that it looked at. Only a run makes one.
@@ -24,7 +24,7 @@ pub struct Outcome {
 
 impl Model for Outcome {
     ghost use Rattle.std.specs.Prelude.{◌≤◌, length};
-    ghost use Rattle.sieve_base.specs.Limits.{action_limit};
+    ghost use Rattle.sieve_limits.specs.Limits.{action_limit};
     ghost use Rattle.sieve_run.specs.Verdict.{Verdict};
 
     ghost Value = { Verdict };

@@ -3,7 +3,7 @@ ghost use Rattle.std.specs.Prelude.{◌≡◌, OnOk};
 ghost use Rattle.sieve_run.specs.Run.{with_read};
 
 use indexmap::IndexMap;
-use sieve_base::ScriptName;
+use script_names::ScriptName;
 use std::alloc::{AllocError, Global};
 
 /// Notes that a name was looked up, and whether there was a text, where it isn't noted yet.

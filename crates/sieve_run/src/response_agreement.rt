@@ -6,8 +6,8 @@ ghost use Rattle.sieve_run.specs.Lines as spec;
 ghost use Rattle.sieve_run.specs.view.Left.{behind_front};
 
 use crate::agreement::{skip_given, skip_octets, skip_pieces, skip_spaced, skip_worded};
+use devices::Piece;
 use sieve_actions::{Response, Texts};
-use sieve_base::Piece;
 use sieve_reading::Rejection;
 
 /// What follows for how many days a sender gets no other response, where that is said.

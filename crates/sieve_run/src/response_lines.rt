@@ -1,12 +1,12 @@
 //! The lines of responses (RFC 5230) and rejections (RFC 5429).
-ghost use Rattle.sieve_base.specs.Writers.{Writes};
+ghost use Rattle.devices.specs.Writers.{Writes};
 ghost use Rattle.std.specs.Prelude.{◌++◌};
 ghost use Rattle.sieve_reading.specs.Reading.{rejection_word};
 ghost use Rattle.sieve_run.specs.Lines.{addresses_words, days_words, further_words, mime_word, response_line, sending_words, spaced_word, spaced_words, worded_texts};
 
 use crate::lines::{write_given, write_spaced, write_worded};
+use devices::{Piece, Sink, WriteFault, write_out, write_pieces};
 use sieve_actions::{Response, Texts};
-use sieve_base::{Piece, Sink, WriteFault, write_out, write_pieces};
 use sieve_reading::Rejection;
 
 /// Writes for how many days a sender gets no other response, where that is said.
@@ -20,7 +20,7 @@ fn write_days<W: Sink>(days: Option<u64>, writer: &mut W) -> Result<(), WriteFau
 }
 
 /// Writes texts, each after a space.
-#[tactic(auto, using(sieve_base::proofs::Writing::writing_items))]
+#[tactic(auto, using(devices::proofs::Writing::writing_items))]
 fn write_texts<W: Sink>(texts: &Texts, writer: &mut W) -> Result<(), WriteFault>
     ensures { Writes W.contents W.fault_count result writer.old writer.new
         (spaced_words texts.now) }
@@ -32,7 +32,7 @@ fn write_texts<W: Sink>(texts: &Texts, writer: &mut W) -> Result<(), WriteFault>
 }
 
 /// Writes a word and texts, each after a space.
-#[tactic(auto, using(sieve_base::proofs::Writing::writing), unfolding(crate::specs::Lines::worded_texts))]
+#[tactic(auto, using(devices::proofs::Writing::writing), unfolding(crate::specs::Lines::worded_texts))]
 fn write_worded_texts<W: Sink>(word: &[u8], texts: &Texts, writer: &mut W) -> Result<(), WriteFault>
     ensures { Writes W.contents W.fault_count result writer.old writer.new
         (worded_texts word.now texts.now) }
@@ -61,7 +61,7 @@ fn write_mime<W: Sink>(mime: bool, writer: &mut W) -> Result<(), WriteFault>
 }
 
 /// Writes how often a sender gets a response, its subject and whom it is from, where they are given.
-#[tactic(auto, using(sieve_base::proofs::Writing::writing), unfolding(crate::specs::Lines::sending_words))]
+#[tactic(auto, using(devices::proofs::Writing::writing), unfolding(crate::specs::Lines::sending_words))]
 fn write_sending<W: Sink>(response: &Response, writer: &mut W) -> Result<(), WriteFault>
     ensures { Writes W.contents W.fault_count result writer.old writer.new
         (sending_words response.now) }
@@ -72,7 +72,7 @@ fn write_sending<W: Sink>(response: &Response, writer: &mut W) -> Result<(), Wri
 }
 
 /// Writes what else is given of a response beside its text.
-#[tactic(auto, using(sieve_base::proofs::Writing::writing, sieve_base::proofs::Writing::middle_failed), unfolding(crate::specs::Lines::further_words))]
+#[tactic(auto, using(devices::proofs::Writing::writing, devices::proofs::Writing::middle_failed), unfolding(crate::specs::Lines::further_words))]
 fn write_further<W: Sink>(response: &Response, writer: &mut W) -> Result<(), WriteFault>
     ensures { Writes W.contents W.fault_count result writer.old writer.new
         (further_words response.now) }
@@ -83,7 +83,7 @@ fn write_further<W: Sink>(response: &Response, writer: &mut W) -> Result<(), Wri
 }
 
 /// Writes the line of a response.
-#[tactic(auto, using(sieve_base::proofs::Writing::writing, sieve_base::proofs::Writing::middle_failed), unfolding(crate::specs::Lines::response_line))]
+#[tactic(auto, using(devices::proofs::Writing::writing, devices::proofs::Writing::middle_failed), unfolding(crate::specs::Lines::response_line))]
 pub(crate) fn write_response<W: Sink>(response: &Response, writer: &mut W) -> Result<(), WriteFault>
     ensures { Writes W.contents W.fault_count result writer.old writer.new
         (response_line response.now) }
@@ -94,7 +94,7 @@ pub(crate) fn write_response<W: Sink>(response: &Response, writer: &mut W) -> Re
 }
 
 /// Writes the line of a rejection.
-#[tactic(auto, using(sieve_base::proofs::Writing::writing))]
+#[tactic(auto, using(devices::proofs::Writing::writing))]
 pub(crate) fn write_reject<W: Sink>(
     how: Rejection,
     reason: &[u8],

@@ -1,6 +1,6 @@
 //! A script's text with its code or its first fault, under a profile.
 ghost use Rattle.std.specs.Prelude.{◌≡◌, ◌≤◌, IfOk, Some, length};
-ghost use Rattle.sieve_base.specs.Limits.{text_limit};
+ghost use Rattle.sieve_limits.specs.Limits.{text_limit};
 ghost use Rattle.sieve_check.specs.Judgement.{fault_of, judgement_of};
 ghost use Rattle.sieve_profile.specs.view.Profile.{profile_as};
 ghost use Rattle.sieve_run.specs.Library.{lookup_of};
@@ -9,7 +9,7 @@ ghost use Rattle.sieve_run.specs.view.Compiled.{CompiledFrom};
 ghost use Rattle.sieve_run.specs.view.Found.{FoundAs};
 
 use crate::library::Found;
-use sieve_base::Octets;
+use octets::Octets;
 use sieve_check::{FaultKind, JudgeFault, Judged, judge};
 use sieve_code::{Code, compile};
 use sieve_profile::Profile;
@@ -45,7 +45,7 @@ pub struct Script {
 
 impl Model for Script {
     ghost use Rattle.std.specs.Prelude.{◌≡◌, ◌≤◌, length};
-    ghost use Rattle.sieve_base.specs.Limits.{text_limit};
+    ghost use Rattle.sieve_limits.specs.Limits.{text_limit};
     ghost use Rattle.sieve_check.specs.Judgement.{judgement_of};
     ghost use Rattle.sieve_profile.specs.view.Profile.{profile_as};
     ghost use Rattle.sieve_run.specs.Script.{ScriptState};

@@ -1,6 +1,6 @@
 //! A plain library: scripts by their names.
 ghost use Rattle.std.specs.Prelude.{◌≡◌, ◌<◌, ◌≤◌, IfOk, Some, length};
-ghost use Rattle.sieve_base.specs.Limits.{name_limit};
+ghost use Rattle.sieve_limits.specs.Limits.{name_limit};
 ghost use Rattle.sieve_profile.specs.view.Profile.{profile_as};
 ghost use Rattle.sieve_profile.specs.Profile as profiles;
 ghost use Rattle.sieve_run.specs.Library.{lookup_of};
@@ -10,8 +10,9 @@ ghost use Rattle.sieve_run.specs.view.Found.{FoundAs};
 use crate::library::{Found, Library};
 use crate::script::Script;
 use indexmap::IndexMap;
-use sieve_base::limits::MAX_TEXT;
-use sieve_base::{Octets, ScriptName};
+use octets::Octets;
+use script_names::ScriptName;
+use sieve_limits::MAX_TEXT;
 use sieve_profile::Profile;
 use std::alloc::{AllocError, Global};
 use std::marker::Model;

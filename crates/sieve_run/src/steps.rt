@@ -21,10 +21,11 @@ use crate::operations::{
 };
 use crate::reads::note_read;
 use crate::turn::{Step, Turn, proceed};
+use octets::Octets;
+use script_names::ScriptName;
 use sieve_actions::{Delivery, ErrorKind, Flow, State, fail};
-use sieve_base::limits::MAX_INCLUDES;
-use sieve_base::{Octets, ScriptName};
 use sieve_code::{Code, Inclusion, Op};
+use sieve_limits::MAX_INCLUDES;
 use sieve_matching::FieldReads;
 use std::alloc::AllocError;
 

@@ -2,7 +2,7 @@
 use Rattle.std.proofs.Common.{◌≡◌, ℕ, ◌<◌, ◌≤◌, ◌+◌, min, List, length, take, arith, subst, sym}
 use Rattle.std.proofs.lemmas.List.Sums.{count_by-le-length}
 use Rattle.std.proofs.lemmas.List.{length-take}
-use Rattle.sieve_base.specs.Limits.{text_limit}
+use Rattle.sieve_limits.specs.Limits.{text_limit}
 use Rattle.sieve_syntax.specs.Token.{line_at, line_feeds}
 
 pub line_fits : (text : List ℕ) (place line : ℕ) → line ≡ line_at text place → length text ≤ text_limit → line < 4294967296

@@ -6,7 +6,7 @@ use Rattle.std.specs.Option.{option_map}
 use Rattle.std.proofs.lemmas.Bool.{eqb-true, cases_lt}
 use Rattle.std.proofs.lemmas.List.{length-take-le, length-drop, take-take, drop-take, take_all, take-append-drop}
 use Rattle.sieve_syntax.specs.Line.{line_length, on_first, lines_of, is_line_end, is_dot_line}
-use Rattle.sieve_base.specs.Octet.{begins_name, octet_of}
+use Rattle.octets.specs.Octet.{begins_name, octet_of}
 use Rattle.sieve_syntax.specs.Spelling.{is_none, spells_text, is_opening, end_at_dot, are_multi_line, is_multi_line}
 use Rattle.sieve_syntax.specs.Scan.{dot_length, multi_line_length}
 use Rattle.sieve_syntax.proofs.Cases.{by_cases, and_left, and_right}

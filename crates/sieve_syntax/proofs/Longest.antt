@@ -5,7 +5,7 @@ use Rattle.std.specs.List.{list_all}
 use Rattle.std.specs.Option.{option_map}
 use Rattle.std.proofs.lemmas.Bool.{eqb-true}
 use Rattle.std.proofs.lemmas.Bool.Decides.{nat_tests}
-use Rattle.sieve_base.specs.Octet.{begins_name, is_digit, is_name_octet, is_white, octet_of}
+use Rattle.octets.specs.Octet.{begins_name, is_digit, is_name_octet, is_white, octet_of}
 use Rattle.sieve_syntax.specs.Line.{line_length, lines_of}
 use Rattle.sieve_syntax.specs.Scan.{name_length, number_length, quoted_length, multi_line_length, name_at, tag_at, quoted_token, mark_at, longest_at}
 use Rattle.sieve_syntax.specs.Spelling.{is_identifier, is_tag, is_number, ends_number, is_quoted, ends_quoted, is_multi_line, is_one, spells}

@@ -8,7 +8,7 @@ use Rattle.sieve_syntax.specs.declared.parser.SyntaxFault.{SyntaxFault}
 use Rattle.sieve_syntax.specs.declared.parser.SyntaxFault.TheVariants.{Syntax, TooLarge, NoMemory}
 use Rattle.sieve_syntax.specs.Scan.{tokens_of}
 use Rattle.sieve_syntax.specs.Machine.{start, read}
-use Rattle.sieve_base.specs.Limits.{test_depth, block_room}
+use Rattle.sieve_limits.specs.Limits.{test_depth, block_room}
 use Rattle.sieve_syntax.specs.Syntax.{IsFaultAt, IsFaultAtEnd, WritesText, IsFaultLine, syntax_of}
 use Rattle.sieve_syntax.proofs.Spelling.{tokens_of_spell, unique}
 use Rattle.sieve_syntax.proofs.Parsing.{IsRead, read_is, read_ok, read_stops, read_stops_at_end}

@@ -4,7 +4,7 @@ use Rattle.std.specs.Option.{option_map}
 use Rattle.std.proofs.lemmas.Bool.{eqb-true}
 use Rattle.std.proofs.lemmas.Bool.Decides.{nat_tests}
 use Rattle.std.proofs.lemmas.List.{length-take, length-take-le}
-use Rattle.sieve_base.specs.Octet.{is_blank, octet_of}
+use Rattle.octets.specs.Octet.{is_blank, octet_of}
 use Rattle.sieve_syntax.specs.Line.{line_length, lines_of, is_line_end}
 use Rattle.sieve_syntax.specs.Scan.{shifted, dot_length, opening_stop, opening_end, opening_length, multi_line_length}
 use Rattle.sieve_syntax.specs.Spelling.{spells_text, ends_opening, is_opening}

@@ -5,7 +5,7 @@ use Rattle.sieve_syntax.specs.view.Cursor.{IsNext}
 use Rattle.sieve_syntax.specs.Machine.{ParserState, step, start, whole, read}
 use Rattle.sieve_syntax.specs.view.Parsed.{Finishes, Goes, ParsesAs}
 use Rattle.sieve_syntax.specs.Scan.{tokens_of}
-use Rattle.sieve_base.specs.Limits.{test_depth, block_room}
+use Rattle.sieve_limits.specs.Limits.{test_depth, block_room}
 use Rattle.sieve_syntax.specs.Syntax.{syntax_of}
 use Rattle.sieve_syntax.specs.Token.{line_at, SpellsFrom}
 use Rattle.sieve_syntax.specs.Tree.{Node}

@@ -2,7 +2,7 @@
 use Rattle.std.proofs.Common.{◌≡◌, ℕ, zero, suc, ◌<◌, ◌≤◌, ◌==◌, ◌&&◌, Bool, true, false, if◌then◌else◌, List, [], ◌∷◌, length, take, Option, Some, None, refl, sym, ap, ◌∙◌, subst, arith}
 use Rattle.std.specs.List.{list_all}
 use Rattle.std.specs.Option.{option_map}
-use Rattle.sieve_base.specs.Octet.{is_digit, is_name_octet, octet_of}
+use Rattle.octets.specs.Octet.{is_digit, is_name_octet, octet_of}
 use Rattle.sieve_syntax.specs.Octet.{is_unit}
 use Rattle.sieve_syntax.specs.Spelling.{is_none, ends_number, ends_quoted, ends_protected}
 use Rattle.sieve_syntax.specs.Scan.{name_length, number_length, quoted_length, protected_length}

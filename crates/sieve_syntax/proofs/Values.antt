@@ -3,7 +3,7 @@ use Rattle.std.proofs.Common.{◌≡◌, ℕ, ◌+◌, ◌-◌, ◌*◌, ◌^◌
 use Rattle.std.specs.List.{list_any, slice_range}
 use Rattle.std.proofs.lemmas.Bool.{lt-ltb}
 use Rattle.std.proofs.lemmas.List.{at_drop_more, at_drop_all, take_rest, drop_all, drop-drop, length-drop}
-use Rattle.sieve_base.specs.Octet.{is_digit, octet_of}
+use Rattle.octets.specs.Octet.{is_digit, octet_of}
 use Rattle.sieve_syntax.specs.Line.{line_length, lines_of, is_dot_line}
 use Rattle.sieve_syntax.specs.Value.{unit_of, number_from, number_of, line_end, with_cr, is_protector, kept_octet, unprotected, first_kept, is_changed, quoted_octets, without_dot, dot_lines, multi_line_octets}
 use Rattle.sieve_syntax.proofs.Cases.{by_cases, nor_left, nor_right}

@@ -1,7 +1,7 @@
 -- The lines of octets, each with the LF that ends it (RFC 5228, section 2.4.2).
 use Rattle.std.specs.Prelude.{ℕ, Bool, false, ◌==◌, ◌&&◌, if◌then◌else◌, List, [], ◌∷◌}
 use Rattle.std.proofs.Common.{suc}
-use Rattle.sieve_base.specs.Octet.{octet_of}
+use Rattle.octets.specs.Octet.{octet_of}
 
 -- how many octets the first line of a text has, its LF among them
 unfoldable pub line_length : List ℕ → ℕ

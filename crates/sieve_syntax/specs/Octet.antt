@@ -1,6 +1,6 @@
 -- Classes of octets (RFC 5228, section 8.1).
 use Rattle.std.specs.Prelude.{ℕ, Bool, ◌==◌, ◌||◌}
-use Rattle.sieve_base.specs.Octet.{octet_of}
+use Rattle.octets.specs.Octet.{octet_of}
 
 -- the unit of a number: `K`, `M` or `G` in either case (RFC 5228, section 8.1: QUANTIFIER)
 abbrev pub is_unit : ℕ → Bool

@@ -1,7 +1,7 @@
 -- The one list of tokens of a text, as a function.
 use Rattle.std.specs.Prelude.{ℕ, ◌+◌, ◌==◌, ◌&&◌, nat_lt, if◌then◌else◌, List, [], ◌∷◌, length, drop, Option, Some, None, option_map}
 use Rattle.std.proofs.Common.{zero, suc}
-use Rattle.sieve_base.specs.Octet.{octet_of, is_digit, is_blank, begins_name, is_name_octet}
+use Rattle.octets.specs.Octet.{octet_of, is_digit, is_blank, begins_name, is_name_octet}
 use Rattle.sieve_syntax.specs.Line.{line_length, lines_of, is_dot_line}
 use Rattle.sieve_syntax.specs.Octet.{is_unit}
 use Rattle.sieve_syntax.specs.Spelling.{is_opening, spells_text}

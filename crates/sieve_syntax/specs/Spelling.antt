@@ -1,7 +1,7 @@
 -- How tokens are spelled (RFC 5228, sections 2.2 to 2.4 and 8.1): whether a list of octets spells a token of a kind.
 use Rattle.std.specs.Prelude.{ℕ, Bool, true, false, ◌==◌, ◌||◌, ◌&&◌, if◌then◌else◌, List, [], ◌∷◌}
 use Rattle.std.specs.List.{list_all}
-use Rattle.sieve_base.specs.Octet.{octet_of, is_digit, is_blank, begins_name, is_name_octet}
+use Rattle.octets.specs.Octet.{octet_of, is_digit, is_blank, begins_name, is_name_octet}
 use Rattle.sieve_syntax.specs.Line.{lines_of, is_line_end, is_dot_line}
 use Rattle.sieve_syntax.specs.Octet.{is_unit}
 use Rattle.sieve_syntax.specs.declared.token.TokenKind.{TokenKind}

@@ -1,6 +1,6 @@
 -- What a text means: the one tree that writes it, or the line of its first fault.
 use Rattle.std.specs.Prelude.{◌≡◌, ℕ, ◌⊎◌, List, [], ◌∷◌, ◌++◌, length, Result}
-use Rattle.sieve_base.specs.Limits.{test_depth, block_room}
+use Rattle.sieve_limits.specs.Limits.{test_depth, block_room}
 use Rattle.sieve_syntax.specs.Grammar.{WritesSymbols, Begins}
 use Rattle.sieve_syntax.specs.Machine.{start, read}
 use Rattle.sieve_syntax.specs.Scan.{tokens_of}

@@ -1,7 +1,7 @@
 -- The tokens of a text (RFC 5228, sections 2 and 8.1): white space and spellings in turn.
 use Rattle.std.specs.Prelude.{◌≡◌, ℕ, ◌+◌, ◌<◌, ◌≤◌, ◌==◌, ◌⊎◌, IsTrue, List, [], ◌∷◌, length, take, drop, count_by, Some, None}
 use Rattle.std.specs.List.{slice_range}
-use Rattle.sieve_base.specs.Octet.{octet_of}
+use Rattle.octets.specs.Octet.{octet_of}
 use Rattle.sieve_syntax.specs.Spelling.{spells}
 use Rattle.sieve_syntax.specs.White.{white_at}
 use Rattle.sieve_syntax.specs.declared.token.Token.{Token}

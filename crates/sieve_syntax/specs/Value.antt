@@ -1,7 +1,7 @@
 -- What the symbols of a text stand for (RFC 5228, section 2.4).
 use Rattle.std.specs.Prelude.{ℕ, ◌+◌, ◌-◌, ◌*◌, ◌^◌, ◌==◌, ◌&&◌, ◌||◌, Bool, false, not, nat_lt, if◌then◌else◌, List, [], ◌∷◌, ◌++◌, length, drop, Option, Some, None}
 use Rattle.std.specs.List.{slice_range}
-use Rattle.sieve_base.specs.Octet.{octet_of, is_digit}
+use Rattle.octets.specs.Octet.{octet_of, is_digit}
 use Rattle.sieve_syntax.specs.Line.{lines_of, is_dot_line}
 
 -- what a unit stands for (RFC 5228, section 2.4.1): K is 2 ^ 10, M is 2 ^ 20 and G is 2 ^ 30

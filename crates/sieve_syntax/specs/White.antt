@@ -1,7 +1,7 @@
 -- White space (RFC 5228, sections 2.2 and 2.3).
 use Rattle.std.specs.Prelude.{ℕ, Bool, false, ◌==◌, ◌&&◌, if◌then◌else◌, List, [], ◌∷◌, Option, Some, None, option_map}
 use Rattle.std.proofs.Common.{suc}
-use Rattle.sieve_base.specs.Octet.{is_white, octet_of}
+use Rattle.octets.specs.Octet.{is_white, octet_of}
 use Rattle.sieve_syntax.specs.Line.{line_length}
 
 abbrev pub begins_with : ℕ → List ℕ → Bool

@@ -6,7 +6,7 @@ ghost use Rattle.sieve_syntax.specs.Scan.{dot_length, multi_line_length, opening
 ghost use Rattle.sieve_syntax.specs.Spelling.{spells_text};
 
 use crate::line::{is_dot_line, line_length};
-use sieve_base::octet::is_blank;
+use octets::is_blank;
 
 /// Whether the octets are `text`, in any case.
 fn spells_text(t: u8, e: u8, x: u8, u: u8) -> bool

@@ -1,7 +1,7 @@
 //! The parser: from the octets of a text to its tree.
 
 ghost use Rattle.std.specs.Prelude.{◌≡◌, ◌≤◌, ◌<◌, ◌↔◌, ℕ, List, length, IfOk, IsErrOf};
-ghost use Rattle.sieve_base.specs.Limits.{block_room, test_depth, text_limit};
+ghost use Rattle.sieve_limits.specs.Limits.{block_room, test_depth, text_limit};
 ghost use Rattle.sieve_syntax.specs.Machine;
 ghost use Rattle.sieve_syntax.specs.Machine.{whole};
 ghost use Rattle.sieve_syntax.specs.view.Literals.{IsOneLiteral, SeesLiterals, View};
@@ -23,7 +23,7 @@ use crate::step::{Stop, step};
 use crate::symbol::read_symbol;
 use crate::token::{Token, last_line};
 use crate::tree::Command;
-use sieve_base::limits::MAX_TEXT;
+use sieve_limits::MAX_TEXT;
 use std::alloc::{AllocError, Global};
 use thiserror::Error;
 

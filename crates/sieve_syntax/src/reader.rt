@@ -9,7 +9,7 @@ ghost use Rattle.sieve_syntax.specs.view.TreeOf.{block_of, node_of, test_of, tes
 use crate::command_name::CommandName;
 use crate::test_name::TestName;
 use crate::tree::{Argument, Command, Test, Tests, Text};
-use sieve_base::SmallOctets;
+use octets::SmallOctets;
 use std::alloc::{AllocError, Global};
 
 /// A command or a test whose arguments are being read.

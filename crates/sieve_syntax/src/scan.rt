@@ -6,7 +6,7 @@ ghost use Rattle.sieve_syntax.specs.Scan.{longest_at, mark_at, name_at, name_len
 use crate::multi_line::multi_line_length;
 use crate::octet::is_unit;
 use crate::token::TokenKind;
-use sieve_base::octet::{begins_name, is_digit, is_name_octet};
+use octets::{begins_name, is_digit, is_name_octet};
 
 /// How many octets of a name begin the text.
 #[tactic(auto, using(crate::proofs::Steps::name_steps))]

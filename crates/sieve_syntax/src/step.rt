@@ -1,7 +1,7 @@
 //! What each token does to what stands open (RFC 5228, section 8.2).
 
 ghost use Rattle.std.specs.Prelude.{◌≡◌, ◌∷◌, ◌++◌, [], if◌then◌else◌, IfErr, OnOk, Some, map, length, nat_lt};
-ghost use Rattle.sieve_base.specs.Limits.{block_room, test_depth};
+ghost use Rattle.sieve_limits.specs.Limits.{block_room, test_depth};
 ghost use Rattle.sieve_syntax.specs.Machine;
 ghost use Rattle.sieve_syntax.specs.Machine.{after_command, after_listed, bare_head, close, close_block, for_list, for_one, step, with_argument};
 ghost use Rattle.sieve_syntax.specs.view.Literals.{SeesLiterals, View};
@@ -13,8 +13,8 @@ ghost use Rattle.sieve_syntax.specs.declared.step.Stop.TheVariants.{NoMemory};
 use crate::reader::{Head, Level, Open, Outer, ParserState, command_with, finished_test};
 use crate::symbol::Symbol;
 use crate::tree::{Argument, Command, Test, Tests, Text};
-use sieve_base::SmallOctets;
-use sieve_base::limits::{MAX_OPEN_BLOCKS, MAX_TEST_DEPTH};
+use octets::SmallOctets;
+use sieve_limits::{MAX_OPEN_BLOCKS, MAX_TEST_DEPTH};
 use std::alloc::{AllocError, AllocFailed, Global};
 use std::mem;
 

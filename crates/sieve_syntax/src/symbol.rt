@@ -7,7 +7,7 @@ ghost use Rattle.sieve_syntax.specs.Symbol.{symbol_of};
 
 use crate::token::{Token, TokenKind};
 use crate::value::{multi_line_octets, number_of, quoted_octets};
-use sieve_base::SmallOctets;
+use octets::SmallOctets;
 use std::alloc::{AllocError, Global};
 
 /// A token without its place.

@@ -2,7 +2,7 @@
 ghost use Rattle.std.specs.Prelude.{◌≡◌, ◌≤◌, IfOk, IsOk, length};
 ghost use Rattle.sieve_table.specs.Table.{test_named};
 
-use sieve_base::SmallOctets;
+use octets::SmallOctets;
 use sieve_table::{TestKind, test_named};
 use sieve_variables::Labelled;
 use std::alloc::{AllocError, Global};

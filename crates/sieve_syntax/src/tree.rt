@@ -8,7 +8,7 @@ ghost use Rattle.sieve_syntax.specs.view.TreeOf as by;
 
 use crate::command_name::CommandName;
 use crate::test_name::TestName;
-use sieve_base::SmallOctets;
+use octets::SmallOctets;
 use sieve_variables::{Part, Parts};
 use std::alloc::{AllocError, Global};
 use std::mem::size_of;

@@ -1,13 +1,12 @@
 //! What numbers and strings stand for (RFC 5228, section 2.4).
 
 ghost use Rattle.std.specs.Prelude.{◌≡◌, ◌+◌, ◌-◌, ◌*◌, ◌^◌, ◌<◌, ◌++◌, false, IfOk, IsTrue, OnOk, SomeIff};
-ghost use Rattle.sieve_base.specs.Octet.{is_digit, octet_of};
+ghost use Rattle.octets.specs.Octet.{is_digit, octet_of};
 ghost use Rattle.std.specs.List.{list_any};
 ghost use Rattle.sieve_syntax.specs.Value as spec;
 
 use crate::line::{is_dot_line, line_length};
-use sieve_base::SmallOctets;
-use sieve_base::octet::is_digit;
+use octets::{SmallOctets, is_digit};
 use std::alloc::{AllocError, Global};
 
 /// What a unit stands for.

@@ -1,11 +1,11 @@
 //! White space and comments (RFC 5228, sections 2.2 and 2.3).
 
 ghost use Rattle.std.specs.Prelude.{◌≡◌, ◌<◌, ◌≤◌, length, IfSome};
-ghost use Rattle.sieve_base.specs.Octet.{octet_of};
+ghost use Rattle.octets.specs.Octet.{octet_of};
 ghost use Rattle.sieve_syntax.specs.White.{begins_with, bracket_comment, comment_length, white_at};
 
 use crate::line::line_length;
-use sieve_base::octet::is_white;
+use octets::is_white;
 
 /// Whether a slash begins the octets.
 fn begins_with_slash(rest: &[u8]) -> bool

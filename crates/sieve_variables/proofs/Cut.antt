@@ -1,5 +1,5 @@
 -- The computed cut of a text into references and octets is the one cut.
-use Rattle.sieve_base.specs.Octet.{octet_of}
+use Rattle.octets.specs.Octet.{octet_of}
 use Rattle.std.proofs.Common.{◌≡◌, ℕ, suc, ◌+◌, Bool, true, false, ◌&&◌, ◌==◌, cond, List, [], ◌∷◌, ◌++◌, length, drop, Option, None, Some, refl, sym, ◌∙◌, ap, subst, append_assoc, length-append, arith}
 use Rattle.std.specs.List.{list_all}
 use Rattle.std.specs.Option.{option_map}
@@ -10,7 +10,7 @@ use Rattle.text_cut.specs.Scan.{Finds, pieces_from}
 use Rattle.sieve_variables.specs.Reference.{Cuts, IsLegal, dotted, is_legal, reference, written}
 use Rattle.sieve_variables.specs.Scan.{before_brace, further, if_legal, inside_at, is_inside, pieces_of, reference_at, words_of}
 use Rattle.sieve_variables.proofs.Words.{dotted-words_of, dotted_inside, legal_octets, legal_some, not_brace, words_of-dotted}
-use Rattle.sieve_base.proofs.Both.{first_of_both, last_of_both}
+use Rattle.octets.proofs.Both.{first_of_both, last_of_both}
 
 -- what stands before the first `}`
 

@@ -2,7 +2,7 @@
 use Rattle.std.proofs.Common.{◌≡◌, ℕ, zero, suc, ◌-◌, ◌≤◌, Bool, true, false, List, [], ◌∷◌, ◌++◌, length, take, refl, sym, ap, ◌∙◌, arith}
 use Rattle.std.proofs.lemmas.List.{length-append, length-take}
 use Rattle.std.specs.List.{flat_map}
-use Rattle.sieve_base.specs.Limits.{value_limit}
+use Rattle.sieve_limits.specs.Limits.{value_limit}
 use Rattle.sieve_variables.specs.Modifier.{modified, quoted_wildcard, with_case, with_first}
 use Rattle.sieve_variables.specs.declared.modifier.Modifiers.{Modifiers}
 use Rattle.sieve_variables.proofs.Modified.{modified-plain, modified-quoted}

@@ -1,5 +1,5 @@
 -- What modifiers keep: the number of characters, and the octets of the front.
-use Rattle.sieve_base.specs.Octet.{octet_of}
+use Rattle.octets.specs.Octet.{octet_of}
 use Rattle.std.proofs.Common.{◌≡◌, ℕ, ◌+◌, ◌≤◌, ◌<◌, List, [], ◌∷◌, ◌++◌, Bool, true, false, not, Option, Some, None, cond, if◌then◌else◌, filter, length, map, take, set, get_or, decimal, zero, suc, ◌^◌, refl, ap, sym, ◌∙◌, arith}
 use Rattle.std.proofs.lemmas.Bool.Decides.{nat_tests}
 use Rattle.std.proofs.lemmas.Fmt.{length-decimal-le}
@@ -7,7 +7,7 @@ use Rattle.std.proofs.lemmas.List.{take-map, take_all}
 use Rattle.std.proofs.lemmas.List.Sums.{length-filter, count_by-le-length}
 use Rattle.std.specs.Char.{to_ascii_lowercase, to_ascii_uppercase}
 use Rattle.std.specs.List.{flat_map}
-use Rattle.sieve_base.specs.Limits.{value_limit}
+use Rattle.sieve_limits.specs.Limits.{value_limit}
 use Rattle.sieve_variables.specs.Modifier.{character_count, goes_on, in_case, is_wild, modified, quoted_wildcard, with_case, with_first, with_length, with_quotes}
 use Rattle.sieve_variables.specs.declared.modifier.LetterCase.{LetterCase}
 use Rattle.sieve_variables.specs.declared.modifier.LetterCase.TheVariants.{Lower, Upper}

@@ -1,7 +1,7 @@
 -- Worked rows of what no script without a fault and no output shows: parts of references that are refused, and the order of names and of
 -- variables.
 use Rattle.std.specs.Prelude.{◌≡◌, [], ◌∷◌, codes, refl}
-use Rattle.sieve_base.specs.Octet.{octet_of}
+use Rattle.octets.specs.Octet.{octet_of}
 use Rattle.sieve_variables.specs.Part.{literal, match_part, scoped_part}
 use Rattle.text_cut.specs.Scan.{pieces_from}
 use Rattle.sieve_variables.specs.Scan.{before_brace, inside_at, parts_of_text}

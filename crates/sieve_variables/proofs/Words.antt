@@ -5,13 +5,13 @@ use Rattle.std.proofs.lemmas.Bool.{false≢true}
 use Rattle.std.proofs.lemmas.Bool.Decides.{nat_tests}
 use Rattle.std.proofs.lemmas.List.Folds.{list_all-append}
 use Rattle.std.proofs.lemmas.List.Splits.{length-slice_split}
-use Rattle.sieve_base.specs.Octet.{begins_name, is_digit, is_name_octet, octet_of}
+use Rattle.octets.specs.Octet.{begins_name, is_digit, is_name_octet, octet_of}
 use Rattle.std.specs.Str.{str_eq_ignore_ascii_case}
 use Rattle.sieve_variables.specs.Name.{folded_name, global_namespace, index_of, is_identifier, is_number}
 use Rattle.sieve_variables.specs.Part.{global_part, is_shared, literal, part_of_words}
 use Rattle.sieve_variables.specs.Reference.{dotted, is_legal, is_name, reference, written}
 use Rattle.sieve_variables.specs.Scan.{is_dot, is_far, is_foreign, is_inside, words_of}
-use Rattle.sieve_base.proofs.Both.{both, first_of_both, last_of_both}
+use Rattle.octets.proofs.Both.{both, first_of_both, last_of_both}
 
 -- what stands between braces
 

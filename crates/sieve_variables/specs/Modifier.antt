@@ -2,8 +2,8 @@
 use Rattle.std.specs.Prelude.{ℕ, Bool, true, false, ◌==◌, ◌||◌, ◌&&◌, not, List, [], ◌∷◌, length, map, filter, take, Option, Some, None, decimal, nat_le, nat_lt, if◌then◌else◌}
 use Rattle.std.specs.Char.{to_ascii_lowercase, to_ascii_uppercase}
 use Rattle.std.specs.List.{flat_map}
-use Rattle.sieve_base.specs.Limits.{value_limit}
-use Rattle.sieve_base.specs.Octet.{octet_of}
+use Rattle.sieve_limits.specs.Limits.{value_limit}
+use Rattle.octets.specs.Octet.{octet_of}
 use Rattle.sieve_variables.specs.declared.modifier.LetterCase.{LetterCase}
 use Rattle.sieve_variables.specs.declared.modifier.LetterCase.TheVariants.{Lower, Upper}
 use Rattle.sieve_variables.specs.declared.modifier.Modifiers.{Modifiers}

@@ -2,8 +2,8 @@
 use Rattle.std.specs.Prelude.{ℕ, Bool, false, ◌&&◌, ◌*◌, ◌+◌, ◌-◌, List, [], ◌∷◌, length, take, drop, min, codes}
 use Rattle.std.specs.List.{list_all}
 use Rattle.std.specs.Str.{str_eq_ignore_ascii_case, str_to_ascii_lowercase}
-use Rattle.sieve_base.specs.Limits.{match_limit}
-use Rattle.sieve_base.specs.Octet.{octet_of, begins_name, is_name_octet, is_digit}
+use Rattle.sieve_limits.specs.Limits.{match_limit}
+use Rattle.octets.specs.Octet.{octet_of, begins_name, is_name_octet, is_digit}
 
 -- an identifier (RFC 5228, section 8.1)
 abbrev pub is_identifier : List ℕ → Bool

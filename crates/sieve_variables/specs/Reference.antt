@@ -3,7 +3,7 @@
 -- namespace is an identifier.
 use Rattle.std.specs.Prelude.{◌≡◌, ℕ, Bool, true, false, ◌&&◌, ◌||◌, List, [], ◌∷◌, ◌++◌, codes}
 use Rattle.std.specs.List.{flat_map, list_all}
-use Rattle.sieve_base.specs.Octet.{octet_of}
+use Rattle.octets.specs.Octet.{octet_of}
 use Rattle.text_cut.specs.Cut as cut
 use Rattle.text_cut.specs.Cut.{Piece, sequence}
 use Rattle.sieve_variables.specs.Name.{is_identifier, is_number}

@@ -2,8 +2,8 @@
 use Rattle.std.specs.Prelude.{ℕ, ◌+◌, Bool, true, false, not, ◌==◌, ◌&&◌, ◌||◌, nat_lt, List, [], ◌∷◌, length, Option, None, Some, if◌then◌else◌}
 use Rattle.std.specs.List.{list_any, slice_split}
 use Rattle.std.specs.Option.{option_map}
-use Rattle.sieve_base.specs.Limits.{match_limit}
-use Rattle.sieve_base.specs.Octet.{octet_of, is_name_octet}
+use Rattle.sieve_limits.specs.Limits.{match_limit}
+use Rattle.octets.specs.Octet.{octet_of, is_name_octet}
 use Rattle.sieve_variables.specs.Name.{is_number, index_of}
 use Rattle.text_cut.specs.Cut.{octet, sequence}
 use Rattle.text_cut.specs.Scan as scan

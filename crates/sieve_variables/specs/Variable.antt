@@ -1,6 +1,6 @@
 -- Variables by their names in lower case: those of a script (RFC 5229, section 3), and those that scripts share (RFC 6609,
 -- section 3.4).
-use Rattle.sieve_base.specs.Octet.{is_among}
+use Rattle.octets.specs.Octet.{is_among}
 use Rattle.std.specs.Prelude.{ℕ, List, [], ◌∷◌, ◌++◌, length, drop, if◌then◌else◌}
 use Rattle.sieve_variables.specs.Name.{folded_name, global_prefix, is_global_name}
 

@@ -7,7 +7,7 @@ ghost use Rattle.sieve_variables.specs.Value.{text_value};
 use crate::modifier::{Modifiers, front};
 use crate::part::Part;
 use crate::values::Values;
-use sieve_base::limits::MAX_VALUE;
+use sieve_limits::MAX_VALUE;
 use std::alloc::{AllocError, Global};
 use std::borrow::CowSlice;
 

@@ -2,7 +2,7 @@
 ghost use Rattle.std.specs.Prelude.{◌≡◌, ◌≤◌, [], IfOk, IsOk, length};
 
 use crate::few::{FEW, Few};
-use sieve_base::SmallOctets;
+use octets::SmallOctets;
 use std::alloc::{AllocError, Global};
 use std::marker::Model;
 

@@ -1,11 +1,11 @@
 //! The modifiers of a value that is set (RFC 5229, section 4.1).
 ghost use Rattle.std.specs.Prelude.{◌≡◌, ◌++◌, ◌≤◌, decimal, filter, IfOk, length, OnOk, take};
 ghost use Rattle.std.specs.List.{flat_map};
-ghost use Rattle.sieve_base.specs.Limits.{value_limit};
+ghost use Rattle.sieve_limits.specs.Limits.{value_limit};
 ghost use Rattle.sieve_variables.specs.Modifier.{character_count, goes_on, in_case, is_wild, modified, quoted_wildcard, with_case, with_first, with_quotes};
 
 use itoa::Buffer;
-use sieve_base::limits::MAX_VALUE;
+use sieve_limits::MAX_VALUE;
 use std::alloc::{AllocError, Global};
 
 /// The case of letters.

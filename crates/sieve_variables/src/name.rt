@@ -1,14 +1,13 @@
 //! The names of variables (RFC 5229, section 3).
 ghost use Rattle.std.specs.Prelude.{◌≡◌, false, true, IfOk, MatchOption, drop, length};
 ghost use Rattle.std.specs.List.{list_all};
-ghost use Rattle.sieve_base.specs.Octet.{is_digit, is_name_octet};
+ghost use Rattle.octets.specs.Octet.{is_digit, is_name_octet};
 ghost use Rattle.sieve_variables.specs.Part.{is_shared};
 ghost use Rattle.sieve_variables.specs.Reference.{is_name};
 ghost use Rattle.sieve_variables.specs.Name.{folded_name, global_prefix, index_of, is_global_name, is_identifier, is_number};
 
-use sieve_base::SmallOctets;
-use sieve_base::limits::MAX_MATCH;
-use sieve_base::octet::{begins_name, is_digit, is_name_octet};
+use octets::{SmallOctets, begins_name, is_digit, is_name_octet};
+use sieve_limits::MAX_MATCH;
 use std::alloc::{AllocError, Global};
 
 /// The first number that no match variable has.

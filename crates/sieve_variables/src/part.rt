@@ -5,7 +5,7 @@ ghost use Rattle.sieve_variables.specs.view.Part.{part_ref_as, plain_octets, var
 
 use crate::labelled::Labelled;
 use crate::variable::{Names, Scope, Variable, VariableRef};
-use sieve_base::SmallOctets;
+use octets::SmallOctets;
 use std::alloc::{AllocError, Global};
 use std::marker::Model;
 use std::mem::size_of;

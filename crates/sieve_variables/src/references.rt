@@ -11,9 +11,8 @@ use crate::name::{index_of, is_identifier, is_name, is_number, is_shared};
 use crate::part::Part;
 use crate::parts::Parts;
 use crate::variable::Variable;
-use sieve_base::SmallOctets;
-use sieve_base::limits::MAX_MATCH;
-use sieve_base::octet::is_name_octet;
+use octets::{SmallOctets, is_name_octet};
+use sieve_limits::MAX_MATCH;
 use std::alloc::{AllocError, Global};
 
 /// What references a text has.

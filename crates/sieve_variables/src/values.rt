@@ -6,7 +6,7 @@ ghost use Rattle.sieve_variables.specs.view.Variable.{variable_ref_as};
 use crate::part::{Part, PartRef};
 use crate::variable::{Variable, VariableRef};
 use crate::variables::Variables;
-use sieve_base::Octets;
+use octets::Octets;
 use std::alloc::{AllocError, Global};
 use std::marker::Model;
 use std::mem;

@@ -1,5 +1,5 @@
 //! Variables by their names (RFC 5229, section 3; RFC 6609, section 3.4).
-ghost use Rattle.sieve_base.specs.Octet.{is_among};
+ghost use Rattle.octets.specs.Octet.{is_among};
 ghost use Rattle.std.specs.Prelude.{◌≡◌, [], IfOk, IsOk, OnErr, OnOk, true};
 ghost use Rattle.sieve_variables.specs.Name.{folded_name};
 ghost use Rattle.sieve_variables.specs.Variable.{global_variable, local_variable, scoped, variable_named, with_name};

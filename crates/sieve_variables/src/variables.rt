@@ -3,8 +3,8 @@ ghost use Rattle.std.specs.Prelude.{◌≡◌, [], IfErr, IsOk, OnErr, OnOk, is_
 ghost use Rattle.sieve_variables.specs.Value.{has_room_under, held_under, is_set_under, with_held};
 
 use indexmap::IndexMap;
-use sieve_base::Octets;
-use sieve_base::limits::MAX_GLOBALS;
+use octets::Octets;
+use sieve_limits::MAX_GLOBALS;
 use std::alloc::{AllocError, Global};
 use std::marker::Model;
 

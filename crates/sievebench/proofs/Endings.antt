@@ -1,9 +1,9 @@
 -- Each session comes to an end, and what is written of a session that breaks off is a front of a session's text.
-use Rattle.sieve_base.specs.Octet.{octet_of}
+use Rattle.octets.specs.Octet.{octet_of}
 use Rattle.std.proofs.Common.{◌≡◌, ℕ, ◌<◌, ◌≤◌, zero, suc, List, [], ◌∷◌, ◌++◌, length, take, drop, length-drop, append_assoc, append-nil, sym, ap, ◌∙◌, refl, arith, inl, inr, Bool, true, false, eqb, cond, nat_lt, codes, Option, None, Some, Result, Ok, Err}
 use Rattle.std.specs.Option.{option_map}
 use Rattle.session_text.specs.SessionLine.{cut_line, first_line, in_front, line_from, without_cr}
-use Rattle.sieve_base.specs.Limits.{line_limit}
+use Rattle.sieve_limits.specs.Limits.{line_limit}
 use Rattle.sieve_profile.specs.Profile.{Profile}
 use Rattle.sieve_run.specs.Meter.{runs_after}
 use Rattle.bench.specs.Content.{Content, Edit, after}

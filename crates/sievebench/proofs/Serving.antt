@@ -3,9 +3,9 @@ use Rattle.std.proofs.Common.{◌≡◌, ℕ, ◌<◌, ◌≤◌, ◌⊎◌, inl
 use Rattle.std.proofs.lemmas.Bool.Decides.{nat_tests}
 use Rattle.std.proofs.KnownBytes.{Appends-nil}
 use Rattle.std.specs.Io.KnownBytes.{Appends}
-use Rattle.sieve_base.specs.Devices.{HasRisen}
-use Rattle.sieve_base.specs.Limits.{expected_limit, mailboxes_limit, message_count_limit, message_limit, script_count_limit, text_limit}
-use Rattle.sieve_base.specs.Writers.{Wrote, WroteFront}
+use Rattle.devices.specs.Devices.{HasRisen}
+use Rattle.sieve_limits.specs.Limits.{expected_limit, mailboxes_limit, message_count_limit, message_limit, script_count_limit, text_limit}
+use Rattle.devices.specs.Writers.{Wrote, WroteFront}
 use Rattle.bench.specs.Bench.{BenchState}
 use Rattle.bench.specs.Content.{Content, Edit, after, unless, is_long, is_long_id, text_at, message_at, with_script, with_message, with_expected}
 use Rattle.session_text.specs.view.Payload.{BreaksOff, Takes, FallsShort}

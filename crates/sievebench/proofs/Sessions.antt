@@ -1,7 +1,7 @@
 -- How the commands of a session follow one another.
 use Rattle.std.proofs.Common.{◌≡◌, ℕ, ◌+◌, ◌-◌, ◌^◌, ◌≤◌, ◌⊎◌, inl, inr, Bool, false, List, [], ◌++◌, length, refl, sym, ap, ◌∙◌, append_assoc, append-nil, arith, Option, None, Some}
 use Rattle.std.proofs.KnownBytes.{Appends-nil, Appends-trans}
-use Rattle.sieve_base.specs.Devices.{HasRisen}
+use Rattle.devices.specs.Devices.{HasRisen}
 use Rattle.session_text.specs.view.Input.{CallsMade, Input, Reads, TurnsGave}
 use Rattle.sievebench.specs.Session.{BrokenSessionFrom, CutSessionFrom, SessionFrom, MatchFault, MatchSessionEnd, ReadsAreMade, Served, TurnsAreSpent, none_yet, one_more, profile_of, request_of, request_so_far}
 use Rattle.sievebench.specs.view.Progress.{BreakFrom, CutFrom, EndFrom, ServesFrom, SoFar}

@@ -2,7 +2,7 @@
 use Rattle.std.specs.Prelude.{◌≡◌, ⊤, ℕ, ◌+◌, ◌-◌, ◌^◌, ◌≤◌, Bool, true, false, ◌⊎◌, List, [], ◌∷◌, ◌++◌, length, take, drop, Option, None, Some, Result, Ok, Err, nat_lt, if◌then◌else◌, codes}
 use Rattle.std.specs.Io.KnownBytes.{Appends}
 use Rattle.std.specs.Option.{option_map}
-use Rattle.sieve_base.specs.Limits.{line_limit}
+use Rattle.sieve_limits.specs.Limits.{line_limit}
 use Rattle.sieve_profile.specs.Profile.{Profile}
 use Rattle.sieve_run.specs.Library.{Lookup, missing, invalid, present, found_at, library_of}
 use Rattle.sieve_run.specs.Meter.{runs_after}
@@ -11,7 +11,7 @@ use Rattle.bench.specs.Content.{Content, Edit, put_script, put_message, set_main
 use Rattle.bench.specs.Dump.{script_code}
 use Rattle.bench.specs.Report.{report_text}
 use Rattle.bench.specs.Stale.{stale_after}
-use Rattle.sieve_base.specs.declared.name.ScriptName.{ScriptName}
+use Rattle.script_names.specs.declared.name.ScriptName.{ScriptName}
 use Rattle.session_text.specs.SessionLine.{SessionCommand, nothing, script, message, main, no_main, rename, drop_script, drop_message, envelope, mailbox, report, dump, expect, no_expect, mailboxes, message_envelope, no_message_envelope, clock, no_clock, first_line, command_of_line, is_long_so_far, line_so_far}
 use Rattle.bench.specs.declared.fault.EditFault.{EditFault}
 use Rattle.bench.specs.declared.fault.EditFault.TheVariants.{NoSuchScript, NameTaken, NoSuchMessage, Full, TooLarge, NoMemory}

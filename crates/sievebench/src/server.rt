@@ -1,7 +1,7 @@
 //! A session: commands in, replies out.
 ghost use Rattle.std.specs.Prelude.{◌≡◌, ◌≤◌, ◌<◌, ◌+◌, ℕ, List, Option, codes, nat_lt, if◌then◌else◌};
-ghost use Rattle.sieve_base.specs.Devices.{HasRisen};
-ghost use Rattle.sieve_base.specs.Writers.{Wrote, WroteFront, Writes};
+ghost use Rattle.devices.specs.Devices.{HasRisen};
+ghost use Rattle.devices.specs.Writers.{Wrote, WroteFront, Writes};
 ghost use Rattle.bench.specs.Bench.{BenchState};
 ghost use Rattle.sieve_run.specs.Library.{Lookup};
 ghost use Rattle.sieve_run.specs.view.Found.{FoundAs};
@@ -14,8 +14,9 @@ ghost use Rattle.sievebench.specs.view.Progress as progress;
 use crate::status::SessionEnd;
 use crate::task::{Question, Subject, Task, limit_of, task_of};
 use bench::{Bench, EditFault, ReportFault, write_code};
+use devices::{Sink, Source, WriteFault, write_out};
+use octets::Octets;
 use session_text::{Input, Line, Taken, take_octets};
-use sieve_base::{Octets, Sink, Source, WriteFault, write_out};
 use sieve_run::{Found, Meter};
 use std::alloc::Global;
 
@@ -211,7 +212,7 @@ fn serve_report<W: Sink>(bench: &mut Bench, meter: &mut Meter, writer: &mut W) -
 }
 
 /// Writes the lines of a script's code and `ok`, or why there are none.
-#[tactic(auto, using(sieve_base::proofs::Writing::writing))]
+#[tactic(auto, using(devices::proofs::Writing::writing))]
 fn write_dump<W: Sink>(found: Found<'_>, writer: &mut W) -> Result<(), WriteFault>
     ensures { (lookup : Lookup) → FoundAs found.entry lookup
         → Writes W.contents W.fault_count result writer.old writer.new (spec.dump_reply lookup) }
@@ -227,7 +228,7 @@ fn write_dump<W: Sink>(found: Found<'_>, writer: &mut W) -> Result<(), WriteFaul
 }
 
 /// Writes the answer to a question.
-#[tactic(auto, using(sieve_base::proofs::Writing::writing))]
+#[tactic(auto, using(devices::proofs::Writing::writing))]
 fn write_answer<W: Sink>(
     bench: &Bench,
     writer: &mut W,

@@ -7,9 +7,10 @@ ghost use Rattle.sievebench.specs.view.Task.{IsTried, Tasks, limit_of};
 
 use bench::{Bench, EditFault};
 use date_text::Clock;
+use octets::Octets;
+use script_names::{Location, ScriptName};
 use session_text::{SessionCommand, Word, command_of_line};
-use sieve_base::limits::{MAX_EXPECTED, MAX_ID, MAX_MAILBOXES, MAX_MESSAGE, MAX_TEXT};
-use sieve_base::{Location, Octets, ScriptName};
+use sieve_limits::{MAX_EXPECTED, MAX_ID, MAX_MAILBOXES, MAX_MESSAGE, MAX_TEXT};
 use std::alloc::{AllocError, Global};
 
 /// What octets are put at: a script's name or a message's id, the id of a message of which they are expected, or the list of mailboxes.

@@ -1,6 +1,6 @@
 //! What standard error says. Where that can't be written either, the status tells.
 
-use sieve_base::{Counted, write_quoted};
+use devices::{Counted, write_quoted};
 use std::alloc::Global;
 
 /// Says what went wrong.

@@ -3,8 +3,8 @@
 use crate::complaints::{complain, complain_of};
 use crate::files::{octets_in, script_name};
 use crate::streams::Output;
-use sieve_base::Counted;
-use sieve_base::limits::MAX_TEXT;
+use devices::Counted;
+use sieve_limits::MAX_TEXT;
 use sievebench::{End, Location, Profile, ScriptName, SessionEnd, TestEnd, dump_text, status_of};
 use std::alloc::{AllocError, Global};
 use std::io;

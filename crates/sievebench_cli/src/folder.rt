@@ -2,7 +2,7 @@
 
 use crate::files::{ReadFault, SCRIPT_END, octets_at};
 use crate::test_files::TestInput;
-use sieve_base::limits::MAX_TEXT;
+use sieve_limits::MAX_TEXT;
 use sievebench::Location;
 use std::alloc::{AllocError, Global};
 use std::fs::Metadata;

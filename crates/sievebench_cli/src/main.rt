@@ -12,8 +12,8 @@ mod test_run;
 mod tests;
 
 use complaints::complain;
+use devices::Counted;
 use dump::run_dump;
-use sieve_base::Counted;
 use sievebench::{
     Bench, CommandLine, End, Job, Meter, Profile, SessionEnd, UsageFault, command_of, session,
     status_of,

@@ -2,9 +2,7 @@
 
 use crate::files::{ReadFault, octets_at, script_name};
 use crate::folder::read_folder;
-use sieve_base::limits::{
-    MAX_ADDRESS, MAX_MAILBOX, MAX_MAILBOXES, MAX_MESSAGE, MAX_NAME, MAX_TEXT,
-};
+use sieve_limits::{MAX_ADDRESS, MAX_MAILBOX, MAX_MAILBOXES, MAX_MESSAGE, MAX_NAME, MAX_TEXT};
 use sievebench::{
     Argument, Clock, Location, Octets, Profile, ScriptName, TestJob, TestScript, TestWords,
 };

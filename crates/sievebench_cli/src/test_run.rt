@@ -4,7 +4,7 @@ use crate::complaints::{complain, complain_of};
 use crate::files::ReadFault;
 use crate::streams::Output;
 use crate::test_files::{TestInput, read_test};
-use sieve_base::Counted;
+use devices::Counted;
 use sievebench::{
     Clock, End, Meter, Profile, SessionEnd, TestEnd, TestJob, TestWords, status_of, test_bench,
 };

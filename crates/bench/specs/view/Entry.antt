@@ -4,7 +4,7 @@ use Rattle.std.specs.Map.{lookup}
 use Rattle.std.specs.Option.{option_map}
 use Rattle.indexmap.specs.IndexMap as ordered
 use lib.Pointwise.{pointwise}
-use Rattle.sieve_base.specs.declared.name.ScriptName.{ScriptName}
+use Rattle.script_names.specs.declared.name.ScriptName.{ScriptName}
 use Rattle.sieve_actions.specs.declared.envelope.Addresses.{Addresses}
 use Rattle.sieve_run.specs.Meter.{next_run}
 use Rattle.sieve_run.specs.Run.{is_read}

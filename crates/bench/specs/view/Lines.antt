@@ -1,7 +1,7 @@
 -- The lines of a verdict in a report, one by one.
 use Rattle.std.specs.Prelude.{ℕ, Bool, true, false, List, [], ◌++◌, Option, None, Some}
 use Rattle.std.specs.List.{flat_map, zip}
-use Rattle.sieve_base.specs.declared.name.ScriptName.{ScriptName}
+use Rattle.script_names.specs.declared.name.ScriptName.{ScriptName}
 use Rattle.sieve_actions.specs.declared.action.Action.{Action}
 use Rattle.sieve_actions.specs.declared.action.Origin.{Origin}
 use Rattle.sieve_actions.specs.declared.error.RunError.{RunError}

@@ -1,6 +1,6 @@
 -- The program's spots and words.
 use Rattle.std.specs.Prelude.{ℕ, ◌+◌, Bool, true, not, ◌&&◌, ◌==◌, List, [], ◌∷◌, option_map}
-use Rattle.sieve_base.specs.Octet.{is_white, octet_of}
+use Rattle.octets.specs.Octet.{is_white, octet_of}
 use Rattle.date_text.specs.Reading.{DateWords}
 use Rattle.date_text.specs.Words.{Word, is_closed, is_outside, kept, words_of}
 use Rattle.date_text.specs.declared.date_words.DateSlices as slices

@@ -1,7 +1,7 @@
 //! A caller of the libraries, which `docs/ARCHITECTURE.md` shows: what becomes of a mail by one script.
 
 ghost use Rattle.std.specs.Prelude.{◌≡◌, ◌≤◌, [], ◌∷◌, IfOk, None, Some, length};
-ghost use Rattle.sieve_base.specs.Limits.{name_limit};
+ghost use Rattle.sieve_limits.specs.Limits.{name_limit};
 ghost use Rattle.sieve_run.specs.Library.{library_of};
 ghost use Rattle.sieve_run.specs.Run.{outcome_of};
 ghost use Rattle.sieve_run.specs.Shelf.{text_on};

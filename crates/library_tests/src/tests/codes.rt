@@ -1,7 +1,7 @@
 //! Texts that are judged and compiled, and their code as it is printed. What codes further texts have stands in `examples/rows`.
 
 use super::{holds, same};
-use sieve_base::{Counted, Sink, WriteFault};
+use devices::{Counted, Sink, WriteFault};
 use sieve_check::{Checked, Judged, judge};
 use sieve_code::{Code, compile};
 use sieve_profile::Profile;

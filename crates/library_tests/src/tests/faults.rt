@@ -3,8 +3,8 @@
 //! A refusal with fields has no number of its own: its variants are listed in the order of their numbers.
 
 use super::same;
+use devices::WriteFault;
 use message_text::MessageFault;
-use sieve_base::WriteFault;
 use sieve_check::{CheckFault, JudgeFault, Rule};
 use sieve_run::ErrorKind;
 use sieve_syntax::SyntaxFault;

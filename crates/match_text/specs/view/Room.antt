@@ -1,6 +1,6 @@
 -- What a room for keys has for the rest of a key.
 use Rattle.std.specs.Prelude.{ℕ, Bool, false, not, ◌&&◌, ◌||◌, ◌==◌, List, Option, None, Some, filter, length, nat_le}
-use Rattle.sieve_base.specs.Octet.{octet_of}
+use Rattle.octets.specs.Octet.{octet_of}
 use Rattle.match_text.specs.Room.{takes_one}
 use Rattle.match_text.specs.Wildcard.{items_from}
 use Rattle.match_text.specs.declared.room.KeyKind.{KeyKind}

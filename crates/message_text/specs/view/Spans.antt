@@ -2,7 +2,7 @@
 use Rattle.std.specs.Prelude.{◌≡◌, ℕ, ◌≤◌, Bool, false, cond, filter, List, [], ◌∷◌, length, drop, map, slice_range}
 use Rattle.std.specs.List.{All, after_first, take_while}
 use Rattle.std.specs.Str.Lines.{lines}
-use Rattle.sieve_base.specs.Limits.{message_limit}
+use Rattle.sieve_limits.specs.Limits.{message_limit}
 use Rattle.message_text.specs.Fields.{Group, field_groups, is_colon, is_continuation, is_field, is_unfolded, name_in}
 use Rattle.message_text.specs.view.NameHash.{name_hash}
 use Rattle.message_text.specs.declared.fields.FieldSpan.{FieldSpan}

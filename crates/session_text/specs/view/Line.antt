@@ -1,6 +1,6 @@
 -- What the program says of the next line.
 use Rattle.std.specs.Prelude.{◌≡◌, ⊤, ℕ, false, ◌<◌, ◌≤◌, List, [], ◌++◌, length, take, drop, None, Some}
-use Rattle.sieve_base.specs.Limits.{line_limit}
+use Rattle.sieve_limits.specs.Limits.{line_limit}
 use Rattle.session_text.specs.SessionLine.{cut_line, first_line, is_long_so_far, line_so_far}
 use Rattle.session_text.specs.declared.line.Line.{Line}
 use Rattle.session_text.specs.declared.line.Line.TheVariants.{Over, Whole, TooLong, Failed, Spent}

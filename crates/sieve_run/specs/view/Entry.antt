@@ -1,7 +1,7 @@
 -- What a shelf has at a name.
 use Rattle.std.specs.Prelude.{◌≡◌, ⊤, ℕ, ◌<◌, List, [], ◌∷◌, length, map}
-use Rattle.sieve_base.specs.Limits.{text_limit}
-use Rattle.sieve_base.specs.declared.name.ScriptName.{ScriptName}
+use Rattle.sieve_limits.specs.Limits.{text_limit}
+use Rattle.script_names.specs.declared.name.ScriptName.{ScriptName}
 use Rattle.sieve_profile.specs.Profile.{Profile}
 use Rattle.sieve_run.specs.declared.shelf.Shelved.{Shelved}
 use Rattle.sieve_run.specs.declared.shelf.Shelved.TheVariants.{Script, TooLong}

@@ -12,7 +12,7 @@ use Rattle.sieve_actions.specs.declared.flow.Flow.{Flow}
 use Rattle.sieve_actions.specs.declared.flow.Flow.TheVariants.{GoesOn, Returned, Stopped, Failed}
 use Rattle.sieve_run.specs.declared.library.Found.{Found}
 use Rattle.sieve_run.specs.declared.library.Found.TheVariants.{Missing, Invalid, Present}
-use Rattle.sieve_base.specs.declared.name.ScriptName.{ScriptName}
+use Rattle.script_names.specs.declared.name.ScriptName.{ScriptName}
 use Rattle.sieve_run.specs.view.Step.{doing}
 
 abbrev pub there_as : Found → Bool

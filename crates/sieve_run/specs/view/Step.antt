@@ -18,7 +18,7 @@ use Rattle.sieve_run.specs.declared.turn.Step.TheVariants.{Next, Ended}
 use Rattle.sieve_run.specs.declared.turn.Turn.{Turn}
 use Rattle.sieve_actions.specs.view.Delivery.{delivery_as}
 use Rattle.sieve_actions.specs.view.Flow.{ending_by}
-use Rattle.sieve_base.specs.declared.name.ScriptName.{ScriptName}
+use Rattle.script_names.specs.declared.name.ScriptName.{ScriptName}
 
 -- what commands do that act
 abbrev pub Acts : Type 0

@@ -1,7 +1,7 @@
 -- How one command of a session goes, where what is left of the input and what is written may not be known.
 use Rattle.std.specs.Prelude.{◌≡◌, ⊤, ℕ, ◌≤◌, ◌<◌, Bool, true, false, ◌⊎◌, List, [], ◌++◌, length, drop, Option, None, Some, Result, Ok, Err, OnOk, OnErr, IfErr, codes}
 use Rattle.std.specs.Io.KnownBytes.{Appends}
-use Rattle.sieve_base.specs.Devices.{HasRisen}
+use Rattle.devices.specs.Devices.{HasRisen}
 use Rattle.session_text.specs.view.Input.{Input}
 use Rattle.bench.specs.Bench.{BenchState, Makes}
 use Rattle.bench.specs.Content.{Edit, after}

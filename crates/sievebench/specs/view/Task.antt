@@ -1,6 +1,6 @@
 -- What the program's tasks stand for.
 use Rattle.std.specs.Prelude.{◌≡◌, ℕ, List, Option, Some, None, Result, true}
-use Rattle.sieve_base.specs.Limits.{expected_limit, mailboxes_limit, text_limit, message_limit}
+use Rattle.sieve_limits.specs.Limits.{expected_limit, mailboxes_limit, text_limit, message_limit}
 use Rattle.bench.specs.Bench.{BenchState}
 use Rattle.bench.specs.Content.{Edit, put_script, put_message, set_expected, set_mailboxes}
 use Rattle.bench.specs.declared.fault.EditFault.{EditFault}

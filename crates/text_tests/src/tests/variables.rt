@@ -2,7 +2,7 @@
 //! What strings, modifiers and variables come to stands in `examples/rows`. What is expected was written by hand from RFC 5229 and RFC 6609.
 
 use super::{holds, same};
-use sieve_base::Octets;
+use octets::Octets;
 use sieve_variables::{
     LetterCase, Modifiers, Values, folded, is_global_name, is_identifier, parts_of_text,
     references_in,

@@ -1,7 +1,7 @@
 use Rattle.std.proofs.Common.{◌≡◌, ◌<◌, ◌≤◌, ◌⊎◌, ℕ, List, length, nat_lt, true, false, inl, inr, refl, arith}
 use Rattle.std.proofs.lemmas.Bool.Decides.{nat_tests}
-use Rattle.sieve_base.specs.Limits.{name_limit, text_limit}
-use Rattle.sieve_base.specs.declared.name.ScriptName.{ScriptName}
+use Rattle.sieve_limits.specs.Limits.{name_limit, text_limit}
+use Rattle.script_names.specs.declared.name.ScriptName.{ScriptName}
 use Rattle.bench.specs.Dump.{is_too_large}
 use Rattle.bench.proofs.dump.dump_text.Goals as goal
 

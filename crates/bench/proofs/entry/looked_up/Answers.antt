@@ -1,7 +1,7 @@
 use Rattle.std.proofs.Common.{◌≡◌, ◌∙◌, rules}
-use Rattle.sieve_base.specs.Name.{name_eq}
-use Rattle.sieve_base.specs.declared.name.ScriptName.{ScriptName}
-use Rattle.sieve_base.specs.contracts.name.ScriptNamePartialEq.TheImpl as equality
+use Rattle.script_names.specs.Name.{name_eq}
+use Rattle.script_names.specs.declared.name.ScriptName.{ScriptName}
+use Rattle.script_names.specs.contracts.name.ScriptNamePartialEq.TheImpl as equality
 use Rattle.sieve_run.proofs.LookedUp.{lookup_read}
 use Rattle.bench.proofs.entry.looked_up.Goals as goal
 

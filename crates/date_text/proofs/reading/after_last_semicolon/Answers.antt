@@ -1,6 +1,6 @@
 use Rattle.std.proofs.Common.{ℕ, not, ◌==◌, arith}
 use Rattle.std.proofs.lemmas.List.Sums.{suffix_len-le-length}
-use Rattle.sieve_base.specs.Octet.{octet_of}
+use Rattle.octets.specs.Octet.{octet_of}
 use Rattle.date_text.proofs.reading.after_last_semicolon.Goals as goal
 
 pub overflow_sub-value : goal.overflow_sub-value

@@ -3,7 +3,7 @@ use Rattle.std.specs.Cow.{cow_slice_items}
 use Rattle.std.specs.declared.alloc.Global.{Global}
 use Rattle.std.specs.declared.borrow.CowSlice.{CowSlice}
 use Rattle.match_text.specs.Flags.{flags_in}
-use Rattle.sieve_base.specs.view.Texts.{octets_of_each}
+use Rattle.octets.specs.view.Texts.{octets_of_each}
 use Rattle.match_text.proofs.FlagLists.{union_end, union_more}
 use Rattle.match_text.proofs.flags.flags_of_texts.Goals as goal
 

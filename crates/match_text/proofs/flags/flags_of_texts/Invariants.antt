@@ -1,6 +1,6 @@
 use Rattle.std.proofs.Common.{◌≡◌, drop, flat_map}
 use Rattle.match_text.specs.Flags.{flag_union, flags_in, flags_of_texts}
-use Rattle.sieve_base.specs.view.Texts.{octets_of_each}
+use Rattle.octets.specs.view.Texts.{octets_of_each}
 use Rattle.match_text.proofs.flags.flags_of_texts.Given as goal
 
 -- the flags so far, united with those of the texts that are left, are the flags of all texts

@@ -1,6 +1,6 @@
 use Rattle.std.proofs.Common.{◌≡◌, ◌++◌, drop, flat_map}
 use Rattle.match_text.specs.Flags.{flag_keys, flag_keys_of_texts}
-use Rattle.sieve_base.specs.view.Texts.{octets_of_each}
+use Rattle.octets.specs.view.Texts.{octets_of_each}
 use Rattle.match_text.proofs.sought_flags.flag_keys_of_texts.Given as goal
 
 -- the keys that were found so far, and after them those of the texts that are left, are the keys of all texts

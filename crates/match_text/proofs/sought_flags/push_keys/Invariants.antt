@@ -1,7 +1,7 @@
-use Rattle.sieve_base.specs.Octet.{is_filled}
+use Rattle.octets.specs.Octet.{is_filled}
 use Rattle.std.proofs.Common.{◌≡◌, ◌++◌, filter, length}
 use Rattle.match_text.specs.Flags.{flag_keys, pieces}
-use Rattle.sieve_base.specs.view.Texts.{octets_of_each}
+use Rattle.octets.specs.view.Texts.{octets_of_each}
 use Rattle.match_text.proofs.sought_flags.push_keys.Given as goal
 
 -- the keys so far, and after them the pieces of the rest that have octets, are the keys found before and what the key stands for

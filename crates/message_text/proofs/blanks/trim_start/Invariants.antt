@@ -1,6 +1,6 @@
 use Rattle.std.proofs.Common.{◌≡◌, ◌+◌, ◌-◌, ◌≤◌, length, drop}
 use Rattle.std.specs.List.{prefix_len}
-use Rattle.sieve_base.specs.Octet.{is_blank}
+use Rattle.octets.specs.Octet.{is_blank}
 use Rattle.message_text.proofs.blanks.trim_start.Given as goal
 
 abbrev pub invariant-loop-start : goal.invariant-loop-start

@@ -3,7 +3,7 @@ use Rattle.std.specs.List.{list_all}
 use Rattle.std.proofs.lemmas.Bool.{eqb-false, lt-ltb}
 use Rattle.std.proofs.lemmas.Iterator.{YieldsList-from_slice}
 use Rattle.std.proofs.lemmas.Iterator.Search.{all_from_yields_List}
-use Rattle.sieve_base.specs.Octet.{is_visible}
+use Rattle.octets.specs.Octet.{is_visible}
 use Rattle.message_text.proofs.fields.is_name.Goals as goal
 
 pub returns-then-not-is_empty : goal.returns-then-not-is_empty

@@ -1,4 +1,4 @@
-use Rattle.sieve_base.specs.Octet.{is_filled}
+use Rattle.octets.specs.Octet.{is_filled}
 use Rattle.std.proofs.Common.{◌≡◌, ◌++◌, false, true, List, [], slice_range, drop, map, sym, ap, ◌∙◌, append_assoc, arith}
 use Rattle.std.specs.Str.Lines.{lines}
 use Rattle.std.proofs.lemmas.List.{drop_all}

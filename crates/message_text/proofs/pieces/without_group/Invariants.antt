@@ -1,6 +1,6 @@
 use Rattle.std.proofs.Common.{◌≡◌, ◌+◌, ◌≤◌, length, not, take}
 use Rattle.std.specs.List.{suffix_len}
-use Rattle.sieve_base.specs.Octet.{octet_of}
+use Rattle.octets.specs.Octet.{octet_of}
 use Rattle.message_text.specs.Addresses.{is_bare}
 use Rattle.message_text.proofs.pieces.without_group.Given as goal
 

@@ -1,7 +1,7 @@
 use Rattle.std.proofs.Common.{◌≡◌, ◌<◌, nat_lt, false, ◌∷◌, drop, sym, ap, ◌∙◌, arith, rules, tests}
 use Rattle.std.proofs.lemmas.Bool.Decides.{nat_tests}
 use Rattle.std.proofs.lemmas.List.{take_rest}
-use Rattle.sieve_base.specs.Octet.{octet_of}
+use Rattle.octets.specs.Octet.{octet_of}
 use Rattle.mime_text.specs.Lines.{end_len}
 use Rattle.mime_text.specs.QuotedPrintable.{octets_of_pieces, pieces_of}
 use Rattle.mime_text.proofs.Quoting.{escape_first, plain_first, sign_first, soft_first}

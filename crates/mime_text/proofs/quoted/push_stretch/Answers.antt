@@ -2,7 +2,7 @@ use Rattle.std.proofs.Common.{◌≡◌, ◌-◌, ◌++◌, [], ◌∷◌, cond,
 use Rattle.std.specs.List.{prefix_len}
 use Rattle.std.proofs.lemmas.Bool.Decides.{nat_tests}
 use Rattle.std.proofs.lemmas.List.Sums.{prefix_len-le-length}
-use Rattle.sieve_base.specs.Octet.{is_blank}
+use Rattle.octets.specs.Octet.{is_blank}
 use Rattle.mime_text.specs.QuotedPrintable.{is_at_end, without_padding}
 use Rattle.mime_text.proofs.Quoting.{blanks_front, first_stays, stretch}
 use Rattle.mime_text.proofs.quoted.push_stretch.Goals as goal

@@ -1,4 +1,4 @@
-use Rattle.sieve_base.specs.Octet.{octet_of}
+use Rattle.octets.specs.Octet.{octet_of}
 use Rattle.std.proofs.Common.{◌≡◌, ℕ, ◌+◌, ◌-◌, ◌<◌, ◌≤◌, List, take, length, arith, ap, ◌∙◌, get_or, eqb, cond, ◌≢◌, refl}
 use Rattle.std.proofs.lemmas.Bool.Decides.{nat_tests}
 use Rattle.session_text.specs.SessionLine.{without_cr}

@@ -1,5 +1,5 @@
 use Rattle.std.proofs.Common.{codes, refl}
-use Rattle.sieve_base.proofs.Writing.{first_failed, then_last}
+use Rattle.devices.proofs.Writing.{first_failed, then_last}
 use Rattle.sieve_code.specs.Dump.{at_line, leaf_text}
 use Rattle.sieve_code.proofs.dump.write_discard.Goals as goal
 

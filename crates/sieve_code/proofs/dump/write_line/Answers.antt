@@ -1,4 +1,4 @@
-use Rattle.sieve_base.proofs.Writing.{writes_failed, wrote_front_of, wrote_then_front}
+use Rattle.devices.proofs.Writing.{writes_failed, wrote_front_of, wrote_then_front}
 use Rattle.sieve_code.specs.Dump.{line_text}
 use Rattle.sieve_code.proofs.dump.write_line.Goals as goal
 

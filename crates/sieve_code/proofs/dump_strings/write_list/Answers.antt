@@ -1,4 +1,4 @@
-use Rattle.sieve_base.proofs.Writing.{first_failed, then_last, wrote_both, wrote_then_front}
+use Rattle.devices.proofs.Writing.{first_failed, then_last, wrote_both, wrote_then_front}
 use Rattle.sieve_code.proofs.Dumping.{list_whole}
 use Rattle.sieve_code.proofs.dump_strings.write_list.Goals as goal
 

@@ -1,5 +1,5 @@
 -- What is written when the writing of a part fails is a front of the text of all parts.
-use Rattle.sieve_base.proofs.Writing.{wrote_items_then_front_at, writes_failed}
+use Rattle.devices.proofs.Writing.{wrote_items_then_front_at, writes_failed}
 use Rattle.sieve_code.specs.view.Marked.{marked_part}
 use Rattle.sieve_code.proofs.dump_strings.write_marked_parts.Goals as goal
 

@@ -1,6 +1,6 @@
 use Rattle.std.proofs.Common.{take}
 use Rattle.std.specs.List.{flat_map}
-use Rattle.sieve_base.specs.Writers.{Wrote}
+use Rattle.devices.specs.Writers.{Wrote}
 use Rattle.sieve_code.specs.view.Marked.{marked_part}
 use Rattle.sieve_code.proofs.dump_strings.write_marked_parts.Given as goal
 

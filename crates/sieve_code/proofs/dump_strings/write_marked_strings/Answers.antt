@@ -2,8 +2,8 @@
 use Rattle.std.proofs.Common.{[], ◌∷◌, ◌++◌, ◌≡◌, ◌+◌, ◌≤◌, List, ℕ, length, drop, refl, rules, subst, sym, ap, ◌∙◌, append_assoc}
 use Rattle.std.specs.List.{flat_map}
 use Rattle.std.proofs.lemmas.List.{append-nil, drop_all}
-use Rattle.sieve_base.specs.Writers.{Wrote, WroteFront}
-use Rattle.sieve_base.proofs.Writing.{writes_failed, wrote_both, wrote_front_of, wrote_nothing, wrote_then_front}
+use Rattle.devices.specs.Writers.{Wrote, WroteFront}
+use Rattle.devices.proofs.Writing.{writes_failed, wrote_both, wrote_front_of, wrote_nothing, wrote_then_front}
 use Rattle.sieve_operations.proofs.Joining.{drop_at}
 use Rattle.sieve_variables.specs.Part.{Part}
 use Rattle.sieve_code.specs.view.Marked.{marked_string}

@@ -1,6 +1,6 @@
 use Rattle.std.proofs.Common.{◌≡◌, ◌++◌, ℕ, List, drop}
 use Rattle.std.specs.List.{flat_map}
-use Rattle.sieve_base.specs.Writers.{Wrote}
+use Rattle.devices.specs.Writers.{Wrote}
 use Rattle.sieve_code.specs.view.Marked.{marked_string}
 use Rattle.sieve_code.proofs.dump_strings.write_marked_strings.Given as goal
 

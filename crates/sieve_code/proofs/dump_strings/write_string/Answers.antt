@@ -1,5 +1,5 @@
 use Rattle.std.proofs.Common.{◌≤◌, ◌++◌, length, ap, arith}
-use Rattle.sieve_base.proofs.Writing.{first_failed, then_last, writes_as}
+use Rattle.devices.proofs.Writing.{first_failed, then_last, writes_as}
 use Rattle.sieve_code.proofs.Dumping.{string_front, string_none}
 use Rattle.sieve_code.proofs.dump_strings.write_string.Goals as goal
 

@@ -1,5 +1,5 @@
 use Rattle.std.proofs.Common.{◌≤◌, length, rules}
-use Rattle.sieve_base.proofs.Writing.{first_failed, then_last, writes_as}
+use Rattle.devices.proofs.Writing.{first_failed, then_last, writes_as}
 use Rattle.sieve_code.proofs.Dumping.{strings_front, strings_none}
 use Rattle.sieve_code.proofs.dump_strings.write_strings.Goals as goal
 

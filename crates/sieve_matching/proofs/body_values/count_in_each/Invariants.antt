@@ -1,7 +1,7 @@
 use Rattle.std.proofs.Common.{◌≡◌, ◌+◌, drop, length, map}
 use Rattle.mime_text.specs.Values.{texts_named}
 use Rattle.mime_text.specs.view.Entities.{entity_as}
-use Rattle.sieve_base.specs.view.Texts.{octets_of_each}
+use Rattle.octets.specs.view.Texts.{octets_of_each}
 use Rattle.sieve_profile.specs.Profile.{Profile}
 use Rattle.sieve_matching.proofs.body_values.count_in_each.Given as goal
 

@@ -1,6 +1,6 @@
 use Rattle.std.proofs.Common.{◌≡◌, drop, map}
 use Rattle.mime_text.specs.view.Entities.{entity_as}
-use Rattle.sieve_base.specs.view.Texts.{octets_of_each}
+use Rattle.octets.specs.view.Texts.{octets_of_each}
 use Rattle.sieve_profile.specs.view.Profile.{profile_as}
 use Rattle.sieve_matching.specs.Matching.{first_some}
 use Rattle.sieve_matching.specs.view.FieldTests.{entity_found, found_with}

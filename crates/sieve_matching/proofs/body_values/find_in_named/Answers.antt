@@ -2,7 +2,7 @@ use Rattle.std.proofs.Common.{ap, map, sym, ◌∙◌}
 use Rattle.mime_text.specs.Entities.{entities_of}
 use Rattle.mime_text.specs.Values.{texts_if_named}
 use Rattle.mime_text.specs.view.Entities.{entity_as}
-use Rattle.sieve_base.specs.view.Texts.{octets_of_each}
+use Rattle.octets.specs.view.Texts.{octets_of_each}
 use Rattle.sieve_actions.specs.Delivery.{Arrival}
 use Rattle.sieve_matching.specs.Matching.{first_some}
 use Rattle.sieve_matching.specs.view.FieldTests.{entity_found, found_with}

@@ -1,7 +1,7 @@
 use Rattle.std.proofs.Common.{◌≡◌, ◌+◌, drop, filter, length, map}
 use Rattle.std.specs.List.{flat_map}
 use Rattle.message_text.specs.declared.addressing.AddressPart.TheVariants.{All}
-use Rattle.sieve_base.specs.Octet.{is_filled}
+use Rattle.octets.specs.Octet.{is_filled}
 use Rattle.sieve_actions.specs.Delivery.{envelope_of}
 use Rattle.sieve_matching.specs.Matching.{envelope_named}
 use Rattle.sieve_actions.specs.view.Delivery.{arrival_as}

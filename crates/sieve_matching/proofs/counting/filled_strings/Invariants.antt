@@ -1,5 +1,5 @@
 use Rattle.std.proofs.Common.{◌≡◌, ◌+◌, ◌≤◌, drop, filter, length, map}
-use Rattle.sieve_base.specs.Octet.{is_filled}
+use Rattle.octets.specs.Octet.{is_filled}
 use Rattle.sieve_variables.specs.Value.{text_value}
 use Rattle.sieve_matching.proofs.counting.filled_strings.Given as goal
 

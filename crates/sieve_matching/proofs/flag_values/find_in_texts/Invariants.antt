@@ -2,7 +2,7 @@ use Rattle.std.proofs.Common.{◌≡◌, drop}
 use Rattle.match_text.specs.Flags.{flag_list}
 use Rattle.sieve_matching.specs.Matching.{first_some}
 use Rattle.sieve_matching.specs.view.FieldTests.{found_with}
-use Rattle.sieve_base.specs.view.Texts.{octets_of_each}
+use Rattle.octets.specs.view.Texts.{octets_of_each}
 use Rattle.sieve_matching.proofs.flag_values.find_in_texts.Given as goal
 
 -- what the texts that are left give is what all give

@@ -2,7 +2,7 @@ use Rattle.std.proofs.Common.{◌∙◌, ap}
 use Rattle.sieve_actions.specs.view.Delivery.{delivery_as}
 use Rattle.sieve_matching.specs.view.FieldTests.{found_with}
 use Rattle.sieve_actions.specs.view.State.{state_of}
-use Rattle.sieve_base.specs.view.Texts.{octets_of_each}
+use Rattle.octets.specs.view.Texts.{octets_of_each}
 use Rattle.sieve_matching.proofs.Searching.{answers_so, held_values}
 use Rattle.sieve_matching.proofs.flag_values.find_in_variables.Goals as goal
 

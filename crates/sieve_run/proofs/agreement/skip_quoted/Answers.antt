@@ -1,7 +1,7 @@
 use Rattle.std.proofs.Common.{◌≡◌, ◌++◌, ℕ, List, None, Some, rules, sym, codes, ◌∙◌}
 use Rattle.std.specs.List.{flat_map}
 use Rattle.std.specs.Option.{option_copied}
-use Rattle.sieve_base.specs.Writers.{octet_spelling, quoted}
+use Rattle.devices.specs.Writers.{octet_spelling, quoted}
 use Rattle.sieve_run.proofs.Left.{skip_none, skip_second_none, skip_third}
 use Rattle.sieve_run.proofs.agreement.skip_quoted.Goals as goal
 

@@ -1,6 +1,6 @@
 use Rattle.std.proofs.Common.{◌≡◌, None, Some, rules, sym, ◌∙◌}
 use Rattle.std.specs.Option.{option_copied}
-use Rattle.sieve_base.specs.Writers.{octet_spelling}
+use Rattle.devices.specs.Writers.{octet_spelling}
 use Rattle.sieve_run.proofs.Left.{next_at, none_at}
 use Rattle.sieve_run.proofs.agreement.skip_spelled.Goals as goal
 

@@ -1,6 +1,6 @@
 use Rattle.std.proofs.Common.{◌≡◌, drop}
 use Rattle.std.specs.List.{flat_map}
-use Rattle.sieve_base.specs.Writers.{octet_spelling}
+use Rattle.devices.specs.Writers.{octet_spelling}
 use Rattle.sieve_run.specs.view.Left.{behind_front}
 use Rattle.sieve_run.proofs.agreement.skip_spelled.Given as goal
 

@@ -1,6 +1,6 @@
 use Rattle.std.proofs.Common.{take}
 use Rattle.std.specs.List.{flat_map}
-use Rattle.sieve_base.specs.Writers.{Wrote}
+use Rattle.devices.specs.Writers.{Wrote}
 use Rattle.sieve_run.specs.Lines.{spaced_word}
 use Rattle.sieve_run.proofs.lines.write_flags.Given as goal
 

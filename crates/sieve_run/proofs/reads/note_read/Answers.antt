@@ -1,5 +1,5 @@
 use Rattle.std.proofs.Common.{sym, ◌∙◌}
-use Rattle.sieve_base.specs.contracts.name.ScriptNamePartialEq.TheImpl as equality
+use Rattle.script_names.specs.contracts.name.ScriptNamePartialEq.TheImpl as equality
 use Rattle.sieve_run.proofs.LookedUp.{lookup_read, names_alike, read_is_new, read_stays}
 use Rattle.sieve_run.proofs.reads.note_read.Goals as goal
 

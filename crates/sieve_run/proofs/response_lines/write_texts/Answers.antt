@@ -1,6 +1,6 @@
 use Rattle.std.proofs.Common.{◌<◌, subst}
-use Rattle.sieve_base.specs.Writers.{Wrote, WroteFront}
-use Rattle.sieve_base.proofs.Writing.{writes_failed, wrote_both, wrote_items_then_front}
+use Rattle.devices.specs.Writers.{Wrote, WroteFront}
+use Rattle.devices.proofs.Writing.{writes_failed, wrote_both, wrote_items_then_front}
 use Rattle.sieve_run.specs.Lines.{spaced_word}
 use Rattle.sieve_run.proofs.Pieces.{text_there, texts_more}
 use Rattle.sieve_run.proofs.response_lines.write_texts.Goals as goal

@@ -1,5 +1,5 @@
 use Rattle.std.proofs.Common.{[], ◌∷◌, ◌++◌, sym, ap, ◌∙◌, subst}
-use Rattle.sieve_base.specs.Limits.{block_room}
+use Rattle.sieve_limits.specs.Limits.{block_room}
 use Rattle.sieve_syntax.specs.Tree.{one_test}
 use Rattle.sieve_syntax.specs.view.Reader.{Advances, outer_value, symbol_as}
 use Rattle.sieve_syntax.specs.view.TreeOf.{test_of}

@@ -1,4 +1,4 @@
-use Rattle.sieve_base.specs.Octet.{octet_of}
+use Rattle.octets.specs.Octet.{octet_of}
 use Rattle.std.proofs.Common.{◌++◌, ◌+◌, ◌==◌, drop, get_or, sym, ap, ◌∙◌, append_assoc, append-nil}
 use Rattle.sieve_syntax.specs.Value.{line_end, with_cr}
 use Rattle.sieve_syntax.proofs.Values.{with_cr-more, with_cr-end}

@@ -1,6 +1,6 @@
 use Rattle.std.proofs.Common.{◌≡◌, ◌∙◌, [], Option, option_copied, ap, subst, sym, refl, rules}
 use Rattle.bench.specs.Content.{Content}
-use Rattle.sieve_base.specs.declared.name.ScriptName.{ScriptName}
+use Rattle.script_names.specs.declared.name.ScriptName.{ScriptName}
 use Rattle.bench.specs.view.Site.{site_by}
 use Rattle.bench.specs.view.Entry.{KeepsDue, messages_of, stale_of}
 use Rattle.bench.specs.Report.{Site, site_of, verdict_by}

@@ -1,5 +1,5 @@
 use Rattle.std.proofs.Common.{rules, ℕ, List, Option}
-use Rattle.sieve_base.specs.declared.name.ScriptName.{ScriptName}
+use Rattle.script_names.specs.declared.name.ScriptName.{ScriptName}
 use Rattle.bench.specs.Content.{text_at, with_renamed}
 use Rattle.bench.specs.Report.{Site, verdict_by}
 use Rattle.bench.specs.view.Site.{site_by, with_scripts}

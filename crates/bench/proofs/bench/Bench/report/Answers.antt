@@ -1,7 +1,7 @@
 use Rattle.std.proofs.Common.{◌≡◌, List, Option, ap, [], ℕ, option_copied, subst, rules}
-use Rattle.sieve_base.specs.Writers.{Wrote, WroteFront}
+use Rattle.devices.specs.Writers.{Wrote, WroteFront}
 use Rattle.bench.specs.Content.{Content}
-use Rattle.sieve_base.specs.declared.name.ScriptName.{ScriptName}
+use Rattle.script_names.specs.declared.name.ScriptName.{ScriptName}
 use Rattle.bench.specs.view.Site.{site_by}
 use Rattle.bench.specs.view.Entry.{messages_of, stale_of}
 use Rattle.bench.proofs.Judged.{report_is}

@@ -1,6 +1,6 @@
 use Rattle.std.proofs.Common.{is_some, rules, ap, sym, ◌∙◌}
 use Rattle.std.specs.BTreeMap as tree
-use Rattle.sieve_base.specs.Name.{name_cmp}
+use Rattle.script_names.specs.Name.{name_cmp}
 use Rattle.bench.specs.Content.{text_at}
 use Rattle.bench.specs.view.Scripts.{ScriptsState}
 use Rattle.bench.proofs.Texts.{found_alike, is_some-texts}

@@ -1,7 +1,7 @@
 use Rattle.std.proofs.Common.{Some, rules, sym, ap, ◌∙◌}
 use Rattle.std.specs.BTreeMap as tree
 use Rattle.std.specs.Option.{option_copied}
-use Rattle.sieve_base.specs.Name.{name_cmp}
+use Rattle.script_names.specs.Name.{name_cmp}
 use Rattle.bench.specs.view.Scripts.{ScriptsState, script_at}
 use Rattle.bench.proofs.Texts.{found-whole, found_alike}
 use Rattle.bench.proofs.scripts.Scripts.copied.Goals as goal

@@ -1,8 +1,8 @@
 use Rattle.std.proofs.Common.{◌≡◌, rules, sym, ap, subst, ◌∙◌}
 use Rattle.std.specs.BTreeMap.Entry.{entry_key, map_with_value}
 use Rattle.std.specs.declared.cmp.Ordering.TheVariants.{Equal}
-use Rattle.sieve_base.specs.Name.{name_cmp}
-use Rattle.sieve_base.specs.declared.name.ScriptName.{ScriptName}
+use Rattle.script_names.specs.Name.{name_cmp}
+use Rattle.script_names.specs.declared.name.ScriptName.{ScriptName}
 use Rattle.bench.specs.Content.{with_script}
 use Rattle.bench.specs.view.Scripts.{AreOf, ScriptsState, texts_of}
 use Rattle.bench.specs.view.Site.{ForgetsReaders}

@@ -1,5 +1,5 @@
 use Rattle.std.proofs.Common.{rules, sym, ap, subst, ◌∙◌}
-use Rattle.sieve_base.specs.Name.{name_cmp}
+use Rattle.script_names.specs.Name.{name_cmp}
 use Rattle.bench.specs.Content.{without_script}
 use Rattle.bench.specs.view.Scripts.{AreOf, ScriptsState, texts_of}
 use Rattle.bench.proofs.Texts.{of-remove, removed_alike, scripts_of, texts-remove}

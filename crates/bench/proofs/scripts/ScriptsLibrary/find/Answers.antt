@@ -1,7 +1,7 @@
 use Rattle.std.proofs.Common.{None, Some, rules, sym, ap, subst, ◌∙◌}
 use Rattle.std.specs.BTreeMap as tree
 use Rattle.std.specs.Option.{option_copied}
-use Rattle.sieve_base.specs.Name.{name_cmp}
+use Rattle.script_names.specs.Name.{name_cmp}
 use Rattle.sieve_run.specs.Library.{Lookup}
 use Rattle.sieve_run.specs.view.Found.{FoundAs}
 use Rattle.bench.specs.view.Scripts.{ScriptsState, script_at}

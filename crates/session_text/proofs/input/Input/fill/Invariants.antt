@@ -1,6 +1,6 @@
 use Rattle.std.proofs.Common.{◌≡◌, false, ◌+◌, ◌<◌}
 use Rattle.std.specs.Io.KnownBytes.{Keeps}
-use Rattle.sieve_base.specs.Devices.{HasRisen}
+use Rattle.devices.specs.Devices.{HasRisen}
 use Rattle.session_text.specs.view.Input.{Reads, unused}
 use Rattle.session_text.proofs.input.Input.fill.Given as goal
 

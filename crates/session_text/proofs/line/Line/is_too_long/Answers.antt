@@ -1,4 +1,4 @@
-use Rattle.sieve_base.specs.Octet.{octet_of}
+use Rattle.octets.specs.Octet.{octet_of}
 use Rattle.std.proofs.Common.{◌≡◌, ◌≢◌, ◌≤◌, inl, inr, get_or, rules, arith, length}
 use Rattle.session_text.proofs.Lines.{first_line-long, may_be_line}
 use Rattle.session_text.proofs.line.Line.is_too_long.Goals as goal

@@ -1,6 +1,6 @@
 use Rattle.std.proofs.Common.{◌≡◌, ◌++◌, drop, map}
 use Rattle.sieve_variables.specs.Value.{text_value}
-use Rattle.sieve_base.specs.view.Texts.{octets_of_each}
+use Rattle.octets.specs.view.Texts.{octets_of_each}
 use Rattle.sieve_operations.proofs.strings.Strings.expanded.Given as goal
 
 -- the values so far, and then those of the strings that are left, are the values of all strings

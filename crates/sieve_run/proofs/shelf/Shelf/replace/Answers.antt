@@ -1,8 +1,8 @@
 use Rattle.std.proofs.Common.{◌≡◌, ℕ, List, [], ◌∷◌, if◌then◌else◌, refl, sym, ap, subst, ◌∙◌}
 use Rattle.indexmap.specs.IndexMap.{insert_entry}
-use Rattle.sieve_base.specs.Name.{name_eq}
-use Rattle.sieve_base.specs.contracts.name.ScriptNamePartialEq.TheImpl as equality
-use Rattle.sieve_base.specs.declared.name.ScriptName.{ScriptName}
+use Rattle.script_names.specs.Name.{name_eq}
+use Rattle.script_names.specs.contracts.name.ScriptNamePartialEq.TheImpl as equality
+use Rattle.script_names.specs.declared.name.ScriptName.{ScriptName}
 use Rattle.sieve_profile.specs.Profile.{Profile}
 use Rattle.sieve_run.specs.Shelf.{ShelfState, with_text}
 use Rattle.sieve_run.specs.view.Entry.{AreEntries, IsEntry, entry_text, texts_of}

@@ -1,7 +1,7 @@
 use Rattle.std.proofs.Common.{◌≡◌, ℕ, List, Option, None, Some, sym, ap, subst, ◌∙◌}
 use Rattle.std.specs.Map.{lookup}
 use Rattle.std.specs.Option.{option_copied}
-use Rattle.sieve_base.specs.contracts.name.ScriptNamePartialEq.TheImpl as equality
+use Rattle.script_names.specs.contracts.name.ScriptNamePartialEq.TheImpl as equality
 use Rattle.sieve_run.specs.Library.{lookup_of, missing}
 use Rattle.sieve_run.specs.Shelf.{ShelfState, text_on}
 use Rattle.sieve_run.specs.declared.shelf.Shelved.{Shelved}

@@ -1,0 +1,5 @@
+use Rattle.std.proofs.Common.{refl}
+use Rattle.devices.proofs.devices.CountedFaults.faults.Goals as goal
+
+pub returns : goal.returns
+returns g c = refl

@@ -1,5 +1,0 @@
-use Rattle.std.proofs.Common.{refl}
-use Rattle.sieve_base.proofs.devices.CountedFaults.faults.Goals as goal
-
-pub returns : goal.returns
-returns g c = refl

@@ -1,5 +1,0 @@
-use Rattle.std.proofs.Common.{rules}
-use Rattle.sieve_base.proofs.devices.CountedSink.write_some.Goals as goal
-
-pub returns-else-not-matches-clause-faults : goal.returns-else-not-matches-clause-faults
-returns-else-not-matches-clause-faults g c = search rules

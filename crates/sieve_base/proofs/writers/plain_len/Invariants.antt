@@ -1,8 +1,0 @@
--- The octets before `i` stand between quotes as they are.
-use Rattle.std.proofs.Common.{◌≡◌, take}
-use Rattle.std.specs.List.{flat_map}
-use Rattle.sieve_base.specs.Writers.{octet_spelling}
-use Rattle.sieve_base.proofs.writers.plain_len.Given as goal
-
-abbrev pub invariant-loop-i : goal.invariant-loop-i
-invariant-loop-i l = flat_map octet_spelling (take l.i l.bytes) ≡ take l.i l.bytes

@@ -1,3 +1,0 @@
--- What the program's types stand for in contracts. The other files of specs/ restate the subject.
-pub mod Counted
-pub mod Texts
