@@ -16,7 +16,7 @@ use Rattle.script_names.specs.declared.location.Location.TheVariants.{Personal, 
 use Rattle.script_names.specs.Name.{name_cmp, location_cmp}
 use Rattle.script_names.specs.declared.name.ScriptName.{ScriptName}
 use Rattle.bench.specs.Content.{Content, Edit, Sample, after, new_content, put_script, put_message, set_main, rename_script, remove_script, remove_message, clear_main, set_envelope, set_mailbox, set_expected, clear_expected, set_mailboxes, set_message_envelope, clear_message_envelope, set_clock, clear_clock, unless, text_at, message_at, put_over, with_script, changed, with_renamed}
-use Rattle.bench.specs.Edits.{IsInOrder, AreOrdered, AreDistinct, behind, content_after}
+use Rattle.bench.specs.Edits.{IsInOrder, AreOrdered, AreDistinct, made_or_old, content_after}
 use Rattle.sieve_profile.specs.Profile.{Profile}
 use Rattle.bench.specs.declared.fault.EditFault.{EditFault}
 
@@ -284,17 +284,17 @@ order_kept content clear_clock new order made =
 -- EDITS IN TURN
 
 -- an edit that may be refused keeps the order
-pub order_behind : (content : Content) (edit : Edit) → IsInOrder content → IsInOrder (behind content (after content edit))
-order_behind content edit order = by (after content edit) refl
+pub order_stays : (content : Content) (edit : Edit) → IsInOrder content → IsInOrder (made_or_old content (after content edit))
+order_stays content edit order = by (after content edit) refl
   where
-    by : (made : Result Content EditFault) → after content edit ≡ made → IsInOrder (behind content made)
+    by : (made : Result Content EditFault) → after content edit ≡ made → IsInOrder (made_or_old content made)
     by (Ok new) is = order_kept content edit new order is
     by (Err fault) is = order
 
 pub stays_in_order : (content : Content) (edits : List Edit) → IsInOrder content → IsInOrder (content_after content edits)
 unfolding content_after
 stays_in_order content [] order = order
-stays_in_order content (edit ∷ edits) order = stays_in_order (behind content (after content edit)) edits (order_behind content edit order)
+stays_in_order content (edit ∷ edits) order = stays_in_order (made_or_old content (after content edit)) edits (order_stays content edit order)
 
 -- THE PROFILE
 
@@ -317,17 +317,17 @@ profile_kept content (clear_message_envelope id) new made = sym (ap (λ (c : Con
 profile_kept content (set_clock clock) new made = sym (ap (λ (c : Content). c.profile) (accepted None _ new made).1)
 profile_kept content clear_clock new made = sym (ap (λ (c : Content). c.profile) (accepted None _ new made).1)
 
-profile_behind : (content : Content) (edit : Edit) → (behind content (after content edit)).profile ≡ content.profile
-profile_behind content edit = by (after content edit) refl
+profile_kept : (content : Content) (edit : Edit) → (made_or_old content (after content edit)).profile ≡ content.profile
+profile_kept content edit = by (after content edit) refl
   where
-    by : (made : Result Content EditFault) → after content edit ≡ made → (behind content made).profile ≡ content.profile
+    by : (made : Result Content EditFault) → after content edit ≡ made → (made_or_old content made).profile ≡ content.profile
     by (Ok new) is = profile_kept content edit new is
     by (Err fault) is = refl
 
 pub profile_stays : (content : Content) (edits : List Edit) → (content_after content edits).profile ≡ content.profile
 unfolding content_after
 profile_stays content [] = refl
-profile_stays content (edit ∷ edits) = profile_stays (behind content (after content edit)) edits ∙ profile_behind content edit
+profile_stays content (edit ∷ edits) = profile_stays (made_or_old content (after content edit)) edits ∙ profile_kept content edit
 
 -- A NEW BENCH
 

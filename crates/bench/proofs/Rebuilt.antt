@@ -16,7 +16,7 @@ use Rattle.script_names.specs.Name.{name_cmp}
 use Rattle.script_names.specs.declared.name.ScriptName.{ScriptName}
 use Rattle.sieve_actions.specs.declared.envelope.Addresses.{Addresses}
 use Rattle.bench.specs.Content.{Content, Edit, Sample, after, new_content, put_script, put_message, set_envelope, set_mailbox, set_mailboxes, unless, text_at, message_at, put_over, with_script, with_message, changed, with_expected, with_addresses, are_long, is_long, is_long_id, script_refusal, message_refusal}
-use Rattle.bench.specs.Edits.{IsInOrder, IsWithinLimits, AreAddressesWithin, AreOrdered, AreDistinct, addresses_edits, behind, clock_edits, content_after, expected_edits, main_edits, message_edits, rebuild}
+use Rattle.bench.specs.Edits.{IsInOrder, IsWithinLimits, AreAddressesWithin, AreOrdered, AreDistinct, addresses_edits, made_or_old, clock_edits, content_after, expected_edits, main_edits, message_edits, rebuild}
 use Rattle.bench.specs.Test.{after_all, then_edit}
 use Rattle.sieve_profile.specs.Profile.{Profile}
 use Rattle.bench.specs.declared.fault.EditFault.{EditFault}
@@ -31,7 +31,7 @@ use Rattle.bench.proofs.Within.{new_within, stays_within}
 -- a refused edit leaves the content as it was
 pub passed_over : (content : Content) (edit : Edit) (edits : List Edit) (fault : EditFault) → after content edit ≡ Err fault → content_after content (edit ∷ edits) ≡ content_after content edits
 unfolding content_after
-passed_over content edit edits fault refused = ap (λ made. content_after (behind content made) edits) refused
+passed_over content edit edits fault refused = ap (λ made. content_after (made_or_old content made) edits) refused
 
 -- where none of some edits is refused, the content after them is what they make
 pub all_made : (content : Content) (edits : List Edit) (new : Content) → after_all content edits ≡ Ok new → content_after content edits ≡ new
@@ -39,7 +39,7 @@ unfolding content_after
 all_made content [] new made = cc
 all_made content (edit ∷ edits) new made = by (after content edit) (λ next. all_made next edits new) made
   where
-    by : (one : Result Content EditFault) → ((next : Content) → after_all next edits ≡ Ok new → content_after next edits ≡ new) → fold then_edit one edits ≡ Ok new → content_after (behind content one) edits ≡ new
+    by : (one : Result Content EditFault) → ((next : Content) → after_all next edits ≡ Ok new → content_after next edits ≡ new) → fold then_edit one edits ≡ Ok new → content_after (made_or_old content one) edits ≡ new
     by (Ok next) rest all = rest next all
     by (Err fault) rest all = let stays = refusal_stays fault edits in absurd cc
 
@@ -132,20 +132,20 @@ none_there id [] apart = refl
 none_there id (e ∷ messages) apart = ap (λ b. if b then Some e.1 else message_at messages id) (other_id e.0 id apart.0) ∙ none_there id messages apart.1
 
 -- a message whose id is none of the messages' ids is put last
-insert_behind : (id : List ℕ) (sample : Sample) (messages : List (List ℕ × Sample)) → AllByRecursion (λ other. pointwise nat_eq other id ≡ false) (keys_of messages) → ordered.insert_entry (pointwise nat_eq) messages id sample ≡ messages ++ (id, sample) ∷ []
-insert_behind id sample [] apart = refl
-insert_behind id sample (e ∷ messages) apart =
-    ap (λ b. if b then (e.0, sample) ∷ messages else e ∷ ordered.insert_entry (pointwise nat_eq) messages id sample) (other_id e.0 id apart.0) ∙ ap (λ l. e ∷ l) (insert_behind id sample messages apart.1)
+insert_after : (id : List ℕ) (sample : Sample) (messages : List (List ℕ × Sample)) → AllByRecursion (λ other. pointwise nat_eq other id ≡ false) (keys_of messages) → ordered.insert_entry (pointwise nat_eq) messages id sample ≡ messages ++ (id, sample) ∷ []
+insert_after id sample [] apart = refl
+insert_after id sample (e ∷ messages) apart =
+    ap (λ b. if b then (e.0, sample) ∷ messages else e ∷ ordered.insert_entry (pointwise nat_eq) messages id sample) (other_id e.0 id apart.0) ∙ ap (λ l. e ∷ l) (insert_after id sample messages apart.1)
 
-put_behind : (id bytes : List ℕ) (messages : List (List ℕ × Sample)) → AllByRecursion (λ other. pointwise nat_eq other id ≡ false) (keys_of messages) → with_message id bytes messages ≡ messages ++ (id, plain bytes) ∷ []
-put_behind id bytes messages apart =
+put_after : (id bytes : List ℕ) (messages : List (List ℕ × Sample)) → AllByRecursion (λ other. pointwise nat_eq other id ≡ false) (keys_of messages) → with_message id bytes messages ≡ messages ++ (id, plain bytes) ∷ []
+put_after id bytes messages apart =
     ap (λ found. ordered.insert_entry (pointwise nat_eq) messages id (put_over bytes found)) (none_there id messages apart)
-    ∙ insert_behind id (plain bytes) messages apart
+    ∙ insert_after id (plain bytes) messages apart
 
 -- a message that stands last is there at its id, and is changed there
-there_behind : (id : List ℕ) (sample : Sample) (messages : List (List ℕ × Sample)) → AllByRecursion (λ other. pointwise nat_eq other id ≡ false) (keys_of messages) → message_at (messages ++ (id, sample) ∷ []) id ≡ Some sample
-there_behind id sample [] apart = ap (λ b. if b then Some sample else None) (same_id id)
-there_behind id sample (e ∷ messages) apart = ap (λ b. if b then Some e.1 else message_at (messages ++ (id, sample) ∷ []) id) (other_id e.0 id apart.0) ∙ there_behind id sample messages apart.1
+there_after : (id : List ℕ) (sample : Sample) (messages : List (List ℕ × Sample)) → AllByRecursion (λ other. pointwise nat_eq other id ≡ false) (keys_of messages) → message_at (messages ++ (id, sample) ∷ []) id ≡ Some sample
+there_after id sample [] apart = ap (λ b. if b then Some sample else None) (same_id id)
+there_after id sample (e ∷ messages) apart = ap (λ b. if b then Some e.1 else message_at (messages ++ (id, sample) ∷ []) id) (other_id e.0 id apart.0) ∙ there_after id sample messages apart.1
 
 changed_last : (id : List ℕ) (change : Sample → Sample) (sample : Sample) (messages : List (List ℕ × Sample)) → AllByRecursion (λ other. pointwise nat_eq other id ≡ false) (keys_of messages)
     → changed id change (messages ++ (id, sample) ∷ []) ≡ messages ++ (id, change sample) ∷ []
@@ -169,7 +169,7 @@ expected_again content done id octets None apart short small = refl
 expected_again content done id octets (Some text) apart short small =
     ap (λ refusal. unless refusal (record content { messages = with_expected id (Some text) (done ++ (id, plain octets) ∷ []) }))
     (there_passes (is_long_id id) (nat_lt expected_limit (length text)) (is_none (message_at (done ++ (id, plain octets) ∷ []) id))
-    (within_limit id_limit (length id) short) (within_limit expected_limit (length text) small) (ap is_none (there_behind id (plain octets) done apart)))
+    (within_limit id_limit (length id) short) (within_limit expected_limit (length text) small) (ap is_none (there_after id (plain octets) done apart)))
     ∙ ap (λ messages. Ok (record content { messages = messages })) (changed_last id (λ sample. record sample { expected = Some text }) (plain octets) done apart)
 
 -- and so are the addresses that it has of its own
@@ -183,7 +183,7 @@ addresses_again content done id octets expected (Some own) apart short small =
     (there_passes (is_long_id id) (are_long own.from own.to) (is_none (message_at (done ++ (id, awaited octets expected) ∷ []) id))
     (within_limit id_limit (length id) short)
     (neither (nat_lt address_limit (length own.from)) (nat_lt address_limit (length own.to)) (within_limit address_limit (length own.from) small.from) (within_limit address_limit (length own.to) small.to))
-    (ap is_none (there_behind id (awaited octets expected) done apart)))
+    (ap is_none (there_after id (awaited octets expected) done apart)))
     ∙ ap (λ messages. Ok (record content { messages = messages })) (changed_last id (λ sample. record sample { addresses = Some own }) (awaited octets expected) done apart)
 
 -- putting messages in their order puts each after those before it
@@ -222,7 +222,7 @@ messages_again content done (message ∷ rest) distinct few ids octets texts own
     put : after (record content { messages = done }) (put_message message.0 message.1.octets) ≡ Ok (record content { messages = done ++ (message.0, plain message.1.octets) ∷ [] })
     put =
         ap (λ refusal. unless refusal (record content { messages = with_message message.0 message.1.octets done })) none
-        ∙ ap (λ messages. Ok (record content { messages = messages })) (put_behind message.0 message.1.octets done apart)
+        ∙ ap (λ messages. Ok (record content { messages = messages })) (put_after message.0 message.1.octets done apart)
 
     first : after_all (record content { messages = done }) (message_edits message) ≡ Ok (record content { messages = done ++ message ∷ [] })
     first =

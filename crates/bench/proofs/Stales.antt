@@ -45,12 +45,12 @@ module _ (profile : Profile) where
   }
 
   -- the stale messages after an edit: where it is refused, those that were stale
-  abbrev behind : Result Content EditFault → Content → Edit → List (List ℕ) → List (List ℕ)
-  behind (Ok new) old edit stale = stale_after old edit stale new
-  behind (Err fault) old edit stale = stale
+  abbrev made_or_old : Result Content EditFault → Content → Edit → List (List ℕ) → List (List ℕ)
+  made_or_old (Ok new) old edit stale = stale_after old edit stale new
+  made_or_old (Err fault) old edit stale = stale
 
   abbrev marks : Content → Edit → List (List ℕ) → List (List ℕ)
-  marks content edit stale = behind (after content edit) content edit stale
+  marks content edit stale = made_or_old (after content edit) content edit stale
 
   -- the messages that an edit makes stale where none was
   abbrev touched : Content → Edit → List (List ℕ)

@@ -12,12 +12,12 @@ use Rattle.script_names.specs.Name.{name_cmp, name_eq}
 use Rattle.script_names.specs.declared.name.ScriptName.{ScriptName}
 use Rattle.sieve_actions.specs.declared.envelope.Addresses.{Addresses}
 use Rattle.bench.specs.Content.{Content, Edit, Sample, after, new_content, put_script, put_message, set_main, rename_script, remove_script, remove_message, clear_main, set_envelope, set_mailbox, set_expected, clear_expected, set_mailboxes, set_message_envelope, clear_message_envelope, set_clock, clear_clock, text_at, message_at, put_over, with_script, with_message, changed, with_expected, with_addresses, with_renamed, without_script, without_message, is_long, is_long_id, script_refusal, message_refusal, main_refusal, rename_refusal, remove_script_refusal, absent_refusal, expected_refusal, addresses_refusal, envelope_refusal, mailbox_refusal, mailboxes_refusal, are_long}
-use Rattle.bench.specs.Edits.{IsInOrder, IsWithinLimits, AreScriptsWithin, AreMessagesWithin, AreAddressesWithin, AreOrdered, behind, content_after}
+use Rattle.bench.specs.Edits.{IsInOrder, IsWithinLimits, AreScriptsWithin, AreMessagesWithin, AreAddressesWithin, AreOrdered, made_or_old, content_after}
 use Rattle.sieve_profile.specs.Profile.{Profile}
 use Rattle.bench.specs.declared.fault.EditFault.{EditFault}
 use Rattle.bench.specs.declared.fault.EditFault.TheVariants.{TooLarge, Full, NoSuchScript, NameTaken, NoSuchMessage}
 use Rattle.bench.proofs.Names.{is_name, text-with_script}
-use Rattle.bench.proofs.Kept.{accepted, all_changed, all_put, all_values_put, keys_changed, length_changed, name_total, none_inserted, none_more, none_put, one_inserted, one_put, one_removed, order_behind}
+use Rattle.bench.proofs.Kept.{accepted, all_changed, all_put, all_values_put, keys_changed, length_changed, name_total, none_inserted, none_more, none_put, one_inserted, one_put, one_removed, order_stays}
 
 not_past : (limit n : ℕ) → nat_lt limit n ≡ false → n ≤ limit
 not_past limit n is = grind (arith, nat_tests)
@@ -287,17 +287,17 @@ limits_kept content clear_clock new order limits made =
 
 -- EDITS IN TURN
 
-limits_behind : (content : Content) (edit : Edit) → IsInOrder content → IsWithinLimits content → IsWithinLimits (behind content (after content edit))
-limits_behind content edit order limits = by (after content edit) refl
+limits_stay : (content : Content) (edit : Edit) → IsInOrder content → IsWithinLimits content → IsWithinLimits (made_or_old content (after content edit))
+limits_stay content edit order limits = by (after content edit) refl
   where
-    by : (made : Result Content EditFault) → after content edit ≡ made → IsWithinLimits (behind content made)
+    by : (made : Result Content EditFault) → after content edit ≡ made → IsWithinLimits (made_or_old content made)
     by (Ok new) is = limits_kept content edit new order limits is
     by (Err fault) is = limits
 
 pub stays_within : (content : Content) (edits : List Edit) → IsInOrder content → IsWithinLimits content → IsWithinLimits (content_after content edits)
 unfolding content_after
 stays_within content [] order limits = limits
-stays_within content (edit ∷ edits) order limits = stays_within (behind content (after content edit)) edits (order_behind content edit order) (limits_behind content edit order limits)
+stays_within content (edit ∷ edits) order limits = stays_within (made_or_old content (after content edit)) edits (order_stays content edit order) (limits_stay content edit order limits)
 
 -- A NEW BENCH
 

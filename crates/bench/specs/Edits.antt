@@ -16,14 +16,14 @@ use Rattle.bench.specs.declared.fault.EditFault.{EditFault}
 -- EDITS IN TURN
 
 -- the content after an edit that made this of it: a refused edit leaves it as it was
-abbrev pub behind : Content → Result Content EditFault → Content
-behind content (Ok new) = new
-behind content (Err fault) = content
+abbrev pub made_or_old : Content → Result Content EditFault → Content
+made_or_old content (Ok new) = new
+made_or_old content (Err fault) = content
 
 -- the content after edits in turn
 unfoldable pub content_after : Content → List Edit → Content
 content_after content [] = content
-content_after content (edit ∷ edits) = content_after (behind content (after content edit)) edits
+content_after content (edit ∷ edits) = content_after (made_or_old content (after content edit)) edits
 
 -- WHAT EVERY CONTENT HAS
 

@@ -12,7 +12,7 @@ Exit status:
   3  something could not be read or written, or a session made too many reads
   4  out of memory
 
-Standard error, each line behind \"sievebench: \":
+Standard error, each line after \"sievebench: \":
   cannot read \"PATH\"          a folder cannot be listed, or a file cannot be read
   cannot read standard input  a session's input failed
   cannot write                standard output failed
@@ -33,14 +33,14 @@ reports, the dumps, the sessions and the limits in full."
 pub(crate) fn of_session() -> &'static str {
     "\
 A line of the input is a command; each is answered by a reply:
-  script PLACE NAME N             put a script: the N octets behind the line's end are its text
-  message ID N                    put a message: the N octets behind the line's end
+  script PLACE NAME N             put a script: the N octets following the line's end are its text
+  message ID N                    put a message: the N octets following the line's end
   main PLACE NAME                 run that script
   no-main                         run none
   rename PLACE NAME PLACE NAME    rename the first script to the second name
   drop-script PLACE NAME          remove a script
   drop-message ID                 remove a message
-  expect ID N                     expect the N octets behind the line's end as the lines of a
+  expect ID N                     expect the N octets following the line's end as the lines of a
                                   message's verdict, without the names that it looked up
   no-expect ID                    expect nothing of it
   envelope FROM TO                set the addresses of the sender and of the recipient
@@ -83,7 +83,7 @@ Standard output is the script's code, one operation a line: its place from 0, th
 operation. A script with a fault has the line of the report in place of code,
   script personal \"NAME\" line N KIND
 where NAME is the last part of the path without a final .sieve, and KIND is syntax or the word of
-the rule that is broken. A path that begins with - stands behind --.
+the rule that is broken. A path that begins with - stands after --.
 
 Exit status: 0 done, 1 the script has a fault, 2 a mistake in the command line or a script past
 1048576 octets or a name past 1024, 3 the script could not be read or the code not be written,
@@ -97,7 +97,7 @@ Each plain file NAME.sieve of a folder is the script NAME; other files are passe
 a personal script, named by the last part of its path without a final .sieve; it takes the place
 of one of that name in the personal folder. An include finds scripts of the two folders alone: give
 --personal for those beside SCRIPT. Nothing is delivered, and no file is written. A value that
-begins with - is joined to its option, as in -f-x or --to=-x, and doesn't stand behind --, whatever
+begins with - is joined to its option, as in -f-x or --to=-x, and doesn't stand after --, whatever
 a tip says; a path that begins with - does.
 
 Standard output is the report:

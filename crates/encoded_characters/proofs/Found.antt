@@ -34,12 +34,12 @@ blank_stands c is = elim (or_cases (c == octet_of " ") (c == octet_of "\t") is) 
 blanks_step : (p : ℕ → Bool) (c d : ℕ) (rest : List ℕ) (b : Bool) → ((c : ℕ) → is_blank c ≡ true → p c ≡ true) → p (octet_of "\r") ≡ true → p (octet_of "\n") ≡ true → is_blank c ≡ b
     → (are_blanks (d ∷ rest) ≡ true → list_all p (d ∷ rest) ≡ true) → (are_blanks rest ≡ true → list_all p rest ≡ true)
     → cond b (are_blanks (d ∷ rest)) ((c == octet_of "\r" && d == octet_of "\n") && are_blanks rest) ≡ true → list_all p (c ∷ d ∷ rest) ≡ true
-blanks_step p c d rest true blank return feed is next behind are = both (p c) (list_all p (d ∷ rest)) (blank c is) (next are)
-blanks_step p c d rest false blank return feed is next behind are =
+blanks_step p c d rest true blank return feed is next after are = both (p c) (list_all p (d ∷ rest)) (blank c is) (next are)
+blanks_step p c d rest false blank return feed is next after are =
     let ends = first_of_both (c == octet_of "\r" && d == octet_of "\n") (are_blanks rest) are in
     let first = ap p (eqb-true c (octet_of "\r") (first_of_both (c == octet_of "\r") (d == octet_of "\n") ends)) ∙ return in
     let second = ap p (eqb-true d (octet_of "\n") (last_of_both (c == octet_of "\r") (d == octet_of "\n") ends)) ∙ feed in
-    both (p c) (list_all p (d ∷ rest)) first (both (p d) (list_all p rest) second (behind (last_of_both (c == octet_of "\r" && d == octet_of "\n") (are_blanks rest) are)))
+    both (p c) (list_all p (d ∷ rest)) first (both (p d) (list_all p rest) second (after (last_of_both (c == octet_of "\r" && d == octet_of "\n") (are_blanks rest) are)))
 
 blanks_all : (p : ℕ → Bool) → ((c : ℕ) → is_blank c ≡ true → p c ≡ true) → p (octet_of "\r") ≡ true → p (octet_of "\n") ≡ true → (gap : List ℕ) → are_blanks gap ≡ true → list_all p gap ≡ true
 blanks_all p blank return feed [] are = refl
@@ -104,25 +104,25 @@ further_apart hex (item ∷ items) last are blank =
 
 one_item : (hex : Bool) (item : Item) (items : List Item) (last : List ℕ) → is_item hex item ≡ true → list_all (is_further hex) items ≡ true → are_blanks last ≡ true
     → inside_of (flat_map item_written items ++ last) ≡ record { items = items; last = last } → inside_of (flat_map item_written (item ∷ items) ++ last) ≡ record { items = item ∷ items; last = last }
-one_item hex item items last here behind blank is =
+one_item hex item items last here after blank is =
     ap inside_of (items_written item items last)
-    ∙ item_run item.blanks item.digits (flat_map item_written items ++ last) (blanks_apart item.blanks (gap_blanks hex item here)) (filled_digits hex item here) (all_digits hex item here) (further_apart hex items last behind blank)
+    ∙ item_run item.blanks item.digits (flat_map item_written items ++ last) (blanks_apart item.blanks (gap_blanks hex item here)) (filled_digits hex item here) (all_digits hex item here) (further_apart hex items last after blank)
     ∙ ap (item_before item) is
 
 further_items : (hex : Bool) (items : List Item) (last : List ℕ) → list_all (is_further hex) items ≡ true → are_blanks last ≡ true → inside_of (flat_map item_written items ++ last) ≡ record { items = items; last = last }
 further_items hex [] last are blank = last_run last (blanks_apart last blank)
 further_items hex (item ∷ items) last are blank =
     let here = last_of_both (is_filled item.blanks) (is_item hex item) (first_of_both (is_further hex item) (list_all (is_further hex) items) are) in
-    let behind = last_of_both (is_further hex item) (list_all (is_further hex) items) are in
-    one_item hex item items last here behind blank (further_items hex items last behind blank)
+    let after = last_of_both (is_further hex item) (list_all (is_further hex) items) are in
+    one_item hex item items last here after blank (further_items hex items last after blank)
 
 parts_read : (hex : Bool) (items : List Item) (last : List ℕ) → (are_items hex items && are_blanks last) ≡ true → inside_of (flat_map item_written items ++ last) ≡ record { items = items; last = last }
 parts_read hex [] last legal = absurd cc
 parts_read hex (item ∷ items) last legal =
     let are = first_of_both (is_item hex item && list_all (is_further hex) items) (are_blanks last) legal in
     let blank = last_of_both (is_item hex item && list_all (is_further hex) items) (are_blanks last) legal in
-    let behind = last_of_both (is_item hex item) (list_all (is_further hex) items) are in
-    one_item hex item items last (first_of_both (is_item hex item) (list_all (is_further hex) items) are) behind blank (further_items hex items last behind blank)
+    let after = last_of_both (is_item hex item) (list_all (is_further hex) items) are in
+    one_item hex item items last (first_of_both (is_item hex item) (list_all (is_further hex) items) are) after blank (further_items hex items last after blank)
 
 inside_read : (hex : Bool) (inside : Inside) → is_inside hex inside ≡ true → inside_of (inside_written inside) ≡ inside
 inside_read hex inside legal = parts_read hex inside.items inside.last legal
@@ -159,7 +159,7 @@ inside_stands hex inside legal =
 run_len : (octets rest : List ℕ) → list_all may_stand octets ≡ true → prefix_len may_stand (octets ++ octet_of "}" ∷ rest) ≡ length octets
 run_len [] rest are = refl
 run_len (c ∷ octets) rest are =
-    let behind = run_len octets rest (last_of_both (may_stand c) (list_all may_stand octets) are) in
+    let after = run_len octets rest (last_of_both (may_stand c) (list_all may_stand octets) are) in
     ap (λ b. cond b (1 + prefix_len may_stand (octets ++ octet_of "}" ∷ rest)) 0) (first_of_both (may_stand c) (list_all may_stand octets) are) ∙ omega arith
 
 run-is : (octets rest : List ℕ) → list_all may_stand octets ≡ true → run (octets ++ octet_of "}" ∷ rest) ≡ octets
@@ -228,10 +228,10 @@ sequence_at-written s rest legal =
     let inside = last_of_both (is_word s.word) (is_inside (is_hex s.word) s.inside) legal in
     let stands = inside_stands (is_hex s.word) s.inside inside in
     let octets = inside_written s.inside ++ octet_of "}" ∷ rest in
-    let behind = octet_of ":" ∷ octets in
+    let after = octet_of ":" ∷ octets in
     ap sequence_at (written-is s rest)
-    ∙ ap (λ word. by_word word (s.word ++ behind)) (word_at-is s.word behind (first_of_both (is_word s.word) (is_inside (is_hex s.word) s.inside) legal))
-    ∙ ap (after_word s.word) (drop-append_seam s.word behind)
+    ∙ ap (λ word. by_word word (s.word ++ after)) (word_at-is s.word after (first_of_both (is_word s.word) (is_inside (is_hex s.word) s.inside) legal))
+    ∙ ap (after_word s.word) (drop-append_seam s.word after)
     ∙ ap (λ one. before_brace s.word one (after_run octets)) (run-is (inside_written s.inside) rest stands)
     ∙ ap (before_brace s.word (inside_written s.inside)) (after_run-is (inside_written s.inside) rest stands)
     ∙ brace_found s rest inside
@@ -245,12 +245,12 @@ record GoesOn (octets : List ℕ) (s : Sequence) : Type 0 where
   pub is : octets ≡ octet_of ":" ∷ (inside_written s.inside ++ octet_of "}" ∷ rest)
 
 -- octets after `:`, by the first of them that may stand there
-record EndsIn (word octets behind : List ℕ) (s : Sequence) : Type 0 where
+record EndsIn (word octets after : List ℕ) (s : Sequence) : Type 0 where
   pub same : s.word ≡ word
   pub written : inside_written s.inside ≡ octets
   pub inside : is_inside (is_hex s.word) s.inside ≡ true
   pub rest : List ℕ
-  pub is : behind ≡ octet_of "}" ∷ rest
+  pub is : after ≡ octet_of "}" ∷ rest
 
 brace_step : (word octets : List ℕ) (c : ℕ) (rest : List ℕ) (s : Sequence) (b : Bool) → (c == octet_of "}" && is_inside (is_hex word) (inside_of octets)) ≡ b → cond b (Some (record { word = word; inside = inside_of octets })) None ≡ Some s → EndsIn word octets (c ∷ rest) s
 brace_step word octets c rest s true signs is =
@@ -265,7 +265,7 @@ brace_step word octets c rest s true signs is =
     })
 brace_step word octets c rest s false signs is = absurd cc
 
-brace_ends : (word octets behind : List ℕ) (s : Sequence) → before_brace word octets behind ≡ Some s → EndsIn word octets behind s
+brace_ends : (word octets after : List ℕ) (s : Sequence) → before_brace word octets after ≡ Some s → EndsIn word octets after s
 brace_ends word octets [] s is = absurd cc
 brace_ends word octets (c ∷ rest) s is = brace_step word octets c rest s (c == octet_of "}" && is_inside (is_hex word) (inside_of octets)) refl is
 
@@ -324,15 +324,15 @@ word_starts : (octets : List ℕ) (s : Sequence) (found : Option (List ℕ)) →
 word_starts octets s None at is = absurd cc
 word_starts octets s (Some word) at is =
     let begins = word_begins octets word at in
-    let behind = after_word-is word (drop (length word) octets) s is in
-    let goes = behind.1 in
+    let after = after_word-is word (drop (length word) octets) s is in
+    let goes = after.1 in
     record {
-      legal = both (is_word s.word) (is_inside (is_hex s.word) s.inside) (ap is_word behind.0 ∙ begins.legal) goes.inside;
+      legal = both (is_word s.word) (is_inside (is_hex s.word) s.inside) (ap is_word after.0 ∙ begins.legal) goes.inside;
       rest = goes.rest;
-      is = begins.is ∙ ap (λ one. word ++ one) goes.is ∙ ap (λ one. one ++ octet_of ":" ∷ (inside_written s.inside ++ octet_of "}" ∷ goes.rest)) (sym behind.0);
+      is = begins.is ∙ ap (λ one. word ++ one) goes.is ∙ ap (λ one. one ++ octet_of ":" ∷ (inside_written s.inside ++ octet_of "}" ∷ goes.rest)) (sym after.0);
     }
 
-found_step : (c d : ℕ) (rest : List ℕ) (s : Sequence) (b : Bool) → (c == octet_of "$" && d == octet_of "{") ≡ b → cond b (by_word (word_at rest) rest) None ≡ Some s → (is_legal s ≡ true) × (behind : List ℕ) × (c ∷ d ∷ rest ≡ written s ++ behind)
+found_step : (c d : ℕ) (rest : List ℕ) (s : Sequence) (b : Bool) → (c == octet_of "$" && d == octet_of "{") ≡ b → cond b (by_word (word_at rest) rest) None ≡ Some s → (is_legal s ≡ true) × (after : List ℕ) × (c ∷ d ∷ rest ≡ written s ++ after)
 found_step c d rest s true signs is =
     let first = eqb-true c (octet_of "$") (first_of_both (c == octet_of "$") (d == octet_of "{") signs) in
     let second = eqb-true d (octet_of "{") (last_of_both (c == octet_of "$") (d == octet_of "{") signs) in

@@ -38,11 +38,11 @@ unfolding inside_of
 first_digit c [] is apart = digit_step c (record { items = []; last = [] }) is
 first_digit c (b ∷ rest) is apart =
     let inside = inside_of rest in
-    let behind = blank_before b inside.items inside.last in
+    let after = blank_before b inside.items inside.last in
     let step = gap_step b inside apart in
     digit_step c (octet_onto b inside) is
     ∙ ap (λ (one : Inside). record { items = digit_before c one.items; last = one.last }) step
-    ∙ ap (λ (items : List Item). record { items = items; last = behind.last }) (apart_step c b inside.items inside.last)
+    ∙ ap (λ (items : List Item). record { items = items; last = after.last }) (apart_step c b inside.items inside.last)
     ∙ sym (ap (item_before (record { blanks = []; digits = c ∷ [] })) step)
 
 digits_run : (c : ℕ) (digits rest : List ℕ) → is_hex_digit c ≡ true → list_all is_hex_digit digits ≡ true → no_digit rest ≡ true → inside_of (c ∷ (digits ++ rest)) ≡ item_before (record { blanks = []; digits = c ∷ digits }) (inside_of rest)
@@ -78,8 +78,8 @@ item_run gap (c ∷ digits) rest blank some are apart =
 -- the first octets that pass a test
 
 all_step : (p : ℕ → Bool) (c : ℕ) (octets : List ℕ) (b : Bool) → p c ≡ b → list_all p (take_while p octets) ≡ true → list_all p (cond b (c ∷ take_while p octets) []) ≡ true
-all_step p c octets true is behind = both (p c) (list_all p (take_while p octets)) is behind
-all_step p c octets false is behind = refl
+all_step p c octets true is after = both (p c) (list_all p (take_while p octets)) is after
+all_step p c octets false is after = refl
 
 pub run_all : (p : ℕ → Bool) (octets : List ℕ) → list_all p (take_while p octets) ≡ true
 run_all p [] = refl
@@ -89,8 +89,8 @@ one_more : (n : ℕ) → 1 + n ≡ suc n
 one_more n = omega arith
 
 apart_after : (c : ℕ) (octets : List ℕ) (b : Bool) → is_hex_digit c ≡ b → no_digit (drop (prefix_len is_hex_digit octets) octets) ≡ true → no_digit (drop (cond b (1 + prefix_len is_hex_digit octets) 0) (c ∷ octets)) ≡ true
-apart_after c octets true is behind = ap (λ n. no_digit (drop n (c ∷ octets))) (one_more (prefix_len is_hex_digit octets)) ∙ behind
-apart_after c octets false is behind = not_from_false (is_hex_digit c) is
+apart_after c octets true is after = ap (λ n. no_digit (drop n (c ∷ octets))) (one_more (prefix_len is_hex_digit octets)) ∙ after
+apart_after c octets false is after = not_from_false (is_hex_digit c) is
 
 -- no digit stands after a whole run of digits
 pub digits_end : (octets : List ℕ) → no_digit (drop (prefix_len is_hex_digit octets) octets) ≡ true
@@ -98,11 +98,11 @@ digits_end [] = refl
 digits_end (c ∷ octets) = apart_after c octets (is_hex_digit c) refl (digits_end octets)
 
 whole_step : (c : ℕ) (octets : List ℕ) (b : Bool) → is_hex_digit c ≡ b → (prefix_len is_hex_digit (drop (prefix_len not_hex octets) octets) ≡ 0 → list_all not_hex octets ≡ true) → prefix_len is_hex_digit (drop (cond (not b) (1 + prefix_len not_hex octets) 0) (c ∷ octets)) ≡ 0 → (not b && list_all not_hex octets) ≡ true
-whole_step c octets true is behind none =
+whole_step c octets true is after none =
     let more : cond (is_hex_digit c) (1 + prefix_len is_hex_digit octets) 0 ≡ 1 + prefix_len is_hex_digit octets = ap (λ b. cond b (1 + prefix_len is_hex_digit octets) 0) is in
     absurd (omega arith)
-whole_step c octets false is behind none =
-    behind (ap (λ n. prefix_len is_hex_digit (drop n (c ∷ octets))) (sym (one_more (prefix_len not_hex octets))) ∙ none)
+whole_step c octets false is after none =
+    after (ap (λ n. prefix_len is_hex_digit (drop n (c ∷ octets))) (sym (one_more (prefix_len not_hex octets))) ∙ none)
 
 -- where no digit stands after the first octets that are none, there is none
 pub whole_gap : (octets : List ℕ) → prefix_len is_hex_digit (drop (prefix_len not_hex octets) octets) ≡ 0 → list_all not_hex octets ≡ true

@@ -35,17 +35,17 @@ replaced_sequence (c ∷ rest) s n found count =
 count_of : (word octets : List ℕ) (n : ℕ) → n ≡ length word + length octets + 4 → n ≡ suc (further (record { word = word; inside = inside_of octets }))
 count_of word octets n is = omega (arith, ap length (written_again octets))
 
-pub octet_step : (done next left behind octets : List ℕ) (whole : Option (List ℕ)) → 0 < length left → None ≡ sequence_at left → octets ≡ take 1 left → behind ≡ drop 1 left → next ≡ done ++ octets → grown done (characters_replaced left) ≡ whole → grown next (characters_replaced behind) ≡ whole
-octet_step done next left behind octets whole some none octets_is behind_is next_is so_far =
-    ap (λ one. grown next (characters_replaced one)) behind_is
+pub octet_step : (done next left after octets : List ℕ) (whole : Option (List ℕ)) → 0 < length left → None ≡ sequence_at left → octets ≡ take 1 left → after ≡ drop 1 left → next ≡ done ++ octets → grown done (characters_replaced left) ≡ whole → grown next (characters_replaced after) ≡ whole
+octet_step done next left after octets whole some none octets_is after_is next_is so_far =
+    ap (λ one. grown next (characters_replaced one)) after_is
     ∙ grown_more done next (Some (take 1 left)) (characters_replaced (drop 1 left)) whole (ap Some (next_is ∙ ap (λ one. done ++ one) octets_is))
     (ap (grown done) (sym (replaced_octet left some none)) ∙ so_far)
 
-pub sequence_step : (done next left behind word octets : List ℕ) (n : ℕ) (pushed : Bool) (whole : Option (List ℕ)) → pushed ≡ true → Some (record { word = word; inside = inside_of octets }) ≡ sequence_at left → n ≡ length word + length octets + 4 → behind ≡ drop n left
-    → if_right pushed next ≡ grown done (octets_of_sequence (record { word = word; inside = inside_of octets })) → grown done (characters_replaced left) ≡ whole → grown next (characters_replaced behind) ≡ whole
-sequence_step done next left behind word octets n pushed whole is found count behind_is adds so_far =
+pub sequence_step : (done next left after word octets : List ℕ) (n : ℕ) (pushed : Bool) (whole : Option (List ℕ)) → pushed ≡ true → Some (record { word = word; inside = inside_of octets }) ≡ sequence_at left → n ≡ length word + length octets + 4 → after ≡ drop n left
+    → if_right pushed next ≡ grown done (octets_of_sequence (record { word = word; inside = inside_of octets })) → grown done (characters_replaced left) ≡ whole → grown next (characters_replaced after) ≡ whole
+sequence_step done next left after word octets n pushed whole is found count after_is adds so_far =
     let s : Sequence = record { word = word; inside = inside_of octets } in
-    ap (λ one. grown next (characters_replaced one)) behind_is
+    ap (λ one. grown next (characters_replaced one)) after_is
     ∙ grown_more done next (octets_of_sequence s) (characters_replaced (drop n left)) whole (ap (λ b. cond b (Some next) None) (sym is) ∙ adds)
     (ap (grown done) (sym (replaced_sequence left s n found (count_of word octets n count))) ∙ so_far)
 
@@ -67,9 +67,9 @@ last_step done (c ∷ left) whole ended so_far = absurd (omega arith)
 
 -- whether a text has a sequence
 
-pub passed_octet : (text behind : List ℕ) → 0 < length text → None ≡ sequence_at text → behind ≡ drop 1 text → has_sequence text ≡ has_sequence behind
-passed_octet [] behind some none is = absurd (omega arith)
-passed_octet (c ∷ rest) behind some none is =
+pub passed_octet : (text after : List ℕ) → 0 < length text → None ≡ sequence_at text → after ≡ drop 1 text → has_sequence text ≡ has_sequence after
+passed_octet [] after some none is = absurd (omega arith)
+passed_octet (c ∷ rest) after some none is =
     ap (list_any is_sequence) (pieces-octet sequence_at further c rest (sym none)) ∙ ap has_sequence (sym is)
 
 pub found_sequence : (text : List ℕ) (s : Sequence) → Some s ≡ sequence_at text → has_sequence text ≡ true

@@ -13,17 +13,17 @@ abbrev pub octets_of_items : (hex : Bool) → Inside → Option (List ℕ)
 octets_of_items hex inside = joined (λ item. octets_of_digits hex item.digits) inside.items
 
 -- octets of a first one, and then of others
-pub grown_more : (done next : List ℕ) (first behind whole : Option (List ℕ)) → Some next ≡ grown done first → grown done (octets_before first behind) ≡ whole → grown next behind ≡ whole
-grown_more done next None behind whole is so_far = absurd cc
+pub grown_more : (done next : List ℕ) (first after whole : Option (List ℕ)) → Some next ≡ grown done first → grown done (octets_before first after) ≡ whole → grown next after ≡ whole
+grown_more done next None after whole is so_far = absurd cc
 grown_more done next (Some front) None whole is so_far = so_far
 grown_more done next (Some front) (Some more) whole is so_far =
     let same : next ≡ done ++ front = cc in
     ap (λ one. Some (one ++ more)) same ∙ ap Some (append_assoc done front more) ∙ so_far
 
 -- where the first stands for nothing, so do all
-pub grown_none : (done : List ℕ) (first behind whole : Option (List ℕ)) → None ≡ grown done first → grown done (octets_before first behind) ≡ whole → None ≡ whole
-grown_none done None behind whole is so_far = so_far
-grown_none done (Some front) behind whole is so_far = absurd cc
+pub grown_none : (done : List ℕ) (first after whole : Option (List ℕ)) → None ≡ grown done first → grown done (octets_before first after) ≡ whole → None ≡ whole
+grown_none done None after whole is so_far = so_far
+grown_none done (Some front) after whole is so_far = absurd cc
 
 -- numbers
 
@@ -31,8 +31,8 @@ past_all : (n : ℕ) → 0x10FFFF < n → is_character n ≡ false
 past_all n past = grind (arith, nat_tests, past)
 
 number_grows : (n : ℕ) (digits : List ℕ) (found : Option ℕ) → ((m : ℕ) → 0x10FFFF < m → option_and_then if_character (number_from m digits) ≡ None) → 0x10FFFF < n → option_and_then if_character (option_and_then (λ value. number_from (16 * n + value) digits) found) ≡ None
-number_grows n digits None behind past = refl
-number_grows n digits (Some value) behind past = behind (16 * n + value) (omega arith)
+number_grows n digits None after past = refl
+number_grows n digits (Some value) after past = after (16 * n + value) (omega arith)
 
 -- a number that is too great stays so with more digits
 pub too_great : (n : ℕ) (digits : List ℕ) → 0x10FFFF < n → option_and_then if_character (number_from n digits) ≡ None

@@ -7,7 +7,7 @@ use Rattle.encoded_characters.specs.Sequence.{Sequence, is_hex}
 
 -- octets with what stands before them, if there is both
 abbrev pub octets_before : Option (List ℕ) → Option (List ℕ) → Option (List ℕ)
-octets_before first behind = option_and_then (λ front. option_map (λ more. front ++ more) behind) first
+octets_before first after = option_and_then (λ front. option_map (λ more. front ++ more) after) first
 
 -- what each of a list stands for, in turn, if each stands for something
 abbrev pub joined : {A : Type 0} → (A → Option (List ℕ)) → List A → Option (List ℕ)

@@ -18,8 +18,8 @@ fn has_sequence(text: &[u8]) -> bool
         if sequence_at(left).is_some() {
             return true;
         }
-        let (_, behind) = left.split_at(1);
-        left = behind;
+        let (_, after) = left.split_at(1);
+        left = after;
     }
     false
 }
@@ -33,18 +33,18 @@ fn all_replaced(alloc: Global, text: &[u8]) -> Result<Option<Vec<u8>>, AllocErro
     while !left.is_empty() {
         match sequence_at(left) {
             None => {
-                let (octet, behind) = left.split_at(1);
+                let (octet, after) = left.split_at(1);
                 octets.extend_from_slice(octet)?;
-                left = behind;
+                left = after;
             }
             Some(sequence) => {
-                let (_, behind) = left.split_at(
+                let (_, after) = left.split_at(
                     sequence.word.len() + sequence.inside.len() + SIGN_COUNT,
                 );
                 if !push_sequence(&mut octets, &sequence)? {
                     return Ok(None);
                 }
-                left = behind;
+                left = after;
             }
         }
     }

@@ -79,13 +79,13 @@ fn word_at(octets: &[u8]) -> Option<&[u8]>
 }
 
 /// Encoded characters, by their word, what may stand between `:` and `}`, and what stands after that: `}`.
-fn before_brace<'a>(word: &'a [u8], inside: &'a [u8], behind: &[u8]) -> Option<EncodedSequence<'a>>
-    ensures is { option_map sequence_of result ≡ before_brace word.now inside.now behind.now }
+fn before_brace<'a>(word: &'a [u8], inside: &'a [u8], after: &[u8]) -> Option<EncodedSequence<'a>>
+    ensures is { option_map sequence_of result ≡ before_brace word.now inside.now after.now }
     ensures word { IfSome result (λ found. found.word.now ≡ word.now) }
     ensures inside { IfSome result (λ found. found.inside.now ≡ inside.now) }
-    ensures some { IfSome result (λ _. 0 < length behind.now) }
+    ensures some { IfSome result (λ _. 0 < length after.now) }
 {
-    let [b'}', ..] = behind else {
+    let [b'}', ..] = after else {
         return None;
     };
     if is_inside(is_hex(word), inside) {
@@ -96,12 +96,12 @@ fn before_brace<'a>(word: &'a [u8], inside: &'a [u8], behind: &[u8]) -> Option<E
 }
 
 /// Encoded characters, by their word and what stands after it: `:`, and so on.
-fn after_word<'a>(word: &'a [u8], behind: &'a [u8]) -> Option<EncodedSequence<'a>>
-    ensures is { option_map sequence_of result ≡ after_word word.now behind.now }
+fn after_word<'a>(word: &'a [u8], after: &'a [u8]) -> Option<EncodedSequence<'a>>
+    ensures is { option_map sequence_of result ≡ after_word word.now after.now }
     ensures word { IfSome result (λ found. found.word.now ≡ word.now) }
-    ensures within { IfSome result (λ found. length found.inside.now + 2 ≤ length behind.now) }
+    ensures within { IfSome result (λ found. length found.inside.now + 2 ≤ length after.now) }
 {
-    let [b':', rest @ ..] = behind else {
+    let [b':', rest @ ..] = after else {
         return None;
     };
     let (inside, further) = cut_run(rest);
@@ -124,6 +124,6 @@ pub(crate) fn sequence_at(text: &[u8]) -> Option<EncodedSequence<'_>>
         return None;
     };
     let word = word_at(rest)?;
-    let (_, behind) = rest.split_at(word.len());
-    after_word(word, behind)
+    let (_, after) = rest.split_at(word.len());
+    after_word(word, after)
 }

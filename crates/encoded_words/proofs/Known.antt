@@ -76,9 +76,9 @@ character_low table octet character low is =
     octet_low (is_ascii octet) octet (get_or table (octet - 128) 0) character refl (below_at 55296 table (octet - 128) (omega arith) low) is
 
 characters_step : (table : List ℕ) (octet : ℕ) (found : Option ℕ) (characters : List ℕ) → list_all is_low table ≡ true → character_at table octet ≡ found → scalars characters ≡ true → scalars (cons_option found characters) ≡ true
-characters_step table octet None characters low is behind = behind
-characters_step table octet (Some character) characters low is behind =
-    both (scalar character) (scalars characters) (low_scalar character (character_low table octet character low is)) behind
+characters_step table octet None characters low is after = after
+characters_step table octet (Some character) characters low is after =
+    both (scalar character) (scalars characters) (low_scalar character (character_low table octet character low is)) after
 
 characters_are : (table octets : List ℕ) → list_all is_low table ≡ true → scalars (filter_map (character_at table) octets) ≡ true
 characters_are table [] low = refl

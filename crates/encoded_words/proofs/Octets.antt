@@ -34,10 +34,10 @@ below_at limit (n ∷ numbers) zero some are = grind (arith, nat_tests, first_of
 below_at limit (n ∷ numbers) (suc i) some are = below_at limit numbers i some (last_of_both (nat_lt n limit) (list_all (λ n. nat_lt n limit) numbers) are)
 
 appended : (xs ys : List ℕ) → list_all is_octet xs ≡ true → list_all is_octet ys ≡ true → list_all is_octet (xs ++ ys) ≡ true
-appended [] ys first behind = behind
-appended (x ∷ xs) ys first behind =
+appended [] ys first after = after
+appended (x ∷ xs) ys first after =
     both (is_octet x) (list_all is_octet (xs ++ ys)) (first_of_both (is_octet x) (list_all is_octet xs) first)
-    (appended xs ys (last_of_both (is_octet x) (list_all is_octet xs) first) behind)
+    (appended xs ys (last_of_both (is_octet x) (list_all is_octet xs) first) after)
 
 taken : (n : ℕ) (xs : List ℕ) → list_all is_octet xs ≡ true → list_all is_octet (take n xs) ≡ true
 taken zero xs are = refl
@@ -82,8 +82,8 @@ scan_step : (dec bs : List ℕ) (pad at i b : ℕ) (state last : _) (pushed : Re
     → ((next : _) → IsLeftover next (i + 1) → scan_steps dec pad at (Ok next) (i + 1) bs ≡ Ok last → (n : ℕ) × IsLeftover last n)
     → scan_steps dec pad at pushed (i + 1) bs ≡ Ok last → (n : ℕ) × IsLeftover last n
 unfolding scan_steps
-scan_step dec bs pad at i b state last (Ok next) table byte held is behind so = behind next (IsLeftover_next dec pad at state i b next table held byte is) so
-scan_step dec bs pad at i b state last (Err error) table byte held is behind so = absurd cc
+scan_step dec bs pad at i b state last (Ok next) table byte held is after so = after next (IsLeftover_next dec pad at state i b next table held byte is) so
+scan_step dec bs pad at i b state last (Err error) table byte held is after so = absurd cc
 
 scan_are : (dec bs : List ℕ) (pad at i : ℕ) (state last : _) → IsDecodeTable dec → IsBytes bs → IsLeftover state i → scan_steps dec pad at (Ok state) i bs ≡ Ok last → (n : ℕ) × IsLeftover last n
 unfolding scan_steps
@@ -192,9 +192,9 @@ before : (c : ℕ) (found : Option (List ℕ)) → is_octet c ≡ true → Are f
 before c None is are = nothing
 before c (Some octets) is are = some (c ∷ octets) (both (is_octet c) (list_all is_octet octets) is (are octets refl))
 
-escape : (found : Option ℕ) (behind : Option (List ℕ)) → ((octet : ℕ) → found ≡ Some octet → octet < 256) → Are behind → Are (option_and_then (λ octet. octet_before octet behind) found)
-escape None behind within are = nothing
-escape (Some octet) behind within are = before octet behind (octet_from octet (within octet refl)) are
+escape : (found : Option ℕ) (after : Option (List ℕ)) → ((octet : ℕ) → found ≡ Some octet → octet < 256) → Are after → Are (option_and_then (λ octet. octet_before octet after) found)
+escape None after within are = nothing
+escape (Some octet) after within are = before octet after (octet_from octet (within octet refl)) are
 
 by_sign : (b : Bool) (escaped plain : Option (List ℕ)) → Are escaped → Are plain → Are (cond b escaped plain)
 by_sign true escaped plain escaped_are plain_are = escaped_are
@@ -212,11 +212,11 @@ q_are (c ∷ d ∷ []) are =
     (before (plain_octet c) (q_octets (d ∷ [])) first (q_are (d ∷ []) (last_of_both (is_octet c) (list_all is_octet (d ∷ [])) are)))
 q_are (c ∷ d ∷ e ∷ rest) are =
     let first = plain_is c (first_of_both (is_octet c) (list_all is_octet (d ∷ e ∷ rest)) are) in
-    let behind = last_of_both (is_octet c) (list_all is_octet (d ∷ e ∷ rest)) are in
-    let further = last_of_both (is_octet e) (list_all is_octet rest) (last_of_both (is_octet d) (list_all is_octet (e ∷ rest)) behind) in
+    let after = last_of_both (is_octet c) (list_all is_octet (d ∷ e ∷ rest)) are in
+    let further = last_of_both (is_octet e) (list_all is_octet rest) (last_of_both (is_octet d) (list_all is_octet (e ∷ rest)) after) in
     by_sign (c == octet_of "=") (option_and_then (λ octet. octet_before octet (q_octets rest)) (hex_octet d e)) (octet_before (plain_octet c) (q_octets (d ∷ e ∷ rest)))
     (escape (hex_octet d e) (q_octets rest) (hex_below d e) (q_are rest further))
-    (before (plain_octet c) (q_octets (d ∷ e ∷ rest)) first (q_are (d ∷ e ∷ rest) behind))
+    (before (plain_octet c) (q_octets (d ∷ e ∷ rest)) first (q_are (d ∷ e ∷ rest) after))
 
 -- the text of a word
 

@@ -42,9 +42,9 @@ octet_step done next c (Some more) whole is so_far =
     ap (λ one. Some (one ++ more)) is ∙ ap Some (append_assoc done (c ∷ []) more) ∙ so_far
 
 -- octets are the first one and what stands after it
-pub first_and_behind : (octets : List ℕ) → 1 ≤ length octets → get_or octets 0 0 ∷ take (length octets - 1) (drop 1 octets) ≡ octets
-first_and_behind [] some = absurd (omega arith)
-first_and_behind (c ∷ octets) some = ap (λ behind. c ∷ behind) (take_all (length (c ∷ octets) - 1) octets (omega arith))
+pub first_and_after : (octets : List ℕ) → 1 ≤ length octets → get_or octets 0 0 ∷ take (length octets - 1) (drop 1 octets) ≡ octets
+first_and_after [] some = absurd (omega arith)
+first_and_after (c ∷ octets) some = ap (λ after. c ∷ after) (take_all (length (c ∷ octets) - 1) octets (omega arith))
 
 -- an octet more of ISO 8859-1
 pub latin_step : (octets text next : List ℕ) (i : ℕ) → i < length octets → text ≡ encode_utf8_all (take i octets) → next ≡ text ++ encode_utf8 (get_or octets i 0) → next ≡ encode_utf8_all (take (i + 1) octets)
@@ -78,29 +78,29 @@ decoded_at profile (c ∷ rest) meant word n some is means count =
     ∙ ap (λ n. replaced word meant ∷ pieces_of profile (drop n (c ∷ rest))) same
 
 -- octets that stand for themselves, and the pieces after them
-abbrev pub in_front : List ℕ → List ValuePiece → List ValuePiece
-in_front octets pieces = map octet octets ++ pieces
+abbrev pub put_before : List ℕ → List ValuePiece → List ValuePiece
+put_before octets pieces = map octet octets ++ pieces
 
-plain_next : (profile : Profile) (left : List ℕ) (plain : ℕ) → plain < length left → pieces_of profile (drop plain left) ≡ octet (get_or (drop plain left) 0 0) ∷ pieces_of profile (drop 1 (drop plain left)) → in_front (take (suc plain) left) (pieces_of profile (drop (suc plain) left)) ≡ in_front (take plain left) (pieces_of profile (drop plain left))
+plain_next : (profile : Profile) (left : List ℕ) (plain : ℕ) → plain < length left → pieces_of profile (drop plain left) ≡ octet (get_or (drop plain left) 0 0) ∷ pieces_of profile (drop 1 (drop plain left)) → put_before (take (suc plain) left) (pieces_of profile (drop (suc plain) left)) ≡ put_before (take plain left) (pieces_of profile (drop plain left))
 plain_next profile [] plain within is = absurd (omega arith)
 plain_next profile (c ∷ rest) zero within is = sym is
 plain_next profile (c ∷ rest) (suc plain) within is = ap (λ pieces. octet c ∷ pieces) (plain_next profile rest plain (omega arith) is)
 
-pub plain_step : (profile : Profile) (left : List ℕ) (plain : ℕ) (whole : List ValuePiece) → plain < length left → pieces_of profile (drop plain left) ≡ octet (get_or (drop plain left) 0 0) ∷ pieces_of profile (drop 1 (drop plain left)) → in_front (take plain left) (pieces_of profile (drop plain left)) ≡ whole → in_front (take (plain + 1) left) (pieces_of profile (drop (plain + 1) left)) ≡ whole
+pub plain_step : (profile : Profile) (left : List ℕ) (plain : ℕ) (whole : List ValuePiece) → plain < length left → pieces_of profile (drop plain left) ≡ octet (get_or (drop plain left) 0 0) ∷ pieces_of profile (drop 1 (drop plain left)) → put_before (take plain left) (pieces_of profile (drop plain left)) ≡ whole → put_before (take (plain + 1) left) (pieces_of profile (drop (plain + 1) left)) ≡ whole
 plain_step profile left plain whole within is so_far = rw add-one (plain_next profile left plain within is ∙ so_far)
 
-pub word_step : (profile : Profile) (gap rest behind meant : List ℕ) (word : EncodedWord) (n : ℕ) (whole : List ValuePiece) → 0 < length rest → Some word ≡ word_at rest → Some meant ≡ meaning profile word → n ≡ length word.charset + length word.text + 7 → behind ≡ drop n rest → in_front gap (pieces_of profile rest) ≡ whole → whole ≡ in_front gap (replaced word meant ∷ pieces_of profile behind)
-word_step profile gap rest behind meant word n whole some is means count behind_is so_far =
+pub word_step : (profile : Profile) (gap rest after meant : List ℕ) (word : EncodedWord) (n : ℕ) (whole : List ValuePiece) → 0 < length rest → Some word ≡ word_at rest → Some meant ≡ meaning profile word → n ≡ length word.charset + length word.text + 7 → after ≡ drop n rest → put_before gap (pieces_of profile rest) ≡ whole → whole ≡ put_before gap (replaced word meant ∷ pieces_of profile after)
+word_step profile gap rest after meant word n whole some is means count after_is so_far =
     sym so_far
-    ∙ ap (in_front gap) (decoded_at profile rest meant word n some is means count)
-    ∙ ap (λ one. in_front gap (replaced word meant ∷ pieces_of profile one)) (sym behind_is)
+    ∙ ap (put_before gap) (decoded_at profile rest meant word n some is means count)
+    ∙ ap (λ one. put_before gap (replaced word meant ∷ pieces_of profile one)) (sym after_is)
 
-pub all_alone : (profile : Profile) (left : List ℕ) (plain : ℕ) → length left ≤ plain → in_front (take plain left) (pieces_of profile (drop plain left)) ≡ pieces_of profile left → pieces_of profile left ≡ map octet left
+pub all_alone : (profile : Profile) (left : List ℕ) (plain : ℕ) → length left ≤ plain → put_before (take plain left) (pieces_of profile (drop plain left)) ≡ pieces_of profile left → pieces_of profile left ≡ map octet left
 unfolding pieces_from
 all_alone profile left plain ended is =
     sym is
-    ∙ ap (λ one. in_front one (pieces_of profile (drop plain left))) (take_all plain left ended)
-    ∙ ap (λ one. in_front left (pieces_of profile one)) (drop_of_length-le left ended)
+    ∙ ap (λ one. put_before one (pieces_of profile (drop plain left))) (take_all plain left ended)
+    ∙ ap (λ one. put_before left (pieces_of profile one)) (drop_of_length-le left ended)
     ∙ append-nil (map octet left)
 
 -- octets before the first `=`
@@ -110,16 +110,16 @@ unfolding word_at
 sign_here c [] other = refl
 sign_here c (d ∷ rest) other = rw other refl
 
-sign_behind : (c : ℕ) (rest : List ℕ) (n : ℕ) → Nowhere (Passes (is_byte (octet_of "=")) (c ∷ rest)) 0 (suc n) → Nowhere (Passes (is_byte (octet_of "=")) rest) 0 n
-sign_behind c rest n nowhere k low high passes = nowhere (suc k) (omega arith) (omega arith) passes
+sign_after : (c : ℕ) (rest : List ℕ) (n : ℕ) → Nowhere (Passes (is_byte (octet_of "=")) (c ∷ rest)) 0 (suc n) → Nowhere (Passes (is_byte (octet_of "=")) rest) 0 n
+sign_after c rest n nowhere k low high passes = nowhere (suc k) (omega arith) (omega arith) passes
 
-pub signs_alone : (profile : Profile) (value : List ℕ) (n : ℕ) → n ≤ length value → Nowhere (Passes (is_byte (octet_of "=")) value) 0 n → in_front (take n value) (pieces_of profile (drop n value)) ≡ pieces_of profile value
+pub signs_alone : (profile : Profile) (value : List ℕ) (n : ℕ) → n ≤ length value → Nowhere (Passes (is_byte (octet_of "=")) value) 0 n → put_before (take n value) (pieces_of profile (drop n value)) ≡ pieces_of profile value
 signs_alone profile [] zero within nowhere = refl
 signs_alone profile [] (suc n) within nowhere = absurd (omega arith)
 signs_alone profile (c ∷ rest) zero within nowhere = refl
 signs_alone profile (c ∷ rest) (suc n) within nowhere =
     let other : (c == octet_of "=") ≡ false = false_from_ne_true (c == octet_of "=") (λ is. nowhere 0 (omega arith) (omega arith) is) in
-    ap (λ pieces. octet c ∷ pieces) (signs_alone profile rest n (omega arith) (sign_behind c rest n nowhere))
+    ap (λ pieces. octet c ∷ pieces) (signs_alone profile rest n (omega arith) (sign_after c rest n nowhere))
     ∙ sym (none_at profile (c ∷ rest) (omega arith) (sign_here c rest other))
 
 -- no `=` stands before what a search for `=` found, or before the end where it found nothing
@@ -129,32 +129,32 @@ front_of value (Some n) (first, here) = (omega (arith, first.high), first.before
 
 -- what pieces stand for
 
-leads_gap : (gap meant : List ℕ) (word : EncodedWord) (pieces : List ValuePiece) → leads_to_word (in_front gap (replaced word meant ∷ pieces)) ≡ list_all is_blank gap
+leads_gap : (gap meant : List ℕ) (word : EncodedWord) (pieces : List ValuePiece) → leads_to_word (put_before gap (replaced word meant ∷ pieces)) ≡ list_all is_blank gap
 leads_gap [] meant word pieces = refl
 leads_gap (c ∷ gap) meant word pieces = ap (λ b. is_blank c && b) (leads_gap gap meant word pieces)
 
-gap_step : (behind_word blank all : Bool) (c : ℕ) (gap : List ℕ) (rest true_rest false_rest : List ℕ) → true_rest ≡ cond all [] gap ++ rest → false_rest ≡ gap ++ rest → cond (behind_word && (blank && all)) true_rest (c ∷ false_rest) ≡ cond (behind_word && (blank && all)) [] (c ∷ gap) ++ rest
+gap_step : (after_word blank all : Bool) (c : ℕ) (gap : List ℕ) (rest true_rest false_rest : List ℕ) → true_rest ≡ cond all [] gap ++ rest → false_rest ≡ gap ++ rest → cond (after_word && (blank && all)) true_rest (c ∷ false_rest) ≡ cond (after_word && (blank && all)) [] (c ∷ gap) ++ rest
 gap_step true true true c gap rest true_rest false_rest dropped stays = dropped
 gap_step true true false c gap rest true_rest false_rest dropped stays = ap (λ octets. c ∷ octets) stays
 gap_step true false all c gap rest true_rest false_rest dropped stays = ap (λ octets. c ∷ octets) stays
 gap_step false blank all c gap rest true_rest false_rest dropped stays = ap (λ octets. c ∷ octets) stays
 
-pub joined_gap : (behind_word : Bool) (gap meant : List ℕ) (word : EncodedWord) (pieces : List ValuePiece) → joined behind_word (in_front gap (replaced word meant ∷ pieces)) ≡ kept behind_word gap ++ (meant ++ joined true pieces)
+pub joined_gap : (after_word : Bool) (gap meant : List ℕ) (word : EncodedWord) (pieces : List ValuePiece) → joined after_word (put_before gap (replaced word meant ∷ pieces)) ≡ kept after_word gap ++ (meant ++ joined true pieces)
 joined_gap true [] meant word pieces = refl
 joined_gap false [] meant word pieces = refl
-joined_gap behind_word (c ∷ gap) meant word pieces =
-    let further = in_front gap (replaced word meant ∷ pieces) in
-    ap (λ b. cond (behind_word && (is_blank c && b)) (joined true further) (c ∷ joined false further)) (leads_gap gap meant word pieces)
-    ∙ gap_step behind_word (is_blank c) (list_all is_blank gap) c gap (meant ++ joined true pieces) (joined true further) (joined false further)
+joined_gap after_word (c ∷ gap) meant word pieces =
+    let further = put_before gap (replaced word meant ∷ pieces) in
+    ap (λ b. cond (after_word && (is_blank c && b)) (joined true further) (c ∷ joined false further)) (leads_gap gap meant word pieces)
+    ∙ gap_step after_word (is_blank c) (list_all is_blank gap) c gap (meant ++ joined true pieces) (joined true further) (joined false further)
     (joined_gap true gap meant word pieces) (joined_gap false gap meant word pieces)
 
-pub word_decoded : (done next gap meant : List ℕ) (behind_word : Bool) (word : EncodedWord) (left pieces : List ValuePiece) (whole : List ℕ) → next ≡ done ++ (kept behind_word gap ++ meant) → left ≡ in_front gap (replaced word meant ∷ pieces) → done ++ joined behind_word left ≡ whole → next ++ joined true pieces ≡ whole
-word_decoded done next gap meant behind_word word left pieces whole next_is left_is so_far =
+pub word_decoded : (done next gap meant : List ℕ) (after_word : Bool) (word : EncodedWord) (left pieces : List ValuePiece) (whole : List ℕ) → next ≡ done ++ (kept after_word gap ++ meant) → left ≡ put_before gap (replaced word meant ∷ pieces) → done ++ joined after_word left ≡ whole → next ++ joined true pieces ≡ whole
+word_decoded done next gap meant after_word word left pieces whole next_is left_is so_far =
     ap (λ octets. octets ++ joined true pieces) next_is
-    ∙ append_assoc done (kept behind_word gap ++ meant) (joined true pieces)
-    ∙ ap (λ octets. done ++ octets) (append_assoc (kept behind_word gap) meant (joined true pieces))
-    ∙ ap (λ octets. done ++ octets) (sym (joined_gap behind_word gap meant word pieces))
-    ∙ ap (λ pieces. done ++ joined behind_word pieces) (sym left_is)
+    ∙ append_assoc done (kept after_word gap ++ meant) (joined true pieces)
+    ∙ ap (λ octets. done ++ octets) (append_assoc (kept after_word gap) meant (joined true pieces))
+    ∙ ap (λ octets. done ++ octets) (sym (joined_gap after_word gap meant word pieces))
+    ∙ ap (λ pieces. done ++ joined after_word pieces) (sym left_is)
     ∙ so_far
 
 no_further : (octets : List ℕ) → leads_to_word (map octet octets) ≡ false
@@ -165,39 +165,39 @@ no_further (c ∷ octets) = ap (λ b. is_blank c && b) (no_further octets) ∙ n
     never true = refl
     never false = refl
 
-stays_step : (behind_word blank : Bool) (dropped stays : List ℕ) → cond (behind_word && (blank && false)) dropped stays ≡ stays
+stays_step : (after_word blank : Bool) (dropped stays : List ℕ) → cond (after_word && (blank && false)) dropped stays ≡ stays
 stays_step true true dropped stays = refl
 stays_step true false dropped stays = refl
 stays_step false blank dropped stays = refl
 
-pub joined_octets : (behind_word : Bool) (octets : List ℕ) → joined behind_word (map octet octets) ≡ octets
-joined_octets behind_word [] = refl
-joined_octets behind_word (c ∷ octets) =
+pub joined_octets : (after_word : Bool) (octets : List ℕ) → joined after_word (map octet octets) ≡ octets
+joined_octets after_word [] = refl
+joined_octets after_word (c ∷ octets) =
     let further = map octet octets in
-    ap (λ b. cond (behind_word && (is_blank c && b)) (joined true further) (c ∷ joined false further)) (no_further octets)
-    ∙ stays_step behind_word (is_blank c) (joined true further) (c ∷ joined false further)
+    ap (λ b. cond (after_word && (is_blank c && b)) (joined true further) (c ∷ joined false further)) (no_further octets)
+    ∙ stays_step after_word (is_blank c) (joined true further) (c ∷ joined false further)
     ∙ ap (λ octets. c ∷ octets) (joined_octets false octets)
 
-pub last_decoded : (done left whole : List ℕ) (behind_word : Bool) (pieces : List ValuePiece) → pieces ≡ map octet left → done ++ joined behind_word pieces ≡ whole → done ++ left ≡ whole
-last_decoded done left whole behind_word pieces is so_far =
-    ap (λ octets. done ++ octets) (sym (joined_octets behind_word left))
-    ∙ ap (λ pieces. done ++ joined behind_word pieces) (sym is)
+pub last_decoded : (done left whole : List ℕ) (after_word : Bool) (pieces : List ValuePiece) → pieces ≡ map octet left → done ++ joined after_word pieces ≡ whole → done ++ left ≡ whole
+last_decoded done left whole after_word pieces is so_far =
+    ap (λ octets. done ++ octets) (sym (joined_octets after_word left))
+    ∙ ap (λ pieces. done ++ joined after_word pieces) (sym is)
     ∙ so_far
 
 -- whether a word was replaced
 
-any_in_front : (gap meant : List ℕ) (word : EncodedWord) (pieces : List ValuePiece) → list_any is_word (in_front gap (replaced word meant ∷ pieces)) ≡ true
-any_in_front [] meant word pieces = refl
-any_in_front (c ∷ gap) meant word pieces = any_in_front gap meant word pieces
+any_before : (gap meant : List ℕ) (word : EncodedWord) (pieces : List ValuePiece) → list_any is_word (put_before gap (replaced word meant ∷ pieces)) ≡ true
+any_before [] meant word pieces = refl
+any_before (c ∷ gap) meant word pieces = any_before gap meant word pieces
 
 or_true : (b : Bool) → (b || true) ≡ true
 or_true true = refl
 or_true false = refl
 
-pub word_found : (before whole : Bool) (gap meant : List ℕ) (word : EncodedWord) (left pieces : List ValuePiece) → left ≡ in_front gap (replaced word meant ∷ pieces) → (before || list_any is_word left) ≡ whole → true ≡ whole
+pub word_found : (before whole : Bool) (gap meant : List ℕ) (word : EncodedWord) (left pieces : List ValuePiece) → left ≡ put_before gap (replaced word meant ∷ pieces) → (before || list_any is_word left) ≡ whole → true ≡ whole
 word_found before whole gap meant word left pieces is so_far =
     sym (or_true before)
-    ∙ ap (λ b. before || b) (sym (any_in_front gap meant word pieces))
+    ∙ ap (λ b. before || b) (sym (any_before gap meant word pieces))
     ∙ ap (λ pieces. before || list_any is_word pieces) (sym is)
     ∙ so_far
 
@@ -215,14 +215,14 @@ or_last : (a b : Bool) → (a || b) ≡ false → b ≡ false
 or_last true b is = absurd cc
 or_last false b is = is
 
-known_behind : (profile : Profile) (left : List ℕ) (plain : ℕ) → plain < length left → has_known profile (drop plain left) ≡ false → has_known profile (drop (suc plain) left) ≡ false
+known_after : (profile : Profile) (left : List ℕ) (plain : ℕ) → plain < length left → has_known profile (drop plain left) ≡ false → has_known profile (drop (suc plain) left) ≡ false
 unfolding has_known
-known_behind profile [] plain within none = absurd (omega arith)
-known_behind profile (c ∷ rest) zero within none = or_last (is_known profile (word_at (c ∷ rest))) (has_known profile rest) none
-known_behind profile (c ∷ rest) (suc plain) within none = known_behind profile rest plain (omega arith) none
+known_after profile [] plain within none = absurd (omega arith)
+known_after profile (c ∷ rest) zero within none = or_last (is_known profile (word_at (c ∷ rest))) (has_known profile rest) none
+known_after profile (c ∷ rest) (suc plain) within none = known_after profile rest plain (omega arith) none
 
 pub known_next : (profile : Profile) (left : List ℕ) (plain : ℕ) → plain < length left → has_known profile (drop plain left) ≡ false → has_known profile (drop (plain + 1) left) ≡ false
-known_next profile left plain within none = rw add-one (known_behind profile left plain within none)
+known_next profile left plain within none = rw add-one (known_after profile left plain within none)
 
 pub known_from : (profile : Profile) (left : List ℕ) (n : ℕ) → n ≤ length left → has_known profile left ≡ false → has_known profile (drop n left) ≡ false
 unfolding has_known

@@ -39,11 +39,11 @@ leads_to_word (sequence found ∷ pieces) = true
 leads_to_word (octet c ∷ pieces) = is_blank c && leads_to_word pieces
 
 -- The octets that pieces stand for. After a word, spaces and tabs that lead to a further one are dropped (RFC 2047, section 6.2).
-abbrev pub joined : (behind_word : Bool) → List ValuePiece → List ℕ
-joined behind_word [] = []
-joined behind_word (sequence found ∷ pieces) = found.octets ++ joined true pieces
-joined behind_word (octet c ∷ pieces) = if behind_word && leads_to_word (octet c ∷ pieces) then joined true pieces else c ∷ joined false pieces
+abbrev pub joined : (after_word : Bool) → List ValuePiece → List ℕ
+joined after_word [] = []
+joined after_word (sequence found ∷ pieces) = found.octets ++ joined true pieces
+joined after_word (octet c ∷ pieces) = if after_word && leads_to_word (octet c ∷ pieces) then joined true pieces else c ∷ joined false pieces
 
 -- what stays of the octets before a word: after another, not spaces and tabs alone
-abbrev pub kept : (behind_word : Bool) → List ℕ → List ℕ
-kept behind_word gap = if behind_word && list_all is_blank gap then [] else gap
+abbrev pub kept : (after_word : Bool) → List ℕ → List ℕ
+kept after_word gap = if after_word && list_all is_blank gap then [] else gap

@@ -17,7 +17,7 @@ plain_octet c = if c == octet_of "_" then octet_of " " else c
 
 -- an octet before others, if there are any
 abbrev pub octet_before : ℕ → Option (List ℕ) → Option (List ℕ)
-octet_before c octets = option_map (λ behind. c ∷ behind) octets
+octet_before c octets = option_map (λ after. c ∷ after) octets
 
 -- In Q `_` is a space, and `=` with two hexadecimal digits is the octet of that number (RFC 2047, section 4.2).
 unfoldable pub q_octets : List ℕ → Option (List ℕ)

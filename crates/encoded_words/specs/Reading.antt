@@ -2,7 +2,7 @@
 use Rattle.std.specs.Prelude.{ℕ, ◌+◌, ◌==◌, ◌&&◌, List, [], ◌∷◌, if◌then◌else◌}
 use Rattle.std.specs.List.{prefix_len}
 use Rattle.octets.specs.Octet.{octet_of}
-use Rattle.encoded_words.specs.Scan.{behind_run}
+use Rattle.encoded_words.specs.Scan.{after_run}
 use Rattle.encoded_words.specs.Word.{is_letter, is_word_octet}
 
 -- how many octets of a charset or a text stand in front
@@ -26,7 +26,7 @@ charset_read (c ∷ d ∷ rest) = if c == octet_of "=" && d == octet_of "?" then
 abbrev pub text_read : List ℕ → ℕ
 text_read [] = 0
 text_read (c ∷ []) = 0
-text_read (c ∷ d ∷ rest) = if c == octet_of "=" && d == octet_of "?" then text_len (behind_run rest) else 0
+text_read (c ∷ d ∷ rest) = if c == octet_of "=" && d == octet_of "?" then text_len (after_run rest) else 0
 
 -- the sum over all places
 abbrev pub sum_of_places : (List ℕ → ℕ) → List ℕ → ℕ

@@ -15,8 +15,8 @@ abbrev pub run : List ℕ → List ℕ
 run octets = take_while is_word_octet octets
 
 -- what stands after them
-abbrev pub behind_run : List ℕ → List ℕ
-behind_run octets = drop (prefix_len is_word_octet octets) octets
+abbrev pub after_run : List ℕ → List ℕ
+after_run octets = drop (prefix_len is_word_octet octets) octets
 
 -- a word, by what stands after its text: `?=`
 abbrev pub word_before : EncodedWord → List ℕ → Option EncodedWord
@@ -25,20 +25,20 @@ word_before word (q ∷ []) = None
 word_before word (q ∷ e ∷ rest) = if q == octet_of "?" && e == octet_of "=" then Some word else None
 
 -- a word, by its charset and what stands after that: `?`, a letter, `?` and a text
-abbrev pub word_behind : (charset rest : List ℕ) → Option EncodedWord
-word_behind charset [] = None
-word_behind charset (q ∷ []) = None
-word_behind charset (q ∷ letter ∷ []) = None
-word_behind charset (q ∷ letter ∷ r ∷ rest) =
+abbrev pub word_after : (charset rest : List ℕ) → Option EncodedWord
+word_after charset [] = None
+word_after charset (q ∷ []) = None
+word_after charset (q ∷ letter ∷ []) = None
+word_after charset (q ∷ letter ∷ r ∷ rest) =
     if (is_filled charset && is_letter letter) && (q == octet_of "?" && r == octet_of "?")
-    then word_before (record { charset = charset; letter = letter; text = run rest }) (behind_run rest)
+    then word_before (record { charset = charset; letter = letter; text = run rest }) (after_run rest)
     else None
 
 -- the word with which octets begin, whether or not it can be decoded (RFC 2047, section 2)
 unfoldable pub word_at : List ℕ → Option EncodedWord
 word_at [] = None
 word_at (c ∷ []) = None
-word_at (c ∷ d ∷ rest) = if c == octet_of "=" && d == octet_of "?" then word_behind (run rest) (behind_run rest) else None
+word_at (c ∷ d ∷ rest) = if c == octet_of "=" && d == octet_of "?" then word_after (run rest) (after_run rest) else None
 
 -- a word, with the octets that it stands for, if it can be decoded
 abbrev pub with_meaning : Profile → Option EncodedWord → Option ReplacedWord

@@ -28,14 +28,14 @@ fn are_blank(octets: &[u8]) -> bool
 /// Adds what a word stands for, and the octets before it. After a word, spaces and tabs alone are dropped.
 fn push_word(
     octets: &mut Vec<u8>,
-    behind_word: bool,
+    after_word: bool,
     gap: &[u8],
     meant: &[u8],
 ) -> Result<(), AllocError>
     ensures { OnOk result
-        (octets.new.items ≡ octets.old.items ++ (kept behind_word gap.now ++ meant.now)) }
+        (octets.new.items ≡ octets.old.items ++ (kept after_word gap.now ++ meant.now)) }
 {
-    if !(behind_word && are_blank(gap)) {
+    if !(after_word && are_blank(gap)) {
         octets.extend_from_slice(gap)?;
     }
     octets.extend_from_slice(meant)
@@ -60,7 +60,7 @@ fn replaced(alloc: Global, profile: Profile, value: &[u8]) -> Result<Option<Vec<
     ensures unknown { has_known (profile_as profile) value.now ≡ false → IsOk result }
 {
     let mut octets = Vec::new(alloc);
-    let mut behind_word = false;
+    let mut after_word = false;
     // What isn't yet in the octets, and how many of it are known to stand for themselves.
     let mut left = value;
     let mut plain = before_sign(value);
@@ -74,13 +74,13 @@ fn replaced(alloc: Global, profile: Profile, value: &[u8]) -> Result<Option<Vec<
             plain += 1;
             continue;
         };
-        push_word(&mut octets, behind_word, gap, &meant)?;
-        let (_, behind) = rest.split_at(word.charset.len() + word.text.len() + SIGN_COUNT);
-        left = behind;
+        push_word(&mut octets, after_word, gap, &meant)?;
+        let (_, after) = rest.split_at(word.charset.len() + word.text.len() + SIGN_COUNT);
+        left = after;
         plain = before_sign(left);
-        behind_word = true;
+        after_word = true;
     }
-    if !behind_word {
+    if !after_word {
         return Ok(None);
     }
     octets.extend_from_slice(left)?;

@@ -1,7 +1,7 @@
 //! Encoded words as they are written (RFC 2047, section 2).
 ghost use Rattle.std.specs.Prelude.{◌≡◌, ◌+◌, ◌≤◌, IfSome, length};
 ghost use Rattle.std.specs.Option.{option_map};
-ghost use Rattle.encoded_words.specs.Scan.{behind_run, run, word_at};
+ghost use Rattle.encoded_words.specs.Scan.{after_run, run, word_at};
 ghost use Rattle.encoded_words.specs.Word.{is_b, is_letter, is_word_octet};
 ghost use Rattle.encoded_words.specs.view.Word.{word_of};
 
@@ -56,7 +56,7 @@ fn run_len(octets: &[u8]) -> usize
 #[tactic(auto, using(crate::proofs::Steps::run_len))]
 fn cut_run(octets: &[u8]) -> (&[u8], &[u8])
     ensures run { result.0.now ≡ run octets.now }
-    ensures behind { result.1.now ≡ behind_run octets.now }
+    ensures after { result.1.now ≡ after_run octets.now }
     ensures lengths { length result.0.now + length result.1.now ≡ length octets.now }
 {
     octets.split_at(run_len(octets))
@@ -76,15 +76,15 @@ pub(crate) fn word_at(octets: &[u8]) -> Option<EncodedWord<'_>>
     let [b'=', b'?', rest @ ..] = octets else {
         return None;
     };
-    let (charset, behind) = cut_run(rest);
-    let [b'?', letter, b'?', further @ ..] = behind else {
+    let (charset, after) = cut_run(rest);
+    let [b'?', letter, b'?', further @ ..] = after else {
         return None;
     };
     if charset.is_empty() || !is_letter(*letter) {
         return None;
     }
-    let (text, behind) = cut_run(further);
-    let [b'?', b'=', ..] = behind else {
+    let (text, after) = cut_run(further);
+    let [b'?', b'=', ..] = after else {
         return None;
     };
     Some(EncodedWord {

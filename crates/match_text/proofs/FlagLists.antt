@@ -133,33 +133,33 @@ in_two zero xs = refl
 in_two (suc n) [] = refl
 in_two (suc n) (x ∷ xs) = ap (λ l. x ∷ l) (in_two n xs)
 
-pub union_behind : (a flags : List (List ℕ)) (n : ℕ) → n ≤ length flags → All (λ flag. has_flag a flag ≡ true) (take n flags) → flag_union a (drop n flags) ≡ flag_union a flags
-union_behind a flags n within known = sym (union_known a (take n flags) (drop n flags) known) ∙ ap (flag_union a) (in_two n flags)
+pub union_after : (a flags : List (List ℕ)) (n : ℕ) → n ≤ length flags → All (λ flag. has_flag a flag ≡ true) (take n flags) → flag_union a (drop n flags) ≡ flag_union a flags
+union_after a flags n within known = sym (union_known a (take n flags) (drop n flags) known) ∙ ap (flag_union a) (in_two n flags)
 
 -- where a list has the first n flags of a slice, its union with the flags after these is its union with all
 pub union_slice : (a flags items : List (List ℕ)) (n : ℕ) → items ≡ flags → n ≤ length flags → All (λ flag. has_flag a flag ≡ true) (take n flags)
     → flag_union a (take (length items - n) (drop n items)) ≡ flag_union a flags
 union_slice a flags items n are within known =
     let long = length-drop n flags in
-    ap (λ l. flag_union a (take (length l - n) (drop n l))) are ∙ ap (flag_union a) (take_all (length flags - n) (drop n flags) (omega arith)) ∙ union_behind a flags n within known
+    ap (λ l. flag_union a (take (length l - n) (drop n l))) are ∙ ap (flag_union a) (take_all (length flags - n) (drop n flags) (omega arith)) ∙ union_after a flags n within known
 
 -- where a list has the first n flags, its union with a front of those from n on is its union with a front of all, of `known` at least
-pub union_behind_some : (a flags items : List (List ℕ)) (known n : ℕ) (new : List (List ℕ)) → items ≡ flags → known ≤ n → n ≤ length flags
+pub union_after_some : (a flags items : List (List ℕ)) (known n : ℕ) (new : List (List ℕ)) → items ≡ flags → known ≤ n → n ≤ length flags
     → All (λ flag. has_flag a flag ≡ true) (take n flags)
     → SomeIndex (take (length items - n) (drop n items)) (λ i. new ≡ flag_union a (take i (take (length items - n) (drop n items))))
     → SomeIndex flags (λ i. (known ≤ i) × (new ≡ flag_union a (take i flags)))
-union_behind_some a flags items known n new are more within there some =
+union_after_some a flags items known n new are more within there some =
     let is = ap (λ l. take (length l - n) (drop n l)) are ∙ take_rest flags n in
-    behind (subst (λ l. SomeIndex l (λ i. new ≡ flag_union a (take i l))) is some)
+    after (subst (λ l. SomeIndex l (λ i. new ≡ flag_union a (take i l))) is some)
   where
-    behind : SomeIndex (drop n flags) (λ i. new ≡ flag_union a (take i (drop n flags))) → SomeIndex flags (λ i. (known ≤ i) × (new ≡ flag_union a (take i flags)))
-    behind (i, below, made) =
+    after : SomeIndex (drop n flags) (λ i. new ≡ flag_union a (take i (drop n flags))) → SomeIndex flags (λ i. (known ≤ i) × (new ≡ flag_union a (take i flags)))
+    after (i, below, made) =
         let long = length-drop n flags in
         (n + i, omega arith, (omega arith, made ∙ sym (union_known a (take n flags) (take i (drop n flags)) there) ∙ ap (flag_union a) (sym (take-add n i flags))))
 
 -- a slice of flags from their end on is empty
-pub none_behind : (flags items : List (List ℕ)) (n : ℕ) → items ≡ flags → n ≡ length flags → take (length items - n) (drop n items) ≡ []
-none_behind flags items n are end =
+pub none_after : (flags items : List (List ℕ)) (n : ℕ) → items ≡ flags → n ≡ length flags → take (length items - n) (drop n items) ≡ []
+none_after flags items n are end =
     ap (λ l. take (length l - n) (drop n l)) are ∙ ap (take (length flags - n)) (drop_all n flags (omega arith)) ∙ take-nil (length flags - n)
 
 -- a list that has the first i flags, and the next one, has the first i + 1

@@ -34,14 +34,14 @@ module _ (fold : ℕ → ℕ) where
   taken-map (Star ∷ items) [] value = refl
   taken-map (Star ∷ items) (n ∷ lengths) value = ap (λ texts. take n value ∷ texts) (taken-map items lengths (drop n value))
 
-  whole_in_front : (items : List Item) (value : List ℕ) (r : Option (List ℕ)) → option_map (λ texts. value ∷ texts) (option_map (λ lengths. taken (map (folded_item fold) items) lengths value) r) ≡ option_map (λ lengths. value ∷ taken items lengths value) r
-  whole_in_front items value None = refl
-  whole_in_front items value (Some lengths) = ap (λ texts. Some (value ∷ texts)) (taken-map items lengths value)
+  whole_before : (items : List Item) (value : List ℕ) (r : Option (List ℕ)) → option_map (λ texts. value ∷ texts) (option_map (λ lengths. taken (map (folded_item fold) items) lengths value) r) ≡ option_map (λ lengths. value ∷ taken items lengths value) r
+  whole_before items value None = refl
+  whole_before items value (Some lengths) = ap (λ texts. Some (value ∷ texts)) (taken-map items lengths value)
 
   pub folded_captures : (value pattern : List ℕ) → option_map (λ texts. value ∷ texts) (captures_of (map (folded_item fold) (items_of pattern)) (map fold value) value) ≡ matched fold value pattern
   unfolding captures_of matched
   folded_captures value pattern =
-      whole_in_front (items_of pattern) value (least_fit octet (map (folded_item fold) (items_of pattern)) (map fold value))
+      whole_before (items_of pattern) value (least_fit octet (map (folded_item fold) (items_of pattern)) (map fold value))
       ∙ ap (option_map (λ lengths. value ∷ taken (items_of pattern) lengths value)) (least_fit-map (items_of pattern) value)
 
   pub matched_from : (value pattern : List ℕ) (items : List Item) (text : List ℕ) → items ≡ map (folded_item fold) (items_of pattern) → text ≡ map fold value → option_map (λ texts. value ∷ texts) (captures_of items text value) ≡ matched fold value pattern

@@ -14,12 +14,12 @@ use Rattle.match_text.specs.declared.pattern.Item.TheVariants.{Star, Question, L
 abbrev with_length : ℕ → Option (List ℕ) → Option (List ℕ)
 with_length n r = option_map (λ lengths. n ∷ lengths) r
 
-abbrev behind : {A : Type 0} → List A → Option (List A) → Option (List A)
-behind front r = option_map (λ rest. front ++ rest) r
+abbrev after : {A : Type 0} → List A → Option (List A) → Option (List A)
+after front r = option_map (λ rest. front ++ rest) r
 
-behind-nil : {A : Type 0} → (r : Option (List A)) → behind [] r ≡ r
-behind-nil None = refl
-behind-nil (Some x) = refl
+after-nil : {A : Type 0} → (r : Option (List A)) → after [] r ≡ r
+after-nil None = refl
+after-nil (Some x) = refl
 
 cond-and : (a b : Bool) (r : Option (List ℕ)) → cond (a && b) r None ≡ cond a (cond b r None) None
 cond-and true b r = refl
@@ -37,9 +37,9 @@ ones (Question ∷ segment) = 1 ∷ ones segment
 -- the lengths of the `?` of the segment in front, and after them the least fit of the items from the first star on
 abbrev segment_rest : List Item → List ℕ → Option (List ℕ)
 segment_rest items text =
-    behind (ones (before_star items)) (least_fit octet (from_star items) (drop (length (before_star items)) text))
+    after (ones (before_star items)) (least_fit octet (from_star items) (drop (length (before_star items)) text))
 
-with_one : (b : Bool) (front : List ℕ) (r : Option (List ℕ)) → with_length 1 (cond b (behind front r) None) ≡ cond b (behind (1 ∷ front) r) None
+with_one : (b : Bool) (front : List ℕ) (r : Option (List ℕ)) → with_length 1 (cond b (after front r) None) ≡ cond b (after (1 ∷ front) r) None
 with_one false front r = refl
 with_one true front None = refl
 with_one true front (Some lengths) = refl
@@ -47,8 +47,8 @@ with_one true front (Some lengths) = refl
 -- items fit where the text begins with the segment in front and what is left of it fits the items from the first star on
 least_fit-segment : (items : List Item) (text : List ℕ) → least_fit octet items text ≡ cond (begins (before_star items) text) (segment_rest items text) None
 unfolding least_fit
-least_fit-segment [] text = sym (behind-nil (least_fit octet [] text))
-least_fit-segment (Star ∷ items) text = sym (behind-nil (least_fit octet (Star ∷ items) text))
+least_fit-segment [] text = sym (after-nil (least_fit octet [] text))
+least_fit-segment (Star ∷ items) text = sym (after-nil (least_fit octet (Star ∷ items) text))
 least_fit-segment (Literal b ∷ items) [] = refl
 least_fit-segment (Literal b ∷ items) (x ∷ text) =
     ap (λ r. cond (x == b) r None) (least_fit-segment items text) ∙ sym (cond-and (x == b) (begins (before_star items) text) (segment_rest items text))
@@ -110,7 +110,7 @@ star_fit-first r rest here is settled (x ∷ text) =
 
 -- the lengths of the `?` of a segment of n items, and after them the least fit of the items after this segment
 abbrev rest_of : (front : List ℕ) (n : ℕ) → List Item → List ℕ → Option (List ℕ)
-rest_of front n items text = behind front (least_fit octet items (drop n text))
+rest_of front n items text = after front (least_fit octet items (drop n text))
 
 -- there are no items, or a star is in front
 abbrev pub IsStarred : List Item → Type 0
@@ -125,9 +125,9 @@ from_star-starred (Star ∷ items) = tt
 from_star-starred (Question ∷ items) = from_star-starred items
 from_star-starred (Literal b ∷ items) = from_star-starred items
 
-behind-none : (front : List ℕ) (r : Option (List ℕ)) → behind front r ≡ None → r ≡ None
-behind-none front None is = refl
-behind-none front (Some lengths) is = cc
+after-none : (front : List ℕ) (r : Option (List ℕ)) → after front r ≡ None → r ≡ None
+after-none front None is = refl
+after-none front (Some lengths) is = cc
 
 drop_swap : (m n : ℕ) (xs : List ℕ) → drop m (drop n xs) ≡ drop n (drop m xs)
 drop_swap m n xs =
@@ -140,21 +140,21 @@ least_fit-star-drop items m text is = star_fit-drop (least_fit octet items) m te
 
 -- after a segment, a star that fits nowhere fits nowhere further on
 star_settled : (front : List ℕ) (n : ℕ) (items : List Item) (text : List ℕ) (p : ℕ) → rest_of front n (Star ∷ items) text ≡ None → rest_of front n (Star ∷ items) (drop p text) ≡ None
-star_settled front n items text p is = ap (behind front)
+star_settled front n items text p is = ap (after front)
     (ap (least_fit octet (Star ∷ items)) (drop_swap n p text)
-    ∙ least_fit-star-drop items p (drop n text) (behind-none front _ is))
+    ∙ least_fit-star-drop items p (drop n text) (after-none front _ is))
 
 pub begins-within : (segment : List Item) (text : List ℕ) → begins segment text ≡ true → length segment ≤ length text
 begins-within [] text is = omega arith
 begins-within (item ∷ segment) [] is = absurd (false≢true is)
 begins-within (item ∷ segment) (x ∷ text) is = let rest = begins-within segment text (and_parts (takes item x) (begins segment text) is).1 in omega arith
 
-nothing_left : (front : List ℕ) (text : List ℕ) → length text ≡ 0 → behind front (least_fit octet [] text) ≡ None → ⊥
+nothing_left : (front : List ℕ) (text : List ℕ) → length text ≡ 0 → after front (least_fit octet [] text) ≡ None → ⊥
 unfolding least_fit
 nothing_left front [] none is = cc
 nothing_left front (x ∷ text) none is = omega arith
 
-something_left : (front : List ℕ) (text : List ℕ) → 0 < length text → behind front (least_fit octet [] text) ≡ None
+something_left : (front : List ℕ) (text : List ℕ) → 0 < length text → after front (least_fit octet [] text) ≡ None
 unfolding least_fit
 something_left front [] some = absurd (omega arith)
 something_left front (x ∷ text) some = refl
@@ -206,7 +206,7 @@ taken-segment (Question ∷ items) lengths value =
     ap (λ texts. take 1 value ∷ texts) (taken-segment items lengths (drop 1 value))
     ∙ ap (λ rest. take 1 value ∷ (questions (before_star items) (drop 1 value) ++ taken (from_star items) lengths rest)) (drop_one (length (before_star items)) value)
 
-captured-segment : (items : List Item) (value : List ℕ) (r : Option (List ℕ)) → option_map (λ lengths. taken items lengths value) (behind (ones (before_star items)) r) ≡ behind (questions (before_star items) value) (option_map (λ lengths. taken (from_star items) lengths (drop (length (before_star items)) value)) r)
+captured-segment : (items : List Item) (value : List ℕ) (r : Option (List ℕ)) → option_map (λ lengths. taken items lengths value) (after (ones (before_star items)) r) ≡ after (questions (before_star items) value) (option_map (λ lengths. taken (from_star items) lengths (drop (length (before_star items)) value)) r)
 captured-segment items value None = refl
 captured-segment items value (Some lengths) = ap Some (taken-segment items lengths value)
 
@@ -215,7 +215,7 @@ map_cond f false r = refl
 map_cond f true r = refl
 
 -- the captures of items with a segment in front
-pub captures_of-segment : (items : List Item) (text value : List ℕ) → captures_of items text value ≡ cond (begins (before_star items) text) (behind (questions (before_star items) value) (captures_of (from_star items) (drop (length (before_star items)) text) (drop (length (before_star items)) value))) None
+pub captures_of-segment : (items : List Item) (text value : List ℕ) → captures_of items text value ≡ cond (begins (before_star items) text) (after (questions (before_star items) value) (captures_of (from_star items) (drop (length (before_star items)) text) (drop (length (before_star items)) value))) None
 unfolding captures_of
 captures_of-segment items text value =
     ap (option_map (λ lengths. taken items lengths value)) (least_fit-segment items text)
@@ -226,11 +226,11 @@ captures_of-segment items text value =
 abbrev pub step_texts : (segment : List Item) (value : List ℕ) (p : ℕ) → List (List ℕ)
 step_texts segment value p = take p value ∷ questions segment (drop p value)
 
-captured-star : (items : List Item) (value : List ℕ) (p : ℕ) (r : Option (List ℕ)) → option_map (λ lengths. taken (Star ∷ items) lengths value) (with_length p (behind (ones (before_star items)) r)) ≡ behind (step_texts (before_star items) value p) (option_map (λ lengths. taken (from_star items) lengths (drop (length (before_star items)) (drop p value))) r)
+captured-star : (items : List Item) (value : List ℕ) (p : ℕ) (r : Option (List ℕ)) → option_map (λ lengths. taken (Star ∷ items) lengths value) (with_length p (after (ones (before_star items)) r)) ≡ after (step_texts (before_star items) value p) (option_map (λ lengths. taken (from_star items) lengths (drop (length (before_star items)) (drop p value))) r)
 captured-star items value p None = refl
 captured-star items value p (Some lengths) = ap (λ texts. Some (take p value ∷ texts)) (taken-segment items lengths (drop p value))
 
-pub captures_of-star : (items : List Item) (text value : List ℕ) (p : ℕ) → Some p ≡ place_of (before_star items) (from_star items) text → captures_of (Star ∷ items) text value ≡ behind (step_texts (before_star items) value p) (captures_of (from_star items) (drop (length (before_star items)) (drop p text)) (drop (length (before_star items)) (drop p value)))
+pub captures_of-star : (items : List Item) (text value : List ℕ) (p : ℕ) → Some p ≡ place_of (before_star items) (from_star items) text → captures_of (Star ∷ items) text value ≡ after (step_texts (before_star items) value p) (captures_of (from_star items) (drop (length (before_star items)) (drop p text)) (drop (length (before_star items)) (drop p value)))
 unfolding captures_of
 captures_of-star items text value p at =
     ap (option_map (λ lengths. taken (Star ∷ items) lengths value)) (least_fit-star items text ∙ ap (placed (segment_rest items) text) (sym at))

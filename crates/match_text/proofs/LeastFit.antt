@@ -43,9 +43,9 @@ least_here P x value lengths is (zero ∷ others) fits = inr (refl, is.least oth
 least_here P x value lengths is (suc n ∷ others) fits = inl (omega arith)
 
 none_further : (P : List ℕ → List ℕ → Type 0) (x : ℕ) (value : List ℕ) → ((lengths : List ℕ) → P (x ∷ value) lengths → ⊥) → ((lengths : List ℕ) → StarFits P value lengths → ⊥) → (lengths : List ℕ) → StarFits P (x ∷ value) lengths → ⊥
-none_further P x value here behind [] fits = fits
-none_further P x value here behind (zero ∷ lengths) fits = here lengths fits.1
-none_further P x value here behind (suc n ∷ lengths) fits = behind (n ∷ lengths) (omega (arith, fits.0), fits.1)
+none_further P x value here after [] fits = fits
+none_further P x value here after (zero ∷ lengths) fits = here lengths fits.1
+none_further P x value here after (suc n ∷ lengths) fits = after (n ∷ lengths) (omega (arith, fits.0), fits.1)
 
 one_more_fits : (P : List ℕ → List ℕ → Type 0) (x : ℕ) (value lengths : List ℕ) → StarFits P value lengths → StarFits P (x ∷ value) (one_more lengths)
 one_more_fits P x value [] fits = fits
@@ -63,17 +63,17 @@ least_further P x value (m ∷ lengths) here is (suc n ∷ others) fits =
     one_more_at_most m n lengths others (is.least (n ∷ others) (omega (arith, fits.0), fits.1))
 
 answers_further : (P : List ℕ → List ℕ → Type 0) (x : ℕ) (value : List ℕ) (r s : Option (List ℕ)) → Answers (P (x ∷ value)) r → Answers (StarFits P value) s → Answers (StarFits P (x ∷ value)) (option_or (with_zero r) (option_map one_more s))
-answers_further P x value (Some lengths) s is behind = record { fits = (omega arith, is.fits); least = least_here P x value lengths is }
-answers_further P x value None None here behind = none_further P x value here behind
-answers_further P x value None (Some lengths) here behind = record {
-  fits = one_more_fits P x value lengths behind.fits;
-  least = least_further P x value lengths here behind;
+answers_further P x value (Some lengths) s is after = record { fits = (omega arith, is.fits); least = least_here P x value lengths is }
+answers_further P x value None None here after = none_further P x value here after
+answers_further P x value None (Some lengths) here after = record {
+  fits = one_more_fits P x value lengths after.fits;
+  least = least_further P x value lengths here after;
 }
 
-star_answers : (P : List ℕ → List ℕ → Type 0) (behind : List ℕ → Option (List ℕ)) → ((value : List ℕ) → Answers (P value) (behind value)) → (value : List ℕ) → Answers (StarFits P value) (star_fit behind value)
-star_answers P behind answers [] = answers_at_end P (behind []) (answers [])
-star_answers P behind answers (x ∷ value) =
-    answers_further P x value (behind (x ∷ value)) (star_fit behind value) (answers (x ∷ value)) (star_answers P behind answers value)
+star_answers : (P : List ℕ → List ℕ → Type 0) (after : List ℕ → Option (List ℕ)) → ((value : List ℕ) → Answers (P value) (after value)) → (value : List ℕ) → Answers (StarFits P value) (star_fit after value)
+star_answers P after answers [] = answers_at_end P (after []) (answers [])
+star_answers P after answers (x ∷ value) =
+    answers_further P x value (after (x ∷ value)) (star_fit after value) (answers (x ∷ value)) (star_answers P after answers value)
 
 -- the least fit of all items, by whether an octet, a `?` or a star is in front
 

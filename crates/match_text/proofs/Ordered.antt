@@ -76,8 +76,8 @@ module _ (collation : Collation) (a b : List ℕ) where
       let back = (order_of-total collation).antisymm a b in
       ap is_eq back ∙ both_orders (order_of collation b a) (sym (ap is_le back) ∙ most) least
 
-  pub from_behind : is_gt (order_of collation a b) ≡ is_lt (order_of collation b a)
-  from_behind = ap is_gt ((order_of-total collation).antisymm a b) ∙ turned (order_of collation b a)
+  pub from_after : is_gt (order_of collation a b) ≡ is_lt (order_of collation b a)
+  from_after = ap is_gt ((order_of-total collation).antisymm a b) ∙ turned (order_of collation b a)
 
 pub transitive : (collation : Collation) (a b c : List ℕ) → is_le (order_of collation a b) ≡ true → is_le (order_of collation b c) ≡ true
     → is_le (order_of collation a c) ≡ true

@@ -71,9 +71,9 @@ one_more (n ∷ lengths) = suc n ∷ lengths
 
 -- the least fit of a `*` before items whose least fits are known: it takes nothing, or if it can't, then one octet more
 abbrev pub star_fit : (List ℕ → Option (List ℕ)) → List ℕ → Option (List ℕ)
-star_fit behind [] = option_map (λ lengths. 0 ∷ lengths) (behind [])
-star_fit behind (x ∷ value) =
-    option_or (option_map (λ lengths. 0 ∷ lengths) (behind (x ∷ value))) (option_map one_more (star_fit behind value))
+star_fit after [] = option_map (λ lengths. 0 ∷ lengths) (after [])
+star_fit after (x ∷ value) =
+    option_or (option_map (λ lengths. 0 ∷ lengths) (after (x ∷ value))) (option_map one_more (star_fit after value))
 
 -- the least fit, if there is a fit
 unfoldable pub least_fit : (fold : ℕ → ℕ) → List Item → List ℕ → Option (List ℕ)

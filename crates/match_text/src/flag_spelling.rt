@@ -2,7 +2,7 @@
 ghost use Rattle.std.specs.Prelude.{◌≡◌, ◌∷◌, ◌<◌, [], IfNone, IfSome, length};
 ghost use Rattle.std.specs.List.{list_all};
 ghost use Rattle.match_text.specs.Flags.{flags_in, is_flag, is_flag_octet, is_keyword, is_special, is_system_flag, pieces};
-ghost use Rattle.match_text.specs.view.Pieces.{pieces_behind};
+ghost use Rattle.match_text.specs.view.Pieces.{pieces_after};
 
 use crate::comparators::{AsciiCasemap, is};
 use memchr::memchr;
@@ -59,7 +59,7 @@ fn are_flag_octets(text: &[u8]) -> bool
 
 /// The first piece of a text, and what stands after the space that ends it, where one does.
 pub(crate) fn next_piece(text: &[u8]) -> (&[u8], Option<&[u8]>)
-    ensures pieces { pieces text.now ≡ result.0.now ∷ pieces_behind result.1 }
+    ensures pieces { pieces text.now ≡ result.0.now ∷ pieces_after result.1 }
     ensures shorter { IfSome result.1 (λ rest. length rest.now < length text.now) }
     ensures alone { IfNone result.1 (result.0.now ≡ text.now) }
 {
@@ -77,13 +77,13 @@ pub fn next_flag(text: &[u8]) -> Option<(&[u8], &[u8])>
 {
     let mut rest = text;
     'pieces: loop {
-        let (piece, behind) = next_piece(rest);
-        match behind {
-            Some(behind) => {
+        let (piece, after) = next_piece(rest);
+        match after {
+            Some(after) => {
                 if is_flag(piece) {
-                    return Some((piece, behind));
+                    return Some((piece, after));
                 }
-                rest = behind;
+                rest = after;
             }
             None => return last_flag(piece),
         }

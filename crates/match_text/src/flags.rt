@@ -229,7 +229,7 @@ impl FlagList {
     fn first_missing(&self, flags: &FlagList, known: usize) -> usize
         requires within { known ≤ length flags.now }
         requires known { All (λ flag. has_flag self.now flag ≡ true) (take known flags.now) }
-        ensures behind { known ≤ result }
+        ensures after { known ≤ result }
         ensures within { result ≤ length flags.now }
         ensures there { All (λ flag. has_flag self.now flag ≡ true) (take result flags.now) }
         ensures all { All (λ flag. has_flag self.now flag ≡ true) flags.now
@@ -347,9 +347,9 @@ fn insert_text(alloc: Global, flags: &mut IndexSet<Flag>, text: &[u8]) -> Result
         → IsOk result }
 {
     let mut rest = text;
-    while let Some((flag, behind)) = next_flag(rest) {
+    while let Some((flag, after)) = next_flag(rest) {
         insert_missing(alloc, flags, flag)?;
-        rest = behind;
+        rest = after;
     }
     Ok(())
 }

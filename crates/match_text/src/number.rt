@@ -23,8 +23,8 @@ fn without_zeros(digits: &[u8]) -> &[u8]
     ensures { result.now ≡ without_zeros digits.now }
 {
     let mut rest = digits;
-    while let [b'0', behind @ ..] = rest {
-        rest = behind;
+    while let [b'0', after @ ..] = rest {
+        rest = after;
     }
     rest
 }

@@ -16,11 +16,11 @@ fn folded_cmp<C: Comparator>(a: &[u8], b: &[u8]) -> Ordering
 {
     let mut left = b;
     for x in a {
-        let [y, behind @ ..] = left else {
+        let [y, after @ ..] = left else {
             return Ordering::Greater;
         };
         match C::fold(*x).cmp(&C::fold(*y)) {
-            Ordering::Equal => left = behind,
+            Ordering::Equal => left = after,
             order => return order,
         }
     }

@@ -9,7 +9,7 @@ use std::alloc::{AllocError, Global};
 /// Cuts before the first star: the segment in front, and what begins with a star or is empty.
 pub(crate) fn cut(items: &[Item]) -> (&[Item], &[Item])
     ensures segment { result.0.now ≡ before_star items.now }
-    ensures behind { result.1.now ≡ from_star items.now }
+    ensures after { result.1.now ≡ from_star items.now }
 {
     for (i, item) in items.iter().enumerate() {
         if let Item::Star = item {
@@ -36,13 +36,13 @@ pub(crate) fn begins(segment: &[Item], text: &[u8]) -> bool
 {
     let mut rest = text;
     for item in segment {
-        let [octet, behind @ ..] = rest else {
+        let [octet, after @ ..] = rest else {
             return false;
         };
         if !takes(*item, *octet) {
             return false;
         }
-        rest = behind;
+        rest = after;
     }
     true
 }
@@ -52,12 +52,12 @@ pub(crate) fn begins(segment: &[Item], text: &[u8]) -> bool
 pub(crate) fn place_of(
     alloc: Global,
     segment: &[Item],
-    behind: &[Item],
+    after: &[Item],
     text: &[u8],
 ) -> Result<Option<usize>, AllocError>
-    ensures { IfOk result (λ place. place ≡ place_of segment.now behind.now text.now) }
+    ensures { IfOk result (λ place. place ≡ place_of segment.now after.now text.now) }
 {
-    if behind.is_empty() {
+    if after.is_empty() {
         return Ok(end_place(segment, text));
     }
     first_place(alloc, segment, text)
@@ -99,11 +99,11 @@ fn find_place(segment: &[Item], text: &[u8]) -> Option<usize>
         if begins(segment, rest) {
             return Some(place);
         }
-        let [_, behind @ ..] = rest else {
+        let [_, after @ ..] = rest else {
             return None;
         };
         place += 1;
-        rest = behind;
+        rest = after;
     }
 }
 

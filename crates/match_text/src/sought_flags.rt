@@ -44,13 +44,13 @@ pub fn next_key(key: &[u8]) -> Option<(&[u8], &[u8])>
 {
     let mut rest = key;
     'pieces: loop {
-        let (piece, behind) = next_piece(rest);
-        match behind {
-            Some(behind) => {
+        let (piece, after) = next_piece(rest);
+        match after {
+            Some(after) => {
                 if piece.is_empty() {
-                    rest = behind;
+                    rest = after;
                 } else {
-                    return Some((piece, behind));
+                    return Some((piece, after));
                 }
             }
             None => return last_key(piece),
@@ -85,10 +85,10 @@ fn push_keys<'a>(found: &mut Vec<CowSlice<'a, u8>>, key: &'a [u8]) -> Result<(),
     }
     let mut rest = key;
     'pieces: loop {
-        let (piece, behind) = next_piece(rest);
+        let (piece, after) = next_piece(rest);
         push_filled(found, piece)?;
-        match behind {
-            Some(behind) => rest = behind,
+        match after {
+            Some(after) => rest = after,
             None => return Ok(()),
         }
     }

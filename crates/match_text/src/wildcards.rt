@@ -95,15 +95,15 @@ fn captured_texts<'v>(
     let mut texts = Vec::new(alloc);
     texts.push(value)?;
     let (mut text_left, mut value_left) = take_segment(&mut texts, segment, text, value)?;
-    while let [_, behind_star @ ..] = items_left {
-        let (segment, behind) = cut(behind_star);
-        let Some(place) = place_of(alloc, segment, behind, text_left)? else {
+    while let [_, after_star @ ..] = items_left {
+        let (segment, after) = cut(after_star);
+        let Some(place) = place_of(alloc, segment, after, text_left)? else {
             return Ok(None);
         };
         let left = take_star(&mut texts, place, segment, text_left, value_left)?;
         text_left = left.0;
         value_left = left.1;
-        items_left = behind;
+        items_left = after;
     }
     if text_left.is_empty() {
         Ok(Some(texts))
@@ -165,15 +165,15 @@ fn push_questions<'v>(
     requires { length segment.now ≤ length value.now }
     ensures taken { IfOk result (λ _. texts_of texts.new.items
         ≡ texts_of texts.old.items ++ questions segment.now value.now) }
-    ensures behind { IfOk result (λ behind. behind.now ≡ drop (length segment.now) value.now) }
+    ensures after { IfOk result (λ after. after.now ≡ drop (length segment.now) value.now) }
 {
     let mut rest = value;
     for item in segment {
-        let (octet, behind) = rest.split_at(1);
+        let (octet, after) = rest.split_at(1);
         if let Item::Question = item {
             texts.push(octet)?;
         }
-        rest = behind;
+        rest = after;
     }
     Ok(rest)
 }

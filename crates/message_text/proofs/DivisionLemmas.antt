@@ -4,7 +4,7 @@ use Rattle.std.specs.List.{after_last}
 use Rattle.std.proofs.lemmas.List.{drop-map, length-drop, length-map, length-take-le, take-map}
 use Rattle.octets.specs.Octet.{octet_of}
 use Rattle.message_text.specs.Addresses.{AddrSpec, address_by, divided, is_free, octets_of}
-use Rattle.message_text.specs.view.Divisions.{IsBehindLast, divided_at}
+use Rattle.message_text.specs.view.Divisions.{IsAfterLast, divided_at}
 use Rattle.message_text.specs.declared.marks.Marked.{Marked}
 
 both : (all local_part domain : List ℕ) → AddrSpec
@@ -17,7 +17,7 @@ divided-both all (b ∷ bs) [] front back = absurd (omega arith)
 divided-both all (b ∷ bs) (c ∷ cs) front back = refl
 
 -- the address of marked octets, by what stands before and after the last free `@`; `place` is after this one
-address_at : (marks : List Marked) (place : ℕ) → 0 < length marks → IsBehindLast (is_free (octet_of "@")) marks place → address_by marks ≡ Some (divided (octets_of marks) (take (place - 1) (octets_of marks)) (drop place (octets_of marks)))
+address_at : (marks : List Marked) (place : ℕ) → 0 < length marks → IsAfterLast (is_free (octet_of "@")) marks place → address_by marks ≡ Some (divided (octets_of marks) (take (place - 1) (octets_of marks)) (drop place (octets_of marks)))
 address_at [] place some is = absurd (omega arith)
 address_at (m ∷ ms) place some is =
     let marks : List Marked = m ∷ ms in
@@ -25,7 +25,7 @@ address_at (m ∷ ms) place some is =
     ap (λ (front : List ℕ). Some (divided (octets_of marks) front (octets_of (after_last (is_free (octet_of "@")) marks)))) (ap octets_of is.before ∙ sym (take-map octet (place - 1) marks))
     ∙ ap (λ (back : List ℕ). Some (divided (octets_of marks) (take (place - 1) (octets_of marks)) back)) (ap octets_of is.after ∙ sym (drop-map octet place marks))
 
-pub with_both : (marks : List Marked) (place : ℕ) → 0 < length marks → IsBehindLast (is_free (octet_of "@")) marks place → 2 ≤ place → place < length marks → address_by marks ≡ Some (divided_at (octets_of marks) (Some (place - 1)))
+pub with_both : (marks : List Marked) (place : ℕ) → 0 < length marks → IsAfterLast (is_free (octet_of "@")) marks place → 2 ≤ place → place < length marks → address_by marks ≡ Some (divided_at (octets_of marks) (Some (place - 1)))
 unfolding both
 with_both marks place some is second within =
     let all = octets_of marks in

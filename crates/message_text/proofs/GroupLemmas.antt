@@ -102,9 +102,9 @@ pub none_first : (first others : List Group) → first ++ others ≡ [] → firs
 none_first [] others none = refl
 none_first (group ∷ first) others none = cc
 
-pub none_behind : (first others : List Group) → first ++ others ≡ [] → others ≡ []
-none_behind [] others none = none
-none_behind (group ∷ first) others none = cc
+pub none_after : (first others : List Group) → first ++ others ≡ [] → others ≡ []
+none_after [] others none = none
+none_after (group ∷ first) others none = cc
 
 -- where no group has a field, there are no groups
 no_group : (groups : List Group) → map field_of groups ≡ [] → groups ≡ []

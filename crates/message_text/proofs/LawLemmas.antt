@@ -6,14 +6,14 @@ use Rattle.std.proofs.lemmas.List.{drop_more, get_or-reverse, length-reverse, le
 use Rattle.std.proofs.lemmas.List.Elements.{All-cons, All-nil}
 use Rattle.std.proofs.lemmas.List.Sums.{prefix_len_stops}
 use Rattle.octets.specs.Octet.{octet_of}
-use Rattle.message_text.specs.Addresses.{IsAddrSpec, address_by, address_in, address_marks, addresses_of, divided, is_free, is_mark_plain, marks_from, marks_of, octets_of, separates, surroundings_behind, value_start}
+use Rattle.message_text.specs.Addresses.{IsAddrSpec, address_by, address_in, address_marks, addresses_of, divided, is_free, is_mark_plain, marks_from, marks_of, octets_of, separates, surroundings_after, value_start}
 use Rattle.message_text.specs.declared.marks.Marked.{Marked}
 use Rattle.message_text.specs.declared.marks.Surroundings.{Surroundings}
 
 octets_of-marks_from : (spot : Surroundings) (value : List ℕ) → octets_of (marks_from spot value) ≡ value
 unfolding marks_from
 octets_of-marks_from spot [] = refl
-octets_of-marks_from spot (b ∷ rest) = ap (λ (octets : List ℕ). b ∷ octets) (octets_of-marks_from (surroundings_behind spot b) rest)
+octets_of-marks_from spot (b ∷ rest) = ap (λ (octets : List ℕ). b ∷ octets) (octets_of-marks_from (surroundings_after spot b) rest)
 
 pub marks_are_of_the_octets : (value : List ℕ) → octets_of (marks_of value) ≡ value
 marks_are_of_the_octets value = octets_of-marks_from value_start value
@@ -22,28 +22,28 @@ marks_are_of_the_octets value = octets_of-marks_from value_start value
 last_place : {X : Type 0} (p : X → Bool) (xs : List X) → ℕ
 last_place p xs = length xs - suffix_len (λ x. not (p x)) xs - 1
 
-behind_is_short : {X : Type 0} (p : X → Bool) (xs : List X) → 0 < length (before_last p xs) → suffix_len (λ x. not (p x)) xs + 1 < length xs
-behind_is_short p xs front =
-    let behind = suffix_len (λ x. not (p x)) xs in
-    let len = length-take-le (length xs - behind - 1) xs (omega arith) in
+after_is_short : {X : Type 0} (p : X → Bool) (xs : List X) → 0 < length (before_last p xs) → suffix_len (λ x. not (p x)) xs + 1 < length xs
+after_is_short p xs front =
+    let after = suffix_len (λ x. not (p x)) xs in
+    let len = length-take-le (length xs - after - 1) xs (omega arith) in
     omega (arith, len, front)
 
 last_passes : {X : Type 0} (p : X → Bool) (xs : List X) (d : X) → 0 < length (before_last p xs) → p (get_or xs (last_place p xs) d) ≡ true
 unfolding last_place
 last_passes {X} p xs d front =
     let fails : X → Bool = λ x. not (p x) in
-    let behind = suffix_len fails xs in
-    let short = behind_is_short p xs front in
-    let within : behind < length (reverse xs) = omega (arith, length-reverse xs, short) in
-    let place : length xs - behind - 1 ≡ length xs - 1 - behind = omega arith in
-    ap (λ n. p (get_or xs n d)) place ∙ ap p (sym (get_or-reverse xs behind d (omega (arith, short))))
-    ∙ not-false (p (get_or (reverse xs) behind d)) (prefix_len_stops fails (reverse xs) d within)
+    let after = suffix_len fails xs in
+    let short = after_is_short p xs front in
+    let within : after < length (reverse xs) = omega (arith, length-reverse xs, short) in
+    let place : length xs - after - 1 ≡ length xs - 1 - after = omega arith in
+    ap (λ n. p (get_or xs n d)) place ∙ ap p (sym (get_or-reverse xs after d (omega (arith, short))))
+    ∙ not-false (p (get_or (reverse xs) after d)) (prefix_len_stops fails (reverse xs) d within)
 
 around_last : {X : Type 0} (p : X → Bool) (xs : List X) (d : X) → 0 < length (before_last p xs) → xs ≡ before_last p xs ++ get_or xs (last_place p xs) d ∷ after_last p xs
 unfolding last_place
 around_last p xs d front =
     let place = length xs - suffix_len (λ x. not (p x)) xs - 1 in
-    let short = behind_is_short p xs front in
+    let short = after_is_short p xs front in
     let next : place + 1 ≡ length xs - suffix_len (λ x. not (p x)) xs = omega (arith, short) in
     sym (take-append-drop place xs) ∙ ap (λ rest. take place xs ++ rest) (drop_more xs place d (omega (arith, short)))
     ∙ ap (λ n. take place xs ++ get_or xs place d ∷ drop n xs) next

@@ -48,7 +48,7 @@ detail_is local_part k first here =
 found_by : (local_part : List ℕ) (b : Bool) → nat_lt (position_or_len is_separator local_part) (length local_part) ≡ b → list_any is_separator local_part ≡ true → position_or_len is_separator local_part < length local_part
 found_by local_part true within any = grind (arith, nat_tests, within)
 found_by local_part false beyond any =
-    let behind : length local_part ≤ position_or_len is_separator local_part = grind (arith, nat_tests, beyond) in
+    let after : length local_part ≤ position_or_len is_separator local_part = grind (arith, nat_tests, beyond) in
     let Plain : ℕ → Type 0 = λ b. is_separator b ≡ false in
     let each : All (λ b. is_separator b ≡ false) local_part =
     λ k d below. subst Plain (sym (get_or_default local_part k d 0 below)) (fails_before_first is_separator local_part k 0 (omega arith)) in
@@ -64,10 +64,10 @@ apart local_part any =
     ∙ ap (λ one. user_in local_part ++ one ∷ after_first is_separator local_part) (eqb-true octet (octet_of "+") (passes_at_first is_separator local_part 0 within))
 
 plain_step : (octet : ℕ) (rest : List ℕ) (b : Bool) → is_separator octet ≡ b → list_any is_separator (user_in rest) ≡ false → list_any is_separator (take (cond (not b) (1 + position_or_len is_separator rest) 0) (octet ∷ rest)) ≡ false
-plain_step octet rest true is behind = refl
-plain_step octet rest false is behind =
+plain_step octet rest true is after = refl
+plain_step octet rest false is after =
     let next : 1 + position_or_len is_separator rest ≡ suc (position_or_len is_separator rest) = omega arith in
-    ap (λ n. list_any is_separator (take n (octet ∷ rest))) next ∙ ap (λ b. b || list_any is_separator (user_in rest)) is ∙ behind
+    ap (λ n. list_any is_separator (take n (octet ∷ rest))) next ∙ ap (λ b. b || list_any is_separator (user_in rest)) is ∙ after
 
 -- no separator stands in a user
 pub user_plain : (local_part : List ℕ) → list_any is_separator (user_in local_part) ≡ false
@@ -75,10 +75,10 @@ user_plain [] = refl
 user_plain (octet ∷ rest) = plain_step octet rest (is_separator octet) refl (user_plain rest)
 
 whole_step : (octet : ℕ) (rest : List ℕ) (b : Bool) → is_separator octet ≡ b → (b || list_any is_separator rest) ≡ false → (list_any is_separator rest ≡ false → user_in rest ≡ rest) → take (cond (not b) (1 + position_or_len is_separator rest) 0) (octet ∷ rest) ≡ octet ∷ rest
-whole_step octet rest true is none behind = absurd cc
-whole_step octet rest false is none behind =
+whole_step octet rest true is none after = absurd cc
+whole_step octet rest false is none after =
     let next : 1 + position_or_len is_separator rest ≡ suc (position_or_len is_separator rest) = omega arith in
-    ap (λ n. take n (octet ∷ rest)) next ∙ ap (λ one. octet ∷ one) (behind none)
+    ap (λ n. take n (octet ∷ rest)) next ∙ ap (λ one. octet ∷ one) (after none)
 
 -- a local part without a separator is its user
 pub user_whole : (local_part : List ℕ) → list_any is_separator local_part ≡ false → user_in local_part ≡ local_part

@@ -82,17 +82,17 @@ opened_by b =
     if b == octet_of "[" then inside.DomainLiteral else inside.Nothing
 
 -- what is open after an octet that stands in so many comments in one another (RFC 5322, section 3.2.2)
-abbrev pub comment_behind : (depth : ℕ) → ℕ → Inside
-comment_behind depth b =
+abbrev pub comment_after : (depth : ℕ) → ℕ → Inside
+comment_after depth b =
     if b == octet_of "(" then inside.Comment (depth + 1) else
     if b == octet_of ")" then (if nat_le depth 1 then inside.Nothing else inside.Comment (depth - 1)) else inside.Comment depth
 
 -- what is open after an octet that isn't protected
-abbrev pub inside_behind : Inside → ℕ → Inside
-inside_behind inside.Nothing b = opened_by b
-inside_behind inside.QuotedString b = if b == octet_of "\"" then inside.Nothing else inside.QuotedString
-inside_behind (inside.Comment depth) b = comment_behind depth b
-inside_behind inside.DomainLiteral b = if b == octet_of "]" then inside.Nothing else inside.DomainLiteral
+abbrev pub inside_after : Inside → ℕ → Inside
+inside_after inside.Nothing b = opened_by b
+inside_after inside.QuotedString b = if b == octet_of "\"" then inside.Nothing else inside.QuotedString
+inside_after (inside.Comment depth) b = comment_after depth b
+inside_after inside.DomainLiteral b = if b == octet_of "]" then inside.Nothing else inside.DomainLiteral
 
 -- whether a backslash protects the next octet there: not outside of quoted strings, comments and literals (RFC 5322, section 3.2.1)
 abbrev pub is_protecting : Inside → Bool
@@ -102,24 +102,24 @@ is_protecting (inside.Comment depth) = true
 is_protecting inside.DomainLiteral = true
 
 -- whether an angle is open after an octet; one in a quoted string, a comment or a literal opens and closes none
-abbrev pub angle_behind : Inside → (in_angle : Bool) → ℕ → Bool
-angle_behind inside.Nothing in_angle b = if b == octet_of "<" then true else if b == octet_of ">" then false else in_angle
-angle_behind inside.QuotedString in_angle b = in_angle
-angle_behind (inside.Comment depth) in_angle b = in_angle
-angle_behind inside.DomainLiteral in_angle b = in_angle
+abbrev pub angle_after : Inside → (in_angle : Bool) → ℕ → Bool
+angle_after inside.Nothing in_angle b = if b == octet_of "<" then true else if b == octet_of ">" then false else in_angle
+angle_after inside.QuotedString in_angle b = in_angle
+angle_after (inside.Comment depth) in_angle b = in_angle
+angle_after inside.DomainLiteral in_angle b = in_angle
 
 -- what is open after an octet; one that is protected opens and closes nothing
-abbrev pub surroundings_behind : Surroundings → ℕ → Surroundings
-surroundings_behind spot b = record {
-  inside = if spot.is_protected then spot.inside else inside_behind spot.inside b;
+abbrev pub surroundings_after : Surroundings → ℕ → Surroundings
+surroundings_after spot b = record {
+  inside = if spot.is_protected then spot.inside else inside_after spot.inside b;
   is_protected = not spot.is_protected && (is_protecting spot.inside && b == octet_of "\\");
-  in_angle = angle_behind spot.inside spot.in_angle b;
+  in_angle = angle_after spot.inside spot.in_angle b;
 }
 
 -- the octets from some place on, each with its mark
 unfoldable pub marks_from : Surroundings → List ℕ → List Marked
 marks_from spot [] = []
-marks_from spot (b ∷ rest) = record { octet = b; mark = mark_at spot (length rest == 0) b; in_angle = spot.in_angle } ∷ marks_from (surroundings_behind spot b) rest
+marks_from spot (b ∷ rest) = record { octet = b; mark = mark_at spot (length rest == 0) b; in_angle = spot.in_angle } ∷ marks_from (surroundings_after spot b) rest
 
 -- the octets of a value, each with its mark
 abbrev pub marks_of : List ℕ → List Marked

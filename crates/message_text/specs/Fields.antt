@@ -112,7 +112,7 @@ is_field_named name field = same ascii_casemap field.name name
 
 -- field i is the first of that name at or after a place
 pub record IsNextNamed (fields : List Field) (name : List ℕ) (start i : ℕ) : Type 0 where
-  pub behind : start ≤ i
+  pub after : start ≤ i
   pub within : i < length fields
   pub is : slice_get (map (is_field_named name) fields) i ≡ Some true
   pub others : (k : ℕ) → start ≤ k → k < i → slice_get (map (is_field_named name) fields) k ≡ Some false

@@ -3,7 +3,7 @@ ghost use Rattle.std.specs.Prelude.{◌≡◌, ◌<◌, ◌++◌, IfOk, OnOk, So
 ghost use Rattle.std.specs.Option.{option_map};
 ghost use Rattle.octets.specs.Octet.{octet_of};
 ghost use Rattle.message_text.specs.Addresses.{address_by, address_in, addresses_of, detail_in, is_free, octets_of, part_of_address, user_in};
-ghost use Rattle.message_text.specs.view.Divisions.{IsBehindLast, divided_at};
+ghost use Rattle.message_text.specs.view.Divisions.{IsAfterLast, divided_at};
 
 use crate::marks::{Marked, marks_of};
 use crate::pieces::{address_marks, is_free, separates};
@@ -129,20 +129,20 @@ fn dividing_at(marks: &[Marked]) -> Option<usize>
     requires { 0 < length marks.now }
     ensures { address_by marks.now ≡ Some (divided_at (octets_of marks.now) result) }
 {
-    let behind = behind_last_at(marks);
-    if behind < 2 || behind == marks.len() {
+    let after = after_last_at(marks);
+    if after < 2 || after == marks.len() {
         return None;
     }
-    Some(behind - 1)
+    Some(after - 1)
 }
 
 /// The place after the last free `@`, or 0 where there is none.
-fn behind_last_at(marks: &[Marked]) -> usize
-    ensures { IsBehindLast (is_free (octet_of "@")) marks.now result }
+fn after_last_at(marks: &[Marked]) -> usize
+    ensures { IsAfterLast (is_free (octet_of "@")) marks.now result }
 {
-    let mut behind = marks.len();
-    while behind > 0 && !is_free(b'@', marks[behind - 1]) {
-        behind -= 1;
+    let mut after = marks.len();
+    while after > 0 && !is_free(b'@', marks[after - 1]) {
+        after -= 1;
     }
-    behind
+    after
 }

@@ -110,9 +110,9 @@ fn opened_by(octet: u8) -> Inside
 }
 
 /// What is open after an octet of so many comments in one another.
-fn comment_behind(depth: usize, octet: u8) -> Inside
+fn comment_after(depth: usize, octet: u8) -> Inside
     requires { depth + 1 < 2 ^ 64 }
-    ensures { result ≡ spec.comment_behind depth octet }
+    ensures { result ≡ spec.comment_after depth octet }
 {
     match octet {
         b'(' => Inside::Comment(depth + 1),
@@ -123,14 +123,14 @@ fn comment_behind(depth: usize, octet: u8) -> Inside
 }
 
 /// What is open after an octet that isn't protected.
-fn inside_behind(inside: Inside, octet: u8) -> Inside
+fn inside_after(inside: Inside, octet: u8) -> Inside
     requires { depth_of inside + 1 < 2 ^ 64 }
-    ensures { result ≡ spec.inside_behind inside octet }
+    ensures { result ≡ spec.inside_after inside octet }
 {
     match inside {
         Inside::Nothing => opened_by(octet),
         Inside::QuotedString if octet == b'"' => Inside::Nothing,
-        Inside::Comment(depth) => comment_behind(depth, octet),
+        Inside::Comment(depth) => comment_after(depth, octet),
         Inside::DomainLiteral if octet == b']' => Inside::Nothing,
         Inside::QuotedString | Inside::DomainLiteral => inside,
     }
@@ -144,8 +144,8 @@ fn is_protecting(inside: Inside) -> bool
 }
 
 /// Whether an angle is open after an octet.
-fn angle_behind(inside: Inside, in_angle: bool, octet: u8) -> bool
-    ensures { result ≡ spec.angle_behind inside in_angle octet }
+fn angle_after(inside: Inside, in_angle: bool, octet: u8) -> bool
+    ensures { result ≡ spec.angle_after inside in_angle octet }
 {
     if is_protecting(inside) {
         return in_angle;
@@ -158,19 +158,19 @@ fn angle_behind(inside: Inside, in_angle: bool, octet: u8) -> bool
 }
 
 /// The place after an octet.
-fn surroundings_behind(spot: Surroundings, octet: u8) -> Surroundings
+fn surroundings_after(spot: Surroundings, octet: u8) -> Surroundings
     requires { depth_of spot.inside + 1 < 2 ^ 64 }
-    ensures spot { result ≡ spec.surroundings_behind spot octet }
+    ensures spot { result ≡ spec.surroundings_after spot octet }
     ensures depth { depth_of result.inside ≤ depth_of spot.inside + 1 }
 {
     Surroundings {
         inside: if spot.is_protected {
             spot.inside
         } else {
-            inside_behind(spot.inside, octet)
+            inside_after(spot.inside, octet)
         },
         is_protected: !spot.is_protected && is_protecting(spot.inside) && octet == b'\\',
-        in_angle: angle_behind(spot.inside, spot.in_angle, octet),
+        in_angle: angle_after(spot.inside, spot.in_angle, octet),
     }
 }
 
@@ -190,7 +190,7 @@ pub(crate) fn marks_of(alloc: Global, value: &[u8]) -> Result<Vec<Marked>, Alloc
             mark: mark_at(spot, place + 1 == value.len(), *octet),
             in_angle: spot.in_angle,
         })?;
-        spot = surroundings_behind(spot, *octet);
+        spot = surroundings_after(spot, *octet);
     }
     Ok(marked)
 }

@@ -22,7 +22,7 @@ module _ (name : List ℕ) where
   value_found (f ∷ fields) (suc i) value next at =
       let other : is_field_named name f ≡ false = let e : Some (is_field_named name f) ≡ Some false = next.others 0 (omega arith) (omega arith) in cc in
       value_found fields i value (record {
-        behind = omega arith;
+        after = omega arith;
         within = omega (arith, next.within);
         is = next.is;
         others = λ k from below. next.others (suc k) (omega arith) (omega (arith, below));

@@ -5,11 +5,11 @@ use Rattle.std.specs.Option.{option_map}
 use Rattle.std.proofs.lemmas.Bool.Decides.{nat_tests}
 use Rattle.std.proofs.lemmas.List.{drop_more, take_more, take_all}
 use Rattle.sieve_limits.specs.Limits.{line_limit}
-use Rattle.session_text.specs.SessionLine.{cut_line, in_front, without_cr, first_line, line_from, is_long_so_far}
+use Rattle.session_text.specs.SessionLine.{cut_line, put_before, without_cr, first_line, line_from, is_long_so_far}
 
 -- a cut with these octets before its line
-abbrev behind : List ℕ → List ℕ × List ℕ → List ℕ × List ℕ
-behind front cut = (front ++ cut.0, cut.1)
+abbrev after : List ℕ → List ℕ × List ℕ → List ℕ × List ℕ
+after front cut = (front ++ cut.0, cut.1)
 
 -- no option is something and nothing at once
 apart : {X : Type 0} (r : Option X) (x : X) → r ≡ Some x → r ≡ None → ⊥
@@ -19,43 +19,43 @@ apart r x some none = cc
 abbrev empty_line : List ℕ → List ℕ × List ℕ
 empty_line rest = ([], rest)
 
-mapped_none : (b : ℕ) (r : Option (List ℕ × List ℕ)) → option_map (in_front b) r ≡ None → r ≡ None
+mapped_none : (b : ℕ) (r : Option (List ℕ × List ℕ)) → option_map (put_before b) r ≡ None → r ≡ None
 mapped_none b None is = refl
-mapped_none b (Some cut) is = absurd (apart _ (in_front b cut) refl is)
+mapped_none b (Some cut) is = absurd (apart _ (put_before b cut) refl is)
 
-behind_both : (b : ℕ) (bs : List ℕ) (r : Option (List ℕ × List ℕ)) → option_map (in_front b) (option_map (behind bs) r) ≡ option_map (behind (b ∷ bs)) r
-behind_both b bs None = refl
-behind_both b bs (Some cut) = refl
+after_both : (b : ℕ) (bs : List ℕ) (r : Option (List ℕ × List ℕ)) → option_map (put_before b) (option_map (after bs) r) ≡ option_map (after (b ∷ bs)) r
+after_both b bs None = refl
+after_both b bs (Some cut) = refl
 
-behind_nothing : (r : Option (List ℕ × List ℕ)) → r ≡ option_map (behind []) r
-behind_nothing None = refl
-behind_nothing (Some cut) = refl
+after_nothing : (r : Option (List ℕ × List ℕ)) → r ≡ option_map (after []) r
+after_nothing None = refl
+after_nothing (Some cut) = refl
 
-none_at : (b : ℕ) (bs more : List ℕ) (v : Bool) → (cut_line bs ≡ None → cut_line (bs ++ more) ≡ option_map (behind bs) (cut_line more))
-    → cond v (Some (empty_line bs)) (option_map (in_front b) (cut_line bs)) ≡ None
-    → cond v (Some (empty_line (bs ++ more))) (option_map (in_front b) (cut_line (bs ++ more))) ≡ option_map (behind (b ∷ bs)) (cut_line more)
+none_at : (b : ℕ) (bs more : List ℕ) (v : Bool) → (cut_line bs ≡ None → cut_line (bs ++ more) ≡ option_map (after bs) (cut_line more))
+    → cond v (Some (empty_line bs)) (option_map (put_before b) (cut_line bs)) ≡ None
+    → cond v (Some (empty_line (bs ++ more))) (option_map (put_before b) (cut_line (bs ++ more))) ≡ option_map (after (b ∷ bs)) (cut_line more)
 none_at b bs more true later none = absurd (apart _ (empty_line bs) refl none)
 none_at b bs more false later none =
-    ap (option_map (in_front b)) (later (mapped_none b (cut_line bs) none)) ∙ behind_both b bs (cut_line more)
+    ap (option_map (put_before b)) (later (mapped_none b (cut_line bs) none)) ∙ after_both b bs (cut_line more)
 
 -- where octets have no LF, they stand before the line that is cut from what follows them
-pub cut_line-none : (bs more : List ℕ) → cut_line bs ≡ None → cut_line (bs ++ more) ≡ option_map (behind bs) (cut_line more)
-cut_line-none [] more none = behind_nothing (cut_line more)
+pub cut_line-none : (bs more : List ℕ) → cut_line bs ≡ None → cut_line (bs ++ more) ≡ option_map (after bs) (cut_line more)
+cut_line-none [] more none = after_nothing (cut_line more)
 cut_line-none (b ∷ bs) more none = none_at b bs more (eqb b (octet_of "\n")) (cut_line-none bs more) none
 
 mapped_some : (b : ℕ) (more : List ℕ) (r s : Option (List ℕ × List ℕ)) (line rest : List ℕ)
-    → ((l t : List ℕ) → r ≡ Some (l, t) → s ≡ Some (l, t ++ more)) → option_map (in_front b) r ≡ Some (line, rest)
-    → option_map (in_front b) s ≡ Some (line, rest ++ more)
+    → ((l t : List ℕ) → r ≡ Some (l, t) → s ≡ Some (l, t ++ more)) → option_map (put_before b) r ≡ Some (line, rest)
+    → option_map (put_before b) s ≡ Some (line, rest ++ more)
 mapped_some b more None s line rest later found = absurd (apart _ _ found refl)
 mapped_some b more (Some cut) s line rest later found =
-    let whole : in_front b cut ≡ (line, rest) = cc in
+    let whole : put_before b cut ≡ (line, rest) = cc in
     let same : b ∷ cut.0 ≡ line = ap (λ (p : List ℕ × List ℕ). p.0) whole in
     let left : cut.1 ≡ rest = ap (λ (p : List ℕ × List ℕ). p.1) whole in
     rw (later cut.0 cut.1 refl) (ap (λ l. Some (l, cut.1 ++ more)) same ∙ ap (λ t. Some (line, t ++ more)) left)
 
 some_at : (b : ℕ) (bs more : List ℕ) (v : Bool) (line rest : List ℕ) → ((l t : List ℕ) → cut_line bs ≡ Some (l, t) → cut_line (bs ++ more) ≡ Some (l, t ++ more))
-    → cond v (Some (empty_line bs)) (option_map (in_front b) (cut_line bs)) ≡ Some (line, rest)
-    → cond v (Some (empty_line (bs ++ more))) (option_map (in_front b) (cut_line (bs ++ more))) ≡ Some (line, rest ++ more)
+    → cond v (Some (empty_line bs)) (option_map (put_before b) (cut_line bs)) ≡ Some (line, rest)
+    → cond v (Some (empty_line (bs ++ more))) (option_map (put_before b) (cut_line (bs ++ more))) ≡ Some (line, rest ++ more)
 some_at b bs more true line rest later found =
     let whole : empty_line bs ≡ (line, rest) = cc in
     let same : (empty_line bs).0 ≡ line = ap (λ (p : List ℕ × List ℕ). p.0) whole in
@@ -175,6 +175,6 @@ first_line-long bs more none long = rw (cut_line-none bs more none) (by_cut (cut
     by_rest [] (inr h) = rw append-nil (rw (without_cr-kept bs line_limit h.0 h.1) (omega (arith, h.0)))
     by_rest (b ∷ rest) (inr h) = omega (arith, length-without_cr (bs ++ b ∷ rest), length-append bs (b ∷ rest), h.0)
 
-    by_cut : (r : Option (List ℕ × List ℕ)) → line_limit < length (line_from (bs ++ more) (option_map (behind bs) r)).0
+    by_cut : (r : Option (List ℕ × List ℕ)) → line_limit < length (line_from (bs ++ more) (option_map (after bs) r)).0
     by_cut None = elim long [ inl h ↦ omega (arith, length-append bs more) | inr h ↦ omega (arith, length-append bs more, h.0) ]
     by_cut (Some cut) = by_rest cut.0 long

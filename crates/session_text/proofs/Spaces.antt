@@ -7,7 +7,7 @@ use Rattle.std.proofs.lemmas.Bool.Decides.{nat_tests}
 use Rattle.std.proofs.lemmas.List.Elements.{recursion_from_All}
 use Rattle.octets.specs.Hex.{hex_digit}
 use Rattle.devices.specs.Writers.{octet_spelling, quoted}
-use Rattle.session_text.specs.LineOf.{IsLineOf, IsWord, behind_space, first_word, joined, last_word, no_words}
+use Rattle.session_text.specs.LineOf.{IsLineOf, IsWord, after_space, first_word, joined, last_word, no_words}
 use Rattle.session_text.specs.SessionLine.{Quoting, inside, is_bare, line_words, outside, piece_length, word_value}
 use Rattle.session_text.proofs.Quoting.{quoted_stands}
 use Rattle.session_text.proofs.Words.{line_words-none, line_words-space, line_words-word}
@@ -98,8 +98,8 @@ word_some word (inl bare) = bare.some
 word_some word (inr made) = rw made.1 (quoted_some made.0)
 
 -- a word before nothing or of a space is the first word of the line
-word_in_front : (word rest : List ℕ) → IsWord word → piece_length outside rest ≡ 0 → line_words (word ++ rest) ≡ word ∷ line_words rest
-word_in_front word rest is none =
+word_before : (word rest : List ℕ) → IsWord word → piece_length outside rest ≡ 0 → line_words (word ++ rest) ≡ word ∷ line_words rest
+word_before word rest is none =
     let size : length word ≡ piece_length outside (word ++ rest) = omega (arith, word_passes word is rest, none) in
     line_words-word (word ++ rest) (length word) size (word_some word is)
     ∙ ap (λ front. front ∷ line_words (drop (length word) (word ++ rest))) (take-append_seam word rest)
@@ -112,10 +112,10 @@ no_line = line_words-none [] refl
 pub words_of_line : (words : List (List ℕ)) (line : List ℕ) → IsLineOf words line → line_words line ≡ words
 words_of_line words line no_words = no_line
 words_of_line words line (last_word word is) =
-    ap line_words (sym (append-nil word)) ∙ word_in_front word [] is refl ∙ ap (λ rest. word ∷ rest) no_line
-words_of_line words line (behind_space ws rest made) = line_words-space rest ∙ words_of_line ws rest made
+    ap line_words (sym (append-nil word)) ∙ word_before word [] is refl ∙ ap (λ rest. word ∷ rest) no_line
+words_of_line words line (after_space ws rest made) = line_words-space rest ∙ words_of_line ws rest made
 words_of_line words line (first_word word ws rest is made) =
-    word_in_front word (octet_of " " ∷ rest) is refl ∙ ap (λ left. word ∷ left) (line_words-space rest ∙ words_of_line ws rest made)
+    word_before word (octet_of " " ∷ rest) is refl ∙ ap (λ left. word ∷ left) (line_words-space rest ∙ words_of_line ws rest made)
 
 -- words that are joined by single spaces make a line of these words
 joined_line : (words : List (List ℕ)) → AllByRecursion IsWord words → IsLineOf words (joined words)

@@ -1,7 +1,7 @@
 -- Worked rows of what the laws say of lines and their words.
 use Rattle.std.proofs.Common.{◌≡◌, [], ◌∷◌, refl, inr, codes}
 use Rattle.devices.specs.Writers.{quoted}
-use Rattle.session_text.specs.LineOf.{IsLineOf, behind_space, first_word, joined, no_words}
+use Rattle.session_text.specs.LineOf.{IsLineOf, after_space, first_word, joined, no_words}
 
 joined_row : joined (codes "main" ∷ codes "personal" ∷ quoted (codes "a b") ∷ []) ≡ codes "main personal \"a b\""
 unfolding quoted
@@ -9,4 +9,4 @@ joined_row = refl
 
 spaced_row : IsLineOf (quoted [] ∷ []) (codes " \"\"  ")
 unfolding quoted
-spaced_row = behind_space (quoted [] ∷ []) (codes "\"\"  ") (first_word (quoted []) [] (codes " ") (inr ([], refl)) (behind_space [] [] no_words))
+spaced_row = after_space (quoted [] ∷ []) (codes "\"\"  ") (first_word (quoted []) [] (codes " ") (inr ([], refl)) (after_space [] [] no_words))

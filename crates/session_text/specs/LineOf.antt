@@ -24,5 +24,5 @@ joined (word ∷ next ∷ words) = word ++ octet_of " " ∷ joined (next ∷ wor
 pub data IsLineOf : List (List ℕ) → List ℕ → Type 0 where
   no_words : IsLineOf [] []
   last_word : (word : List ℕ) → IsWord word → IsLineOf (word ∷ []) word
-  behind_space : (words : List (List ℕ)) (line : List ℕ) → IsLineOf words line → IsLineOf words (octet_of " " ∷ line)
+  after_space : (words : List (List ℕ)) (line : List ℕ) → IsLineOf words line → IsLineOf words (octet_of " " ∷ line)
   first_word : (word : List ℕ) (words : List (List ℕ)) (line : List ℕ) → IsWord word → IsLineOf words line → IsLineOf (word ∷ words) (word ++ octet_of " " ∷ line)

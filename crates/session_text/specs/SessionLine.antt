@@ -18,13 +18,13 @@ use Rattle.octets.specs.Hex.{hex_octet}
 use Rattle.octets.specs.Octet.{octet_of, is_digit, is_printable, is_visible}
 
 -- a line with an octet before it, and what follows
-abbrev pub in_front : ℕ → List ℕ × List ℕ → List ℕ × List ℕ
-in_front b (line, rest) = (b ∷ line, rest)
+abbrev pub put_before : ℕ → List ℕ × List ℕ → List ℕ × List ℕ
+put_before b (line, rest) = (b ∷ line, rest)
 
 -- the octets before the first LF, and those after it, where there is one
 abbrev pub cut_line : List ℕ → Option (List ℕ × List ℕ)
 cut_line [] = None
-cut_line (b ∷ bs) = if b == octet_of "\n" then Some ([], bs) else option_map (in_front b) (cut_line bs)
+cut_line (b ∷ bs) = if b == octet_of "\n" then Some ([], bs) else option_map (put_before b) (cut_line bs)
 
 -- the octets, without a CR at their end
 abbrev pub without_cr : List ℕ → List ℕ
@@ -59,10 +59,10 @@ pub data Quoting : Type 0 where
   escaped : Quoting
 
 -- where the octet after an octet stands
-abbrev pub quoting_behind : Quoting → ℕ → Quoting
-quoting_behind outside b = if b == octet_of "\"" then inside else outside
-quoting_behind inside b = if b == octet_of "\"" then outside else if b == octet_of "\\" then escaped else inside
-quoting_behind escaped b = inside
+abbrev pub quoting_after : Quoting → ℕ → Quoting
+quoting_after outside b = if b == octet_of "\"" then inside else outside
+quoting_after inside b = if b == octet_of "\"" then outside else if b == octet_of "\\" then escaped else inside
+quoting_after escaped b = inside
 
 -- whether a space there stands between words
 abbrev pub is_gap : Quoting → ℕ → Bool
@@ -77,12 +77,12 @@ grow_first b (piece ∷ pieces) = (b ∷ piece) ∷ pieces
 -- the pieces between the spaces that no quotes hold
 abbrev pub pieces_from : Quoting → List ℕ → List (List ℕ)
 pieces_from quoting [] = [] ∷ []
-pieces_from quoting (b ∷ bs) = if is_gap quoting b then [] ∷ pieces_from outside bs else grow_first b (pieces_from (quoting_behind quoting b) bs)
+pieces_from quoting (b ∷ bs) = if is_gap quoting b then [] ∷ pieces_from outside bs else grow_first b (pieces_from (quoting_after quoting b) bs)
 
 -- how many octets stand before the first such space
 abbrev pub piece_length : Quoting → List ℕ → ℕ
 piece_length quoting [] = 0
-piece_length quoting (b ∷ bs) = if is_gap quoting b then 0 else suc (piece_length (quoting_behind quoting b) bs)
+piece_length quoting (b ∷ bs) = if is_gap quoting b then 0 else suc (piece_length (quoting_after quoting b) bs)
 
 abbrev pub is_word : List ℕ → Bool
 is_word [] = false
@@ -97,8 +97,8 @@ abbrev pub is_bare : ℕ → Bool
 is_bare b = is_visible b && not (b == octet_of "\"") && not (b == octet_of "\\")
 
 -- an octet before others
-abbrev pub behind : ℕ → Option (List ℕ) → Option (List ℕ)
-behind b rest = option_map (λ bs. b ∷ bs) rest
+abbrev pub after : ℕ → Option (List ℕ) → Option (List ℕ)
+after b rest = option_map (λ bs. b ∷ bs) rest
 
 abbrev pub nothing_more : List ℕ → Option (List ℕ)
 nothing_more [] = Some []
@@ -108,17 +108,17 @@ unfoldable mutual
   -- the octets that a quoted word stands for, after its first quote: the next one ends it, and nothing may follow
   pub quoted_value : List ℕ → Option (List ℕ)
   quoted_value [] = None
-  quoted_value (b ∷ bs) = if b == octet_of "\"" then nothing_more bs else if b == octet_of "\\" then escaped_value bs else behind b (quoted_value bs)
+  quoted_value (b ∷ bs) = if b == octet_of "\"" then nothing_more bs else if b == octet_of "\\" then escaped_value bs else after b (quoted_value bs)
 
   -- what stands after a backslash: a quote, a backslash, or x and two hexadecimal digits
   pub escaped_value : List ℕ → Option (List ℕ)
   escaped_value [] = None
-  escaped_value (b ∷ bs) = if b == octet_of "\"" || b == octet_of "\\" then behind b (quoted_value bs) else if b == octet_of "x" then hex_octets bs else None
+  escaped_value (b ∷ bs) = if b == octet_of "\"" || b == octet_of "\\" then after b (quoted_value bs) else if b == octet_of "x" then hex_octets bs else None
 
   pub hex_octets : List ℕ → Option (List ℕ)
   hex_octets [] = None
   hex_octets (high ∷ []) = None
-  hex_octets (high ∷ low ∷ bs) = option_and_then (λ octet. behind octet (quoted_value bs)) (hex_octet high low)
+  hex_octets (high ∷ low ∷ bs) = option_and_then (λ octet. after octet (quoted_value bs)) (hex_octet high low)
 
 -- the octets that a word stands for: a bare word for its own
 unfoldable pub word_value : List ℕ → Option (List ℕ)

@@ -1,7 +1,7 @@
 //! How a line is cut into words.
 ghost use Rattle.std.specs.Prelude.{◌≡◌, ◌≢◌, ◌<◌, ◌≤◌, ◌∷◌, drop, slice_index, None, Some, length, MatchOption, []};
 ghost use Rattle.octets.specs.Octet.{octet_of};
-ghost use Rattle.session_text.specs.SessionLine.{outside, quoting_behind, is_gap, piece_length, line_words};
+ghost use Rattle.session_text.specs.SessionLine.{outside, quoting_after, is_gap, piece_length, line_words};
 ghost use Rattle.session_text.specs.view.Command.{quoting_as};
 
 /// How many spaces a line begins with.
@@ -30,8 +30,8 @@ pub(crate) enum Quoting {
 }
 
 /// Where the octet after an octet stands.
-fn quoting_behind(quoting: Quoting, octet: u8) -> Quoting
-    ensures { quoting_as result ≡ quoting_behind (quoting_as quoting) octet }
+fn quoting_after(quoting: Quoting, octet: u8) -> Quoting
+    ensures { quoting_as result ≡ quoting_after (quoting_as quoting) octet }
 {
     match quoting {
         Quoting::Outside => match octet {
@@ -67,7 +67,7 @@ fn word_len(line: &[u8]) -> usize
         if is_gap(quoting, *octet) {
             return i;
         }
-        quoting = quoting_behind(quoting, *octet);
+        quoting = quoting_after(quoting, *octet);
     }
     line.len()
 }

@@ -58,7 +58,7 @@ fn places(alloc: Global) -> Result<Vec<u8>, AllocError>
 }
 
 /// Makes one read into the places of a buffer from one on.
-fn read_behind<R: Source>(buffer: &mut [u8], from: usize, reader: &mut R) -> io::Result<usize>
+fn read_after<R: Source>(buffer: &mut [u8], from: usize, reader: &mut R) -> io::Result<usize>
     requires { from < length buffer.old }
     ensures front { take from buffer.new ≡ take from buffer.old }
     ensures read { MatchResult result (λ count. (from + count ≤ length buffer.new) × Consumes
@@ -94,7 +94,7 @@ fn refill<R: Source>(
     if start > 0 {
         buffer.copy_within(start..end, 0);
     }
-    read_behind(buffer, end - start, reader)
+    read_after(buffer, end - start, reader)
 }
 
 impl Input {

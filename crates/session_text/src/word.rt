@@ -1,7 +1,7 @@
 //! The words of a session's lines that may be quoted. Reading them takes no memory, and copying their octets does.
 ghost use Rattle.std.specs.Prelude.{◌≡◌, ◌<◌, ℕ, IfOk, Some, None, IfSome, IfNone, is_some, length, [], false, true};
 ghost use Rattle.std.specs.List.{list_all};
-ghost use Rattle.session_text.specs.SessionLine.{is_bare, behind, quoted_value, escaped_value, hex_octets, word_value};
+ghost use Rattle.session_text.specs.SessionLine.{is_bare, after, quoted_value, escaped_value, hex_octets, word_value};
 ghost use Rattle.session_text.specs.view.Word.{MatchNext};
 
 use arrayvec::ArrayVec;
@@ -37,7 +37,7 @@ pub(crate) enum Next<'a> {
 /// What is after a backslash and an `x`.
 #[tactic(auto, unfolding(crate::specs::SessionLine::hex_octets))]
 fn next_hex(rest: &[u8]) -> Next<'_>
-    ensures { MatchNext result ⊥ (λ octet left. (hex_octets rest.now ≡ behind octet
+    ensures { MatchNext result ⊥ (λ octet left. (hex_octets rest.now ≡ after octet
         (quoted_value left)) × (length left < length rest.now)) (hex_octets rest.now ≡ None) }
 {
     let [high, low, rest @ ..] = rest else {
@@ -52,7 +52,7 @@ fn next_hex(rest: &[u8]) -> Next<'_>
 /// What is after a backslash.
 #[tactic(auto, unfolding(crate::specs::SessionLine::escaped_value))]
 fn next_escaped(rest: &[u8]) -> Next<'_>
-    ensures { MatchNext result ⊥ (λ octet left. (escaped_value rest.now ≡ behind octet
+    ensures { MatchNext result ⊥ (λ octet left. (escaped_value rest.now ≡ after octet
         (quoted_value left)) × (length left < length rest.now)) (escaped_value rest.now ≡ None) }
 {
     let [octet, rest @ ..] = rest else {
@@ -72,7 +72,7 @@ fn next_escaped(rest: &[u8]) -> Next<'_>
 #[tactic(auto, unfolding(crate::specs::SessionLine::quoted_value))]
 fn next_octet(rest: &[u8]) -> Next<'_>
     ensures { MatchNext result (quoted_value rest.now ≡ Some [])
-        (λ octet left. (quoted_value rest.now ≡ behind octet (quoted_value left))
+        (λ octet left. (quoted_value rest.now ≡ after octet (quoted_value left))
         × (length left < length rest.now)) (quoted_value rest.now ≡ None) }
 {
     let [octet, rest @ ..] = rest else {

@@ -39,11 +39,11 @@ pub data Ending : Type 0 where
   failed : (error : RunError) (state : RunState) → Ending
 
 -- the state after it
-abbrev pub state_behind : Ending → RunState
-state_behind (goes_on state) = state
-state_behind (returned state) = state
-state_behind (stopped state) = state
-state_behind (failed error state) = state
+abbrev pub state_after : Ending → RunState
+state_after (goes_on state) = state
+state_after (returned state) = state
+state_after (stopped state) = state
+state_after (failed error state) = state
 
 -- ACTIONS
 

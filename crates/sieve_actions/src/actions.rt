@@ -197,9 +197,9 @@ impl Actions {
     {
         flags_are_taken_out_in_turn();
         let mut rest = text;
-        while let Some((flag, behind)) = next_flag(rest) {
+        while let Some((flag, after)) = next_flag(rest) {
             self.remove_flag(flag);
-            rest = behind;
+            rest = after;
         }
     }
 

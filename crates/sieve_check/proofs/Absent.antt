@@ -13,7 +13,7 @@ use Rattle.sieve_check.specs.Context.{Context}
 use Rattle.sieve_check.specs.Element.{Element, elements_of, the_command, the_number, the_test, the_text}
 use Rattle.sieve_check.specs.Said.{said}
 use Rattle.sieve_check.specs.Use.{has_bad_tag, has_late_tag, has_repeated, is_other_tag}
-use Rattle.sieve_reading.specs.Label.{Expected, expected_behind, expecting, label_at, labels_from, slots_of}
+use Rattle.sieve_reading.specs.Label.{Expected, expected_after, expecting, label_at, labels_from, slots_of}
 use Rattle.sieve_reading.specs.Shape.{known_labels, known_shape, known_shapes, shape_of, shapes_of}
 use Rattle.sieve_reading.specs.declared.label.Shape.{Shape}
 use Rattle.sieve_reading.specs.declared.label.Shape.TheVariants as shape
@@ -27,7 +27,7 @@ use Rattle.sieve_table.specs.declared.table.TestKind.{TestKind}
 use Rattle.sieve_check.proofs.Readable.{row_known}
 use Rattle.sieve_check.proofs.Reprofiled.{elements_again, reprofiled, under}
 use Rattle.sieve_check.proofs.Truth.{never_both}
-use Rattle.sieve_check.proofs.Unbroken.{keeps, none_in_front}
+use Rattle.sieve_check.proofs.Unbroken.{keeps, nothing_before}
 
 module _ (p : Profile) where
   -- TAGS
@@ -48,9 +48,9 @@ module _ (p : Profile) where
   shapes_there tags [] expected taken = refl
   shapes_there tags (a ∷ args) expected taken =
       let seen = known_shape p (shape_of tags a) in
-      let parts = or_parts (is_other_tag (label_at expected seen)) (list_any is_other_tag (labels_from (expected_behind expected seen) (known_shapes p tags args))) taken in
+      let parts = or_parts (is_other_tag (label_at expected seen)) (list_any is_other_tag (labels_from (expected_after expected seen) (known_shapes p tags args))) taken in
       ap (λ b. b || list_any (is_absent_tag p) (known_shapes p tags args)) (shape_there expected (shape_of tags a) parts.0)
-      ∙ shapes_there tags args (expected_behind expected seen) parts.1
+      ∙ shapes_there tags args (expected_after expected seen) parts.1
 
   row_there : (row : Row) (args : List Argument) → is_known_row p row ≡ true → has_bad_tag (known_labels p row args) ≡ false → row_lacks p row args ≡ false
   row_there row args known fine =
@@ -95,7 +95,7 @@ module _ (p : Profile) where
   all_there : (es : List Element) → breaches_in (map (reprofiled p) es) ≡ [] → All (λ e. lacks p e ≡ false) (map (reprofiled p) es)
   all_there [] none = λ k d below. absurd (omega arith)
   all_there (e ∷ es) none =
-      let parts = none_in_front (reprofiled p e) (map (reprofiled p) es) none in
+      let parts = nothing_before (reprofiled p e) (map (reprofiled p) es) none in
       All-cons (λ e. lacks p e ≡ false) (reprofiled p e) (map (reprofiled p) es) (element_there e (keeps (reprofiled p e) parts.0)) (all_there es parts.1)
 
   pub nothing_absent : (tree : List Node) → breaches_of p tree ≡ [] → All (λ e. lacks p e ≡ false) (elements_of p tree)

@@ -2,7 +2,7 @@
 use Rattle.std.proofs.Common.{◌≡◌, List, [], ◌∷◌, map, drop, Option, refl, ap, ◌∙◌}
 use Rattle.sieve_syntax.specs.Tree as syntax
 use Rattle.sieve_check.specs.Bare.{bare_argument, bare_block, bare_node, bare_nodes, bare_test, bare_test_list, bare_tests, bare_text}
-use Rattle.sieve_check.specs.Context.{Context, behind, behind_kind, inside, script_start}
+use Rattle.sieve_check.specs.Context.{Context, after, after_kind, inside, script_start}
 use Rattle.sieve_check.specs.Parted.{command_labels, parted, parted_argument, parted_block, parted_labelled, parted_node, parted_nodes, parted_said, parted_test, parted_test_list, parted_tests, parted_text, test_labels}
 use Rattle.sieve_check.specs.Said.{said_argument, said_arguments, said_text}
 use Rattle.sieve_reading.specs.Role.{first_role}
@@ -74,7 +74,7 @@ mutual
 mutual
   node_kept : (n : syntax.Node) (context : Context) → bare_node (parted_node context n) ≡ bare_node n
   node_kept (syntax.node name line args ts ending) context =
-      let within = behind_kind context (known_command context.profile name) args in
+      let within = after_kind context (known_command context.profile name) args in
       ap (λ x. node name line x (bare_tests (parted_tests context ts)) (bare_block (parted_block within ending))) (both_kept context (command_labels context.profile (known_command context.profile name) args) args)
       ∙ ap (λ x. node name line (map bare_argument args) x (bare_block (parted_block within ending))) (tests_kept ts context)
       ∙ ap (λ x. node name line (map bare_argument args) (bare_tests ts) x) (block_kept ending within)
@@ -86,7 +86,7 @@ mutual
   nodes_kept : (ns : syntax.Nodes) (context : Context) → bare_nodes (parted_nodes context ns) ≡ bare_nodes ns
   nodes_kept syntax.end_nodes context = refl
   nodes_kept (syntax.more_nodes n ns) context =
-      let next = behind context n in
+      let next = after context n in
       ap (λ x. more_nodes x (bare_nodes (parted_nodes next ns))) (node_kept n context)
       ∙ ap (λ x. more_nodes (bare_node n) x) (nodes_kept ns next)
 

@@ -3,7 +3,7 @@ use Rattle.std.proofs.Common.{◌≡◌, Option, Some, List, [], ◌∷◌, map,
 use Rattle.sieve_syntax.specs.Tree as syntax
 use Rattle.sieve_syntax.specs.view.Tree as seen
 use Rattle.sieve_syntax.specs.view.TreeOf.{as_parts}
-use Rattle.sieve_check.specs.Context.{Context, behind_kind, inside}
+use Rattle.sieve_check.specs.Context.{Context, after_kind, inside}
 use Rattle.sieve_check.specs.Parted.{command_labels, parted_block, parted_said, parted_node, parted_nodes, parted_test, parted_test_list, parted_tests}
 use Rattle.sieve_table.specs.Known.{known_command}
 use Rattle.sieve_reading.specs.declared.label.Label.{Label}
@@ -49,7 +49,7 @@ block_kept whole args ts = ap (λ r. r.block) (command_views.out-roll-Command (r
 
 -- a command whose parts are cut is the command cut
 pub command_cut : (context : Context) (labels : List Label) (args : Vec arguments.Argument Global) (ts : test_variants.the_data) (now : Option (Vec commands.Command Global)) (whole : commands.Command) → let o = command_views.out-Command whole in let old = map seen.argument_of o.args.items in
-    map argument_of args.items ≡ parted_said context labels old → labels ≡ command_labels context.profile (known_command context.profile o.name) old → tests_of ts ≡ parted_tests context (seen.tests_of o.tests) → block_of now ≡ parted_block (behind_kind context (known_command context.profile o.name) old) (seen.block_of o.block)
+    map argument_of args.items ≡ parted_said context labels old → labels ≡ command_labels context.profile (known_command context.profile o.name) old → tests_of ts ≡ parted_tests context (seen.tests_of o.tests) → block_of now ≡ parted_block (after_kind context (known_command context.profile o.name) old) (seen.block_of o.block)
     → node_of (command_views.roll-Command (record (command_views.out-Command (command_views.roll-Command (record o { args = args; tests = ts }))) { block = now })) ≡ parted_node context (seen.node_of whole)
 command_cut context labels args ts now whole a l t b =
     let o = command_views.out-Command whole in

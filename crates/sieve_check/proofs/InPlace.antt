@@ -12,8 +12,8 @@ module _ {A : Type 0} where
   drop_one_more xs ys i left = sym (drop-drop 1 i xs) ∙ ap (drop 1) left ∙ drop-drop 1 i ys
 
   -- the items after a place are the old ones where the one at the place is changed
-  pub left_behind : (now old : List A) (i : ℕ) (new : A) → IsLeft i now old → IsLeft (i + 1) (set now i new) old
-  left_behind now old i new is = record {
+  pub left_after : (now old : List A) (i : ℕ) (new : A) → IsLeft i now old → IsLeft (i + 1) (set now i new) old
+  left_after now old i new is = record {
     count = length-set now i new ∙ is.count;
     left = drop-set-lt (i + 1) now i new (omega arith) ∙ drop_one_more now old i is.left;
   }

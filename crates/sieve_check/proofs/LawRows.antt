@@ -3,7 +3,7 @@ use Rattle.std.proofs.Common.{◌≡◌, ℕ, false, List, [], ◌∷◌, map, N
 use Rattle.sieve_syntax.specs.Tree as syntax
 use Rattle.sieve_syntax.specs.Symbol.{identifier, number_symbol, string_symbol}
 use Rattle.sieve_check.specs.Bare.{bare_node}
-use Rattle.sieve_check.specs.Context.{behind, script_start}
+use Rattle.sieve_check.specs.Context.{after, script_start}
 use Rattle.sieve_check.specs.Element.{block_elements, elements_of, node_elements, nodes_elements, test_elements, tests_elements}
 use Rattle.sieve_check.specs.Naming.{declares, mentions_in, set_by, sets}
 use Rattle.sieve_check.specs.Order.{written_by}
@@ -32,12 +32,12 @@ abbrev branches : List syntax.Node
 branches = branch (codes "if") 1 (codes "true") (plain (codes "keep") 1) ∷ branch (codes "elsif") 2 (codes "false") (plain (codes "stop") 2) ∷ last 3 (plain (codes "discard") 3) ∷ plain (codes "keep") 4 ∷ []
 
 marks_row : marks (script_of (parted empty_profile branches)) ≡ choice_mark always ∷ act_mark (keep_leaf None) 1 ∷ choice_mark never ∷ stop_mark ∷ act_mark discard_leaf 3 ∷ act_mark (keep_leaf None) 4 ∷ []
-unfolding marks chain_of chain_with block_commands condition_of conditions_in command_named test_named behind has_tag
+unfolding marks chain_of chain_with block_commands condition_of conditions_in command_named test_named after has_tag
 marks_row = refl
 
 -- return; keep;
 return_marks_row : marks (script_of (parted empty_profile (plain (codes "return") 1 ∷ plain (codes "keep") 2 ∷ []))) ≡ return_mark ∷ act_mark (keep_leaf None) 2 ∷ []
-unfolding marks chain_of chain_with block_commands condition_of conditions_in command_named test_named behind has_tag
+unfolding marks chain_of chain_with block_commands condition_of conditions_in command_named test_named after has_tag
 return_marks_row = refl
 
 -- elsif true { keep; }
@@ -49,7 +49,7 @@ astray_row reads = not_both (reads.0.1.2 refl)
 order_row : map written_by (elements_of empty_profile (syntax.node (codes "if") 1 [] (syntax.one_test (syntax.test (codes "size") 1 (syntax.tag (codes "over") 1 ∷ syntax.number (Some 5) 1 ∷ []) syntax.no_tests)) (syntax.block (syntax.nodes (plain (codes "keep") 2 ∷ [])))
     ∷ syntax.node (codes "require") 3 (syntax.strings (record { string = codes "a"; line = 3 } ∷ []) false ∷ []) syntax.no_tests syntax.no_block ∷ []))
     ≡ identifier (codes "if") 1 ∷ identifier (codes "size") 1 ∷ number_symbol (Some 5) 1 ∷ identifier (codes "keep") 2 ∷ identifier (codes "require") 3 ∷ string_symbol (codes "a") 3 ∷ []
-unfolding nodes_elements node_elements block_elements tests_elements test_elements command_named test_named behind
+unfolding nodes_elements node_elements block_elements tests_elements test_elements command_named test_named after
 order_row = refl
 
 -- A STRING, AND WHAT IS REQUIRED
@@ -80,9 +80,9 @@ naming =
     ∷ naming_two (codes "set") (codes "D") ∷ naming_two (codes "set") (codes "1") ∷ naming_two (codes "setflag") (codes "E") ∷ naming_one (codes "setflag") (codes "f") ∷ []
 
 mentions_row : mentions_in (nodes_elements (script_start empty_profile) (syntax.nodes naming)) ≡ sets (codes "Ab") ∷ sets (codes "aB") ∷ sets (codes "c") ∷ declares (codes "d") ∷ sets (codes "D") ∷ sets (codes "1") ∷ sets (codes "E") ∷ []
-unfolding nodes_elements node_elements block_elements tests_elements test_elements command_named test_named behind
+unfolding nodes_elements node_elements block_elements tests_elements test_elements command_named test_named after
 mentions_row = refl
 
 set_row : set_by (mentions_in (nodes_elements (script_start empty_profile) (syntax.nodes naming))) ≡ codes "Ab" ∷ codes "c" ∷ codes "E" ∷ []
-unfolding nodes_elements node_elements block_elements tests_elements test_elements command_named test_named behind
+unfolding nodes_elements node_elements block_elements tests_elements test_elements command_named test_named after
 set_row = refl

@@ -43,8 +43,8 @@ passed_over element rule rules rest breach is (here found) =
       breaks = found.breaks;
       none_lower = ap (λ d. breach_if d (line_of element) rule ++ broken_by element found.lower) is ∙ found.none_lower;
     })
-passed_over element rule rules rest breach is (later none behind) =
-    later (ap (λ d. breach_if d (line_of element) rule ++ broken_by element rules) is ∙ none) behind
+passed_over element rule rules rest breach is (later none after) =
+    later (ap (λ d. breach_if d (line_of element) rule ++ broken_by element rules) is ∙ none) after
 
 -- with a rule before others, the first breach is by this rule, or is found by the others
 at_rule : (element : Element) (rule : Rule) (rules : List Rule) (rest : List Breach) (breach : Breach) (does : Bool) → breaks element rule ≡ does
@@ -61,12 +61,12 @@ finding element [] rest breach first = later refl first
 finding element (rule ∷ rules) rest breach first = at_rule element rule rules rest breach (breaks element rule) refl first (finding element rules rest breach)
 
 -- with an element before others, the breach that is found at it, or else the least of the others, is the least
-in_front : (element : Element) (behind : List Element) (breach : Breach) → Finding element all_rules (breaches_in behind) breach
-    → (slice_get (breaches_in behind) 0 ≡ Some breach → IsLeast behind breach) → IsLeast (element ∷ behind) breach
+at_front : (element : Element) (after : List Element) (breach : Breach) → Finding element all_rules (breaches_in after) breach
+    → (slice_get (breaches_in after) 0 ≡ Some breach → IsLeast after breach) → IsLeast (element ∷ after) breach
 unfolding breaches_in breaches_at
-in_front element behind breach (here found) below =
-    record { before = []; broken = element; rest = behind; split = refl; none_before = refl; line = found.line; lower = found.lower; higher = found.higher; rules = found.split; broken_rule = found.breaks; none_lower = found.none_lower }
-in_front element behind breach (later none first) below =
+at_front element after breach (here found) below =
+    record { before = []; broken = element; rest = after; split = refl; none_before = refl; line = found.line; lower = found.lower; higher = found.higher; rules = found.split; broken_rule = found.breaks; none_lower = found.none_lower }
+at_front element after breach (later none first) below =
     let least = below first in
     record {
       before = element ∷ least.before;
@@ -85,7 +85,7 @@ in_front element behind breach (later none first) below =
 least_of : (all : List Element) (breach : Breach) → slice_get (breaches_in all) 0 ≡ Some breach → IsLeast all breach
 unfolding breaches_in breaches_at
 least_of [] breach first = absurd (none_is breach first)
-least_of (element ∷ behind) breach first = in_front element behind breach (finding element all_rules (breaches_in behind) breach first) (least_of behind breach)
+least_of (element ∷ after) breach first = at_front element after breach (finding element all_rules (breaches_in after) breach first) (least_of after breach)
 
 pub first_is_least : (profile : Profile) (tree : List Node) (breach : Breach) → first_breach profile tree ≡ Some breach → IsLeastBreach profile tree breach
 first_is_least profile tree breach first = least_of (elements_of profile tree) breach first

@@ -5,7 +5,7 @@ use Rattle.std.proofs.lemmas.List.{length_push, reverse-append, take-append-le, 
 use Rattle.std.specs.List.{before_last, prefix_len, suffix_len}
 use Rattle.std.specs.Prelude.{if◌then◌else◌}
 use Rattle.sieve_syntax.specs.Tree.{Argument, strings, number, tag, Text, Test, test, Tests, no_tests, one_test, test_list, TestList, end_tests, more_tests, Node, node, Block, no_block, block, Nodes, end_nodes, more_nodes, nodes}
-use Rattle.sieve_check.specs.Context.{Context, behind, behind_kind, inside, script_start}
+use Rattle.sieve_check.specs.Context.{Context, after, after_kind, inside, script_start}
 use Rattle.sieve_check.specs.Element.{Element, among, argument_elements, block_elements, command_arguments, elements_of, judged_labels, labelled_elements, node_elements, nodes_elements, row_elements, test_arguments, test_elements, test_list_elements, tests_elements, text_elements, the_command, the_number, the_test, the_text}
 use Rattle.sieve_check.specs.Naming.{HasSetBefore, element_mentions, is_command, mentions_in, Mention, command_mentions, set_by}
 use Rattle.sieve_check.specs.Scope.{Scope, no_names}
@@ -19,7 +19,7 @@ use Rattle.sieve_table.specs.Known.{known_command, known_test}
 use Rattle.sieve_table.specs.declared.row.Role.{Role}
 use Rattle.sieve_table.specs.declared.table.CommandKind.{CommandKind}
 use Rattle.sieve_table.specs.declared.table.TestKind.{TestKind}
-use Rattle.sieve_check.proofs.Naming.{behind_mentions, block_writes, in_turn, kind_mentions, node_names, node_writes, nodes_writes, set_so}
+use Rattle.sieve_check.proofs.Naming.{after_mentions, block_writes, in_turn, kind_mentions, node_names, node_writes, nodes_writes, set_so}
 
 -- BEFORE EACH ELEMENT
 
@@ -85,11 +85,11 @@ module _ (done own : List Mention) (context : Context) (so : context.scope.assig
         (test_goes t (test_list_elements context ts ++ es) (test_list_goes ts es goes))
 
 -- a scope is what stands after these names at the start of a script
-abbrev Behind : Scope → List Mention → Type 0
-Behind scope names = scope ≡ behind_mentions no_names names
+abbrev Following : Scope → List Mention → Type 0
+Following scope names = scope ≡ after_mentions no_names names
 
-behind_more : (scope next : Scope) (names more : List Mention) → Behind scope names → next ≡ behind_mentions scope more → Behind next (names ++ more)
-behind_more scope next names more so is = is ∙ ap (λ s. behind_mentions s more) so ∙ sym (in_turn names more no_names)
+after_more : (scope next : Scope) (names more : List Mention) → Following scope names → next ≡ after_mentions scope more → Following next (names ++ more)
+after_more scope next names more so is = is ∙ ap (λ s. after_mentions s more) so ∙ sym (in_turn names more no_names)
 
 -- elements go on after these names, whichever of them are those of the last command
 abbrev GoesOn : List Mention → List Element → Type 0
@@ -98,11 +98,11 @@ GoesOn names es = (done own : List Mention) → done ++ own ≡ names → Goes d
 mutual
   unfolding node_elements block_elements nodes_elements
 
-  node_goes : (n : Node) (context : Context) (done own : List Mention) → Behind context.scope (done ++ own) → (es : List Element) → GoesOn ((done ++ own) ++ node_writes context n) es → Goes done own (node_elements context n ++ es)
+  node_goes : (n : Node) (context : Context) (done own : List Mention) → Following context.scope (done ++ own) → (es : List Element) → GoesOn ((done ++ own) ++ node_writes context n) es → Goes done own (node_elements context n ++ es)
   node_goes (node name line args ts ending) context done own so es goes =
       let k = known_command context.profile name in
       let its = command_mentions context.profile context.required k args in
-      let within = behind_kind context k args in
+      let within = after_kind context k args in
       let own_args = command_arguments context k args ts ending in
       let its_tests = tests_elements context ts in
       let its_block = block_elements within ending in
@@ -113,23 +113,23 @@ mutual
             (subst (Goes (done ++ own) its) (sym (append_assoc its_tests its_block es))
             (tests_go (done ++ own) its context now ts (its_block ++ es)
             (block_goes ending within (done ++ own) its
-            (behind_more context.scope within.scope (done ++ own) its so (kind_mentions context k args)) es
+            (after_more context.scope within.scope (done ++ own) its so (kind_mentions context k args)) es
             (λ d o e. goes d o (e ∙ append_assoc (done ++ own) its (block_writes within ending))))))),
       )
 
-  block_goes : (b : Block) (context : Context) (done own : List Mention) → Behind context.scope (done ++ own) → (es : List Element) → GoesOn ((done ++ own) ++ block_writes context b) es → Goes done own (block_elements context b ++ es)
+  block_goes : (b : Block) (context : Context) (done own : List Mention) → Following context.scope (done ++ own) → (es : List Element) → GoesOn ((done ++ own) ++ block_writes context b) es → Goes done own (block_elements context b ++ es)
   block_goes no_block context done own so es goes = goes done own (sym (append-nil (done ++ own)))
   block_goes (block ns) context done own so es goes = nodes_go ns (inside context) done own so es goes
 
-  nodes_go : (ns : Nodes) (context : Context) (done own : List Mention) → Behind context.scope (done ++ own) → (es : List Element) → GoesOn ((done ++ own) ++ nodes_writes context ns) es → Goes done own (nodes_elements context ns ++ es)
+  nodes_go : (ns : Nodes) (context : Context) (done own : List Mention) → Following context.scope (done ++ own) → (es : List Element) → GoesOn ((done ++ own) ++ nodes_writes context ns) es → Goes done own (nodes_elements context ns ++ es)
   nodes_go end_nodes context done own so es goes = goes done own (sym (append-nil (done ++ own)))
   nodes_go (more_nodes n ns) context done own so es goes =
-      let next = behind context n in
+      let next = after context n in
       let rest = nodes_elements next ns in
-      let moved = behind_more context.scope next.scope (done ++ own) (node_writes context n) so (node_names n context) in
+      let moved = after_more context.scope next.scope (done ++ own) (node_writes context n) so (node_names n context) in
       subst (Goes done own) (sym (append_assoc (node_elements context n) rest es))
       (node_goes n context done own so (rest ++ es)
-      (λ d o e. nodes_go ns next d o (moved ∙ sym (ap (behind_mentions no_names) e)) es
+      (λ d o e. nodes_go ns next d o (moved ∙ sym (ap (after_mentions no_names) e)) es
       (λ d' o' e'. goes d' o' (e' ∙ ap (λ l. l ++ nodes_writes next ns) e ∙ append_assoc (done ++ own) (node_writes context n) (nodes_writes next ns)))))
 
 all_go : (profile : Profile) (tree : List Node) → Goes [] [] (elements_of profile tree)

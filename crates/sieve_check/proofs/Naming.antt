@@ -10,7 +10,7 @@ use Rattle.std.specs.Prelude.{if◌then◌else◌, nat_eq}
 use Rattle.std.specs.Str.{str_eq_ignore_ascii_case}
 use lib.Pointwise.{bytes_decides, pointwise}
 use Rattle.sieve_syntax.specs.Tree.{Argument, strings, number, tag, Text, Test, test, Tests, no_tests, one_test, test_list, TestList, end_tests, more_tests, Node, node, Block, no_block, block, Nodes, end_nodes, more_nodes}
-use Rattle.sieve_check.specs.Context.{Context, behind, behind_block, behind_kind, behind_nodes, inside, script_start}
+use Rattle.sieve_check.specs.Context.{Context, after, after_block, after_kind, after_nodes, inside, script_start}
 use Rattle.sieve_check.specs.Element.{Element, among, argument_elements, block_elements, command_arguments, judged_labels, labelled_elements, node_elements, nodes_elements, row_elements, test_arguments, test_elements, test_list_elements, tests_elements, text_elements}
 use Rattle.sieve_check.specs.Naming.{Mention, sets, declares, command_mentions, element_mentions, mentions_in, names_in_role, octets_in, set_by, without_name}
 use Rattle.sieve_check.specs.Said.{said_arguments}
@@ -36,11 +36,11 @@ abbrev pub mentioned : Scope → Mention → Scope
 mentioned scope (sets name) = assigning scope name
 mentioned scope (declares name) = record scope { declared = with_name (folded_name name) scope.declared }
 
-abbrev pub behind_mentions : Scope → List Mention → Scope
-behind_mentions scope [] = scope
-behind_mentions scope (m ∷ ms) = behind_mentions (mentioned scope m) ms
+abbrev pub after_mentions : Scope → List Mention → Scope
+after_mentions scope [] = scope
+after_mentions scope (m ∷ ms) = after_mentions (mentioned scope m) ms
 
-pub in_turn : (xs ys : List Mention) (scope : Scope) → behind_mentions scope (xs ++ ys) ≡ behind_mentions (behind_mentions scope xs) ys
+pub in_turn : (xs ys : List Mention) (scope : Scope) → after_mentions scope (xs ++ ys) ≡ after_mentions (after_mentions scope xs) ys
 in_turn [] ys scope = refl
 in_turn (x ∷ xs) ys scope = in_turn xs ys (mentioned scope x)
 
@@ -49,79 +49,79 @@ in_turn (x ∷ xs) ys scope = in_turn xs ys (mentioned scope x)
 abbrev octets_of : List Text → List (List ℕ)
 octets_of ts = map (λ t. t.string) ts
 
-texts_set : (ts : List Text) (scope : Scope) → assigning_texts scope ts ≡ behind_mentions scope (map sets (octets_of ts))
+texts_set : (ts : List Text) (scope : Scope) → assigning_texts scope ts ≡ after_mentions scope (map sets (octets_of ts))
 texts_set [] scope = refl
 texts_set (t ∷ ts) scope = texts_set ts (assigning scope t.string)
 
 abbrev if_in_role : Bool → Argument → List (List ℕ)
 if_in_role b a = if b then octets_in a else []
 
-argument_sets : (a : Argument) (scope : Scope) (role : Option Role) → assigning_argument scope role a ≡ behind_mentions scope (map sets (if_in_role (has_role NameToSet role) a))
+argument_sets : (a : Argument) (scope : Scope) (role : Option Role) → assigning_argument scope role a ≡ after_mentions scope (map sets (if_in_role (has_role NameToSet role) a))
 argument_sets (strings items bracketed) scope role = by_role (has_role NameToSet role)
   where
-    by_role : (b : Bool) → (if b then assigning_texts scope items else scope) ≡ behind_mentions scope (map sets (if_in_role b (strings items bracketed)))
+    by_role : (b : Bool) → (if b then assigning_texts scope items else scope) ≡ after_mentions scope (map sets (if_in_role b (strings items bracketed)))
     by_role true = texts_set items scope
     by_role false = refl
 argument_sets (number value line) scope role = by_role (has_role NameToSet role)
   where
-    by_role : (b : Bool) → scope ≡ behind_mentions scope (map sets (if_in_role b (number value line)))
+    by_role : (b : Bool) → scope ≡ after_mentions scope (map sets (if_in_role b (number value line)))
     by_role true = refl
     by_role false = refl
 argument_sets (tag name line) scope role = by_role (has_role NameToSet role)
   where
-    by_role : (b : Bool) → scope ≡ behind_mentions scope (map sets (if_in_role b (tag name line)))
+    by_role : (b : Bool) → scope ≡ after_mentions scope (map sets (if_in_role b (tag name line)))
     by_role true = refl
     by_role false = refl
 
-arguments_set : (args : List Argument) (scope : Scope) (labels : List Label) → assigning_arguments scope labels args ≡ behind_mentions scope (map sets (names_in_role NameToSet labels args))
+arguments_set : (args : List Argument) (scope : Scope) (labels : List Label) → assigning_arguments scope labels args ≡ after_mentions scope (map sets (names_in_role NameToSet labels args))
 arguments_set [] scope labels = refl
 arguments_set (a ∷ args) scope labels =
     let here = if_in_role (has_role NameToSet (first_role labels)) a in
     let rest = names_in_role NameToSet (drop 1 labels) args in
     ap (λ s. assigning_arguments s (drop 1 labels) args) (argument_sets a scope (first_role labels))
-    ∙ arguments_set args (behind_mentions scope (map sets here)) (drop 1 labels)
+    ∙ arguments_set args (after_mentions scope (map sets here)) (drop 1 labels)
     ∙ sym (in_turn (map sets here) (map sets rest) scope)
-    ∙ sym (ap (behind_mentions scope) (map-append sets here rest))
+    ∙ sym (ap (after_mentions scope) (map-append sets here rest))
 
 -- NAMES THAT ARE DECLARED
 
 abbrev declaring : Scope → List (List ℕ) → Scope
 declaring scope declared = record scope { declared = declared }
 
-texts_declare : (ts : List Text) (scope : Scope) → declaring scope (declaring_texts scope.declared ts) ≡ behind_mentions scope (map declares (octets_of ts))
+texts_declare : (ts : List Text) (scope : Scope) → declaring scope (declaring_texts scope.declared ts) ≡ after_mentions scope (map declares (octets_of ts))
 texts_declare [] scope = refl
 texts_declare (t ∷ ts) scope = texts_declare ts (declaring scope (with_name (folded_name t.string) scope.declared))
 
-argument_declares : (a : Argument) (scope : Scope) (role : Option Role) → declaring scope (declaring_argument scope.declared role a) ≡ behind_mentions scope (map declares (if_in_role (has_role NamesToDeclare role) a))
+argument_declares : (a : Argument) (scope : Scope) (role : Option Role) → declaring scope (declaring_argument scope.declared role a) ≡ after_mentions scope (map declares (if_in_role (has_role NamesToDeclare role) a))
 argument_declares (strings items bracketed) scope role = by_role (has_role NamesToDeclare role)
   where
-    by_role : (b : Bool) → declaring scope (if b then declaring_texts scope.declared items else scope.declared) ≡ behind_mentions scope (map declares (if_in_role b (strings items bracketed)))
+    by_role : (b : Bool) → declaring scope (if b then declaring_texts scope.declared items else scope.declared) ≡ after_mentions scope (map declares (if_in_role b (strings items bracketed)))
     by_role true = texts_declare items scope
     by_role false = refl
 argument_declares (number value line) scope role = by_role (has_role NamesToDeclare role)
   where
-    by_role : (b : Bool) → scope ≡ behind_mentions scope (map declares (if_in_role b (number value line)))
+    by_role : (b : Bool) → scope ≡ after_mentions scope (map declares (if_in_role b (number value line)))
     by_role true = refl
     by_role false = refl
 argument_declares (tag name line) scope role = by_role (has_role NamesToDeclare role)
   where
-    by_role : (b : Bool) → scope ≡ behind_mentions scope (map declares (if_in_role b (tag name line)))
+    by_role : (b : Bool) → scope ≡ after_mentions scope (map declares (if_in_role b (tag name line)))
     by_role true = refl
     by_role false = refl
 
-arguments_declare : (args : List Argument) (scope : Scope) (labels : List Label) → with_declared scope labels args ≡ behind_mentions scope (map declares (names_in_role NamesToDeclare labels args))
+arguments_declare : (args : List Argument) (scope : Scope) (labels : List Label) → with_declared scope labels args ≡ after_mentions scope (map declares (names_in_role NamesToDeclare labels args))
 arguments_declare [] scope labels = refl
 arguments_declare (a ∷ args) scope labels =
     let here = if_in_role (has_role NamesToDeclare (first_role labels)) a in
     let rest = names_in_role NamesToDeclare (drop 1 labels) args in
     ap (λ s. with_declared s (drop 1 labels) args) (argument_declares a scope (first_role labels))
-    ∙ arguments_declare args (behind_mentions scope (map declares here)) (drop 1 labels)
+    ∙ arguments_declare args (after_mentions scope (map declares here)) (drop 1 labels)
     ∙ sym (in_turn (map declares here) (map declares rest) scope)
-    ∙ sym (ap (behind_mentions scope) (map-append declares here rest))
+    ∙ sym (ap (after_mentions scope) (map-append declares here rest))
 
 -- COMMANDS
 
-pub kind_mentions : (context : Context) (k : Option CommandKind) (args : List Argument) → (behind_kind context k args).scope ≡ behind_mentions context.scope (command_mentions context.profile context.required k args)
+pub kind_mentions : (context : Context) (k : Option CommandKind) (args : List Argument) → (after_kind context k args).scope ≡ after_mentions context.scope (command_mentions context.profile context.required k args)
 kind_mentions context None args = refl
 kind_mentions context (Some kind) args =
     let labels = known_labels context.profile (command_row kind) args in
@@ -129,13 +129,13 @@ kind_mentions context (Some kind) args =
     let first = map sets (names_in_role NameToSet labels said) in
     let then_those = map declares (names_in_role NamesToDeclare labels said) in
     ap (λ s. with_declared s labels said) (arguments_set said context.scope labels)
-    ∙ arguments_declare said (behind_mentions context.scope first) labels
+    ∙ arguments_declare said (after_mentions context.scope first) labels
     ∙ sym (in_turn first then_those context.scope)
 
 -- the names that a command and its block write, in the order of the text, where this stands before it
 abbrev mutual
   pub node_writes : Context → Node → List Mention
-  node_writes context (node name line args ts ending) = command_mentions context.profile context.required (known_command context.profile name) args ++ block_writes (behind_kind context (known_command context.profile name) args) ending
+  node_writes context (node name line args ts ending) = command_mentions context.profile context.required (known_command context.profile name) args ++ block_writes (after_kind context (known_command context.profile name) args) ending
 
   pub block_writes : Context → Block → List Mention
   block_writes context no_block = []
@@ -143,29 +143,29 @@ abbrev mutual
 
   pub nodes_writes : Context → Nodes → List Mention
   nodes_writes context end_nodes = []
-  nodes_writes context (more_nodes n ns) = node_writes context n ++ nodes_writes (behind context n) ns
+  nodes_writes context (more_nodes n ns) = node_writes context n ++ nodes_writes (after context n) ns
 
 mutual
-  unfolding behind behind_block behind_nodes
+  unfolding after after_block after_nodes
 
-  pub node_names : (n : Node) (context : Context) → (behind context n).scope ≡ behind_mentions context.scope (node_writes context n)
+  pub node_names : (n : Node) (context : Context) → (after context n).scope ≡ after_mentions context.scope (node_writes context n)
   node_names (node name line args ts ending) context =
       let k = known_command context.profile name in
-      let within = behind_kind context k args in
+      let within = after_kind context k args in
       block_names ending within
-      ∙ ap (λ s. behind_mentions s (block_writes within ending)) (kind_mentions context k args)
+      ∙ ap (λ s. after_mentions s (block_writes within ending)) (kind_mentions context k args)
       ∙ sym (in_turn (command_mentions context.profile context.required k args) (block_writes within ending) context.scope)
 
-  block_names : (b : Block) (context : Context) → (behind_block context b).scope ≡ behind_mentions context.scope (block_writes context b)
+  block_names : (b : Block) (context : Context) → (after_block context b).scope ≡ after_mentions context.scope (block_writes context b)
   block_names no_block context = refl
   block_names (block ns) context = nodes_names ns (inside context)
 
-  nodes_names : (ns : Nodes) (context : Context) → (behind_nodes context ns).scope ≡ behind_mentions context.scope (nodes_writes context ns)
+  nodes_names : (ns : Nodes) (context : Context) → (after_nodes context ns).scope ≡ after_mentions context.scope (nodes_writes context ns)
   nodes_names end_nodes context = refl
   nodes_names (more_nodes n ns) context =
-      nodes_names ns (behind context n)
-      ∙ ap (λ s. behind_mentions s (nodes_writes (behind context n) ns)) (node_names n context)
-      ∙ sym (in_turn (node_writes context n) (nodes_writes (behind context n) ns) context.scope)
+      nodes_names ns (after context n)
+      ∙ ap (λ s. after_mentions s (nodes_writes (after context n) ns)) (node_names n context)
+      ∙ sym (in_turn (node_writes context n) (nodes_writes (after context n) ns) context.scope)
 
 -- AMONG ELEMENTS
 
@@ -224,7 +224,7 @@ mutual
   node_among : (n : Node) (context : Context) → mentions_in (node_elements context n) ≡ node_writes context n
   node_among (node name line args ts ending) context =
       let k = known_command context.profile name in
-      let within = behind_kind context k args in
+      let within = after_kind context k args in
       ap (λ l. command_mentions context.profile context.required k args ++ l)
       (then_mentions (command_arguments context k args ts ending) (tests_elements context ts ++ block_elements within ending) [] (block_writes within ending)
       (command_arguments_write_none context k args ts ending)
@@ -237,7 +237,7 @@ mutual
   pub nodes_among : (ns : Nodes) (context : Context) → mentions_in (nodes_elements context ns) ≡ nodes_writes context ns
   nodes_among end_nodes context = refl
   nodes_among (more_nodes n ns) context =
-      then_mentions (node_elements context n) (nodes_elements (behind context n) ns) (node_writes context n) (nodes_writes (behind context n) ns) (node_among n context) (nodes_among ns (behind context n))
+      then_mentions (node_elements context n) (nodes_elements (after context n) ns) (node_writes context n) (nodes_writes (after context n) ns) (node_among n context) (nodes_among ns (after context n))
 
 -- NAMES THAT ARE ONE
 
@@ -286,8 +286,8 @@ abbrev with_set : Scope → List ℕ → Scope
 with_set scope name = record scope { assigned = scope.assigned ++ name ∷ [] }
 
 -- after a name that is set, another name is fresh exactly where it was fresh before
-fresh_behind_set : (scope : Scope) (name other : List ℕ) → is_fresh (with_set scope name) other ≡ (not (same name other) && is_fresh scope other)
-fresh_behind_set scope name other =
+fresh_after_set : (scope : Scope) (name other : List ℕ) → is_fresh (with_set scope name) other ≡ (not (same name other) && is_fresh scope other)
+fresh_after_set scope name other =
     ap (λ b. not (is_among (folded_name other) scope.declared) && not b) (any_append (same other) scope.assigned (name ∷ []))
     ∙ ap (λ b. not (is_among (folded_name other) scope.declared) && not (is_assigned other scope || (b || false))) (octets_either_way (folded_name other) (folded_name name))
     ∙ regroup (is_among (folded_name other) scope.declared) (is_assigned other scope) (same name other)
@@ -320,8 +320,8 @@ among_with name other names = by_there (is_among name names) refl
 abbrev with_one_declared : Scope → List ℕ → Scope
 with_one_declared scope name = record scope { declared = with_name (folded_name name) scope.declared }
 
-fresh_behind_declared : (scope : Scope) (name other : List ℕ) → is_fresh (with_one_declared scope name) other ≡ (not (same name other) && is_fresh scope other)
-fresh_behind_declared scope name other =
+fresh_after_declared : (scope : Scope) (name other : List ℕ) → is_fresh (with_one_declared scope name) other ≡ (not (same name other) && is_fresh scope other)
+fresh_after_declared scope name other =
     ap (λ b. not b && not (is_assigned other scope)) (among_with (folded_name name) (folded_name other) scope.declared)
     ∙ regroup (is_among (folded_name other) scope.declared) (is_assigned other scope) (same name other)
   where
@@ -347,7 +347,7 @@ fresh_without scope now name names agree =
 
 -- WHAT MENTIONS SET
 
-module _ (scope : Scope) (name : List ℕ) (ms : List Mention) (below : (s : Scope) → (behind_mentions s ms).assigned ≡ s.assigned ++ filter (is_fresh s) (set_by ms)) where
+module _ (scope : Scope) (name : List ℕ) (ms : List Mention) (below : (s : Scope) → (after_mentions s ms).assigned ≡ s.assigned ++ filter (is_fresh s) (set_by ms)) where
   -- the scope after a name that is written to be set, by whether it is an identifier, and whether it is fresh
   abbrev now_set : Bool → Bool → Scope
   now_set i f = if i && f then with_set scope name else scope
@@ -355,11 +355,11 @@ module _ (scope : Scope) (name : List ℕ) (ms : List Mention) (below : (s : Sco
   abbrev others : List (List ℕ)
   others = filter (is_fresh scope) (without_name name (set_by ms))
 
-  by_name : (i f : Bool) → is_fresh scope name ≡ f → (behind_mentions (now_set i f) ms).assigned ≡ scope.assigned ++ filter (is_fresh scope) (if i then name ∷ without_name name (set_by ms) else set_by ms)
+  by_name : (i f : Bool) → is_fresh scope name ≡ f → (after_mentions (now_set i f) ms).assigned ≡ scope.assigned ++ filter (is_fresh scope) (if i then name ∷ without_name name (set_by ms) else set_by ms)
   by_name true true fresh =
       below (with_set scope name)
       ∙ append_assoc scope.assigned (name ∷ []) (filter (is_fresh (with_set scope name)) (set_by ms))
-      ∙ ap (λ l. scope.assigned ++ (name ∷ l)) (fresh_without scope (is_fresh (with_set scope name)) name (set_by ms) (fresh_behind_set scope name))
+      ∙ ap (λ l. scope.assigned ++ (name ∷ l)) (fresh_without scope (is_fresh (with_set scope name)) name (set_by ms) (fresh_after_set scope name))
       ∙ sym (ap (λ b. scope.assigned ++ (if b then name ∷ others else others)) fresh)
   by_name true false fresh =
       below scope
@@ -367,19 +367,19 @@ module _ (scope : Scope) (name : List ℕ) (ms : List Mention) (below : (s : Sco
       ∙ sym (ap (λ b. scope.assigned ++ (if b then name ∷ others else others)) fresh)
   by_name false f fresh = below scope
 
-  set_in_turn : (behind_mentions (assigning scope name) ms).assigned ≡ scope.assigned ++ filter (is_fresh scope) (set_by (sets name ∷ ms))
+  set_in_turn : (after_mentions (assigning scope name) ms).assigned ≡ scope.assigned ++ filter (is_fresh scope) (set_by (sets name ∷ ms))
   unfolding assigning
   set_in_turn = by_name (is_identifier name) (is_fresh scope name) refl
 
-mentions_set : (ms : List Mention) (scope : Scope) → (behind_mentions scope ms).assigned ≡ scope.assigned ++ filter (is_fresh scope) (set_by ms)
+mentions_set : (ms : List Mention) (scope : Scope) → (after_mentions scope ms).assigned ≡ scope.assigned ++ filter (is_fresh scope) (set_by ms)
 mentions_set [] scope = sym (append-nil scope.assigned)
 mentions_set (sets name ∷ ms) scope = set_in_turn scope name ms (mentions_set ms)
 mentions_set (declares name ∷ ms) scope =
     mentions_set ms (with_one_declared scope name)
-    ∙ ap (λ l. scope.assigned ++ l) (fresh_without scope (is_fresh (with_one_declared scope name)) name (set_by ms) (fresh_behind_declared scope name))
+    ∙ ap (λ l. scope.assigned ++ l) (fresh_without scope (is_fresh (with_one_declared scope name)) name (set_by ms) (fresh_after_declared scope name))
 
-pub set_so : (ms : List Mention) → (behind_mentions no_names ms).assigned ≡ set_by ms
+pub set_so : (ms : List Mention) → (after_mentions no_names ms).assigned ≡ set_by ms
 set_so ms = mentions_set ms no_names ∙ filter_all (set_by ms)
 
-pub names_set : (profile : Profile) (ns : Nodes) → (behind_nodes (script_start profile) ns).scope.assigned ≡ set_by (mentions_in (nodes_elements (script_start profile) ns))
+pub names_set : (profile : Profile) (ns : Nodes) → (after_nodes (script_start profile) ns).scope.assigned ≡ set_by (mentions_in (nodes_elements (script_start profile) ns))
 names_set profile ns = ap (λ s. s.assigned) (nodes_names ns (script_start profile)) ∙ set_so (nodes_writes (script_start profile) ns) ∙ sym (ap set_by (nodes_among ns (script_start profile)))

@@ -7,14 +7,14 @@ use Rattle.std.specs.Option.{option_and_then, option_map}
 use denote.Enum.Bare.{sameb, same_true}
 use Rattle.sieve_syntax.specs.Tree as syntax
 use Rattle.sieve_check.specs.Breach.{breaches_in, breaches_of, command_breaks, test_breaks}
-use Rattle.sieve_check.specs.Context.{Context, allows_else, behind, behind_block, behind_kind, continues_if, inside, script_start}
+use Rattle.sieve_check.specs.Context.{Context, allows_else, after, after_block, after_kind, continues_if, inside, script_start}
 use Rattle.sieve_check.specs.Element.{block_elements, command_arguments, node_elements, nodes_elements, test_arguments, test_elements, test_list_elements, tests_elements, the_command, the_test}
 use Rattle.sieve_check.specs.Parted.{command_labels, parted, parted_argument, parted_block, parted_labelled, parted_node, parted_nodes, parted_said, parted_test, parted_test_list, parted_tests, parted_text, test_labels}
 use Rattle.sieve_check.specs.Readable.{IsReadable, Joins, ReadsBlock, ReadsNode, ReadsNodes, ReadsTest, ReadsTestList, ReadsTests, Stands, command_takes, may_go_on, needs_of, test_takes, tests_of_reading}
 use Rattle.sieve_check.specs.Said.{said_argument, said_arguments, said_text}
 use Rattle.sieve_check.specs.Use.{block_fits, has_bad_arguments, has_bad_tag, has_block, has_late_tag, has_repeated, is_other_tag, is_well_used, lacks_kind, lacks_own, tests_fit, tests_there}
 use Rattle.sieve_reading.specs.CommandReading as commands
-use Rattle.sieve_reading.specs.Label.{Expected, expected_behind, expecting, label_at, labels_from, labels_of, row_is_filled, slots_of}
+use Rattle.sieve_reading.specs.Label.{Expected, expected_after, expecting, label_at, labels_from, labels_of, row_is_filled, slots_of}
 use Rattle.sieve_reading.specs.Reading.{CommandReading}
 use Rattle.sieve_reading.specs.Role.{first_role}
 use Rattle.sieve_reading.specs.Shape.{known_labels, known_shape, known_shapes, row_labels, shape_of, shapes_of, texts_shape}
@@ -39,7 +39,7 @@ use Rattle.sieve_table.specs.declared.table.CommandKind.{CommandKind}
 use Rattle.sieve_table.specs.declared.table.Tag.{Tag}
 use Rattle.sieve_table.specs.declared.table.TestKind.{TestKind}
 use Rattle.sieve_check.proofs.Truth.{agree, alike, never_both, not_false}
-use Rattle.sieve_check.proofs.Unbroken.{keeps, none_in_both, none_in_front}
+use Rattle.sieve_check.proofs.Unbroken.{keeps, none_in_both, nothing_before}
 
 -- WHAT STAYS WHEN STRINGS ARE CUT
 
@@ -110,9 +110,9 @@ module _ (profile : Profile) where
   all_known tags (a ∷ args) expected none =
       let s = shape_of tags a in
       let seen = known_shape profile s in
-      let parts = or_parts (is_other_tag (label_at expected seen)) (list_any is_other_tag (labels_from (expected_behind expected seen) (known_shapes profile tags args))) none in
+      let parts = or_parts (is_other_tag (label_at expected seen)) (list_any is_other_tag (labels_from (expected_after expected seen) (known_shapes profile tags args))) none in
       ap (λ x. x ∷ known_shapes profile tags args) (kept_shape expected s parts.0)
-      ∙ ap (λ l. s ∷ l) (all_known tags args (expected_behind expected seen) parts.1)
+      ∙ ap (λ l. s ∷ l) (all_known tags args (expected_after expected seen) parts.1)
 
   -- a row whose tags aren't bad
   pub row_known : (row : Row) (args : List syntax.Argument) → has_bad_tag (known_labels profile row args) ≡ false → known_shapes profile row.tags args ≡ shapes_of row.tags args
@@ -161,25 +161,25 @@ tests_read_of k labels args =
 abbrev says_so : CommandKind → CommandReading → Bool
 says_so k r =
     sameb inners.the_type (needs_of r).tests (command_row k).tests
-    && (agree (needs_of r).block (command_row k).has_block && (agree (needs_of r).behind_if (continues_if k) && agree (allows_else k) (may_go_on (Some r))))
+    && (agree (needs_of r).block (command_row k).has_block && (agree (needs_of r).after_if (continues_if k) && agree (allows_else k) (may_go_on (Some r))))
 
 record SaysSo (k : CommandKind) (r : CommandReading) : Type 0 where
   tests : (needs_of r).tests ≡ (command_row k).tests
   block : (needs_of r).block ≡ (command_row k).has_block
-  behind_if : (needs_of r).behind_if ≡ continues_if k
+  after_if : (needs_of r).after_if ≡ continues_if k
   goes_on : allows_else k ≡ may_go_on (Some r)
 
 command_says_so : (k : CommandKind) (labels : List Label) (args : List Argument) → SaysSo k (commands.command_reading_by k labels args)
 command_says_so k labels args =
     let r = commands.command_reading_by k labels args in
     let all : says_so k r ≡ true = of_each every_command.enum tt (λ k. says_so k (commands.command_reading_by k labels args)) refl k in
-    let first = and_parts (sameb inners.the_type (needs_of r).tests (command_row k).tests) (agree (needs_of r).block (command_row k).has_block && (agree (needs_of r).behind_if (continues_if k) && agree (allows_else k) (may_go_on (Some r)))) all in
-    let second = and_parts (agree (needs_of r).block (command_row k).has_block) (agree (needs_of r).behind_if (continues_if k) && agree (allows_else k) (may_go_on (Some r))) first.1 in
-    let third = and_parts (agree (needs_of r).behind_if (continues_if k)) (agree (allows_else k) (may_go_on (Some r))) second.1 in
+    let first = and_parts (sameb inners.the_type (needs_of r).tests (command_row k).tests) (agree (needs_of r).block (command_row k).has_block && (agree (needs_of r).after_if (continues_if k) && agree (allows_else k) (may_go_on (Some r)))) all in
+    let second = and_parts (agree (needs_of r).block (command_row k).has_block) (agree (needs_of r).after_if (continues_if k) && agree (allows_else k) (may_go_on (Some r))) first.1 in
+    let third = and_parts (agree (needs_of r).after_if (continues_if k)) (agree (allows_else k) (may_go_on (Some r))) second.1 in
     record {
       tests = one_inner (needs_of r).tests (command_row k).tests first.0;
       block = alike (needs_of r).block (command_row k).has_block second.0;
-      behind_if = alike (needs_of r).behind_if (continues_if k) third.0;
+      after_if = alike (needs_of r).after_if (continues_if k) third.0;
       goes_on = alike (allows_else k) (may_go_on (Some r)) third.1;
     }
 
@@ -216,7 +216,7 @@ module _ (context : Context) where
       let says = command_says_so kind (row_labels row cut) cut in
       let fit : tests_fit (needs_of (commands.command_kind_reading kind cut)).tests (parted_tests context ts) ≡ true = subst (λ i. tests_fit i (parted_tests context ts) ≡ true) (sym says.tests) ends.0 in
       let fits : block_fits (needs_of (commands.command_kind_reading kind cut)).block (has_block (parted_block within ending)) ≡ true = subst (λ b. block_fits b (has_block (parted_block within ending)) ≡ true) (sym says.block) ends.1 in
-      (used, (fit, fits, λ needs. follows (continues_if kind) context.follows_if (sym says.behind_if ∙ needs) (unbroken ElsePlace)))
+      (used, (fit, fits, λ needs. follows (continues_if kind) context.follows_if (sym says.after_if ∙ needs) (unbroken ElsePlace)))
     where
       follows : (continues follows_if : Bool) → continues ≡ true → (continues && not follows_if) ≡ false → follows_if ≡ true
       follows continues true is fine = refl
@@ -231,26 +231,26 @@ module _ (context : Context) where
 
   -- a branch may go on after a command that is known exactly where the command is read as one that it may go on after
   known_goes_on : (kind : CommandKind) (known : Bool) (written : List syntax.Argument) (ts : syntax.Tests) (ending : syntax.Block) (args : List Argument) → command_breaks context (if known then Some kind else None) written ts ending UnknownCommand ≡ false
-      → (behind_kind context (if known then Some kind else None) written).follows_if ≡ may_go_on (Some (commands.command_kind_reading kind args))
+      → (after_kind context (if known then Some kind else None) written).follows_if ≡ may_go_on (Some (commands.command_kind_reading kind args))
   known_goes_on kind false written ts ending args unbroken = absurd (never_both unbroken)
   known_goes_on kind true written ts ending args unbroken = (command_says_so kind (row_labels (command_row kind) args) args).goes_on
 
   kind_goes_on : (k : Option CommandKind) (written : List syntax.Argument) (ts : syntax.Tests) (ending : syntax.Block) (args : List Argument) → let known = option_and_then (only_if (λ kind. is_known_row context.profile (command_row kind))) k in
-      command_breaks context known written ts ending UnknownCommand ≡ false → (behind_kind context known written).follows_if ≡ may_go_on (option_map (λ kind. commands.command_kind_reading kind args) k)
+      command_breaks context known written ts ending UnknownCommand ≡ false → (after_kind context known written).follows_if ≡ may_go_on (option_map (λ kind. commands.command_kind_reading kind args) k)
   kind_goes_on None written ts ending args unbroken = absurd (never_both unbroken)
   kind_goes_on (Some kind) written ts ending args unbroken = known_goes_on kind (is_known_row context.profile (command_row kind)) written ts ending args unbroken
 
-  block_keeps : (before : Context) (ending : syntax.Block) → (behind_block before ending).follows_if ≡ before.follows_if
-  unfolding behind_block
+  block_keeps : (before : Context) (ending : syntax.Block) → (after_block before ending).follows_if ≡ before.follows_if
+  unfolding after_block
   block_keeps before syntax.no_block = refl
   block_keeps before (syntax.block ns) = refl
 
-  goes_on : (n : syntax.Node) → breaches_in (node_elements context n) ≡ [] → (behind context n).follows_if ≡ may_go_on (commands.command_reading (parted_node context n))
-  unfolding behind node_elements
+  goes_on : (n : syntax.Node) → breaches_in (node_elements context n) ≡ [] → (after context n).follows_if ≡ may_go_on (commands.command_reading (parted_node context n))
+  unfolding after node_elements
   goes_on (syntax.node name line args ts ending) none =
       let k = known_command context.profile name in
-      let parts = none_in_front (the_command context name line args ts ending) (command_arguments context k args ts ending ++ (tests_elements context ts ++ block_elements (behind_kind context k args) ending)) none in
-      block_keeps (behind_kind context k args) ending ∙ kind_goes_on (command_named name) args ts ending _ (keeps (the_command context name line args ts ending) parts.0 UnknownCommand)
+      let parts = nothing_before (the_command context name line args ts ending) (command_arguments context k args ts ending ++ (tests_elements context ts ++ block_elements (after_kind context k args) ending)) none in
+      block_keeps (after_kind context k args) ending ∙ kind_goes_on (command_named name) args ts ending _ (keeps (the_command context name line args ts ending) parts.0 UnknownCommand)
 
 -- TESTS
 
@@ -259,7 +259,7 @@ mutual
 
   test_reads : (t : syntax.Test) (context : Context) → breaches_in (test_elements context t) ≡ [] → ReadsTest (parted_test context t)
   test_reads (syntax.test name line args ts) context none =
-      let parts = none_in_front (the_test context name line args ts) (test_arguments context (known_test context.profile name) args ts ++ tests_elements context ts) none in
+      let parts = nothing_before (the_test context name line args ts) (test_arguments context (known_test context.profile name) args ts ++ tests_elements context ts) none in
       let rest = none_in_both (test_arguments context (known_test context.profile name) args ts) (tests_elements context ts) parts.1 in
       let read = test_is_read context (test_named name) args ts (keeps (the_test context name line args ts) parts.0) in
       (read.0, read.1, tests_read ts context rest.1)
@@ -282,11 +282,11 @@ mutual
 
   node_reads : (n : syntax.Node) (context : Context) → breaches_in (node_elements context n) ≡ [] → ReadsNode context.follows_if (parted_node context n)
   node_reads (syntax.node name line args ts ending) context none =
-      let inside_it = tests_elements context ts ++ block_elements (behind_kind context (known_command context.profile name) args) ending in
-      let parts = none_in_front (the_command context name line args ts ending) (command_arguments context (known_command context.profile name) args ts ending ++ inside_it) none in
+      let inside_it = tests_elements context ts ++ block_elements (after_kind context (known_command context.profile name) args) ending in
+      let parts = nothing_before (the_command context name line args ts ending) (command_arguments context (known_command context.profile name) args ts ending ++ inside_it) none in
       let rest = none_in_both (command_arguments context (known_command context.profile name) args ts ending) inside_it parts.1 in
-      let inner = none_in_both (tests_elements context ts) (block_elements (behind_kind context (known_command context.profile name) args) ending) rest.1 in
-      let within = behind_kind context (known_command context.profile name) args in
+      let inner = none_in_both (tests_elements context ts) (block_elements (after_kind context (known_command context.profile name) args) ending) rest.1 in
+      let within = after_kind context (known_command context.profile name) args in
       let read = command_is_read context within (command_named name) args ts ending (keeps (the_command context name line args ts ending) parts.0) in
       (read.0, read.1, tests_read ts context inner.0, block_reads ending within inner.1)
 
@@ -297,8 +297,8 @@ mutual
   nodes_read : (ns : syntax.Nodes) (context : Context) → breaches_in (nodes_elements context ns) ≡ [] → ReadsNodes context.follows_if (parted_nodes context ns)
   nodes_read syntax.end_nodes context none = tt
   nodes_read (syntax.more_nodes n ns) context none =
-      let parts = none_in_both (node_elements context n) (nodes_elements (behind context n) ns) none in
-      let next = behind context n in
+      let parts = none_in_both (node_elements context n) (nodes_elements (after context n) ns) none in
+      let next = after context n in
       (node_reads n context parts.0, subst (λ b. ReadsNodes b (parted_nodes next ns)) (goes_on context n parts.0) (nodes_read ns next parts.1))
 
 -- THE TREE

@@ -9,7 +9,7 @@ use Rattle.sieve_syntax.specs.Tree.{Argument, strings, number, tag, Text, Test, 
 use Rattle.match_text.specs.Comparator.{collation_named}
 use Rattle.sieve_check.specs.Breach.{use_lacks}
 use Rattle.sieve_check.specs.Collating.{argument_lacks, arguments_lack, collation_lacks, known_collation, name_lacks, needed_for, text_lacks}
-use Rattle.sieve_check.specs.Context.{Context, behind, behind_block, behind_kind, behind_nodes, inside, naming_said, script_start}
+use Rattle.sieve_check.specs.Context.{Context, after, after_block, after_kind, after_nodes, inside, naming_said, script_start}
 use Rattle.sieve_check.specs.Element.{Element, among, argument_elements, block_elements, command_arguments, elements_of, judged_labels, labelled_elements, node_elements, nodes_elements, row_elements, test_arguments, test_elements, test_list_elements, tests_elements, text_elements, the_command, the_number, the_test, the_text}
 use Rattle.sieve_check.specs.Parted.{parted, parted_argument, parted_block, parted_labelled, parted_node, parted_nodes, parted_said, parted_test, parted_test_list, parted_tests, parted_text, command_labels, test_labels}
 use Rattle.sieve_check.specs.Said.{said, said_arguments}
@@ -162,31 +162,31 @@ module _ (p q : Profile) (same : is_known p ≡ is_known q) where
   set x is = ap (λ r. record x { profile = r }) (sym is)
 
   -- what stands after a command
-  kind_again : (c : Context) (k : Option CommandKind) (args : List Argument) → behind_kind (under p c) k args ≡ under p (behind_kind (under q c) k args)
+  kind_again : (c : Context) (k : Option CommandKind) (args : List Argument) → after_kind (under p c) k args ≡ under p (after_kind (under q c) k args)
   kind_again c None args = refl
-  kind_again c (Some kind) args = ap (λ labels. record (behind_kind (under p c) (Some kind) args) { scope = naming_said c.required c.scope labels args }) (labels_again (command_row kind) args)
+  kind_again c (Some kind) args = ap (λ labels. record (after_kind (under p c) (Some kind) args) { scope = naming_said c.required c.scope labels args }) (labels_again (command_row kind) args)
 
   mutual
-    unfolding behind behind_block behind_nodes
+    unfolding after after_block after_nodes
 
-    node_behind : (n : Node) (c : Context) → behind (under p c) n ≡ under p (behind (under q c) n)
-    node_behind (node name line args ts ending) c =
-        ap (λ k. behind_block (behind_kind (under p c) k args) ending) (command_again name)
-        ∙ ap (λ x. behind_block x ending) (kind_again c (known_command q name) args)
-        ∙ block_behind ending (behind_kind (under q c) (known_command q name) args)
-        ∙ ap (λ x. under p (behind_block x ending)) (set (behind_kind (under q c) (known_command q name) args) (kind_profile (under q c) (known_command q name) args))
+    node_after : (n : Node) (c : Context) → after (under p c) n ≡ under p (after (under q c) n)
+    node_after (node name line args ts ending) c =
+        ap (λ k. after_block (after_kind (under p c) k args) ending) (command_again name)
+        ∙ ap (λ x. after_block x ending) (kind_again c (known_command q name) args)
+        ∙ block_after ending (after_kind (under q c) (known_command q name) args)
+        ∙ ap (λ x. under p (after_block x ending)) (set (after_kind (under q c) (known_command q name) args) (kind_profile (under q c) (known_command q name) args))
 
     -- a block goes by the profile of the command that it belongs to
-    block_behind : (b : Block) (c : Context) → behind_block (under p c) b ≡ under p (behind_block (under q c) b)
-    block_behind no_block c = refl
-    block_behind (block ns) c = ap (λ x. record (under p c) { scope = x.scope }) (nodes_behind ns (inside c))
+    block_after : (b : Block) (c : Context) → after_block (under p c) b ≡ under p (after_block (under q c) b)
+    block_after no_block c = refl
+    block_after (block ns) c = ap (λ x. record (under p c) { scope = x.scope }) (nodes_after ns (inside c))
 
-    nodes_behind : (ns : Nodes) (c : Context) → behind_nodes (under p c) ns ≡ under p (behind_nodes (under q c) ns)
-    nodes_behind end_nodes c = refl
-    nodes_behind (more_nodes n ns) c =
-        ap (λ x. behind_nodes x ns) (node_behind n c)
-        ∙ nodes_behind ns (behind (under q c) n)
-        ∙ ap (λ x. under p (behind_nodes x ns)) (set (behind (under q c) n) (node_profile n (under q c)))
+    nodes_after : (ns : Nodes) (c : Context) → after_nodes (under p c) ns ≡ under p (after_nodes (under q c) ns)
+    nodes_after end_nodes c = refl
+    nodes_after (more_nodes n ns) c =
+        ap (λ x. after_nodes x ns) (node_after n c)
+        ∙ nodes_after ns (after (under q c) n)
+        ∙ ap (λ x. under p (after_nodes x ns)) (set (after (under q c) n) (node_profile n (under q c)))
 
   mutual
     unfolding node_elements block_elements nodes_elements
@@ -195,8 +195,8 @@ module _ (p q : Profile) (same : is_known p ≡ is_known q) where
     node_again (node name line args ts ending) c =
         let k = known_command q name in
         let first = the_command (under p c) name line args ts ending in
-        let within = behind_kind (under q c) k args in
-        ap (λ k. first ∷ (command_arguments (under p c) k args ts ending ++ (tests_elements (under p c) ts ++ block_elements (behind_kind (under p c) k args) ending))) (command_again name)
+        let within = after_kind (under q c) k args in
+        ap (λ k. first ∷ (command_arguments (under p c) k args ts ending ++ (tests_elements (under p c) ts ++ block_elements (after_kind (under p c) k args) ending))) (command_again name)
         ∙ ap (λ x. first ∷ (command_arguments (under p c) k args ts ending ++ (tests_elements (under p c) ts ++ block_elements x ending))) (kind_again c k args)
         ∙ ap (λ l. first ∷ (l ++ (tests_elements (under p c) ts ++ block_elements (under p within) ending))) (command_arguments_again c k args ts ending)
         ∙ ap (λ l. first ∷ (map again (command_arguments (under q c) k args ts ending) ++ (l ++ block_elements (under p within) ending))) (tests_elements_again c ts)
@@ -212,8 +212,8 @@ module _ (p q : Profile) (same : is_known p ≡ is_known q) where
     nodes_again : (ns : Nodes) (c : Context) → nodes_elements (under p c) ns ≡ map again (nodes_elements (under q c) ns)
     nodes_again end_nodes c = refl
     nodes_again (more_nodes n ns) c =
-        let next = behind (under q c) n in
-        ap (λ x. node_elements (under p c) n ++ nodes_elements x ns) (node_behind n c)
+        let next = after (under q c) n in
+        ap (λ x. node_elements (under p c) n ++ nodes_elements x ns) (node_after n c)
         ∙ ap (λ l. l ++ nodes_elements (under p next) ns) (node_again n c)
         ∙ ap (λ l. map again (node_elements (under q c) n) ++ l) (nodes_again ns next ∙ ap (λ x. map again (nodes_elements x ns)) (set next (node_profile n (under q c))))
         ∙ sym (map-append again (node_elements (under q c) n) (nodes_elements next ns))
@@ -269,12 +269,12 @@ module _ (p q : Profile) (same : is_known p ≡ is_known q) where
     node_cut : (n : Node) (c : Context) → parted_node (under p c) n ≡ parted_node (under q c) n
     node_cut (node name line args ts ending) c =
         let k = known_command q name in
-        let within = behind_kind (under q c) k args in
+        let within = after_kind (under q c) k args in
         let cut = parted_said (under q c) (command_labels q k args) args in
-        ap (λ k. checked.node name line (parted_said (under p c) (command_labels p k args) args) (parted_tests (under p c) ts) (parted_block (behind_kind (under p c) k args) ending)) (command_again name)
-        ∙ ap (λ l. checked.node name line (parted_said (under p c) l args) (parted_tests (under p c) ts) (parted_block (behind_kind (under p c) k args) ending)) (command_cut_by c k args)
-        ∙ ap (λ x. checked.node name line x (parted_tests (under p c) ts) (parted_block (behind_kind (under p c) k args) ending)) (arguments_cut c (command_labels q k args) (said_arguments c.required (command_labels q k args) args))
-        ∙ ap (λ x. checked.node name line cut x (parted_block (behind_kind (under p c) k args) ending)) (tests_cut c ts)
+        ap (λ k. checked.node name line (parted_said (under p c) (command_labels p k args) args) (parted_tests (under p c) ts) (parted_block (after_kind (under p c) k args) ending)) (command_again name)
+        ∙ ap (λ l. checked.node name line (parted_said (under p c) l args) (parted_tests (under p c) ts) (parted_block (after_kind (under p c) k args) ending)) (command_cut_by c k args)
+        ∙ ap (λ x. checked.node name line x (parted_tests (under p c) ts) (parted_block (after_kind (under p c) k args) ending)) (arguments_cut c (command_labels q k args) (said_arguments c.required (command_labels q k args) args))
+        ∙ ap (λ x. checked.node name line cut x (parted_block (after_kind (under p c) k args) ending)) (tests_cut c ts)
         ∙ ap (λ x. checked.node name line cut (parted_tests (under q c) ts) (parted_block x ending)) (kind_again c k args)
         ∙ ap (λ x. checked.node name line cut (parted_tests (under q c) ts) x)
         (block_cut ending within ∙ ap (λ x. parted_block x ending) (set within (kind_profile (under q c) k args)))
@@ -286,9 +286,9 @@ module _ (p q : Profile) (same : is_known p ≡ is_known q) where
     nodes_cut : (ns : Nodes) (c : Context) → parted_nodes (under p c) ns ≡ parted_nodes (under q c) ns
     nodes_cut end_nodes c = refl
     nodes_cut (more_nodes n ns) c =
-        let next = behind (under q c) n in
-        ap (λ x. checked.more_nodes x (parted_nodes (behind (under p c) n) ns)) (node_cut n c)
-        ∙ ap (λ x. checked.more_nodes (parted_node (under q c) n) (parted_nodes x ns)) (node_behind n c)
+        let next = after (under q c) n in
+        ap (λ x. checked.more_nodes x (parted_nodes (after (under p c) n) ns)) (node_cut n c)
+        ∙ ap (λ x. checked.more_nodes (parted_node (under q c) n) (parted_nodes x ns)) (node_after n c)
         ∙ ap (λ x. checked.more_nodes (parted_node (under q c) n) x) (nodes_cut ns next ∙ ap (λ x. parted_nodes x ns) (set next (node_profile n (under q c))))
 
   -- the tree is cut alike

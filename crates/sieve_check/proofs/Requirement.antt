@@ -4,9 +4,9 @@ use Rattle.std.proofs.lemmas.List.Elements.{All-append, All-cons, All-nil}
 use Rattle.std.specs.List.{All, prefix_len, take_while}
 use Rattle.std.specs.Prelude.{if◌then◌else◌}
 use Rattle.sieve_syntax.specs.Tree.{Text, Argument, strings, number, tag, Test, test, Tests, no_tests, one_test, test_list, TestList, end_tests, more_tests, Block, no_block, block, Node, node, Nodes, end_nodes, more_nodes, nodes}
-use Rattle.sieve_check.specs.Context.{Context, behind, behind_block, behind_kind, inside, requiring_arguments, script_start}
+use Rattle.sieve_check.specs.Context.{Context, after, after_block, after_kind, inside, requiring_arguments, script_start}
 use Rattle.sieve_check.specs.Element.{Element, among, argument_elements, block_elements, command_arguments, judged_labels, labelled_elements, node_elements, nodes_elements, row_elements, test_arguments, test_elements, test_list_elements, tests_elements, text_elements, the_command, the_number, the_test, the_text}
-use Rattle.sieve_check.specs.Requirement.{IsJudgedUnder, JudgesBehindRequires, is_require_command, leading_requires, requires_kind, requiring_command, requiring_commands}
+use Rattle.sieve_check.specs.Requirement.{IsJudgedUnder, JudgesAfterRequires, is_require_command, leading_requires, requires_kind, requiring_command, requiring_commands}
 use Rattle.sieve_check.specs.Use.{has_block, is_well_used}
 use Rattle.sieve_reading.specs.Role.{first_role}
 use Rattle.sieve_reading.specs.Shape.{known_labels, known_shapes}
@@ -77,42 +77,42 @@ module _ (r : Required) where
   -- COMMANDS BEHIND THE REQUIRES
 
   -- after a command that is no `require` at the top, no more is required
-  kind_requires_none : (context : Context) (k : Option CommandKind) (args : List Argument) → (context.leads && requires_kind k) ≡ false → context.required ≡ r → ((behind_kind context k args).leads ≡ false) × ((behind_kind context k args).required ≡ r)
+  kind_requires_none : (context : Context) (k : Option CommandKind) (args : List Argument) → (context.leads && requires_kind k) ≡ false → context.required ≡ r → ((after_kind context k args).leads ≡ false) × ((after_kind context k args).required ≡ r)
   kind_requires_none context None args other same = (refl, same)
   kind_requires_none context (Some kind) args other same = (other, ap (λ b. if b then requiring_arguments context.required args else context.required) other ∙ same)
 
-  block_requires_none : (ending : Block) (context : Context) → (context.leads ≡ false) × (context.required ≡ r) → ((behind_block context ending).leads ≡ false) × ((behind_block context ending).required ≡ r)
-  unfolding behind_block
+  block_requires_none : (ending : Block) (context : Context) → (context.leads ≡ false) × (context.required ≡ r) → ((after_block context ending).leads ≡ false) × ((after_block context ending).required ≡ r)
+  unfolding after_block
   block_requires_none no_block context so = so
   block_requires_none (block ns) context so = so
 
-  node_requires_none : (n : Node) (context : Context) → (context.leads && is_require_command context.profile n) ≡ false → context.required ≡ r → ((behind context n).leads ≡ false) × ((behind context n).required ≡ r)
-  unfolding behind
-  node_requires_none (node name line args ts ending) context other same = block_requires_none ending (behind_kind context (known_command context.profile name) args) (kind_requires_none context (known_command context.profile name) args other same)
+  node_requires_none : (n : Node) (context : Context) → (context.leads && is_require_command context.profile n) ≡ false → context.required ≡ r → ((after context n).leads ≡ false) × ((after context n).required ≡ r)
+  unfolding after
+  node_requires_none (node name line args ts ending) context other same = block_requires_none ending (after_kind context (known_command context.profile name) args) (kind_requires_none context (known_command context.profile name) args other same)
 
   mutual
     unfolding node_elements block_elements nodes_elements
 
     node_judged : (n : Node) (context : Context) → (context.leads && is_require_command context.profile n) ≡ false → context.required ≡ r → All Judged (node_elements context n)
     node_judged (node name line args ts ending) context other same =
-        let within = tests_elements context ts ++ block_elements (behind_kind context (known_command context.profile name) args) ending in
+        let within = tests_elements context ts ++ block_elements (after_kind context (known_command context.profile name) args) ending in
         All-cons Judged (the_command context name line args ts ending) (command_arguments context (known_command context.profile name) args ts ending ++ within) same
         (All-append Judged (command_arguments context (known_command context.profile name) args ts ending) within
         (command_arguments_judged context (known_command context.profile name) args ts ending same)
-        (All-append Judged (tests_elements context ts) (block_elements (behind_kind context (known_command context.profile name) args) ending)
+        (All-append Judged (tests_elements context ts) (block_elements (after_kind context (known_command context.profile name) args) ending)
         (tests_judged ts context same)
-        (block_judged ending (behind_kind context (known_command context.profile name) args) (kind_requires_none context (known_command context.profile name) args other same).1)))
+        (block_judged ending (after_kind context (known_command context.profile name) args) (kind_requires_none context (known_command context.profile name) args other same).1)))
 
     block_judged : (ending : Block) (context : Context) → context.required ≡ r → All Judged (block_elements context ending)
     block_judged no_block context same = All-nil Judged
     block_judged (block ns) context same = nodes_judged ns (inside context) refl same
 
     nodes_judged : (ns : Nodes) (context : Context) → context.leads ≡ false → context.required ≡ r → All Judged (nodes_elements context ns)
-    nodes_judged end_nodes context behind_them same = All-nil Judged
-    nodes_judged (more_nodes n ns) context behind_them same =
-        let other = ap (λ b. b && is_require_command context.profile n) behind_them in
+    nodes_judged end_nodes context after_them same = All-nil Judged
+    nodes_judged (more_nodes n ns) context after_them same =
+        let other = ap (λ b. b && is_require_command context.profile n) after_them in
         let next = node_requires_none n context other same in
-        All-append Judged (node_elements context n) (nodes_elements (behind context n) ns) (node_judged n context other same) (nodes_judged ns (behind context n) next.0 next.1)
+        All-append Judged (node_elements context n) (nodes_elements (after context n) ns) (node_judged n context other same) (nodes_judged ns (after context n) next.0 next.1)
 
 -- THE REQUIRES
 
@@ -124,21 +124,21 @@ never true = refl
 never false = refl
 
 -- after a `require` at the top, what its strings name is required too
-kind_requires : (context : Context) (k : Option CommandKind) (args : List Argument) → context.leads ≡ true → requires_kind k ≡ true → ((behind_kind context k args).leads ≡ true) × ((behind_kind context k args).required ≡ requiring_arguments context.required args)
+kind_requires : (context : Context) (k : Option CommandKind) (args : List Argument) → context.leads ≡ true → requires_kind k ≡ true → ((after_kind context k args).leads ≡ true) × ((after_kind context k args).required ≡ requiring_arguments context.required args)
 kind_requires context None args leads is = absurd (not_both is)
 kind_requires context (Some kind) args leads is =
     let both = both_true context.leads (requires_kind (Some kind)) leads is in
     (both, ap (λ b. if b then requiring_arguments context.required args else context.required) both)
 
-block_requires : (r : Required) (ending : Block) (context : Context) → (context.leads ≡ true) × (context.required ≡ r) → ((behind_block context ending).leads ≡ true) × ((behind_block context ending).required ≡ r)
-unfolding behind_block
+block_requires : (r : Required) (ending : Block) (context : Context) → (context.leads ≡ true) × (context.required ≡ r) → ((after_block context ending).leads ≡ true) × ((after_block context ending).required ≡ r)
+unfolding after_block
 block_requires r no_block context so = so
 block_requires r (block ns) context so = so
 
 -- what is required after a `require`
-node_requires : (n : Node) (context : Context) → context.leads ≡ true → is_require_command context.profile n ≡ true → ((behind context n).leads ≡ true) × ((behind context n).required ≡ requiring_command context.required n)
-unfolding behind
-node_requires (node name line args ts ending) context leads is = block_requires (requiring_arguments context.required args) ending (behind_kind context (known_command context.profile name) args) (kind_requires context (known_command context.profile name) args leads is)
+node_requires : (n : Node) (context : Context) → context.leads ≡ true → is_require_command context.profile n ≡ true → ((after context n).leads ≡ true) × ((after context n).required ≡ requiring_command context.required n)
+unfolding after
+node_requires (node name line args ts ending) context leads is = block_requires (requiring_arguments context.required args) ending (after_kind context (known_command context.profile name) args) (kind_requires context (known_command context.profile name) args leads is)
 
 take_one : {X : Type 0} (x : X) (xs : List X) (n : ℕ) → take (1 + n) (x ∷ xs) ≡ x ∷ take n xs
 take_one x xs n = let one : 1 + n ≡ suc n = omega arith in ap (λ k. take k (x ∷ xs)) one
@@ -157,15 +157,15 @@ Splits p context tree = (rest : List Element) × (nodes_elements context (nodes 
 splits : (p : Profile) (tree : List Node) (context : Context) → context.profile ≡ p → context.leads ≡ true → Splits p context tree
 unfolding nodes_elements
 splits p [] context same leads = ([], refl, All-nil (IsJudgedUnder context.required))
-splits p (n ∷ tree) context same leads = by_command (is_require_command p n) refl (splits p tree (behind context n) (node_profile n context ∙ same))
+splits p (n ∷ tree) context same leads = by_command (is_require_command p n) refl (splits p tree (after context n) (node_profile n context ∙ same))
   where
-    by_command : (b : Bool) → is_require_command p n ≡ b → ((behind context n).leads ≡ true → Splits p (behind context n) tree) → Splits p context (n ∷ tree)
+    by_command : (b : Bool) → is_require_command p n ≡ b → ((after context n).leads ≡ true → Splits p (after context n) tree) → Splits p context (n ∷ tree)
     by_command true is below =
         let next = node_requires n context leads (ap (λ q. is_require_command q n) same ∙ is) in
         let more = below next.0 in (
           more.0,
           ap (λ l. node_elements context n ++ l) more.1
-              ∙ sym (append_assoc (node_elements context n) (nodes_elements (behind context n) (nodes (leading_requires p tree))) more.0)
+              ∙ sym (append_assoc (node_elements context n) (nodes_elements (after context n) (nodes (leading_requires p tree))) more.0)
               ∙ sym (ap (λ l. nodes_elements context (nodes l) ++ more.0) (front_passes (is_require_command p) n tree is)),
           subst (λ r. All (IsJudgedUnder r) more.0) (ap (λ r. requiring_commands r (leading_requires p tree)) next.1 ∙ sym (ap (requiring_commands context.required) (front_passes (is_require_command p) n tree is))) more.2,
         )
@@ -175,10 +175,10 @@ splits p (n ∷ tree) context same leads = by_command (is_require_command p n) r
           nodes_elements context (nodes (n ∷ tree)),
           sym (ap (λ l. nodes_elements context (nodes l) ++ nodes_elements context (nodes (n ∷ tree))) (front_fails (is_require_command p) n tree not)),
           subst (λ r. All (IsJudgedUnder r) (nodes_elements context (nodes (n ∷ tree)))) (sym (ap (requiring_commands context.required) (front_fails (is_require_command p) n tree not)))
-              (All-append (IsJudgedUnder context.required) (node_elements context n) (nodes_elements (behind context n) (nodes tree)) (node_judged context.required n context other refl) (nodes_judged context.required (nodes tree) (behind context n) next.0 next.1)),
+              (All-append (IsJudgedUnder context.required) (node_elements context n) (nodes_elements (after context n) (nodes tree)) (node_judged context.required n context other refl) (nodes_judged context.required (nodes tree) (after context n) next.0 next.1)),
         )
 
-pub judged_behind : (profile : Profile) (tree : List Node) → JudgesBehindRequires profile tree
-judged_behind profile tree =
+pub judged_after : (profile : Profile) (tree : List Node) → JudgesAfterRequires profile tree
+judged_after profile tree =
     let so = splits profile tree (script_start profile) refl refl in
     record { rest = so.0; split = so.1; same = so.2 }

@@ -119,8 +119,8 @@ with_line text place token tokens true p before some line rise = (
 with_line text place token tokens false p before some line rise = rise_from (line_at text place) (line_at text token.end) _ (lines_grow text place token.end (le_trans before some)) rise
 
 -- with a token in front, the tokens from its end on are tokens from a place before it on
-in_front : (text : List ℕ) (place : ℕ) (token : Token) (tokens : List Token) → place ≤ token.start → token.line ≡ line_at text token.start → IsInside text token → StandFrom text token.end tokens → StandFrom text place (token ∷ tokens)
-in_front text place token tokens before line is stand =
+at_front : (text : List ℕ) (place : ℕ) (token : Token) (tokens : List Token) → place ≤ token.start → token.line ≡ line_at text token.start → IsInside text token → StandFrom text token.end tokens → StandFrom text place (token ∷ tokens)
+at_front text place token tokens before line is stand =
     let some : token.start < token.end = is.some in
     let order : token.start ≤ token.end = omega arith in
     record {
@@ -134,8 +134,8 @@ stand_from text [] place spelled = none_stand text place
 stand_from text (token ∷ tokens) place spelled = by_token (stand_from text tokens token.end) spelled.2
   where
     by_token : (SpellsFrom text token.end tokens → StandFrom text token.end tokens) → ((IsLongest text token × SpellsFrom text token.end tokens) ⊎ (IsBad text token × (tokens ≡ []))) → StandFrom text place (token ∷ tokens)
-    by_token below (inl long) = in_front text place token tokens (forward text spelled.0) spelled.1 (spelling_inside text token long.0) (below long.1)
-    by_token below (inr wrong) = in_front text place token tokens (forward text spelled.0) spelled.1 (bad_inside text token wrong.0) (subst (λ ts. StandFrom text token.end ts) (sym wrong.1) (none_stand text token.end))
+    by_token below (inl long) = at_front text place token tokens (forward text spelled.0) spelled.1 (spelling_inside text token long.0) (below long.1)
+    by_token below (inr wrong) = at_front text place token tokens (forward text spelled.0) spelled.1 (bad_inside text token wrong.0) (subst (λ ts. StandFrom text token.end ts) (sym wrong.1) (none_stand text token.end))
 
 -- THE LINES OF ELEMENTS
 

@@ -46,15 +46,15 @@ both_empty (x ∷ xs) ys none = absurd (not_empty _ _ none)
 pub none_in_both : (xs ys : List Element) → breaches_in (xs ++ ys) ≡ [] → (breaches_in xs ≡ []) × (breaches_in ys ≡ [])
 none_in_both xs ys none = both_empty (breaches_in xs) (breaches_in ys) (sym (in_turn xs ys) ∙ none)
 
-pub none_in_front : (e : Element) (es : List Element) → breaches_in (e ∷ es) ≡ [] → (breaches_at e ≡ []) × (breaches_in es ≡ [])
-none_in_front e es none = both_empty (breaches_at e) (breaches_in es) (sym (cons_in e es) ∙ none)
+pub nothing_before : (e : Element) (es : List Element) → breaches_in (e ∷ es) ≡ [] → (breaches_at e ≡ []) × (breaches_in es ≡ [])
+nothing_before e es none = both_empty (breaches_at e) (breaches_in es) (sym (cons_in e es) ∙ none)
 
 -- THE LAW
 
 pub all_keep : (es : List Element) → breaches_in es ≡ [] → All (λ e. (rule : Rule) → breaks e rule ≡ false) es
 all_keep [] none = λ k d below. absurd (omega arith)
 all_keep (e ∷ es) none =
-    let parts = none_in_front e es none in
+    let parts = nothing_before e es none in
     All-cons (λ e. (rule : Rule) → breaks e rule ≡ false) e es (keeps e parts.0) (all_keep es parts.1)
 
 pub none_first : (bs : List Breach) → slice_get bs 0 ≡ None → bs ≡ []

@@ -34,7 +34,7 @@ use Rattle.sieve_table.specs.declared.table.CommandKind.{CommandKind}
 use Rattle.sieve_table.specs.declared.table.TestKind.{TestKind}
 use Rattle.sieve_check.proofs.Reprofiled.{collation_again, command_again, elements_again, parted_again, reprofiled, shapes_again, test_again, under, use_lacks_again}
 use Rattle.sieve_check.proofs.Searches.{cons_in}
-use Rattle.sieve_check.proofs.Unbroken.{keeps, no_breach, none_first, none_in_front}
+use Rattle.sieve_check.proofs.Unbroken.{keeps, no_breach, none_first, nothing_before}
 
 or_false : (b : Bool) → (b || false) ≡ b
 or_false true = refl
@@ -144,7 +144,7 @@ module _ (p : Profile) where
   all_pass : (es : List Element) → breaches_in (map (reprofiled p) es) ≡ [] → breaches_in (map (reprofiled lenient) es) ≡ []
   all_pass [] none = none
   all_pass (e ∷ es) none =
-      let parts = none_in_front (reprofiled p e) (map (reprofiled p) es) none in
+      let parts = nothing_before (reprofiled p e) (map (reprofiled p) es) none in
       cons_in (reprofiled lenient e) (map (reprofiled lenient) es) ∙ ap (λ l. l ++ breaches_in (map (reprofiled lenient) es)) (passes_again e parts.0) ∙ all_pass es parts.1
 
   pub still_none : (tree : List Node) → breaches_of p tree ≡ [] → breaches_of lenient tree ≡ []

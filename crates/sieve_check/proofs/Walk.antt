@@ -9,7 +9,7 @@ use Rattle.sieve_syntax.specs.declared.tree.Test as one_tests
 use Rattle.sieve_check.specs.Breach.{breaches_in}
 use Rattle.sieve_check.specs.CheckFault.{IsFirst}
 use Rattle.sieve_check.specs.Scope.{Scope}
-use Rattle.sieve_check.specs.Context.{Context, behind, behind_block, behind_kind, behind_nodes, inside}
+use Rattle.sieve_check.specs.Context.{Context, after, after_block, after_kind, after_nodes, inside}
 use Rattle.sieve_check.specs.Element.{Element, block_elements, node_elements, nodes_elements, test_elements, test_list_elements, tests_elements}
 use Rattle.sieve_check.specs.view.Context.{at_spot}
 use Rattle.sieve_check.specs.view.Head.{command_head, test_head}
@@ -60,7 +60,7 @@ list_ends context = none_in
 module _ (c : commands.Command) (context : Context) where
   -- what stands before its block
   abbrev before_block : Context
-  before_block = let o = commands.out-Command c in behind_kind context (known_command context.profile o.name) (map argument_of o.args.items)
+  before_block = let o = commands.out-Command c in after_kind context (known_command context.profile o.name) (map argument_of o.args.items)
 
   abbrev of_tests : List Element
   of_tests = tests_elements context (tests_of (commands.out-Command c).tests)
@@ -86,13 +86,13 @@ module _ (c : commands.Command) (context : Context) where
   unfolding block_elements
   command_ends none fine is = block_left none fine ∙ ap (λ b. breaches_in (block_elements before_block (block_of b))) is ∙ none_in
 
-  behind_at : behind context (node_of c) ≡ behind_block before_block (block_of (commands.out-Command c).block)
-  unfolding behind
-  behind_at = ap (behind context) (seen_command octets_of c)
+  after_at : after context (node_of c) ≡ after_block before_block (block_of (commands.out-Command c).block)
+  unfolding after
+  after_at = ap (after context) (seen_command octets_of c)
 
-  pub command_moves : (next : Context) → next ≡ before_block → (commands.out-Command c).block ≡ None → next ≡ behind context (node_of c)
-  unfolding behind_block
-  command_moves next goes is = goes ∙ sym (behind_at ∙ ap (λ b. behind_block before_block (block_of b)) is)
+  pub command_moves : (next : Context) → next ≡ before_block → (commands.out-Command c).block ≡ None → next ≡ after context (node_of c)
+  unfolding after_block
+  command_moves next goes is = goes ∙ sym (after_at ∙ ap (λ b. after_block before_block (block_of b)) is)
 
   -- a block, at whose start `within` stands with these names
   module _ (next within : Spot) (names : Scope) (inner : Vec commands.Command Global) (goes : at_spot next names ≡ before_block) (start : (scope : Scope) → at_spot within scope ≡ inside (at_spot next scope)) (is : (commands.out-Command c).block ≡ Some inner) where
@@ -112,41 +112,41 @@ module _ (c : commands.Command) (context : Context) where
     pub block_ends : breaches_in (command_head context c) ≡ [] → breaches_in of_tests ≡ [] → breaches_in (nodes_elements (at_spot within names) (nodes (map node_of inner.items))) ≡ [] → breaches_in (node_elements context (node_of c)) ≡ []
     block_ends none fine h = block_found none fine ∙ h
 
-    pub block_moves : (after : Scope) → after ≡ (behind_nodes (at_spot within names) (nodes (map node_of inner.items))).scope → at_spot next after ≡ behind context (node_of c)
-    unfolding behind_block
+    pub block_moves : (after : Scope) → after ≡ (after_nodes (at_spot within names) (nodes (map node_of inner.items))).scope → at_spot next after ≡ following context (node_of c)
+    unfolding after_block
     block_moves after ends =
-        ap (at_spot next) (ends ∙ ap (λ w. (behind_nodes w (nodes (map node_of inner.items))).scope) (start names))
-        ∙ ap (λ w. behind_block w (block (nodes (map node_of inner.items)))) goes
-        ∙ sym (behind_at ∙ ap (λ b. behind_block before_block (block_of b)) is)
+        ap (at_spot next) (ends ∙ ap (λ w. (after_nodes w (nodes (map node_of inner.items))).scope) (start names))
+        ∙ ap (λ w. after_block w (block (nodes (map node_of inner.items)))) goes
+        ∙ sym (after_at ∙ ap (λ b. after_block before_block (block_of b)) is)
 
 -- COMMANDS
 
 -- the breaches of commands are those of the first, and then of the others
 module _ (context : Context) (all rest : List commands.Command) (c : commands.Command) (same : all ≡ c ∷ rest) where
-  commands_at : nodes_elements context (nodes (map node_of all)) ≡ node_elements context (node_of c) ++ nodes_elements (behind context (node_of c)) (nodes (map node_of rest))
+  commands_at : nodes_elements context (nodes (map node_of all)) ≡ node_elements context (node_of c) ++ nodes_elements (after context (node_of c)) (nodes (map node_of rest))
   unfolding nodes_elements
   commands_at = ap (λ l. nodes_elements context (nodes (map node_of l))) same
 
   pub commands_stop : (fault : CheckFault) → IsFirst (breaches_in (node_elements context (node_of c))) fault → IsFirst (breaches_in (nodes_elements context (nodes (map node_of all)))) fault
   commands_stop fault first = subst (λ es. IsFirst (breaches_in es) fault) (sym commands_at) (front_stops _ _ fault first)
 
-  pub commands_go_on : (next : Context) → next ≡ behind context (node_of c) → breaches_in (node_elements context (node_of c)) ≡ [] → breaches_in (nodes_elements next (nodes (map node_of rest))) ≡ breaches_in (nodes_elements context (nodes (map node_of all)))
+  pub commands_go_on : (next : Context) → next ≡ after context (node_of c) → breaches_in (node_elements context (node_of c)) ≡ [] → breaches_in (nodes_elements next (nodes (map node_of rest))) ≡ breaches_in (nodes_elements context (nodes (map node_of all)))
   commands_go_on next goes none =
       ap (λ p. breaches_in (nodes_elements p (nodes (map node_of rest)))) goes
       ∙ sym (ap breaches_in commands_at ∙ front_passes _ _ none)
 
-  pub commands_move : (next : Context) → next ≡ behind context (node_of c) → behind_nodes next (nodes (map node_of rest)) ≡ behind_nodes context (nodes (map node_of all))
-  unfolding behind_nodes
+  pub commands_move : (next : Context) → next ≡ after context (node_of c) → after_nodes next (nodes (map node_of rest)) ≡ after_nodes context (nodes (map node_of all))
+  unfolding after_nodes
   commands_move next goes =
-      ap (λ p. behind_nodes p (nodes (map node_of rest))) goes
-      ∙ sym (ap (λ l. behind_nodes context (nodes (map node_of l))) same)
+      ap (λ p. after_nodes p (nodes (map node_of rest))) goes
+      ∙ sym (ap (λ l. after_nodes context (nodes (map node_of l))) same)
 
 pub commands_end : (context : Context) → breaches_in (nodes_elements context (nodes [])) ≡ []
 unfolding nodes_elements
 commands_end context = none_in
 
-pub commands_moved : (context : Context) → behind_nodes context (nodes []) ≡ context
-unfolding behind_nodes
+pub commands_moved : (context : Context) → after_nodes context (nodes []) ≡ context
+unfolding after_nodes
 commands_moved context = refl
 
 pub ruleset test_steps = (test_stops, inner_stop, test_ends)

@@ -7,7 +7,7 @@ use Rattle.sieve_syntax.specs.Grammar.{WritesSymbols, written_argument, written_
 use Rattle.sieve_syntax.specs.Tree.{Node, node, Nodes, end_nodes, more_nodes, nodes, Block, no_block, block, Test, test, Tests, no_tests, one_test, test_list, TestList, end_tests, more_tests, Text, Argument, strings, number, tag}
 use Rattle.sieve_syntax.specs.Symbol.{Symbol, close_bracket, identifier, string_symbol, symbol_of, symbols_of}
 use Rattle.sieve_syntax.specs.declared.token.Token.{Token}
-use Rattle.sieve_check.specs.Context.{Context, behind, behind_kind, inside, script_start}
+use Rattle.sieve_check.specs.Context.{Context, after, after_kind, inside, script_start}
 use Rattle.sieve_check.specs.Element.{Element, among, argument_elements, block_elements, command_arguments, elements_of, judged_labels, labelled_elements, node_elements, nodes_elements, test_arguments, test_elements, test_list_elements, tests_elements, text_elements}
 use Rattle.sieve_check.specs.Order.{writes_element, written_by}
 use Rattle.sieve_reading.specs.Role.{first_role}
@@ -107,7 +107,7 @@ mutual
   node_written : (n : Node) (context : Context) → AreWritten (node_elements context n) (written_node n)
   node_written (node name line args ts ending) context =
       let args_written = written_arguments args in
-      let inner = behind_kind context (known_command context.profile name) args in
+      let inner = after_kind context (known_command context.profile name) args in
       ap (λ l. identifier name line ∷ l)
       (in_turn (command_arguments context (known_command context.profile name) args ts ending) (tests_elements context ts ++ block_elements inner ending) args_written (written_tests ts ++ written_block ending)
       (of_command context (known_command context.profile name) args ts ending)
@@ -121,7 +121,7 @@ mutual
   nodes_written : (ns : Nodes) (context : Context) → AreWritten (nodes_elements context ns) (written_nodes ns)
   nodes_written end_nodes context = refl
   nodes_written (more_nodes n ns) context =
-      in_turn (node_elements context n) (nodes_elements (behind context n) ns) (written_node n) (written_nodes ns) (node_written n context) (nodes_written ns (behind context n))
+      in_turn (node_elements context n) (nodes_elements (after context n) ns) (written_node n) (written_nodes ns) (node_written n context) (nodes_written ns (after context n))
 
 -- THE TOKENS
 

@@ -65,21 +65,21 @@ abbrev pub continues_if : CommandKind → Bool
 continues_if kind = same_command kind Elsif || same_command kind Else
 
 -- what is required after a command with such arguments: a `require` at the top adds what it names
-abbrev pub required_behind : Context → CommandKind → List Argument → Required
-required_behind context kind args = if context.leads && is_require kind then requiring_arguments context.required args else context.required
+abbrev pub required_after : Context → CommandKind → List Argument → Required
+required_after context kind args = if context.leads && is_require kind then requiring_arguments context.required args else context.required
 
 -- the names of a scope after the arguments of a command, by what their strings say
 abbrev pub naming_said : Required → Scope → List Label → List Argument → Scope
 naming_said required scope labels args = naming_arguments scope labels (said_arguments required labels args)
 
 -- the context after a command of a kind, with its arguments, and before its block
-abbrev pub behind_kind : Context → Option CommandKind → List Argument → Context
-behind_kind context None args = record context { leads = false; follows_if = false }
-behind_kind context (Some kind) args = record {
+abbrev pub after_kind : Context → Option CommandKind → List Argument → Context
+after_kind context None args = record context { leads = false; follows_if = false }
+after_kind context (Some kind) args = record {
   profile = context.profile;
   leads = context.leads && is_require kind;
   follows_if = allows_else kind;
-  required = required_behind context kind args;
+  required = required_after context kind args;
   finds_parts = context.finds_parts;
   scope = naming_said context.required context.scope (known_labels context.profile (command_row kind) args) args;
 }
@@ -90,15 +90,15 @@ inside context = record context { leads = false; follows_if = false }
 
 unfoldable mutual
   -- the context after a whole command
-  pub behind : Context → Node → Context
-  behind context (node name line args ts ending) = behind_block (behind_kind context (known_command context.profile name) args) ending
+  pub after : Context → Node → Context
+  after context (node name line args ts ending) = after_block (after_kind context (known_command context.profile name) args) ending
 
   -- the context after a block, in which variables may be set and declared
-  pub behind_block : Context → Block → Context
-  behind_block context no_block = context
-  behind_block context (block ns) = record context { scope = (behind_nodes (inside context) ns).scope }
+  pub after_block : Context → Block → Context
+  after_block context no_block = context
+  after_block context (block ns) = record context { scope = (after_nodes (inside context) ns).scope }
 
   -- the context after commands in turn
-  pub behind_nodes : Context → Nodes → Context
-  behind_nodes context end_nodes = context
-  behind_nodes context (more_nodes n ns) = behind_nodes (behind context n) ns
+  pub after_nodes : Context → Nodes → Context
+  after_nodes context end_nodes = context
+  after_nodes context (more_nodes n ns) = after_nodes (after context n) ns

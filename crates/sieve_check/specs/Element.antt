@@ -3,7 +3,7 @@
 use Rattle.std.specs.Prelude.{ℕ, Bool, true, false, List, [], ◌∷◌, ◌++◌, ◌||◌, Option, Some, None, drop}
 use Rattle.std.specs.List.{list_any}
 use Rattle.sieve_syntax.specs.Tree.{Node, node, Nodes, end_nodes, more_nodes, nodes, Block, no_block, block, Test, test, Tests, no_tests, one_test, test_list, TestList, end_tests, more_tests, Text, Argument, strings, number, tag}
-use Rattle.sieve_check.specs.Context.{Context, script_start, inside, behind, behind_kind}
+use Rattle.sieve_check.specs.Context.{Context, script_start, inside, after, after_kind}
 use Rattle.sieve_profile.specs.Profile.{Profile}
 use Rattle.sieve_reading.specs.Role.{first_role}
 use Rattle.sieve_table.specs.Known.{known_command, known_test}
@@ -92,7 +92,7 @@ unfoldable mutual
   -- a command, its arguments, its tests, and its block
   pub node_elements : Context → Node → List Element
   node_elements context (node name line args ts ending) =
-      the_command context name line args ts ending ∷ command_arguments context (known_command context.profile name) args ts ending ++ (tests_elements context ts ++ block_elements (behind_kind context (known_command context.profile name) args) ending)
+      the_command context name line args ts ending ∷ command_arguments context (known_command context.profile name) args ts ending ++ (tests_elements context ts ++ block_elements (after_kind context (known_command context.profile name) args) ending)
 
   pub block_elements : Context → Block → List Element
   block_elements context no_block = []
@@ -100,7 +100,7 @@ unfoldable mutual
 
   pub nodes_elements : Context → Nodes → List Element
   nodes_elements context end_nodes = []
-  nodes_elements context (more_nodes n ns) = node_elements context n ++ nodes_elements (behind context n) ns
+  nodes_elements context (more_nodes n ns) = node_elements context n ++ nodes_elements (after context n) ns
 
 -- the elements of a script, in the order of its text, where it is judged by a profile
 abbrev pub elements_of : Profile → List Node → List Element

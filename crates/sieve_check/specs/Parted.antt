@@ -4,7 +4,7 @@
 use Rattle.std.specs.Prelude.{ℕ, List, [], ◌∷◌, Option, Some, None, map, drop, if◌then◌else◌}
 use Rattle.sieve_profile.specs.Profile.{Profile}
 use Rattle.sieve_syntax.specs.Tree as syntax
-use Rattle.sieve_check.specs.Context.{Context, behind, behind_kind, inside, script_start, takes_references}
+use Rattle.sieve_check.specs.Context.{Context, after, after_kind, inside, script_start, takes_references}
 use Rattle.sieve_check.specs.Said.{said_arguments}
 use Rattle.sieve_reading.specs.Role.{first_role}
 use Rattle.sieve_table.specs.Role.{names_variable}
@@ -69,7 +69,7 @@ abbrev mutual
 abbrev mutual
   -- a command: its arguments and its tests are cut by what stands before it, and its block by what stands after them
   pub parted_node : Context → syntax.Node → Node
-  parted_node context (syntax.node name line args ts ending) = node name line (parted_said context (command_labels context.profile (known_command context.profile name) args) args) (parted_tests context ts) (parted_block (behind_kind context (known_command context.profile name) args) ending)
+  parted_node context (syntax.node name line args ts ending) = node name line (parted_said context (command_labels context.profile (known_command context.profile name) args) args) (parted_tests context ts) (parted_block (after_kind context (known_command context.profile name) args) ending)
 
   pub parted_block : Context → syntax.Block → Block
   parted_block context syntax.no_block = no_block
@@ -77,7 +77,7 @@ abbrev mutual
 
   pub parted_nodes : Context → syntax.Nodes → Nodes
   parted_nodes context syntax.end_nodes = end_nodes
-  parted_nodes context (syntax.more_nodes n ns) = more_nodes (parted_node context n) (parted_nodes (behind context n) ns)
+  parted_nodes context (syntax.more_nodes n ns) = more_nodes (parted_node context n) (parted_nodes (after context n) ns)
 
 -- the commands of a text's tree, with their strings cut into parts
 abbrev pub parted : Profile → List syntax.Node → List Node

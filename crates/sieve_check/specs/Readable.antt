@@ -57,15 +57,15 @@ unfoldable mutual
 pub record Needs : Type 0 where
   pub tests : Inner
   pub block : Bool
-  pub behind_if : Bool
+  pub after_if : Bool
 
 abbrev pub no_needs : Needs
-no_needs = record { tests = inner.None; block = false; behind_if = false }
+no_needs = record { tests = inner.None; block = false; after_if = false }
 
 abbrev pub needs_of : CommandReading → Needs
-needs_of reading.reads_if = record { tests = inner.One; block = true; behind_if = false }
-needs_of reading.reads_elsif = record { tests = inner.One; block = true; behind_if = true }
-needs_of reading.reads_else = record { tests = inner.None; block = true; behind_if = true }
+needs_of reading.reads_if = record { tests = inner.One; block = true; after_if = false }
+needs_of reading.reads_elsif = record { tests = inner.One; block = true; after_if = true }
+needs_of reading.reads_else = record { tests = inner.None; block = true; after_if = true }
 needs_of reading.reads_stop = no_needs
 needs_of reading.reads_return = no_needs
 needs_of reading.reads_nothing = no_needs
@@ -74,7 +74,7 @@ needs_of (reading.reads_act leaf) = no_needs
 -- A command of such a reading stands where it may, and has the test and the block that it needs and no others.
 abbrev pub Stands : (follows_if : Bool) → Option CommandReading → Tests → Block → Type 0
 Stands follows_if None ts ending = ⊥
-Stands follows_if (Some r) ts ending = (tests_fit (needs_of r).tests ts ≡ true) × (block_fits (needs_of r).block (has_block ending) ≡ true) × ((needs_of r).behind_if ≡ true → follows_if ≡ true)
+Stands follows_if (Some r) ts ending = (tests_fit (needs_of r).tests ts ≡ true) × (block_fits (needs_of r).block (has_block ending) ≡ true) × ((needs_of r).after_if ≡ true → follows_if ≡ true)
 
 -- whether a branch may go on after it
 abbrev pub may_go_on : Option CommandReading → Bool

@@ -38,7 +38,7 @@ IsJudgedUnder required (the_number value line) = ⊤
 
 -- The elements of a script are those of the `require` commands at its top, and then others; at each of these, what is required is exactly
 -- what those commands name.
-pub record JudgesBehindRequires (profile : Profile) (tree : List Node) : Type 0 where
+pub record JudgesAfterRequires (profile : Profile) (tree : List Node) : Type 0 where
   pub rest : List Element
   pub split : elements_of profile tree ≡ elements_of profile (leading_requires profile tree) ++ rest
   pub same : All (IsJudgedUnder (requiring_commands nothing_required (leading_requires profile tree))) rest

@@ -3,7 +3,7 @@ ghost use Rattle.std.specs.Prelude.{◌≡◌, ◌&&◌, not, map, Some, IfOk, O
 ghost use Rattle.sieve_syntax.specs.Tree.{nodes};
 ghost use Rattle.sieve_syntax.specs.view.Tree as seen;
 ghost use Rattle.sieve_syntax.specs.declared.tree.Command.{out-Command};
-ghost use Rattle.sieve_check.specs.Context.{behind, behind_kind, behind_nodes, continues_if, is_require, naming_said};
+ghost use Rattle.sieve_check.specs.Context.{after, after_kind, after_nodes, continues_if, is_require, naming_said};
 ghost use Rattle.sieve_check.specs.Element.{node_elements, nodes_elements, tests_elements};
 ghost use Rattle.sieve_check.specs.Parted.{parted_said, parted_node, parted_nodes, parted_tests};
 ghost use Rattle.sieve_reading.specs.Shape.{known_labels};
@@ -152,7 +152,7 @@ fn check_front(
         (map seen.argument_of args.old.items) }
     ensures found { FindsIn
         (tests_elements (at_spot spot scope.old) (seen.tests_of tests.old)) result }
-    ensures goes { IfOk result (λ next. at_spot next scope.new ≡ behind_kind
+    ensures goes { IfOk result (λ next. at_spot next scope.new ≡ after_kind
         (at_spot spot scope.old) (Some head.kind) (map seen.argument_of args.old.items)) }
     ensures args { OnOk result (map argument_of args.new.items ≡ parted_said
         (at_spot spot scope.old) head.labels.items (map seen.argument_of args.old.items)) }
@@ -164,7 +164,7 @@ fn check_front(
         scope: &*scope,
     };
     *tests = check_tests(alloc, context, mem::replace(tests, Tests::None))?;
-    let next = spot.behind_kind(head.kind, args);
+    let next = spot.after_kind(head.kind, args);
     cut_and_name(alloc, spot, scope, &head.labels, args)?;
     Ok(next)
 }
@@ -181,7 +181,7 @@ fn check_command(
     ensures found { FindsIn
         (node_elements (at_spot spot scope.old) (seen.node_of command.old)) result }
     ensures goes { IfOk result (λ next. at_spot next scope.new
-        ≡ behind (at_spot spot scope.old) (seen.node_of command.old)) }
+        ≡ after (at_spot spot scope.old) (seen.node_of command.old)) }
     ensures cut { OnOk result
         (node_of command.new ≡ parted_node (at_spot spot scope.old) (seen.node_of command.old)) }
 {
@@ -219,7 +219,7 @@ pub(crate) fn check_commands(
 ) -> Result<(), CheckFault>
     ensures found { FindsIn (nodes_elements (at_spot start scope.old)
         (nodes (map seen.node_of commands.old.items))) result }
-    ensures goes { OnOk result (scope.new ≡ (behind_nodes (at_spot start scope.old)
+    ensures goes { OnOk result (scope.new ≡ (after_nodes (at_spot start scope.old)
         (nodes (map seen.node_of commands.old.items))).scope) }
     ensures cut { OnOk result (map node_of commands.new.items ≡ items
         (parted_nodes (at_spot start scope.old) (nodes (map seen.node_of commands.old.items)))) }

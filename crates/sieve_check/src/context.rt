@@ -141,7 +141,7 @@ fn allows_else(kind: CommandKind) -> bool
 }
 
 /// Whether only requires stand after a command of this kind, where only requires stand before it or others too.
-fn leads_behind(leads: bool, kind: CommandKind) -> bool
+fn leads_after(leads: bool, kind: CommandKind) -> bool
     ensures { result ≡ (leads && spec.is_require kind) }
 {
     leads && is_require(kind)
@@ -173,9 +173,9 @@ impl Spot {
     }
 
     /// What is required after a command of this kind with these arguments.
-    fn required_behind(self, kind: CommandKind, args: &[Argument]) -> Required
+    fn required_after(self, kind: CommandKind, args: &[Argument]) -> Required
         ensures { (scope : ScopeState) → required_as result
-            ≡ spec.required_behind (at_spot self scope) kind (map argument_of args.now) }
+            ≡ spec.required_after (at_spot self scope) kind (map argument_of args.now) }
     {
         if self.leads && is_require(kind) {
             requiring_arguments(self.required, args)
@@ -185,17 +185,17 @@ impl Spot {
     }
 
     /// After a command of this kind with these arguments.
-    pub(crate) fn behind_kind(self, kind: CommandKind, args: &[Argument]) -> Spot
+    pub(crate) fn after_kind(self, kind: CommandKind, args: &[Argument]) -> Spot
         ensures { (scope : ScopeState) → at_spot result (spec.naming_said
             (required_as self.required) scope (known_labels (profile_as self.profile)
             (command_row kind) (map argument_of args.now)) (map argument_of args.now))
-            ≡ spec.behind_kind (at_spot self scope) (Some kind) (map argument_of args.now) }
+            ≡ spec.after_kind (at_spot self scope) (Some kind) (map argument_of args.now) }
     {
         Spot {
             profile: self.profile,
-            leads: leads_behind(self.leads, kind),
+            leads: leads_after(self.leads, kind),
             follows_if: allows_else(kind),
-            required: self.required_behind(kind, args),
+            required: self.required_after(kind, args),
             finds_parts: self.finds_parts,
         }
     }

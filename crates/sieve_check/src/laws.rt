@@ -14,13 +14,13 @@ ghost use Rattle.sieve_syntax.specs.declared.token.Token.{Token};
 ghost use Rattle.sieve_check.specs.Asked.{AreAlike, asked_by_command, asked_by_test, gives_all};
 ghost use Rattle.sieve_check.specs.Bare.{bare_node};
 ghost use Rattle.sieve_check.specs.Breach.{Breach, breaches_at, breaches_of, breaks, first_breach, IsLeastBreach};
-ghost use Rattle.sieve_check.specs.Context.{Context, behind_nodes, script_start, takes_references};
+ghost use Rattle.sieve_check.specs.Context.{Context, after_nodes, script_start, takes_references};
 ghost use Rattle.sieve_check.specs.Element.{Element, elements_of, nodes_elements};
 ghost use Rattle.sieve_check.specs.Naming.{HasSetBefore, mentions_in, set_by};
 ghost use Rattle.sieve_check.specs.Order.{IsInTextOrder};
 ghost use Rattle.sieve_check.specs.Parted.{parted, parts_in};
 ghost use Rattle.sieve_check.specs.Readable.{IsReadable, DoesAll};
-ghost use Rattle.sieve_check.specs.Requirement.{JudgesBehindRequires};
+ghost use Rattle.sieve_check.specs.Requirement.{JudgesAfterRequires};
 ghost use Rattle.sieve_table.specs.Role.{names_variable};
 ghost use Rattle.sieve_table.specs.Rule.{all_rules};
 ghost use Rattle.sieve_reading.specs.CommandReading.{command_reading_by};
@@ -81,9 +81,9 @@ pub fn parting_changes_strings_alone()
 
 /// After the `require` commands at the top of a script, what is required where a command, a test or a string is judged is all that these
 /// name, and nothing else (RFC 5228, section 3.2).
-#[tactic(auto, using(crate::proofs::Requirement::judged_behind))]
+#[tactic(auto, using(crate::proofs::Requirement::judged_after))]
 pub fn what_is_required_is_named_at_the_top()
-    ensures { (profile : Profile) (tree : List Node) → JudgesBehindRequires profile tree }
+    ensures { (profile : Profile) (tree : List Node) → JudgesAfterRequires profile tree }
 {}
 
 /// The variables that a text sets are the identifiers that it writes to set them, each once and as it is first written, but for those that
@@ -91,8 +91,8 @@ pub fn what_is_required_is_named_at_the_top()
 /// text, and before each command, test and string of a script, wherever it stands: there those variables are set that are by the commands
 /// before its own.
 pub fn what_is_written_to_be_set_is_set()
-    ensures behind { (profile : Profile) (commands : Nodes)
-        → (behind_nodes (script_start profile) commands).scope.assigned
+    ensures after { (profile : Profile) (commands : Nodes)
+        → (after_nodes (script_start profile) commands).scope.assigned
         ≡ set_by (mentions_in (nodes_elements (script_start profile) commands)) }
     ensures before { (profile : Profile) (tree : List Node) (place : ℕ) (element : Element)
         → slice_get (elements_of profile tree) place ≡ Some element

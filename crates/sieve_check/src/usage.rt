@@ -142,11 +142,11 @@ fn has_kind(kind: TagKind, labels: &[Label]) -> bool
 }
 
 /// Whether a tag of the kind of the first stands after it.
-fn is_repeated(first: Label, behind: &[Label]) -> bool
-    ensures { result ≡ spec.is_repeated first behind.now }
+fn is_repeated(first: Label, after: &[Label]) -> bool
+    ensures { result ≡ spec.is_repeated first after.now }
 {
     match first {
-        Label::Tagged(tag) => has_kind(tag.row().kind, behind),
+        Label::Tagged(tag) => has_kind(tag.row().kind, after),
         Label::OtherTag | Label::Own(_) | Label::InSlot(_) | Label::Unfit => false,
     }
 }

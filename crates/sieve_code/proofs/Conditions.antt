@@ -12,40 +12,40 @@ use Rattle.sieve_code.proofs.Tails.{Walks, Ends, Forward, ends_self, ends_more, 
 
 -- what is put before a tail asks what a condition asks, and goes on in the tail with its truth in the register
 pub record IsConditionCode (before : Tail → Tail) (c : Condition) : Type 0 where
-  pub ends : (behind : Tail) → Ends (before behind) behind
-  pub forward : (behind : Tail) → Forward behind → Forward (before behind)
-  pub walks : (behind : Tail) (does : Bool → Walk) → Walks behind does → Walks (before behind) (λ r. condition_walk c (does true) (does false))
+  pub ends : (after : Tail) → Ends (before after) after
+  pub forward : (after : Tail) → Forward after → Forward (before after)
+  pub walks : (after : Tail) (does : Bool → Walk) → Walks after does → Walks (before after) (λ r. condition_walk c (does true) (does false))
 
-always_code : IsConditionCode (λ behind. set_op true ∷ behind) always
+always_code : IsConditionCode (λ after. set_op true ∷ after) always
 unfolding condition_walk
 always_code = record {
-  ends = λ behind. ends_more (set_op true) behind behind (ends_self behind);
-  forward = λ behind f. forward_plain (set_op true) behind refl f;
-  walks = λ behind does w. walks_sets behind does w true;
+  ends = λ after. ends_more (set_op true) after after (ends_self after);
+  forward = λ after f. forward_plain (set_op true) after refl f;
+  walks = λ after does w. walks_sets after does w true;
 }
 
-never_code : IsConditionCode (λ behind. set_op false ∷ behind) never
+never_code : IsConditionCode (λ after. set_op false ∷ after) never
 unfolding condition_walk
 never_code = record {
-  ends = λ behind. ends_more (set_op false) behind behind (ends_self behind);
-  forward = λ behind f. forward_plain (set_op false) behind refl f;
-  walks = λ behind does w. walks_sets behind does w false;
+  ends = λ after. ends_more (set_op false) after after (ends_self after);
+  forward = λ after f. forward_plain (set_op false) after refl f;
+  walks = λ after does w. walks_sets after does w false;
 }
 
-asks_code : (ask : Ask) → IsConditionCode (λ behind. test_op ask ∷ behind) (script.asks ask)
+asks_code : (ask : Ask) → IsConditionCode (λ after. test_op ask ∷ after) (script.asks ask)
 unfolding condition_walk
 asks_code ask = record {
-  ends = λ behind. ends_more (test_op ask) behind behind (ends_self behind);
-  forward = λ behind f. forward_plain (test_op ask) behind refl f;
-  walks = λ behind does w. walks_asks behind does w ask;
+  ends = λ after. ends_more (test_op ask) after after (ends_self after);
+  forward = λ after f. forward_plain (test_op ask) after refl f;
+  walks = λ after does w. walks_asks after does w ask;
 }
 
-negated_code : (before : Tail → Tail) (c : Condition) → IsConditionCode before c → IsConditionCode (λ behind. before (invert_op ∷ behind)) (negated c)
+negated_code : (before : Tail → Tail) (c : Condition) → IsConditionCode before c → IsConditionCode (λ after. before (invert_op ∷ after)) (negated c)
 unfolding condition_walk
 negated_code before c code = record {
-  ends = λ behind. ends_trans (before (invert_op ∷ behind)) (invert_op ∷ behind) behind (code.ends (invert_op ∷ behind)) (ends_more invert_op behind behind (ends_self behind));
-  forward = λ behind f. code.forward (invert_op ∷ behind) (forward_plain invert_op behind refl f);
-  walks = λ behind does w. code.walks (invert_op ∷ behind) (λ r. does (not r)) (walks_inverts behind does w);
+  ends = λ after. ends_trans (before (invert_op ∷ after)) (invert_op ∷ after) after (code.ends (invert_op ∷ after)) (ends_more invert_op after after (ends_self after));
+  forward = λ after f. code.forward (invert_op ∷ after) (forward_plain invert_op after refl f);
+  walks = λ after does w. code.walks (invert_op ∷ after) (λ r. does (not r)) (walks_inverts after does w);
 }
 
 -- the code of a condition is the code of each condition that has the same walk
@@ -53,7 +53,7 @@ like_code : (before : Tail → Tail) (c d : Condition) → ((held failed : Walk)
 like_code before c d same code = record {
   ends = code.ends;
   forward = code.forward;
-  walks = λ behind does w. record { by = λ n le r. (code.walks behind does w).by n le r ∙ same (does true) (does false) };
+  walks = λ after does w. record { by = λ n le r. (code.walks after does w).by n le r ∙ same (does true) (does false) };
 }
 
 -- LISTS
@@ -63,7 +63,7 @@ abbrev pub joined_by : Bool → List Condition → Condition
 joined_by false cs = all_of cs
 joined_by true cs = any_of cs
 
-none_code : (truth : Bool) → IsConditionCode (λ behind. set_op (not truth) ∷ behind) (joined_by truth [])
+none_code : (truth : Bool) → IsConditionCode (λ after. set_op (not truth) ∷ after) (joined_by truth [])
 none_code true = never_code
 none_code false = always_code
 
@@ -74,19 +74,19 @@ one_code false before c code = like_code before c (both c always) (λ h f. refl)
 
 -- a test, a jump past the others, and the others
 abbrev more_before : Bool → (before others : Tail → Tail) → Tail → Tail
-more_before truth before others behind = before (jump_if_op truth (length behind) ∷ others behind)
+more_before truth before others after = before (jump_if_op truth (length after) ∷ others after)
 
 joint_code : (truth : Bool) (before others : Tail → Tail) (c : Condition) (cs : List Condition) → IsConditionCode before c → IsConditionCode others (joined_by truth cs) → IsConditionCode (more_before truth before others) (joined_by truth (c ∷ cs))
 unfolding condition_walk
 joint_code true before others c cs code more = record {
-  ends = λ behind. ends_trans _ _ behind (code.ends (jump_if_op true (length behind) ∷ others behind)) (ends_more _ _ behind (more.ends behind));
-  forward = λ behind f. code.forward _ (forward_jumps_if true _ behind (more.ends behind) (more.forward behind f));
-  walks = λ behind does w. code.walks (jump_if_op true (length behind) ∷ others behind) (λ r. landed true r (does r) (condition_walk (any_of cs) (does true) (does false))) (walks_jumps_if (others behind) behind does (more.ends behind) w true _ (more.walks behind does w));
+  ends = λ after. ends_trans _ _ after (code.ends (jump_if_op true (length after) ∷ others after)) (ends_more _ _ after (more.ends after));
+  forward = λ after f. code.forward _ (forward_jumps_if true _ after (more.ends after) (more.forward after f));
+  walks = λ after does w. code.walks (jump_if_op true (length after) ∷ others after) (λ r. landed true r (does r) (condition_walk (any_of cs) (does true) (does false))) (walks_jumps_if (others after) after does (more.ends after) w true _ (more.walks after does w));
 }
 joint_code false before others c cs code more = record {
-  ends = λ behind. ends_trans _ _ behind (code.ends (jump_if_op false (length behind) ∷ others behind)) (ends_more _ _ behind (more.ends behind));
-  forward = λ behind f. code.forward _ (forward_jumps_if false _ behind (more.ends behind) (more.forward behind f));
-  walks = λ behind does w. code.walks (jump_if_op false (length behind) ∷ others behind) (λ r. landed false r (does r) (condition_walk (all_of cs) (does true) (does false))) (walks_jumps_if (others behind) behind does (more.ends behind) w false _ (more.walks behind does w));
+  ends = λ after. ends_trans _ _ after (code.ends (jump_if_op false (length after) ∷ others after)) (ends_more _ _ after (more.ends after));
+  forward = λ after f. code.forward _ (forward_jumps_if false _ after (more.ends after) (more.forward after f));
+  walks = λ after does w. code.walks (jump_if_op false (length after) ∷ others after) (λ r. landed false r (does r) (condition_walk (all_of cs) (does true) (does false))) (walks_jumps_if (others after) after does (more.ends after) w false _ (more.walks after does w));
 }
 
 -- what is known of a list of tests: what the code of all of them asks, and what that of the first asks
@@ -115,7 +115,7 @@ first_list_code (more_tests t ts) code = code
 
 -- TESTS
 
-not_code : (first : Tail → Tail) (cs : List Condition) → IsConditionCode first (branch_condition cs) → IsConditionCode (λ behind. first (invert_op ∷ behind)) (negation_of cs)
+not_code : (first : Tail → Tail) (cs : List Condition) → IsConditionCode first (branch_condition cs) → IsConditionCode (λ after. first (invert_op ∷ after)) (negation_of cs)
 unfolding condition_walk
 not_code first [] code = like_code _ (negated never) always (λ h f. refl) (negated_code first never code)
 not_code first (c ∷ cs) code = negated_code first c code

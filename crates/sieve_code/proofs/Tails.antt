@@ -30,9 +30,9 @@ pub record Walks (tail : Tail) (does : Bool → Walk) : Type 0 where
   pub by : (n : ℕ) → length tail ≤ n → (r : Bool) → tail_walk n tail r ≡ does r
 
 -- a tail ends with another
-pub record Ends (tail behind : Tail) : Type 0 where
+pub record Ends (tail after : Tail) : Type 0 where
   pub front : Tail
-  pub split : tail ≡ front ++ behind
+  pub split : tail ≡ front ++ after
 
 -- each jump of a tail goes to an operation after the jump, or to the end
 abbrev pub Forward : Tail → Type 0
@@ -44,23 +44,23 @@ Forward (op ∷ rest) = ((left : ℕ) → target_of op ≡ Some left → left �
 pub ends_self : (tail : Tail) → Ends tail tail
 ends_self tail = record { front = []; split = refl }
 
-pub ends_more : (op : Operation) (tail behind : Tail) → Ends tail behind → Ends (op ∷ tail) behind
-ends_more op tail behind e = record { front = op ∷ e.front; split = ap (λ t. op ∷ t) e.split }
+pub ends_more : (op : Operation) (tail after : Tail) → Ends tail after → Ends (op ∷ tail) after
+ends_more op tail after e = record { front = op ∷ e.front; split = ap (λ t. op ∷ t) e.split }
 
 pub ends_trans : (a b c : Tail) → Ends a b → Ends b c → Ends a c
 ends_trans a b c e f = record { front = e.front ++ f.front; split = e.split ∙ ap (λ t. e.front ++ t) f.split ∙ sym (append_assoc e.front f.front c) }
 
-pub ends_below : (tail behind : Tail) → Ends tail behind → length behind ≤ length tail
-ends_below tail behind e = omega (arith, ap length e.split, length-append e.front behind)
+pub ends_below : (tail after : Tail) → Ends tail after → length after ≤ length tail
+ends_below tail after e = omega (arith, ap length e.split, length-append e.front after)
 
-drop_front : (front behind : Tail) → drop (length front) (front ++ behind) ≡ behind
-drop_front [] behind = refl
-drop_front (op ∷ front) behind = drop_front front behind
+drop_front : (front after : Tail) → drop (length front) (front ++ after) ≡ after
+drop_front [] after = refl
+drop_front (op ∷ front) after = drop_front front after
 
-pub last_of : (tail behind : Tail) → Ends tail behind → last (length behind) tail ≡ behind
-last_of tail behind e =
-    let count : length (e.front ++ behind) - length behind ≡ length e.front = omega (arith, length-append e.front behind) in
-    ap (last (length behind)) e.split ∙ ap (λ n. drop n (e.front ++ behind)) count ∙ drop_front e.front behind
+pub last_of : (tail after : Tail) → Ends tail after → last (length after) tail ≡ after
+last_of tail after e =
+    let count : length (e.front ++ after) - length after ≡ length e.front = omega (arith, length-append e.front after) in
+    ap (last (length after)) e.split ∙ ap (λ n. drop n (e.front ++ after)) count ∙ drop_front e.front after
 
 -- WALKS
 

@@ -21,8 +21,8 @@ commands_whole (script.stops rest) next n = tt
 commands_whole (script.returns rest) next n = tt
 commands_whole (script.acts leaf line rest) next n = commands_whole rest next n
 commands_whole (chooses condition block otherwise rest) next n =
-    let behind = commands_whole rest next n in
-    condition_whole condition (commands_walk block (commands_walk rest next)) (commands_walk otherwise (commands_walk rest next)) (commands_whole block (commands_walk rest next) behind) (commands_whole otherwise (commands_walk rest next) behind)
+    let after = commands_whole rest next n in
+    condition_whole condition (commands_walk block (commands_walk rest next)) (commands_walk otherwise (commands_walk rest next)) (commands_whole block (commands_walk rest next) after) (commands_whole otherwise (commands_walk rest next) after)
 
 pub tree_whole : (tree : List Node) → IsWhole (tree_walk tree)
 unfolding IsWhole

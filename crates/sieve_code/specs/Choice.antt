@@ -15,47 +15,47 @@ Tail = List Operation
 
 -- TESTS
 
--- the others of a list of tests, which stand before `behind`: before them a jump past the last one, where the test in front
+-- the others of a list of tests, which stand before `after`: before them a jump past the last one, where the test in front
 -- of them comes to that truth
 abbrev pub joint : Bool → TestList → Tail → Tail → Tail
-joint truth end_tests behind others = others
-joint truth (more_tests t ts) behind others = jump_if_op truth (length behind) ∷ others
+joint truth end_tests after others = others
+joint truth (more_tests t ts) after others = jump_if_op truth (length after) ∷ others
 
 -- A test before a tail, where `all` and `any` are the tests in it, joined, and `first` is the first of them. A test that
 -- isn't read as anything, which no checked script has, is false.
 abbrev pub reading_before : Option TestReading → (all any first : Tail → Tail) → Tail → Tail
-reading_before None all any first behind = set_op false ∷ behind
-reading_before (Some reads_always) all any first behind = set_op true ∷ behind
-reading_before (Some reads_never) all any first behind = set_op false ∷ behind
-reading_before (Some (reads_ask ask)) all any first behind = test_op ask ∷ behind
-reading_before (Some reads_all) all any first behind = all behind
-reading_before (Some reads_any) all any first behind = any behind
-reading_before (Some reads_not) all any first behind = first (invert_op ∷ behind)
+reading_before None all any first after = set_op false ∷ after
+reading_before (Some reads_always) all any first after = set_op true ∷ after
+reading_before (Some reads_never) all any first after = set_op false ∷ after
+reading_before (Some (reads_ask ask)) all any first after = test_op ask ∷ after
+reading_before (Some reads_all) all any first after = all after
+reading_before (Some reads_any) all any first after = any after
+reading_before (Some reads_not) all any first after = first (invert_op ∷ after)
 
 unfoldable mutual
   -- the operations of a test before a tail
   pub test_before : Test → Tail → Tail
-  test_before (test name line args ts) behind =
-      reading_before (test_reading (test name line args ts)) (tests_before false ts) (tests_before true ts) (first_before ts) behind
+  test_before (test name line args ts) after =
+      reading_before (test_reading (test name line args ts)) (tests_before false ts) (tests_before true ts) (first_before ts) after
 
   -- the operations of all tests: after each but the last, a jump past the last one where it comes to that truth; without a test, the
   -- other truth
   pub tests_before : Bool → Tests → Tail → Tail
-  tests_before truth no_tests behind = set_op (not truth) ∷ behind
-  tests_before truth (one_test t) behind = test_before t behind
-  tests_before truth (test_list end_tests) behind = set_op (not truth) ∷ behind
-  tests_before truth (test_list (more_tests t ts)) behind = list_before truth (more_tests t ts) behind
+  tests_before truth no_tests after = set_op (not truth) ∷ after
+  tests_before truth (one_test t) after = test_before t after
+  tests_before truth (test_list end_tests) after = set_op (not truth) ∷ after
+  tests_before truth (test_list (more_tests t ts)) after = list_before truth (more_tests t ts) after
 
   pub list_before : Bool → TestList → Tail → Tail
-  list_before truth end_tests behind = behind
-  list_before truth (more_tests t ts) behind = test_before t (joint truth ts behind (list_before truth ts behind))
+  list_before truth end_tests after = after
+  list_before truth (more_tests t ts) after = test_before t (joint truth ts after (list_before truth ts after))
 
   -- the operations of the first test; without one, false
   pub first_before : Tests → Tail → Tail
-  first_before no_tests behind = set_op false ∷ behind
-  first_before (one_test t) behind = test_before t behind
-  first_before (test_list end_tests) behind = set_op false ∷ behind
-  first_before (test_list (more_tests t ts)) behind = test_before t behind
+  first_before no_tests after = set_op false ∷ after
+  first_before (one_test t) after = test_before t after
+  first_before (test_list end_tests) after = set_op false ∷ after
+  first_before (test_list (more_tests t ts)) after = test_before t after
 
 -- COMMANDS
 
@@ -64,14 +64,14 @@ unfoldable mutual
 pub record Branches : Type 0 where
   pub has_branch : Bool
   pub with_branch : Tail
-  pub behind_branches : Tail
+  pub after_branches : Tail
 
 abbrev pub no_branch : Tail → Branches
-no_branch tail = record { has_branch = false; with_branch = tail; behind_branches = tail }
+no_branch tail = record { has_branch = false; with_branch = tail; after_branches = tail }
 
 -- what stands after a block: where a branch follows, a jump past the branches
 abbrev pub past_branches : Branches → Tail
-past_branches branches = if branches.has_branch then jump_op (length branches.behind_branches) ∷ branches.with_branch else branches.with_branch
+past_branches branches = if branches.has_branch then jump_op (length branches.after_branches) ∷ branches.with_branch else branches.with_branch
 
 -- a branch with a test: the test, a jump to the next branch or the chain's end where it is false, and the block
 abbrev pub branch_before : (first inner : Tail → Tail) → Branches → Tail
@@ -80,30 +80,30 @@ branch_before first inner branches = first (jump_if_op false (length branches.wi
 -- a command before a tail, with its first test and its block; one that isn't read as anything, which no checked script
 -- has, gives nothing
 abbrev pub command_before : Option CommandReading → ℕ → (first inner : Tail → Tail) → Branches → Branches
-command_before None line first inner branches = no_branch branches.behind_branches
+command_before None line first inner branches = no_branch branches.after_branches
 command_before (Some reading.reads_if) line first inner branches = no_branch (branch_before first inner branches)
-command_before (Some reading.reads_elsif) line first inner branches = record { has_branch = true; with_branch = branch_before first inner branches; behind_branches = branches.behind_branches }
-command_before (Some reading.reads_else) line first inner branches = record { has_branch = true; with_branch = inner branches.behind_branches; behind_branches = branches.behind_branches }
-command_before (Some reading.reads_stop) line first inner branches = no_branch (stop_op ∷ branches.behind_branches)
-command_before (Some reading.reads_return) line first inner branches = no_branch (return_op ∷ branches.behind_branches)
-command_before (Some reading.reads_nothing) line first inner branches = no_branch branches.behind_branches
-command_before (Some (reading.reads_act leaf)) line first inner branches = no_branch (act_op leaf line ∷ branches.behind_branches)
+command_before (Some reading.reads_elsif) line first inner branches = record { has_branch = true; with_branch = branch_before first inner branches; after_branches = branches.after_branches }
+command_before (Some reading.reads_else) line first inner branches = record { has_branch = true; with_branch = inner branches.after_branches; after_branches = branches.after_branches }
+command_before (Some reading.reads_stop) line first inner branches = no_branch (stop_op ∷ branches.after_branches)
+command_before (Some reading.reads_return) line first inner branches = no_branch (return_op ∷ branches.after_branches)
+command_before (Some reading.reads_nothing) line first inner branches = no_branch branches.after_branches
+command_before (Some (reading.reads_act leaf)) line first inner branches = no_branch (act_op leaf line ∷ branches.after_branches)
 
 unfoldable mutual
   pub node_before : Node → Branches → Branches
   node_before (node name line args ts ending) branches = command_before (command_reading (node name line args ts ending)) line (first_before ts) (block_before ending) branches
 
   pub block_before : Block → Tail → Tail
-  block_before no_block behind = behind
-  block_before (block ns) behind = (nodes_before ns behind).behind_branches
+  block_before no_block after = after
+  block_before (block ns) after = (nodes_before ns after).after_branches
 
   pub nodes_before : Nodes → Tail → Branches
-  nodes_before end_nodes behind = no_branch behind
-  nodes_before (more_nodes n ns) behind = node_before n (nodes_before ns behind)
+  nodes_before end_nodes after = no_branch after
+  nodes_before (more_nodes n ns) after = node_before n (nodes_before ns after)
 
 -- all operations of a tree
 abbrev pub tail_of : List Node → Tail
-tail_of tree = (nodes_before (nodes tree) []).behind_branches
+tail_of tree = (nodes_before (nodes tree) []).after_branches
 
 -- THE CODE
 

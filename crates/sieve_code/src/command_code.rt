@@ -23,37 +23,37 @@ pub(crate) struct TailFront {
     /// Whether a branch `elsif` or `else` stands there.
     has_branch: bool,
     /// How many operations stand after such branches.
-    behind: usize,
+    after: usize,
 }
 
 /// The front of a tail where no branch stands.
 fn without_branch(tail: &Tail) -> TailFront
     ensures branches { result.has_branch ≡ false }
-    ensures behind { result.behind ≡ length tail.now }
+    ensures after { result.after ≡ length tail.now }
 {
     TailFront {
         has_branch: false,
-        behind: tail.len(),
+        after: tail.len(),
     }
 }
 
 /// Drops the branches at the front of a tail, which no `if` opens.
 fn drop_branches(front: TailFront, tail: &mut Tail) -> TailFront
-    ensures within { result.behind ≤ length tail.new }
-    ensures value { branches_as result tail.new ≡ no_branch (last front.behind tail.old) }
+    ensures within { result.after ≤ length tail.new }
+    ensures value { branches_as result tail.new ≡ no_branch (last front.after tail.old) }
 {
-    tail.keep_last(front.behind);
+    tail.keep_last(front.after);
     without_branch(tail)
 }
 
 /// Puts an operation before a tail, in the place of the branches there, which no `if` opens.
 fn put_alone(op: Op, front: TailFront, tail: &mut Tail) -> Result<TailFront, AllocError>
     requires { is_plain op ≡ true }
-    ensures within { IfOk result (λ new. new.behind ≤ length tail.new) }
+    ensures within { IfOk result (λ new. new.after ≤ length tail.new) }
     ensures value { IfOk result
-        (λ new. branches_as new tail.new ≡ no_branch (plain_as op ∷ last front.behind tail.old)) }
+        (λ new. branches_as new tail.new ≡ no_branch (plain_as op ∷ last front.after tail.old)) }
 {
-    tail.keep_last(front.behind);
+    tail.keep_last(front.after);
     tail.put(op)?;
     Ok(without_branch(tail))
 }
@@ -65,11 +65,11 @@ fn put_act(
     front: TailFront,
     tail: &mut Tail,
 ) -> Result<TailFront, AllocError>
-    ensures within { IfOk result (λ new. new.behind ≤ length tail.new) }
+    ensures within { IfOk result (λ new. new.after ≤ length tail.new) }
     ensures value { IfOk result (λ new. branches_as new tail.new
-        ≡ no_branch (act_op (leaf_as leaf) line ∷ last front.behind tail.old)) }
+        ≡ no_branch (act_op (leaf_as leaf) line ∷ last front.after tail.old)) }
 {
-    tail.keep_last(front.behind);
+    tail.keep_last(front.after);
     tail.put_act(leaf, line)?;
     Ok(without_branch(tail))
 }
@@ -77,11 +77,11 @@ fn put_act(
 /// Puts a jump past the branches before a tail where a branch stands there.
 #[tactic(auto, using(crate::proofs::Putting::past))]
 fn put_past(front: TailFront, tail: &mut Tail) -> Result<(), AllocError>
-    requires { front.behind ≤ length tail.old }
+    requires { front.after ≤ length tail.old }
     ensures { OnOk result (tail.new ≡ past_branches (branches_as front tail.old)) }
 {
     if front.has_branch {
-        tail.put(Op::Jump(front.behind))
+        tail.put(Op::Jump(front.after))
     } else {
         Ok(())
     }
@@ -106,7 +106,7 @@ pub(crate) fn put_commands(
     tail: &mut Tail,
 ) -> Result<(), AllocError>
     ensures { OnOk result
-        (tail.new ≡ (nodes_before (nodes (map node_of commands.items)) tail.old).behind_branches) }
+        (tail.new ≡ (nodes_before (nodes (map node_of commands.items)) tail.old).after_branches) }
 {
     let mut commands = commands;
     let mut front = without_branch(tail);
@@ -114,7 +114,7 @@ pub(crate) fn put_commands(
         front = put_command(alloc, command, front, tail)?;
     }
     // Branches that no `if` opens do nothing. A checked script has none.
-    tail.keep_last(front.behind);
+    tail.keep_last(front.after);
     Ok(())
 }
 
@@ -126,8 +126,8 @@ fn put_command(
     front: TailFront,
     tail: &mut Tail,
 ) -> Result<TailFront, AllocError>
-    requires { front.behind ≤ length tail.old }
-    ensures within { IfOk result (λ new. new.behind ≤ length tail.new) }
+    requires { front.after ≤ length tail.old }
+    ensures within { IfOk result (λ new. new.after ≤ length tail.new) }
     ensures value { IfOk result (λ new. branches_as new tail.new
         ≡ node_before (node_of command) (branches_as front tail.old)) }
 {
@@ -151,15 +151,15 @@ fn put_command(
             put_branch(alloc, commands, tests, front, tail)?;
             Ok(TailFront {
                 has_branch: true,
-                behind: front.behind,
+                after: front.after,
             })
         }
         Some(CommandReading::Else) => {
-            tail.keep_last(front.behind);
+            tail.keep_last(front.after);
             put_commands(alloc, commands, tail)?;
             Ok(TailFront {
                 has_branch: true,
-                behind: front.behind,
+                after: front.after,
             })
         }
         Some(CommandReading::Act(leaf)) => { put_act(leaf, line, front, tail) }
@@ -179,7 +179,7 @@ fn put_branch(
     front: TailFront,
     tail: &mut Tail,
 ) -> Result<(), AllocError>
-    requires { front.behind ≤ length tail.old }
+    requires { front.after ≤ length tail.old }
     ensures { OnOk result (tail.new ≡ branch_before (first_before (tests_of tests))
         (block_before (block (nodes (map node_of commands.items)))) (branches_as front tail.old)) }
 {

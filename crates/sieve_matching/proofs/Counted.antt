@@ -64,7 +64,7 @@ there (x ∷ xs) (suc i) low so = there xs i (omega arith) so
 
 module _ (fields : List Field) (name : List ℕ) (start : ℕ) where
   next_values : (i : ℕ) (field : Field) → IsNextNamed fields name start i → slice_get fields i ≡ Some field → values_named (drop start fields) name ≡ field.value ∷ values_named (drop (suc i) fields) name
-  next_values i field next is = ap (map (λ f. f.value)) (next_passes (is_field_named name) fields start i field next.behind next.is next.others is)
+  next_values i field next is = ap (map (λ f. f.value)) (next_passes (is_field_named name) fields start i field next.after next.is next.others is)
 
   -- the next field of a name is one more
   pub one_named : (i count total : ℕ) → IsNextNamed fields name start i → count + length (values_named (drop start fields) name) ≡ total → (count + 1) + length (values_named (drop (i + 1) fields) name) ≡ total

@@ -113,4 +113,4 @@ any_alone p x = by (p x)
 
 -- after all keys none are left
 pub no_more_keys : {X : Type 0} (g : List ℕ → List (List ℕ)) (h : X → List ℕ) (keys : List X) (i : ℕ) → length keys ≤ i → [] ≡ flat_map g (drop i (map h keys))
-no_more_keys g h keys i behind = sym (ap (flat_map g) (drop_all i (map h keys) (omega (arith, behind, length-map keys h))))
+no_more_keys g h keys i after = sym (ap (flat_map g) (drop_all i (map h keys) (omega (arith, after, length-map keys h))))

@@ -58,7 +58,7 @@ pub first_written : (message written name : List ℕ) (named : NamedPlace) → I
 first_written message written name named is at so =
     let there = named_so (fields_of message) written name named.first so at in
     record {
-      behind = omega arith;
+      after = omega arith;
       within = is.within;
       is = there;
       others = λ k low high. is.before name there k high;

@@ -116,7 +116,7 @@ module _ (find : List ℕ → Option (List (List ℕ))) (profile : Profile) (par
       → slice_get (map (λ field. value_found find profile part field.value) fields) i ≡ Some found → (slice_get (map (field_found find profile part name) fields) i ≡ Some found) × (first_some (field_found find profile part name) (drop i fields) ≡ o)
   next_found start i found o so next at = (
     get-passes (is_field_named name) (λ field. value_found find profile part field.value) fields i found next.is at,
-    skips (is_field_named name) (λ field. value_found find profile part field.value) fields start i next.behind next.others ∙ so,
+    skips (is_field_named name) (λ field. value_found find profile part field.value) fields start i next.after next.others ∙ so,
   )
 
   -- where no field of the name is left, nothing is found
@@ -125,8 +125,8 @@ module _ (find : List ℕ → Option (List (List ℕ))) (profile : Profile) (par
   none_left start o so ordered fail = sym (gives_none (is_field_named name) (λ field. value_found find profile part field.value) fields start ordered fail) ∙ so
 
   -- after all fields nothing is found
-  pub none_behind : (start : ℕ) (o : Option (List (List ℕ))) → first_some (field_found find profile part name) (drop start fields) ≡ o → length fields ≤ start → None ≡ o
-  none_behind start o so behind = sym (ap (first_some (field_found find profile part name)) (drop_all start fields behind)) ∙ so
+  pub none_after : (start : ℕ) (o : Option (List (List ℕ))) → first_some (field_found find profile part name) (drop start fields) ≡ o → length fields ≤ start → None ≡ o
+  none_after start o so after = sym (ap (first_some (field_found find profile part name)) (drop_all start fields after)) ∙ so
 
 not_both : false ≡ true → ⊥
 not_both e = cc

@@ -211,14 +211,14 @@ abbrev pub with_found_in : ValueSource → MatchType → Option (List (List ℕ)
 with_found_in source match_type found values = if sets_matched source then with_found match_type found values else values
 
 -- the variables after what a test asks (RFC 5229, section 3.2)
-unfoldable pub values_behind : Delivery → RunState → Ask → Values
-values_behind delivery state (compares source comparison keys) = with_found_in source comparison.match_type (match_found delivery state source comparison keys) state.values
-values_behind delivery state (exists_ask names) = state.values
-values_behind delivery state (over_ask limit) = state.values
-values_behind delivery state (under_ask limit) = state.values
-values_behind delivery state (mailboxes_ask names) = state.values
-values_behind delivery state duplicate_ask = state.values
+unfoldable pub values_after : Delivery → RunState → Ask → Values
+values_after delivery state (compares source comparison keys) = with_found_in source comparison.match_type (match_found delivery state source comparison keys) state.values
+values_after delivery state (exists_ask names) = state.values
+values_after delivery state (over_ask limit) = state.values
+values_after delivery state (under_ask limit) = state.values
+values_after delivery state (mailboxes_ask names) = state.values
+values_after delivery state duplicate_ask = state.values
 
 -- the state after what a test asks: match variables are set at most
-abbrev pub behind_test : Delivery → Ask → RunState → RunState
-behind_test delivery ask state = record state { values = values_behind delivery state ask }
+abbrev pub after_test : Delivery → Ask → RunState → RunState
+after_test delivery ask state = record state { values = values_after delivery state ask }

@@ -1,7 +1,7 @@
 //! What tests ask of a delivery, and what they find (RFC 5228, sections 2.7 and 5).
 ghost use Rattle.std.specs.Prelude.{◌≡◌, IfOk, decimal, is_some, length, nat_lt};
 ghost use Rattle.sieve_reading.specs.Reading.{compares, exists_ask};
-ghost use Rattle.sieve_matching.specs.Matching.{behind_test, compared_of, counted_of, first_some, match_found, sets_matched, truth_of, values_of, with_found_in};
+ghost use Rattle.sieve_matching.specs.Matching.{after_test, compared_of, counted_of, first_some, match_found, sets_matched, truth_of, values_of, with_found_in};
 ghost use Rattle.sieve_actions.specs.view.Delivery.{delivery_as};
 ghost use Rattle.sieve_matching.specs.view.FieldTests.{cuts_keys, found_with};
 ghost use Rattle.sieve_operations.specs.view.Ops.{source_op_as};
@@ -178,7 +178,7 @@ fn keep_found_in(
 /// Whether some value of a source matches some key (RFC 5228, sections 5.1, 5.4 and 5.7; RFC 5229, section 5; RFC 5232, section 4; RFC 5260, sections 4
 /// and 5; RFC 5173, section 4), or their number under `:count` (RFC 5231, section 4.2). Under `:matches` the first that does sets the match variables (RFC 5229, section 3.2), but for one of a body (RFC 5173, section 6). All strings stand for what they do when the test begins.
 /// What is made of the message is kept. Fails where memory is refused.
-#[tactic(auto, unfolding(crate::specs::Matching::truth_of, crate::specs::Matching::values_behind))]
+#[tactic(auto, unfolding(crate::specs::Matching::truth_of, crate::specs::Matching::values_after))]
 pub fn compare(
     delivery: &Delivery<'_>,
     source: &SourceOp<'_>,
@@ -191,8 +191,8 @@ pub fn compare(
     ensures arrival { fields.new ≡ fields.old }
     ensures truth { IfOk result (λ truth. truth ≡ truth_of (delivery_as delivery.now)
         (state_of state.old) (compares (source_op_as source.now) comparison keys.now)) }
-    ensures behind { IfOk result
-        (λ truth. state_of state.new ≡ behind_test (delivery_as delivery.now)
+    ensures after { IfOk result
+        (λ truth. state_of state.new ≡ after_test (delivery_as delivery.now)
         (compares (source_op_as source.now) comparison keys.now) (state_of state.old)) }
 {
     let found = find_match(delivery, fields, &*state, source, comparison, keys)?;

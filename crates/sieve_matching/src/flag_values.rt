@@ -27,11 +27,11 @@ fn has_piece(flags: &FlagList, collation: Collation, key: &[u8]) -> bool
         return flags.has(collation, key);
     }
     let mut left = key;
-    while let Some((piece, behind)) = next_key(left) {
+    while let Some((piece, after)) = next_key(left) {
         if flags.has(collation, piece) {
             return true;
         }
-        left = behind;
+        left = after;
     }
     false
 }
@@ -111,9 +111,9 @@ fn better_by_pieces(
     }
     let mut best = so_far;
     let mut left = key;
-    while let Some((piece, behind)) = next_key(left) {
+    while let Some((piece, after)) = next_key(left) {
         best = better(alloc, flags, matcher, piece, best)?;
-        left = behind;
+        left = after;
     }
     Ok(best)
 }

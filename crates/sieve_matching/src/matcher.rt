@@ -248,11 +248,11 @@ impl Matcher<'_> {
             return self.match_of(alloc, value, key);
         }
         let mut left = key;
-        while let Some((piece, behind)) = next_key(left) {
+        while let Some((piece, after)) = next_key(left) {
             if let Some(found) = self.match_of(alloc, value, piece)? {
                 return Ok(Some(found));
             }
-            left = behind;
+            left = after;
         }
         Ok(None)
     }

@@ -17,19 +17,19 @@ begin_is : (ends : List ℕ) (i : ℕ) → start ends i ≡ begin 0 ends i
 begin_is ends zero = refl
 begin_is ends (suc i) = refl
 
-begin_behind : (end : ℕ) (ends : List ℕ) (i : ℕ) → get_or (end ∷ ends) i 0 ≡ begin end ends i
-begin_behind end ends zero = refl
-begin_behind end ends (suc i) = refl
+begin_after : (end : ℕ) (ends : List ℕ) (i : ℕ) → get_or (end ∷ ends) i 0 ≡ begin end ends i
+begin_after end ends zero = refl
+begin_after end ends (suc i) = refl
 
-nothing_behind : {X : Type 0} (n : ℕ) → drop {A = X} n [] ≡ []
-nothing_behind zero = refl
-nothing_behind (suc n) = refl
+nothing_after : {X : Type 0} (n : ℕ) → drop {A = X} n [] ≡ []
+nothing_after zero = refl
+nothing_after (suc n) = refl
 
 cut_at : {X : Type 0} (from : ℕ) (ends : List ℕ) (xs : List X) (i : ℕ) → between (begin from ends i) (get_or ends i 0) xs ≡ get_or (cut from ends xs) i []
-cut_at from [] xs zero = nothing_behind from
-cut_at from [] xs (suc i) = nothing_behind 0
+cut_at from [] xs zero = nothing_after from
+cut_at from [] xs (suc i) = nothing_after 0
 cut_at from (end ∷ ends) xs zero = refl
-cut_at from (end ∷ ends) xs (suc i) = ap (λ n. between n (get_or ends i 0) xs) (begin_behind end ends i) ∙ cut_at end ends xs i
+cut_at from (end ∷ ends) xs (suc i) = ap (λ n. between n (get_or ends i 0) xs) (begin_after end ends i) ∙ cut_at end ends xs i
 
 -- what lies between two ends is the list that is cut there
 pub item_at : {X : Type 0} (ends : List ℕ) (xs : List X) (i : ℕ) → between (start ends i) (get_or ends i 0) xs ≡ get_or (cut 0 ends xs) i []
@@ -60,7 +60,7 @@ module _ {X : Type 0} (ends ends' : List ℕ) (xs xs' ys : List X) (old : EndAt 
 -- the place where the next list begins
 last_end : (from : ℕ) (ends more : List ℕ) (n : ℕ) → EndAt from ends n → begin from (ends ++ more) (length ends) ≡ n
 last_end from [] more n e = e
-last_end from (end ∷ ends) more n e = begin_behind end (ends ++ more) (length ends) ∙ last_end end ends more n e.1
+last_end from (end ∷ ends) more n e = begin_after end (ends ++ more) (length ends) ∙ last_end end ends more n e.1
 
 -- the last list is there, whatever lies after it
 pub list_kept : (lists more : Lists) (texts : List (List Part)) → EndAt 0 lists.ends (length lists.strings) → list_in (lists_plus (lists_with lists texts) more) (length lists.ends) ≡ texts

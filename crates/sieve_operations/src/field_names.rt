@@ -43,7 +43,7 @@ fn kept_hash(parts: &[Part]) -> u32
 }
 
 /// Puts what is kept for each name after what is kept for others, and the list of names after other lists.
-fn put_behind(
+fn put_after(
     lists: &mut StringLists,
     hashes: &mut Vec<u32>,
     texts: Vec<Text>,
@@ -84,7 +84,7 @@ impl NameLists {
         ensures kept { OnOk result ((more : Lists)
             → list_in (lists_plus self.new more) (length self.old.ends) ≡ texts_as texts.items) }
     {
-        match put_behind(&mut self.lists, &mut self.hashes, texts) {
+        match put_after(&mut self.lists, &mut self.hashes, texts) {
             Ok(()) => Ok(()),
             Err(error) => {
                 self.hashes.clear();

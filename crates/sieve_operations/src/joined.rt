@@ -48,7 +48,7 @@ pub(crate) fn between<T>(items: &[T], from: usize, to: usize) -> &[T]
 }
 
 /// Puts the parts of a string after those of others, and where they end after the ends of these.
-fn put_behind(parts: &mut Vec<Part>, ends: &mut Vec<u32>, string: Parts) -> Result<(), AllocError>
+fn put_after(parts: &mut Vec<Part>, ends: &mut Vec<u32>, string: Parts) -> Result<(), AllocError>
     ensures { OnOk result ((parts.new.items ≡ parts.old.items ++ string)
         × (ends.new.items ≡ ends.old.items ++ length (parts.old.items ++ string) ∷ [])) }
 {
@@ -99,7 +99,7 @@ impl JoinedStrings {
     pub fn push(&mut self, string: Parts) -> Result<(), AllocError>
         ensures { OnOk result (self.new ≡ self.old ++ string ∷ []) }
     {
-        match put_behind(&mut self.parts, &mut self.ends, string) {
+        match put_after(&mut self.parts, &mut self.ends, string) {
             Ok(()) => Ok(()),
             Err(error) => {
                 self.ends.clear();

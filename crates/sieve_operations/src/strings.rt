@@ -13,7 +13,7 @@ use std::borrow::CowSlice;
 use std::marker::Model;
 
 /// Puts strings after others, and where they end after the ends of these.
-fn put_behind(
+fn put_after(
     strings: &mut JoinedStrings,
     ends: &mut Vec<u32>,
     texts: Vec<Text>,
@@ -70,7 +70,7 @@ impl StringLists {
         ensures kept { OnOk result ((more : Lists)
             → list_in (lists_plus self.new more) (length self.old.ends) ≡ texts_as texts.items) }
     {
-        match put_behind(&mut self.strings, &mut self.ends, texts) {
+        match put_after(&mut self.strings, &mut self.ends, texts) {
             Ok(()) => Ok(()),
             Err(error) => {
                 self.ends.clear();

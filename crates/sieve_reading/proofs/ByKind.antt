@@ -5,7 +5,7 @@ use Rattle.std.proofs.lemmas.List.{get_or-set_same, get_or-set_other}
 use Rattle.std.specs.List.{list_all}
 use Rattle.std.specs.Prelude.{if◌then◌else◌}
 use Rattle.sieve_reading.specs.Given.{Tags, first_or, tag_at, tag_given}
-use Rattle.sieve_reading.specs.Label.{Expected, expected_behind, fits, label_at, labels_from, slot_label, value_label}
+use Rattle.sieve_reading.specs.Label.{Expected, expected_after, fits, label_at, labels_from, slot_label, value_label}
 use Rattle.sieve_reading.specs.view.Tags.{tag_shown, tags_shown}
 use Rattle.sieve_reading.specs.declared.label.Label.TheVariants.{Own, InSlot, Unfit}
 use Rattle.sieve_reading.specs.declared.label.Shape.{Shape}
@@ -44,7 +44,7 @@ module _ (k : TagKind) where
   tags_by_shapes [] e = refl
   tags_by_shapes (looks ∷ shapes) e =
       ap (λ o. first_or o (tags_shown k shapes)) (label_shows e looks)
-      ∙ ap (first_or (tag_at k (label_at e looks))) (tags_by_shapes shapes (expected_behind e looks))
+      ∙ ap (first_or (tag_at k (label_at e looks))) (tags_by_shapes shapes (expected_after e looks))
 
 -- AT THE PLACES OF KINDS
 

@@ -3,8 +3,8 @@ use Rattle.std.proofs.Common.{◌≡◌, ℕ, zero, suc, Bool, true, false, not,
 use Rattle.std.specs.List.{filter, list_any}
 use Rattle.std.specs.Option.{option_map}
 use Rattle.std.specs.Prelude.{if◌then◌else◌}
-use Rattle.sieve_reading.specs.Label.{Expected, expected_behind, fills, fits, row_is_filled, is_unfit, label_at, labels_from, labels_of, no_slots, slot_label, slots_left, slots_of, slots_with, value_label, value_slots}
-use Rattle.sieve_reading.specs.Positional.{IsOwn, at_slot, before_at, fit_one_by_one, fits_taken, is_positional, is_positional_label, meant_slots, positional_behind, positional_of, taken_by}
+use Rattle.sieve_reading.specs.Label.{Expected, expected_after, fills, fits, row_is_filled, is_unfit, label_at, labels_from, labels_of, no_slots, slot_label, slots_left, slots_of, slots_with, value_label, value_slots}
+use Rattle.sieve_reading.specs.Positional.{IsOwn, at_slot, before_at, fit_one_by_one, fits_taken, is_positional, is_positional_label, meant_slots, positional_after, positional_of, taken_by}
 use Rattle.sieve_reading.specs.declared.label.Label.{Label}
 use Rattle.sieve_reading.specs.declared.label.Label.TheVariants.{Tagged, OtherTag, Own, InSlot, Unfit}
 use Rattle.sieve_reading.specs.declared.label.Shape.{Shape}
@@ -23,21 +23,21 @@ not_both e = cc
 
 -- WHAT IS EXPECTED BEHIND AN ARGUMENT
 
-abbrev behind_one : Option Shape → List Slot → Expected
-behind_one before slots = record { awaited = taken_by before; slots = slots }
+abbrev after_one : Option Shape → List Slot → Expected
+after_one before slots = record { awaited = taken_by before; slots = slots }
 
 -- the slots that are left after one more argument
 abbrev slots_past : Option Shape → List Slot → Shape → List Slot
-slots_past before slots looks = (expected_behind (behind_one before slots) looks).slots
+slots_past before slots looks = (expected_after (after_one before slots) looks).slots
 
-next_one : (before : Option Shape) (slots : List Slot) (looks : Shape) → expected_behind (behind_one before slots) looks ≡ behind_one (Some looks) (slots_past before slots looks)
+next_one : (before : Option Shape) (slots : List Slot) (looks : Shape) → expected_after (after_one before slots) looks ≡ after_one (Some looks) (slots_past before slots looks)
 next_one before slots (shape.Tag None) = refl
 next_one before slots (shape.Tag (Some tag)) = refl
 next_one before slots shape.Text = refl
 next_one before slots shape.Texts = refl
 next_one before slots shape.Number = refl
 
-next_labels : (before : Option Shape) (slots : List Slot) (looks : Shape) (shapes : List Shape) → labels_from (expected_behind (behind_one before slots) looks) shapes ≡ labels_from (behind_one (Some looks) (slots_past before slots looks)) shapes
+next_labels : (before : Option Shape) (slots : List Slot) (looks : Shape) (shapes : List Shape) → labels_from (expected_after (after_one before slots) looks) shapes ≡ labels_from (after_one (Some looks) (slots_past before slots looks)) shapes
 next_labels before slots looks shapes = ap (λ e. labels_from e shapes) (next_one before slots looks)
 
 -- the argument right before a place, which at place 0 is a given one, or none at the beginning
@@ -92,7 +92,7 @@ tags_labelled (shape.Tag (Some taken) ∷ shapes) e zero tag = ((λ h. cc), (λ 
 tags_labelled (shape.Text ∷ shapes) e zero tag = ((λ h. absurd (never_tagged _ tag (value_is_no_tag e.awaited e.slots shape.Text) h)), (λ h. cc))
 tags_labelled (shape.Texts ∷ shapes) e zero tag = ((λ h. absurd (never_tagged _ tag (value_is_no_tag e.awaited e.slots shape.Texts) h)), (λ h. cc))
 tags_labelled (shape.Number ∷ shapes) e zero tag = ((λ h. absurd (never_tagged _ tag (value_is_no_tag e.awaited e.slots shape.Number) h)), (λ h. cc))
-tags_labelled (looks ∷ shapes) e (suc place) tag = tags_labelled shapes (expected_behind e looks) place tag
+tags_labelled (looks ∷ shapes) e (suc place) tag = tags_labelled shapes (expected_after e looks) place tag
 
 -- TAGS' OWN ARGUMENTS
 
@@ -138,14 +138,14 @@ value_own (Some own) slots looks = by_fit (fits own.form looks)
     by_fit true = refl
     by_fit false = slot_is_not_own slots looks
 
-own_here : (before : Option Shape) (slots : List Slot) (looks : Shape) → own_in (Some (label_at (behind_one before slots) looks)) ≡ fitting (taken_by before) looks
+own_here : (before : Option Shape) (slots : List Slot) (looks : Shape) → own_in (Some (label_at (after_one before slots) looks)) ≡ fitting (taken_by before) looks
 own_here before slots (shape.Tag None) = tag_is_not_own (taken_by before) None
 own_here before slots (shape.Tag (Some tag)) = tag_is_not_own (taken_by before) (Some tag)
 own_here before slots shape.Text = value_own (taken_by before) slots shape.Text
 own_here before slots shape.Texts = value_own (taken_by before) slots shape.Texts
 own_here before slots shape.Number = value_own (taken_by before) slots shape.Number
 
-own_each : (shapes : List Shape) (before : Option Shape) (slots : List Slot) (place : ℕ) → own_in (slice_get (labels_from (behind_one before slots) shapes) place) ≡ own_at (before_from before shapes place) (slice_get shapes place)
+own_each : (shapes : List Shape) (before : Option Shape) (slots : List Slot) (place : ℕ) → own_in (slice_get (labels_from (after_one before slots) shapes) place) ≡ own_at (before_from before shapes place) (slice_get shapes place)
 own_each [] before slots place = refl
 own_each (looks ∷ shapes) before slots zero = own_here before slots looks
 own_each (looks ∷ shapes) before slots (suc place) =
@@ -234,14 +234,14 @@ value_positional (Some own) slots looks = by_fit (fits own.form looks)
     by_fit true = refl
     by_fit false = slot_is_positional slots looks
 
-positional_here : (before : Option Shape) (slots : List Slot) (looks : Shape) → is_positional_label (label_at (behind_one before slots) looks) ≡ is_positional before looks
+positional_here : (before : Option Shape) (slots : List Slot) (looks : Shape) → is_positional_label (label_at (after_one before slots) looks) ≡ is_positional before looks
 positional_here before slots (shape.Tag None) = refl
 positional_here before slots (shape.Tag (Some tag)) = refl
 positional_here before slots shape.Text = value_positional (taken_by before) slots shape.Text
 positional_here before slots shape.Texts = value_positional (taken_by before) slots shape.Texts
 positional_here before slots shape.Number = value_positional (taken_by before) slots shape.Number
 
-positional_each : (shapes : List Shape) (before : Option Shape) (slots : List Slot) (place : ℕ) → option_map is_positional_label (slice_get (labels_from (behind_one before slots) shapes) place) ≡ option_map (is_positional (before_from before shapes place)) (slice_get shapes place)
+positional_each : (shapes : List Shape) (before : Option Shape) (slots : List Slot) (place : ℕ) → option_map is_positional_label (slice_get (labels_from (after_one before slots) shapes) place) ≡ option_map (is_positional (before_from before shapes place)) (slice_get shapes place)
 positional_each [] before slots place = refl
 positional_each (looks ∷ shapes) before slots zero = ap (λ b. Some b) (positional_here before slots looks)
 positional_each (looks ∷ shapes) before slots (suc place) =
@@ -254,27 +254,27 @@ abbrev slot_labels : List Slot → List Shape → List Label
 slot_labels slots [] = []
 slot_labels slots (looks ∷ shapes) = slot_label slots looks ∷ slot_labels (drop 1 slots) shapes
 
-module _ (looks : Shape) (shapes : List Shape) (behind : List Shape) (below : (slots : List Slot) → filter is_positional_label (labels_from (record { awaited = None; slots = slots }) shapes) ≡ slot_labels slots behind) where
-  slot_in_turn : (slots : List Slot) → filter is_positional_label (slot_label slots looks ∷ labels_from (record { awaited = None; slots = drop 1 slots }) shapes) ≡ slot_labels slots (looks ∷ behind)
+module _ (looks : Shape) (shapes : List Shape) (after : List Shape) (below : (slots : List Slot) → filter is_positional_label (labels_from (record { awaited = None; slots = slots }) shapes) ≡ slot_labels slots after) where
+  slot_in_turn : (slots : List Slot) → filter is_positional_label (slot_label slots looks ∷ labels_from (record { awaited = None; slots = drop 1 slots }) shapes) ≡ slot_labels slots (looks ∷ after)
   slot_in_turn slots =
       ap (λ b. if b then slot_label slots looks ∷ filter is_positional_label (labels_from (record { awaited = None; slots = drop 1 slots }) shapes) else filter is_positional_label (labels_from (record { awaited = None; slots = drop 1 slots }) shapes)) (slot_is_positional slots looks)
       ∙ ap (λ l. slot_label slots looks ∷ l) (below (drop 1 slots))
 
-  value_in_turn : (own : Option Slot) (slots : List Slot) → filter is_positional_label (value_label own slots looks ∷ labels_from (record { awaited = None; slots = value_slots own slots looks }) shapes) ≡ slot_labels slots (if not (fits_taken own looks) then looks ∷ behind else behind)
+  value_in_turn : (own : Option Slot) (slots : List Slot) → filter is_positional_label (value_label own slots looks ∷ labels_from (record { awaited = None; slots = value_slots own slots looks }) shapes) ≡ slot_labels slots (if not (fits_taken own looks) then looks ∷ after else after)
   value_in_turn None slots = slot_in_turn slots
   value_in_turn (Some own) slots = by_fit (fits own.form looks)
     where
-      by_fit : (b : Bool) → filter is_positional_label ((if b then Own own else slot_label slots looks) ∷ labels_from (record { awaited = None; slots = if b then slots else drop 1 slots }) shapes) ≡ slot_labels slots (if not b then looks ∷ behind else behind)
+      by_fit : (b : Bool) → filter is_positional_label ((if b then Own own else slot_label slots looks) ∷ labels_from (record { awaited = None; slots = if b then slots else drop 1 slots }) shapes) ≡ slot_labels slots (if not b then looks ∷ after else after)
       by_fit true = below slots
       by_fit false = slot_in_turn slots
 
-in_turn : (shapes : List Shape) (before : Option Shape) (slots : List Slot) → filter is_positional_label (labels_from (behind_one before slots) shapes) ≡ slot_labels slots (positional_behind before shapes)
+in_turn : (shapes : List Shape) (before : Option Shape) (slots : List Slot) → filter is_positional_label (labels_from (after_one before slots) shapes) ≡ slot_labels slots (positional_after before shapes)
 in_turn [] before slots = refl
 in_turn (shape.Tag None ∷ shapes) before slots = in_turn shapes (Some (shape.Tag None)) slots
 in_turn (shape.Tag (Some tag) ∷ shapes) before slots = in_turn shapes (Some (shape.Tag (Some tag))) slots
-in_turn (shape.Text ∷ shapes) before slots = value_in_turn shape.Text shapes (positional_behind (Some shape.Text) shapes) (in_turn shapes (Some shape.Text)) (taken_by before) slots
-in_turn (shape.Texts ∷ shapes) before slots = value_in_turn shape.Texts shapes (positional_behind (Some shape.Texts) shapes) (in_turn shapes (Some shape.Texts)) (taken_by before) slots
-in_turn (shape.Number ∷ shapes) before slots = value_in_turn shape.Number shapes (positional_behind (Some shape.Number) shapes) (in_turn shapes (Some shape.Number)) (taken_by before) slots
+in_turn (shape.Text ∷ shapes) before slots = value_in_turn shape.Text shapes (positional_after (Some shape.Text) shapes) (in_turn shapes (Some shape.Text)) (taken_by before) slots
+in_turn (shape.Texts ∷ shapes) before slots = value_in_turn shape.Texts shapes (positional_after (Some shape.Texts) shapes) (in_turn shapes (Some shape.Texts)) (taken_by before) slots
+in_turn (shape.Number ∷ shapes) before slots = value_in_turn shape.Number shapes (positional_after (Some shape.Number) shapes) (in_turn shapes (Some shape.Number)) (taken_by before) slots
 
 first_slot : (slots : List Slot) (looks : Shape) → slot_label slots looks ≡ at_slot (slice_get slots 0) looks
 first_slot [] looks = refl
@@ -302,20 +302,20 @@ module _ (row : Row) (shapes : List Shape) where
 abbrev are_filled : (unfit : Bool) → Expected → List Shape → Bool
 are_filled unfit e shapes = not (unfit || list_any is_unfit (labels_from e shapes)) && no_slots (slots_left e shapes)
 
-module _ (looks : Shape) (shapes : List Shape) (behind : List Shape) (below : (slots : List Slot) → fills (record { awaited = None; slots = slots }) shapes ≡ fit_one_by_one slots behind) where
-  slot_filled : (slots : List Slot) → are_filled (is_unfit (slot_label slots looks)) (record { awaited = None; slots = drop 1 slots }) shapes ≡ fit_one_by_one slots (looks ∷ behind)
+module _ (looks : Shape) (shapes : List Shape) (after : List Shape) (below : (slots : List Slot) → fills (record { awaited = None; slots = slots }) shapes ≡ fit_one_by_one slots after) where
+  slot_filled : (slots : List Slot) → are_filled (is_unfit (slot_label slots looks)) (record { awaited = None; slots = drop 1 slots }) shapes ≡ fit_one_by_one slots (looks ∷ after)
   slot_filled [] = refl
   slot_filled (slot ∷ slots) = by_fit (fits slot.form looks)
     where
-      by_fit : (b : Bool) → are_filled (is_unfit (if b then InSlot slot else Unfit)) (record { awaited = None; slots = slots }) shapes ≡ (b && fit_one_by_one slots behind)
+      by_fit : (b : Bool) → are_filled (is_unfit (if b then InSlot slot else Unfit)) (record { awaited = None; slots = slots }) shapes ≡ (b && fit_one_by_one slots after)
       by_fit true = below slots
       by_fit false = refl
 
-  value_filled : (own : Option Slot) (slots : List Slot) → are_filled (is_unfit (value_label own slots looks)) (record { awaited = None; slots = value_slots own slots looks }) shapes ≡ fit_one_by_one slots (if not (fits_taken own looks) then looks ∷ behind else behind)
+  value_filled : (own : Option Slot) (slots : List Slot) → are_filled (is_unfit (value_label own slots looks)) (record { awaited = None; slots = value_slots own slots looks }) shapes ≡ fit_one_by_one slots (if not (fits_taken own looks) then looks ∷ after else after)
   value_filled None slots = slot_filled slots
   value_filled (Some own) slots = by_fit (fits own.form looks)
     where
-      by_fit : (b : Bool) → are_filled (is_unfit (if b then Own own else slot_label slots looks)) (record { awaited = None; slots = if b then slots else drop 1 slots }) shapes ≡ fit_one_by_one slots (if not b then looks ∷ behind else behind)
+      by_fit : (b : Bool) → are_filled (is_unfit (if b then Own own else slot_label slots looks)) (record { awaited = None; slots = if b then slots else drop 1 slots }) shapes ≡ fit_one_by_one slots (if not b then looks ∷ after else after)
       by_fit true = below slots
       by_fit false = slot_filled slots
 
@@ -323,13 +323,13 @@ none_left : (slots : List Slot) → no_slots slots ≡ fit_one_by_one slots []
 none_left [] = refl
 none_left (slot ∷ slots) = refl
 
-filled_from : (shapes : List Shape) (before : Option Shape) (slots : List Slot) → fills (behind_one before slots) shapes ≡ fit_one_by_one slots (positional_behind before shapes)
+filled_from : (shapes : List Shape) (before : Option Shape) (slots : List Slot) → fills (after_one before slots) shapes ≡ fit_one_by_one slots (positional_after before shapes)
 filled_from [] before slots = none_left slots
 filled_from (shape.Tag None ∷ shapes) before slots = filled_from shapes (Some (shape.Tag None)) slots
 filled_from (shape.Tag (Some tag) ∷ shapes) before slots = filled_from shapes (Some (shape.Tag (Some tag))) slots
-filled_from (shape.Text ∷ shapes) before slots = value_filled shape.Text shapes (positional_behind (Some shape.Text) shapes) (filled_from shapes (Some shape.Text)) (taken_by before) slots
-filled_from (shape.Texts ∷ shapes) before slots = value_filled shape.Texts shapes (positional_behind (Some shape.Texts) shapes) (filled_from shapes (Some shape.Texts)) (taken_by before) slots
-filled_from (shape.Number ∷ shapes) before slots = value_filled shape.Number shapes (positional_behind (Some shape.Number) shapes) (filled_from shapes (Some shape.Number)) (taken_by before) slots
+filled_from (shape.Text ∷ shapes) before slots = value_filled shape.Text shapes (positional_after (Some shape.Text) shapes) (filled_from shapes (Some shape.Text)) (taken_by before) slots
+filled_from (shape.Texts ∷ shapes) before slots = value_filled shape.Texts shapes (positional_after (Some shape.Texts) shapes) (filled_from shapes (Some shape.Texts)) (taken_by before) slots
+filled_from (shape.Number ∷ shapes) before slots = value_filled shape.Number shapes (positional_after (Some shape.Number) shapes) (filled_from shapes (Some shape.Number)) (taken_by before) slots
 
 module _ (row : Row) (shapes : List Shape) where
   with_front : (front : Option Slot) → slots_with front row.slots shapes ≡ meant_slots front row.slots (positional_of shapes)

@@ -54,22 +54,22 @@ label_at expected shape.Texts = value_label expected.awaited expected.slots shap
 label_at expected shape.Number = value_label expected.awaited expected.slots shape.Number
 
 -- what is expected after it
-abbrev pub expected_behind : Expected → Shape → Expected
-expected_behind expected (shape.Tag None) = record { awaited = None; slots = expected.slots }
-expected_behind expected (shape.Tag (Some taken)) = record { awaited = (tag_row taken).takes; slots = expected.slots }
-expected_behind expected shape.Text = record { awaited = None; slots = value_slots expected.awaited expected.slots shape.Text }
-expected_behind expected shape.Texts = record { awaited = None; slots = value_slots expected.awaited expected.slots shape.Texts }
-expected_behind expected shape.Number = record { awaited = None; slots = value_slots expected.awaited expected.slots shape.Number }
+abbrev pub expected_after : Expected → Shape → Expected
+expected_after expected (shape.Tag None) = record { awaited = None; slots = expected.slots }
+expected_after expected (shape.Tag (Some taken)) = record { awaited = (tag_row taken).takes; slots = expected.slots }
+expected_after expected shape.Text = record { awaited = None; slots = value_slots expected.awaited expected.slots shape.Text }
+expected_after expected shape.Texts = record { awaited = None; slots = value_slots expected.awaited expected.slots shape.Texts }
+expected_after expected shape.Number = record { awaited = None; slots = value_slots expected.awaited expected.slots shape.Number }
 
 -- what arguments are, each
 abbrev pub labels_from : Expected → List Shape → List Label
 labels_from expected [] = []
-labels_from expected (looks ∷ shapes) = label_at expected looks ∷ labels_from (expected_behind expected looks) shapes
+labels_from expected (looks ∷ shapes) = label_at expected looks ∷ labels_from (expected_after expected looks) shapes
 
 -- the positional arguments that are still to come after them
 abbrev pub slots_left : Expected → List Shape → List Slot
 slots_left expected [] = expected.slots
-slots_left expected (looks ∷ shapes) = slots_left (expected_behind expected looks) shapes
+slots_left expected (looks ∷ shapes) = slots_left (expected_after expected looks) shapes
 
 abbrev pub is_unfit : Label → Bool
 is_unfit (Tagged taken) = false

@@ -56,12 +56,12 @@ before_at shapes zero = None
 before_at shapes (suc place) = slice_get shapes place
 
 -- the positional ones of arguments, after one or at the beginning
-abbrev pub positional_behind : (before : Option Shape) → List Shape → List Shape
-positional_behind before [] = []
-positional_behind before (looks ∷ shapes) = if is_positional before looks then looks ∷ positional_behind (Some looks) shapes else positional_behind (Some looks) shapes
+abbrev pub positional_after : (before : Option Shape) → List Shape → List Shape
+positional_after before [] = []
+positional_after before (looks ∷ shapes) = if is_positional before looks then looks ∷ positional_after (Some looks) shapes else positional_after (Some looks) shapes
 
 abbrev pub positional_of : List Shape → List Shape
-positional_of shapes = positional_behind None shapes
+positional_of shapes = positional_after None shapes
 
 -- whether a label is that of a positional argument
 abbrev pub is_positional_label : Label → Bool

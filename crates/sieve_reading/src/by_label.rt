@@ -22,7 +22,7 @@ pub(crate) fn argument_in<'a>(row: &Row, wanted: Role, args: &'a [Argument]) -> 
         if has_role(wanted, role_of(expected.label(shape))) {
             return Some(argument);
         }
-        expected = expected.behind(shape);
+        expected = expected.after(shape);
     }
     None
 }
@@ -38,7 +38,7 @@ pub(crate) fn into_argument(row: &Row, wanted: Role, args: Vec<Argument>) -> Opt
         if has_role(wanted, role_of(expected.label(shape))) {
             return Some(argument);
         }
-        expected = expected.behind(shape);
+        expected = expected.after(shape);
     }
     None
 }
@@ -95,7 +95,7 @@ pub(crate) fn into_three(
     for argument in args {
         let shape = shape_of::<AsParts>(None, row.tags, &argument);
         let role = role_of(expected.label(shape));
-        expected = expected.behind(shape);
+        expected = expected.after(shape);
         if has_role(wanted, role) {
             in_wanted = first_or(in_wanted, argument);
         } else if has_role(other, role) {

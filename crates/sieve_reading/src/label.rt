@@ -1,8 +1,8 @@
 //! What each argument is to its command or test (RFC 5228, section 2.6).
 ghost use Rattle.std.specs.Prelude.{◌≡◌, None, Some, drop, slice_get};
-ghost use Rattle.sieve_reading.specs.Label.{expected_behind, expecting, fits, label_at, slot_label, is_unfit};
+ghost use Rattle.sieve_reading.specs.Label.{expected_after, expecting, fits, label_at, slot_label, is_unfit};
 ghost use Rattle.sieve_reading.specs.Role.{role_of};
-ghost use Rattle.sieve_reading.specs.view.Expected.{expected_as, in_front, own_slot};
+ghost use Rattle.sieve_reading.specs.view.Expected.{expected_as, put_before, own_slot};
 
 use sieve_table::{Form, Role, Slot, Tag};
 
@@ -60,7 +60,7 @@ fn fits(form: Form, shape: Shape) -> bool
 impl<'a> Expected<'a> {
     /// The positional arguments that are expected: the one in front, where there is one, and those of the slots.
     pub(crate) fn new(front: Option<Slot>, slots: &'a [Slot]) -> Expected<'a>
-        ensures { expected_as result ≡ expecting (in_front front slots.now) }
+        ensures { expected_as result ≡ expecting (put_before front slots.now) }
     {
         Expected {
             awaited: None,
@@ -138,8 +138,8 @@ impl<'a> Expected<'a> {
     }
 
     /// What is expected after an argument of that shape (RFC 5228, section 2.6).
-    pub fn behind(self, shape: Shape) -> Expected<'a>
-        ensures { expected_as result ≡ expected_behind (expected_as self.entry) shape }
+    pub fn after(self, shape: Shape) -> Expected<'a>
+        ensures { expected_as result ≡ expected_after (expected_as self.entry) shape }
     {
         match shape {
             Shape::Tag(None) => Expected {

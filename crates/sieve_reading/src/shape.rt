@@ -118,7 +118,7 @@ fn labels_from<V: StringView>(
         let label = expected.label(shape);
         fit = fit && !is_unfit(label);
         labels.push(label)?;
-        expected = expected.behind(shape);
+        expected = expected.after(shape);
     }
     let filled = fit && expected.next_slot().is_none();
     Ok(RowLabels { labels, filled })
@@ -140,7 +140,7 @@ fn fills<V: StringView>(
         if is_unfit(expected.label(shape)) {
             return false;
         }
-        expected = expected.behind(shape);
+        expected = expected.after(shape);
     }
     expected.next_slot().is_none()
 }

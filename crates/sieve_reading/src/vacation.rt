@@ -49,7 +49,7 @@ fn into_strings(row: &Row, args: Vec<Argument>) -> Strings
     for argument in args {
         let shape = shape_of::<AsParts>(None, row.tags, &argument);
         let role = role_of(expected.label(shape));
-        expected = expected.behind(shape);
+        expected = expected.after(shape);
         if has_role(Role::Text, role) {
             reason = first_or(reason, argument);
         } else if has_role(Role::Subject, role) {

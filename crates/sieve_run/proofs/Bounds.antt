@@ -13,9 +13,9 @@ use Rattle.sieve_reading.specs.Tree.{Node}
 use Rattle.sieve_code.specs.Walk.{Walk, at_end, by_stop, by_return, cut_off, asked, acted, tree_walk}
 use Rattle.sieve_actions.specs.Delivery.{Arrival, Delivery, inside}
 use Rattle.sieve_run.specs.Library.{Lookup, missing, invalid, present, found_at}
-use Rattle.sieve_matching.specs.Matching.{behind_test, truth_of}
+use Rattle.sieve_matching.specs.Matching.{after_test, truth_of}
 use Rattle.sieve_run.specs.Perform.{perform}
-use Rattle.sieve_actions.specs.Act.{deed_of, store_deed, Ending, goes_on, returned, stopped, failed, Performed, entered, joined, refused, unless, conflict_among, same_action, joined_with, changes, ends_with, gives, origin_at, performs, fails_at, filing_of, is_mailbox, may_be_from, may_be_used, only_address, redirects, response_of, held_flags, changed_flags, flags_named, state_behind}
+use Rattle.sieve_actions.specs.Act.{deed_of, store_deed, Ending, goes_on, returned, stopped, failed, Performed, entered, joined, refused, unless, conflict_among, same_action, joined_with, changes, ends_with, gives, origin_at, performs, fails_at, filing_of, is_mailbox, may_be_from, may_be_used, only_address, redirects, response_of, held_flags, changed_flags, flags_named, state_after}
 use Rattle.sieve_run.specs.Run.{entering, included, include_of, includes, is_running, is_script, is_there, looked_up, act_of, and_then, answer_of, begun, chosen, delivery_to, exec, resumed, run_of, running, verdict_at, verdict_of, outcome_of, with_found_script, with_read}
 use Rattle.sieve_actions.specs.State.{RunState}
 use Rattle.sieve_actions.specs.declared.flow.Flow.{Flow}
@@ -41,12 +41,12 @@ use Rattle.sieve_run.proofs.Performing.{does_walk}
 module _ (Holds : RunState → Type 0) (delivery : Delivery) (line : ℕ) (deed : Deed) (s : RunState) where
   -- the fact holds where this became of the actions
   abbrev Becomes : Performed → Type 0
-  Becomes performed = Holds (state_behind (ends_with delivery line deed performed s))
+  Becomes performed = Holds (state_after (ends_with delivery line deed performed s))
 
   pub performed_holds : Holds s
       → (conflict_among deed.action s.actions ≡ None → Becomes (joined (map (joined_with deed.action) s.actions)))
       → (conflict_among deed.action s.actions ≡ None → list_any (same_action deed.action) s.actions ≡ false → nat_lt (length s.actions) action_limit ≡ true → Becomes (entered (s.actions ++ deed.action ∷ [])))
-      → Holds (state_behind (performs delivery line deed s))
+      → Holds (state_after (performs delivery line deed s))
   performed_holds h joins enters =
       by (conflict_among deed.action s.actions) (list_any (same_action deed.action) s.actions) (nat_lt (length s.actions) action_limit) joins enters
     where
@@ -65,13 +65,13 @@ pub record IsKept (Holds : RunState → Type 0) : Type 0 where
   pub values : (s : RunState) (values : Values) → Holds s → Holds (record s { values = values })
   pub flags : (s : RunState) (flags : List (List ℕ)) → Holds s → Holds (record s { flags = flags })
   pub reads : (s : RunState) (reads : List (ScriptName × Bool)) → Holds s → Holds (record s { reads = reads })
-  pub acts : (delivery : Delivery) (line : ℕ) (deed : Deed) (s : RunState) → Holds s → Holds (state_behind (performs delivery line deed s))
+  pub acts : (delivery : Delivery) (line : ℕ) (deed : Deed) (s : RunState) → Holds s → Holds (state_after (performs delivery line deed s))
   pub enters : (name : ScriptName) (s : RunState) → nat_lt include_limit (length s.entered) ≡ false → Holds s → Holds (entering name s)
 
 module _ (Holds : RunState → Type 0) (kept : IsKept Holds) where
   -- the fact holds of the state in which commands ended
   abbrev Ends : Ending → Type 0
-  Ends e = Holds (state_behind e)
+  Ends e = Holds (state_after e)
 
   allowed : (delivery : Delivery) (line : ℕ) (kind : ErrorKind) (deed : Deed) (s : RunState) → Holds s → (may : Bool) → Ends (if may then performs delivery line deed s else fails_at delivery line kind s)
   allowed delivery line kind deed s h true = kept.acts delivery line deed s h
@@ -138,11 +138,11 @@ module _ (Holds : RunState → Type 0) (kept : IsKept Holds) where
   chosen_holds true f g s so otherwise = so
   chosen_holds false f g s so otherwise = otherwise
 
-  behind_holds : (e : Ending) (next : RunState → Ending) → Ends e → ((s : RunState) → Holds s → Ends (next s)) → Ends (and_then e next)
-  behind_holds (goes_on s) next h goes = goes s h
-  behind_holds (returned s) next h goes = h
-  behind_holds (stopped s) next h goes = h
-  behind_holds (failed error s) next h goes = h
+  after_holds : (e : Ending) (next : RunState → Ending) → Ends e → ((s : RunState) → Holds s → Ends (next s)) → Ends (and_then e next)
+  after_holds (goes_on s) next h goes = goes s h
+  after_holds (returned s) next h goes = h
+  after_holds (stopped s) next h goes = h
+  after_holds (failed error s) next h goes = h
 
   -- doing a walk keeps the fact where the commands that act keep it
   walk_holds : (act : Acts) → ((leaf : Leaf) (line : ℕ) (s : RunState) → Holds s → Ends (act leaf line s)) → (delivery : Delivery) (w : Walk) (s : RunState) → Holds s → Ends (doing act delivery w s)
@@ -152,11 +152,11 @@ module _ (Holds : RunState → Type 0) (kept : IsKept Holds) where
   walk_holds act acts delivery by_return s h = h
   walk_holds act acts delivery cut_off s h = h
   walk_holds act acts delivery (asked ask so otherwise) s h =
-      let behind = behind_test delivery ask s in
-      let holds : Holds behind = kept.values s behind.values h in
-      chosen_holds (truth_of delivery s ask) (doing act delivery so) (doing act delivery otherwise) behind (walk_holds act acts delivery so behind holds) (walk_holds act acts delivery otherwise behind holds)
+      let after = after_test delivery ask s in
+      let holds : Holds after = kept.values s after.values h in
+      chosen_holds (truth_of delivery s ask) (doing act delivery so) (doing act delivery otherwise) after (walk_holds act acts delivery so after holds) (walk_holds act acts delivery otherwise after holds)
   walk_holds act acts delivery (acted leaf line next) s h =
-      behind_holds (act leaf line s) (doing act delivery next) (acts leaf line s h) (λ t b. walk_holds act acts delivery next t b)
+      after_holds (act leaf line s) (doing act delivery next) (acts leaf line s h) (λ t b. walk_holds act acts delivery next t b)
 
   module _ (find : ScriptName → Lookup) where
     acts_hold : (depth : ℕ) (delivery : Delivery) → ((name : ScriptName) (once optional : Bool) (line : ℕ) (s : RunState) → Holds s → Ends (included find depth delivery name once optional line s))
@@ -198,7 +198,7 @@ module _ (Holds : RunState → Type 0) (kept : IsKept Holds) where
 
 -- what holds of no actions, and throughout a run of the actions with the commands that entered them, holds of those of a verdict
 module _ (Holds : List Origin → List Action → Type 0) (none : Holds [] []) (kept : IsKept (λ s. Holds s.origins s.actions)) where
-  verdict_holds : (e : Ending) → Holds (state_behind e).origins (state_behind e).actions → Holds (verdict_of e).origins (verdict_of e).actions
+  verdict_holds : (e : Ending) → Holds (state_after e).origins (state_after e).actions → Holds (verdict_of e).origins (verdict_of e).actions
   verdict_holds (goes_on s) h = h
   verdict_holds (returned s) h = h
   verdict_holds (stopped s) h = h
@@ -233,7 +233,7 @@ bounded = record {
   enters = λ name s few h. h;
 }
 
-ending_state : (f : Flow) (s : RunState) → state_behind (ending_by f s) ≡ s
+ending_state : (f : Flow) (s : RunState) → state_after (ending_by f s) ≡ s
 ending_state flow.GoesOn s = refl
 ending_state flow.Returned s = refl
 ending_state flow.Stopped s = refl
@@ -243,7 +243,7 @@ ending_state (flow.Failed error) s = refl
 pub run_bounded : (find : ScriptName → Lookup) (depth : ℕ) (delivery : Delivery) (w : Walk) (f : Flow) (old new : RunState) → old.actions ≡ [] → doing (act_of find depth delivery) delivery w old ≡ ending_by f new → length new.actions ≤ action_limit
 run_bounded find depth delivery w f old new none does =
     subst IsBounded (ending_state f new)
-    (subst (λ e. IsBounded (state_behind e)) does
+    (subst (λ e. IsBounded (state_after e)) does
     (running_walk_holds IsBounded bounded find depth delivery w old (subst (λ actions. length actions ≤ action_limit) (sym none) (omega arith))))
 
 pub outcome_bounded : (find : ScriptName → Lookup) (main : Option ScriptName) (arrival : Arrival) → length (outcome_of find main arrival).actions ≤ action_limit
@@ -277,7 +277,7 @@ IsShort state = length state.entered ≤ suc include_limit
 one_more : (name : ScriptName) (s : RunState) → nat_lt include_limit (length s.entered) ≡ false → length (s.entered ++ name ∷ []) ≤ suc include_limit
 one_more name s few = grind (arith, nat_tests, length_push s.entered name)
 
-performs_enters : (delivery : Delivery) (line : ℕ) (deed : Deed) (s : RunState) → (state_behind (performs delivery line deed s)).entered ≡ s.entered
+performs_enters : (delivery : Delivery) (line : ℕ) (deed : Deed) (s : RunState) → (state_after (performs delivery line deed s)).entered ≡ s.entered
 performs_enters delivery line deed s = performed_holds (λ t. t.entered ≡ s.entered) delivery line deed s refl (λ none. refl) (λ none apart room. refl)
 
 short : IsKept IsShort
@@ -290,7 +290,7 @@ short = record {
 }
 
 -- a run enters the main script and so many others at most
-pub run_short : (find : ScriptName → Lookup) (arrival : Arrival) (main : ScriptName) (tree : List Node) → length (state_behind (run_of find arrival main tree)).entered ≤ suc include_limit
+pub run_short : (find : ScriptName → Lookup) (arrival : Arrival) (main : ScriptName) (tree : List Node) → length (state_after (run_of find arrival main tree)).entered ≤ suc include_limit
 run_short find arrival main tree = running_holds IsShort short find include_depth (delivery_to arrival main) tree (begun main) (omega arith)
 
 -- the scripts that were entered begin with these
@@ -307,5 +307,5 @@ keeping front = record {
 }
 
 -- the scripts that were entered before a script runs are still the first ones when it has run
-pub run_keeps : (find : ScriptName → Lookup) (depth : ℕ) (delivery : Delivery) (tree : List Node) (state : RunState) → Keeps state.entered (state_behind (running find depth delivery tree state))
+pub run_keeps : (find : ScriptName → Lookup) (depth : ℕ) (delivery : Delivery) (tree : List Node) (state : RunState) → Keeps state.entered (state_after (running find depth delivery tree state))
 run_keeps find depth delivery tree state = running_holds (Keeps state.entered) (keeping state.entered) find depth delivery tree state ([], sym (append-nil state.entered))

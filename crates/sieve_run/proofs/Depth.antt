@@ -9,7 +9,7 @@ use Rattle.sieve_reading.specs.Tree.{Node}
 use Rattle.sieve_actions.specs.Delivery.{Arrival, Delivery, inside}
 use Rattle.sieve_run.specs.Depth.{IsDeepest, depth_left, entered_within, watched, watched_include, watched_run}
 use Rattle.sieve_run.specs.Library.{Lookup}
-use Rattle.sieve_actions.specs.Act.{Ending, goes_on, act_by, state_behind}
+use Rattle.sieve_actions.specs.Act.{Ending, goes_on, act_by, state_after}
 use Rattle.sieve_run.specs.Run.{answer_of, begun, delivery_to, exec, include_of, included, is_running, is_script, run_of, running}
 use Rattle.sieve_actions.specs.State.{RunState}
 use Rattle.script_names.specs.declared.name.ScriptName.{ScriptName}
@@ -45,7 +45,7 @@ module _ (find : ScriptName → Lookup) (delivery : Delivery) (name : ScriptName
   pub by_stack : included find (depth_left delivery) delivery name once optional line s ≡ done_by (entered_within find delivery)
   by_stack = by_room (nat_lt (length delivery.including) include_depth) refl
 
-  none_by : (skips runs_already : Bool) (fails others : Ending) → (state_behind fails).entered ≡ s.entered → (state_behind others).entered ≡ s.entered → (state_behind (if skips then goes_on s else if runs_already then fails else others)).entered ≡ s.entered
+  none_by : (skips runs_already : Bool) (fails others : Ending) → (state_after fails).entered ≡ s.entered → (state_after others).entered ≡ s.entered → (state_after (if skips then goes_on s else if runs_already then fails else others)).entered ≡ s.entered
   none_by true runs_already fails others f o = refl
   none_by false true fails others f o = f
   none_by false false fails others f o = o
@@ -54,9 +54,9 @@ module _ (find : ScriptName → Lookup) (delivery : Delivery) (name : ScriptName
   full_of deep = grind (arith, nat_tests, deep)
 
   -- an include enters no script where as many scripts include the running one as may
-  pub none_deeper : IsDeepest delivery → (state_behind (included find (depth_left delivery) delivery name once optional line s)).entered ≡ s.entered
+  pub none_deeper : IsDeepest delivery → (state_after (included find (depth_left delivery) delivery name once optional line s)).entered ≡ s.entered
   none_deeper deep =
-      ap (λ e. (state_behind e).entered) (by_room false (full_of deep))
+      ap (λ e. (state_after e).entered) (by_room false (full_of deep))
       ∙ none_by (once && is_script name s.entered) (is_running name delivery) _ _ refl refl
 
 -- A RUN THAT IS WATCHED

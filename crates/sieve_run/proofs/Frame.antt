@@ -16,7 +16,7 @@ use Rattle.sieve_actions.specs.Delivery.{Arrival, Delivery, inside}
 use Rattle.sieve_run.specs.Frame.{Agree, Texts, outcome_over}
 use Rattle.sieve_run.specs.Library.{Lookup, found_at, invalid, library_of, lookup_of, missing, present}
 use Rattle.script_names.specs.Name.{name_eq, location_eq}
-use Rattle.sieve_actions.specs.Act.{deed_of, store_deed, Ending, goes_on, returned, stopped, failed, changes, changed_flags, flags_named, held_flags, performs, fails_at, filing_of, is_mailbox, may_be_from, may_be_used, only_address, redirects, response_of, act_by, state_behind}
+use Rattle.sieve_actions.specs.Act.{deed_of, store_deed, Ending, goes_on, returned, stopped, failed, changes, changed_flags, flags_named, held_flags, performs, fails_at, filing_of, is_mailbox, may_be_from, may_be_used, only_address, redirects, response_of, act_by, state_after}
 use Rattle.sieve_run.specs.Run.{entering, included, include_of, includes, is_read, is_running, is_script, is_there, looked_up, act_of, and_then, answer_of, begun, chosen, decide, delivery_to, exec, resumed, run_of, running, verdict_at, verdict_of, outcome_of, with_found_script, with_read}
 use Rattle.sieve_actions.specs.State.{RunState}
 use Rattle.script_names.specs.declared.name.ScriptName.{ScriptName}
@@ -99,27 +99,27 @@ reads_stay s t same name r = subst (λ reads. is_read name reads ≡ true) (sym 
 
 -- WHAT COMMANDS READ THAT INCLUDE NOTHING
 
-performs_reads : (delivery : Delivery) (line : ℕ) (deed : Deed) (s : RunState) → (state_behind (performs delivery line deed s)).reads ≡ s.reads
+performs_reads : (delivery : Delivery) (line : ℕ) (deed : Deed) (s : RunState) → (state_after (performs delivery line deed s)).reads ≡ s.reads
 performs_reads delivery line deed s = performed_holds (λ t. t.reads ≡ s.reads) delivery line deed s refl (λ none. refl) (λ none apart room. refl)
 
-allowed_reads : (delivery : Delivery) (line : ℕ) (kind : ErrorKind) (deed : Deed) (s : RunState) (may : Bool) → (state_behind (if may then performs delivery line deed s else fails_at delivery line kind s)).reads ≡ s.reads
+allowed_reads : (delivery : Delivery) (line : ℕ) (kind : ErrorKind) (deed : Deed) (s : RunState) (may : Bool) → (state_after (if may then performs delivery line deed s else fails_at delivery line kind s)).reads ≡ s.reads
 allowed_reads delivery line kind deed s true = performs_reads delivery line deed s
 allowed_reads delivery line kind deed s false = refl
 
-redirected_reads : (delivery : Delivery) (line : ℕ) (address : Option (List ℕ)) (copy : Bool) (s : RunState) → (state_behind (redirects delivery line address copy s)).reads ≡ s.reads
+redirected_reads : (delivery : Delivery) (line : ℕ) (address : Option (List ℕ)) (copy : Bool) (s : RunState) → (state_after (redirects delivery line address copy s)).reads ≡ s.reads
 redirected_reads delivery line None copy s = refl
 redirected_reads delivery line (Some address) copy s = performs_reads delivery line (deed_of (Redirect address) copy) s
 
-given_reads : (delivery : Delivery) (line : ℕ) (variable : Variable) (value : List ℕ) (s : RunState) (room : Bool) → (state_behind (if room then goes_on (record s { values = with_variable variable value s.values }) else fails_at delivery line TooManyGlobals s)).reads ≡ s.reads
+given_reads : (delivery : Delivery) (line : ℕ) (variable : Variable) (value : List ℕ) (s : RunState) (room : Bool) → (state_after (if room then goes_on (record s { values = with_variable variable value s.values }) else fails_at delivery line TooManyGlobals s)).reads ≡ s.reads
 given_reads delivery line variable value s true = refl
 given_reads delivery line variable value s false = refl
 
-changed_reads : (delivery : Delivery) (line : ℕ) (how : FlagChange) (variable : Option Variable) (texts : List (List Part)) (s : RunState) → (state_behind (changes delivery line how variable texts s)).reads ≡ s.reads
+changed_reads : (delivery : Delivery) (line : ℕ) (how : FlagChange) (variable : Option Variable) (texts : List (List Part)) (s : RunState) → (state_after (changes delivery line how variable texts s)).reads ≡ s.reads
 changed_reads delivery line how None texts s = refl
 changed_reads delivery line how (Some variable) texts s =
     given_reads delivery line variable (held_flags (changed_flags how (flag_list (variable_value s.values variable)) (flags_named s texts))) s (has_room_for variable s.values)
 
-resumed_reads : (before : Values) (e : Ending) → (state_behind (resumed before e)).reads ≡ (state_behind e).reads
+resumed_reads : (before : Values) (e : Ending) → (state_after (resumed before e)).reads ≡ (state_after e).reads
 resumed_reads before (goes_on s) = refl
 resumed_reads before (returned s) = refl
 resumed_reads before (stopped s) = refl
@@ -135,22 +135,22 @@ module _ (find other : ScriptName → Lookup) where
   -- `f` over the first library keeps the names that were read, and `g` over the other does the same as `f` wherever the libraries agree on
   -- what `f` has read
   record Frames (f g : RunState → Ending) : Type 0 where
-    grows : (s : RunState) → Grows s (state_behind (f s))
-    same : (s : RunState) → AgreeOn (state_behind (f s)).reads → g s ≡ f s
+    grows : (s : RunState) → Grows s (state_after (f s))
+    same : (s : RunState) → AgreeOn (state_after (f s)).reads → g s ≡ f s
 
   -- what reads no name does the same over both libraries
-  own_frames : (f : RunState → Ending) → ((s : RunState) → (state_behind (f s)).reads ≡ s.reads) → Frames f f
-  own_frames f stay = record { grows = λ s. reads_stay s (state_behind (f s)) (stay s); same = λ s agree. refl }
+  own_frames : (f : RunState → Ending) → ((s : RunState) → (state_after (f s)).reads ≡ s.reads) → Frames f f
+  own_frames f stay = record { grows = λ s. reads_stay s (state_after (f s)) (stay s); same = λ s agree. refl }
 
   -- COMMANDS IN TURN
 
-  then_grows : (e : Ending) (h k : RunState → Ending) → Frames h k → Grows (state_behind e) (state_behind (and_then e h))
+  then_grows : (e : Ending) (h k : RunState → Ending) → Frames h k → Grows (state_after e) (state_after (and_then e h))
   then_grows (goes_on t) h k second = second.grows t
   then_grows (returned t) h k second = λ name r. r
   then_grows (stopped t) h k second = λ name r. r
   then_grows (failed error t) h k second = λ name r. r
 
-  then_same : (e e' : Ending) (h k : RunState → Ending) → Frames h k → (AgreeOn (state_behind e).reads → e' ≡ e) → AgreeOn (state_behind (and_then e h)).reads → and_then e' k ≡ and_then e h
+  then_same : (e e' : Ending) (h k : RunState → Ending) → Frames h k → (AgreeOn (state_after e).reads → e' ≡ e) → AgreeOn (state_after (and_then e h)).reads → and_then e' k ≡ and_then e h
   then_same (goes_on t) e' h k second is agree = ap (λ x. and_then x k) (is (λ name r. agree name (second.grows t name r))) ∙ second.same t agree
   then_same (returned t) e' h k second is agree = ap (λ x. and_then x k) (is agree)
   then_same (stopped t) e' h k second is agree = ap (λ x. and_then x k) (is agree)
@@ -162,11 +162,11 @@ module _ (find other : ScriptName → Lookup) where
     same = λ s agree. then_same (f s) (g s) h k second (first.same s) agree;
   }
 
-  chosen_grows : (truth : Bool) (f g h k : RunState → Ending) → Frames f g → Frames h k → (s : RunState) → Grows s (state_behind (chosen truth f h s))
+  chosen_grows : (truth : Bool) (f g h k : RunState → Ending) → Frames f g → Frames h k → (s : RunState) → Grows s (state_after (chosen truth f h s))
   chosen_grows true f g h k first second s = first.grows s
   chosen_grows false f g h k first second s = second.grows s
 
-  chosen_same : (truth : Bool) (f g h k : RunState → Ending) → Frames f g → Frames h k → (s : RunState) → AgreeOn (state_behind (chosen truth f h s)).reads → chosen truth g k s ≡ chosen truth f h s
+  chosen_same : (truth : Bool) (f g h k : RunState → Ending) → Frames f g → Frames h k → (s : RunState) → AgreeOn (state_after (chosen truth f h s)).reads → chosen truth g k s ≡ chosen truth f h s
   chosen_same true f g h k first second s agree = first.same s agree
   chosen_same false f g h k first second s agree = second.same s agree
 
@@ -201,21 +201,21 @@ module _ (find other : ScriptName → Lookup) where
   Enter = List Node → RunState → Ending
 
   module _ (delivery : Delivery) (optional : Bool) (line : ℕ) (enter enter' : Enter) (name : ScriptName) where
-    optional_grows : (b : Bool) (t : RunState) → Grows t (state_behind (with_found_script delivery b line enter name missing t))
+    optional_grows : (b : Bool) (t : RunState) → Grows t (state_after (with_found_script delivery b line enter name missing t))
     optional_grows true t = λ n r. r
     optional_grows false t = λ n r. r
 
-    found_grows : ((tree : List Node) → Frames (enter tree) (enter' tree)) → (lookup : Lookup) (t : RunState) → Grows t (state_behind (with_found_script delivery optional line enter name lookup t))
+    found_grows : ((tree : List Node) → Frames (enter tree) (enter' tree)) → (lookup : Lookup) (t : RunState) → Grows t (state_after (with_found_script delivery optional line enter name lookup t))
     found_grows frames missing t = optional_grows optional t
     found_grows frames invalid t = λ n r. r
     found_grows frames (present tree) t = λ n r.
-        reads_stay (state_behind (enter tree (entering name t))) (state_behind (resumed t.values (enter tree (entering name t)))) (resumed_reads t.values (enter tree (entering name t))) n ((frames tree).grows (entering name t) n r)
+        reads_stay (state_after (enter tree (entering name t))) (state_after (resumed t.values (enter tree (entering name t)))) (resumed_reads t.values (enter tree (entering name t))) n ((frames tree).grows (entering name t) n r)
 
-    found_same : ((tree : List Node) → Frames (enter tree) (enter' tree)) → (lookup : Lookup) (t : RunState) → AgreeOn (state_behind (with_found_script delivery optional line enter name lookup t)).reads → with_found_script delivery optional line enter' name lookup t ≡ with_found_script delivery optional line enter name lookup t
+    found_same : ((tree : List Node) → Frames (enter tree) (enter' tree)) → (lookup : Lookup) (t : RunState) → AgreeOn (state_after (with_found_script delivery optional line enter name lookup t)).reads → with_found_script delivery optional line enter' name lookup t ≡ with_found_script delivery optional line enter name lookup t
     found_same frames missing t agree = refl
     found_same frames invalid t agree = refl
     found_same frames (present tree) t agree =
-        ap (resumed t.values) ((frames tree).same (entering name t) (λ n r. agree n (reads_stay (state_behind (enter tree (entering name t))) (state_behind (resumed t.values (enter tree (entering name t)))) (resumed_reads t.values (enter tree (entering name t))) n r)))
+        ap (resumed t.values) ((frames tree).same (entering name t) (λ n r. agree n (reads_stay (state_after (enter tree (entering name t))) (state_after (resumed t.values (enter tree (entering name t)))) (resumed_reads t.values (enter tree (entering name t))) n r)))
 
     -- what is found at a name is the same where the libraries agree on it
     same_found : find name ≡ other name → found_at find name ≡ found_at other name
@@ -224,7 +224,7 @@ module _ (find other : ScriptName → Lookup) where
     abbrev does : Enter → Lookup → RunState → Ending
     does one lookup s = with_found_script delivery optional line one name lookup (looked_up name lookup s)
 
-    lookup_grows : ((tree : List Node) → Frames (enter tree) (enter' tree)) → (s : RunState) (n : ScriptName) → is_read n (looked_up name (found_at find name) s).reads ≡ true → is_read n (state_behind (does enter (found_at find name) s)).reads ≡ true
+    lookup_grows : ((tree : List Node) → Frames (enter tree) (enter' tree)) → (s : RunState) (n : ScriptName) → is_read n (looked_up name (found_at find name) s).reads ≡ true → is_read n (state_after (does enter (found_at find name) s)).reads ≡ true
     lookup_grows frames s n r = found_grows frames (found_at find name) (looked_up name (found_at find name) s) n r
 
     lookup_frames : ((tree : List Node) → Frames (enter tree) (enter' tree)) → Frames (does enter (found_at find name)) (does enter' (found_at other name))
@@ -242,11 +242,11 @@ module _ (find other : ScriptName → Lookup) where
     same = λ s. by_same (test s) s;
   }
     where
-      by_grows : (b : Bool) (s : RunState) → Grows s (state_behind (if b then f s else h s))
+      by_grows : (b : Bool) (s : RunState) → Grows s (state_after (if b then f s else h s))
       by_grows true s = first.grows s
       by_grows false s = second.grows s
 
-      by_same : (b : Bool) (s : RunState) → AgreeOn (state_behind (if b then f s else h s)).reads → (if b then g s else k s) ≡ (if b then f s else h s)
+      by_same : (b : Bool) (s : RunState) → AgreeOn (state_after (if b then f s else h s)).reads → (if b then g s else k s) ≡ (if b then f s else h s)
       by_same true s agree = first.same s agree
       by_same false s agree = second.same s agree
 
@@ -304,7 +304,7 @@ module _ (find other : ScriptName → Lookup) where
 
   -- VERDICTS
 
-  verdict_reads : (e : Ending) → (verdict_of e).reads ≡ (state_behind e).reads
+  verdict_reads : (e : Ending) → (verdict_of e).reads ≡ (state_after e).reads
   verdict_reads (goes_on s) = refl
   verdict_reads (returned s) = refl
   verdict_reads (stopped s) = refl

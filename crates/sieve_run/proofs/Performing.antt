@@ -67,19 +67,19 @@ module _ (ask : Ask → RunState → Answer) (act : Leaf → ℕ → RunState �
   by_commands (acts leaf line rest) next s =
       in_turn (act leaf line s) (exec ask act rest) (perform ask act next) (perform ask act (commands_walk rest next)) (by_commands rest next)
   by_commands (chooses condition block otherwise rest) next s =
-      let behind : (e : Ending) → and_then e (perform ask act (commands_walk rest next)) ≡ and_then (and_then e (exec ask act rest)) (perform ask act next) = λ e. in_turn e (exec ask act rest) (perform ask act next) (perform ask act (commands_walk rest next)) (by_commands rest next)
+      let after : (e : Ending) → and_then e (perform ask act (commands_walk rest next)) ≡ and_then (and_then e (exec ask act rest)) (perform ask act next) = λ e. in_turn e (exec ask act rest) (perform ask act next) (perform ask act (commands_walk rest next)) (by_commands rest next)
       in by_condition condition (commands_walk block (commands_walk rest next)) (commands_walk otherwise (commands_walk rest next)) s
       ∙ choice_by (perform ask act (commands_walk block (commands_walk rest next))) (perform ask act (commands_walk otherwise (commands_walk rest next))) (exec ask act block) (exec ask act otherwise) (exec ask act rest) (perform ask act next)
-      (λ t. by_commands block (commands_walk rest next) t ∙ behind (exec ask act block t))
-      (λ t. by_commands otherwise (commands_walk rest next) t ∙ behind (exec ask act otherwise t))
+      (λ t. by_commands block (commands_walk rest next) t ∙ after (exec ask act block t))
+      (λ t. by_commands otherwise (commands_walk rest next) t ∙ after (exec ask act otherwise t))
       (decide ask condition s).truth (decide ask condition s).state
 
-  nothing_behind : (e : Ending) → and_then e (perform ask act at_end) ≡ e
+  nothing_after : (e : Ending) → and_then e (perform ask act at_end) ≡ e
   unfolding perform
-  nothing_behind (goes_on s) = refl
-  nothing_behind (returned s) = refl
-  nothing_behind (stopped s) = refl
-  nothing_behind (failed error s) = refl
+  nothing_after (goes_on s) = refl
+  nothing_after (returned s) = refl
+  nothing_after (stopped s) = refl
+  nothing_after (failed error s) = refl
 
   by_truth : (a : Ask) (so otherwise : Walk) (s : RunState) → ((t : RunState) → perform ask act so t ≡ do_gone ask act (gone so (answers_of ask act so t)) t) → ((t : RunState) → perform ask act otherwise t ≡ do_gone ask act (gone otherwise (answers_of ask act otherwise t)) t) → (truth : Bool) →
       chosen truth (perform ask act so) (perform ask act otherwise) (ask a s).state
@@ -90,10 +90,10 @@ module _ (ask : Ask → RunState → Answer) (act : Leaf → ℕ → RunState �
 
   by_leaf : (leaf : Leaf) (line : ℕ) (next : Walk) (s : RunState) → ((t : RunState) → perform ask act next t ≡ do_gone ask act (gone next (answers_of ask act next t)) t) → (e : Ending) →
       and_then e (perform ask act next) ≡ and_then (and_then e (do_met ask act (gone next (answers_after e (answers_of ask act next))).met)) (end_of (gone next (answers_after e (answers_of ask act next))).ending)
-  by_leaf leaf line next s behind (goes_on t) = behind t
-  by_leaf leaf line next s behind (returned t) = refl
-  by_leaf leaf line next s behind (stopped t) = refl
-  by_leaf leaf line next s behind (failed error t) = refl
+  by_leaf leaf line next s after (goes_on t) = after t
+  by_leaf leaf line next s after (returned t) = refl
+  by_leaf leaf line next s after (stopped t) = refl
+  by_leaf leaf line next s after (failed error t) = refl
 
   -- doing a walk is doing what is met on it with the truths of its tests for answers
   does_gone : (w : Walk) (s : RunState) → perform ask act w s ≡ do_gone ask act (gone w (answers_of ask act w s)) s
@@ -106,7 +106,7 @@ module _ (ask : Ask → RunState → Answer) (act : Leaf → ℕ → RunState �
   does_gone (acted leaf line next) s = by_leaf leaf line next s (does_gone next) (act leaf line s)
 
   pub does_walk : (tree : List Node) (s : RunState) → exec ask act (script_of tree) s ≡ perform ask act (tree_walk tree) s
-  does_walk tree s = sym (by_commands (script_of tree) at_end s ∙ nothing_behind (exec ask act (script_of tree) s))
+  does_walk tree s = sym (by_commands (script_of tree) at_end s ∙ nothing_after (exec ask act (script_of tree) s))
 
   pub does_met : (tree : List Node) (s : RunState) → exec ask act (script_of tree) s ≡ do_gone ask act (gone (tree_walk tree) (answers_of ask act (tree_walk tree) s)) s
   does_met tree s = does_walk tree s ∙ does_gone (tree_walk tree) s

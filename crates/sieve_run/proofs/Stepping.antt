@@ -9,7 +9,7 @@ use Rattle.sieve_code.specs.Operation.{Operation, test_op, act_op, stop_op, retu
 use Rattle.sieve_code.specs.Walk as walk
 use Rattle.sieve_code.specs.Walk.{Walk, at_limit, code_walk, walk_from}
 use Rattle.sieve_actions.specs.Delivery.{Delivery}
-use Rattle.sieve_matching.specs.Matching.{behind_test, truth_of, values_behind}
+use Rattle.sieve_matching.specs.Matching.{after_test, truth_of, values_after}
 use Rattle.sieve_run.specs.Perform.{perform}
 use Rattle.sieve_actions.specs.Act.{goes_on}
 use Rattle.sieve_run.specs.Run.{and_then, chosen}
@@ -30,49 +30,49 @@ one_more below = omega arith
 
 module _ (act : Acts) (delivery : Delivery) where
   -- going on at the place after an operation is going on at the next place, with the same truth in the register
-  on_behind : (go : ℕ → Bool → Walk) (truth : Bool) (behind place : ℕ) (s : RunState) → behind ≡ place + 1 → doing act delivery (go (place + 1) truth) s ≡ doing act delivery (go behind truth) s
-  on_behind go truth behind place s is = ap (λ b. doing act delivery (go b truth) s) (sym is)
+  on_after : (go : ℕ → Bool → Walk) (truth : Bool) (after place : ℕ) (s : RunState) → after ≡ place + 1 → doing act delivery (go (place + 1) truth) s ≡ doing act delivery (go after truth) s
+  on_after go truth after place s is = ap (λ b. doing act delivery (go b truth) s) (sym is)
 
   by_answer : (truth : Bool) (f : Bool → Walk) (s : RunState) → chosen truth (doing act delivery (f true)) (doing act delivery (f false)) s ≡ doing act delivery (f truth) s
   by_answer true f s = refl
   by_answer false f s = refl
 
   -- a test that comes to a truth, and leaves a state, goes on at the place after with that truth in the register
-  pub asks_steps : (ask : Ask) (truth : Bool) (behind : ℕ) (register : Bool) (old new : RunState) → truth ≡ truth_of delivery old ask → new ≡ behind_test delivery ask old → StepsTo act delivery (test_op ask) behind register old (Next behind truth) new
+  pub asks_steps : (ask : Ask) (truth : Bool) (after : ℕ) (register : Bool) (old new : RunState) → truth ≡ truth_of delivery old ask → new ≡ after_test delivery ask old → StepsTo act delivery (test_op ask) after register old (Next after truth) new
   unfolding perform
-  asks_steps ask truth behind register old new is moves = record {
+  asks_steps ask truth after register old new is moves = record {
     before = λ place go at.
-        by_answer (truth_of delivery old ask) (go (place + 1)) (behind_test delivery ask old)
-        ∙ sym (ap (λ t. doing act delivery (go (place + 1) t) (behind_test delivery ask old)) is)
+        by_answer (truth_of delivery old ask) (go (place + 1)) (after_test delivery ask old)
+        ∙ sym (ap (λ t. doing act delivery (go (place + 1) t) (after_test delivery ask old)) is)
         ∙ sym (ap (λ s. doing act delivery (go (place + 1) truth) s) moves)
-        ∙ on_behind go truth behind place new at;
+        ∙ on_after go truth after place new at;
   }
 
   -- what follows a command, by how the command ended
-  by_flow : (flow : Flow) (go : ℕ → Bool → Walk) (behind place : ℕ) (register : Bool) (new : RunState) → behind ≡ place + 1 → and_then (ending_by flow new) (doing act delivery (go (place + 1) register)) ≡ doing_after act delivery go (step_after flow behind register) new
-  by_flow GoesOn go behind place register new at = on_behind go register behind place new at
-  by_flow flow.Returned go behind place register new at = refl
-  by_flow flow.Stopped go behind place register new at = refl
-  by_flow (flow.Failed error) go behind place register new at = refl
+  by_flow : (flow : Flow) (go : ℕ → Bool → Walk) (after place : ℕ) (register : Bool) (new : RunState) → after ≡ place + 1 → and_then (ending_by flow new) (doing act delivery (go (place + 1) register)) ≡ doing_after act delivery go (step_after flow after register) new
+  by_flow GoesOn go after place register new at = on_after go register after place new at
+  by_flow flow.Returned go after place register new at = refl
+  by_flow flow.Stopped go after place register new at = refl
+  by_flow (flow.Failed error) go after place register new at = refl
 
-  pub acts_steps : (leaf : Leaf) (line behind : ℕ) (register : Bool) (flow : Flow) (step : Step) (old new : RunState) → step ≡ step_after flow behind register → ending_by flow new ≡ act leaf line old → StepsTo act delivery (act_op leaf line) behind register old step new
+  pub acts_steps : (leaf : Leaf) (line after : ℕ) (register : Bool) (flow : Flow) (step : Step) (old new : RunState) → step ≡ step_after flow after register → ending_by flow new ≡ act leaf line old → StepsTo act delivery (act_op leaf line) after register old step new
   unfolding perform
-  acts_steps leaf line behind register flow step old new to does = record {
+  acts_steps leaf line after register flow step old new to does = record {
     before = λ place go at.
         sym (ap (λ e. and_then e (doing act delivery (go (place + 1) register))) does)
-        ∙ by_flow flow go behind place register new at
+        ∙ by_flow flow go after place register new at
         ∙ sym (ap (λ s. doing_after act delivery go s new) to);
   }
 
   -- WHERE A CALL MAY RUN OUT OF MEMORY
 
-  pub asks_follow : {E : Type 0} (ask : Ask) (op : Operation) (called : Result Bool E) (step : Result Step E) (behind : ℕ) (register : Bool) (old new : RunState) → op ≡ test_op ask
-      → IfOk called (λ truth. truth ≡ truth_of delivery old ask) → IfOk called (λ _. new ≡ behind_test delivery ask old) → IfOk step (Follows called (λ truth. Next behind truth))
-      → IfOk step (λ taken. StepsTo act delivery op behind register old taken new)
-  asks_follow ask op called step behind register old new is truth moves follows = IfOk-weaker step (Follows called (λ truth. Next behind truth)) _
-      (λ taken f. subst (λ o. StepsTo act delivery o behind register old taken new) (sym is)
-      (subst (λ r. StepsTo act delivery (test_op ask) behind register old r new) (sym f.2)
-      (asks_steps ask f.0 behind register old new (IfOk-at_ok (λ t. t ≡ truth_of delivery old ask) f.1 truth) (IfOk-at_ok (λ _. new ≡ behind_test delivery ask old) f.1 moves))))
+  pub asks_follow : {E : Type 0} (ask : Ask) (op : Operation) (called : Result Bool E) (step : Result Step E) (after : ℕ) (register : Bool) (old new : RunState) → op ≡ test_op ask
+      → IfOk called (λ truth. truth ≡ truth_of delivery old ask) → IfOk called (λ _. new ≡ after_test delivery ask old) → IfOk step (Follows called (λ truth. Next after truth))
+      → IfOk step (λ taken. StepsTo act delivery op after register old taken new)
+  asks_follow ask op called step after register old new is truth moves follows = IfOk-weaker step (Follows called (λ truth. Next after truth)) _
+      (λ taken f. subst (λ o. StepsTo act delivery o after register old taken new) (sym is)
+      (subst (λ r. StepsTo act delivery (test_op ask) after register old r new) (sym f.2)
+      (asks_steps ask f.0 after register old new (IfOk-at_ok (λ t. t ≡ truth_of delivery old ask) f.1 truth) (IfOk-at_ok (λ _. new ≡ after_test delivery ask old) f.1 moves))))
       follows
 
   -- a test that sets no match variables leaves the state
@@ -80,38 +80,38 @@ module _ (act : Acts) (delivery : Delivery) where
   still (Ok truth) old new same = same
   still (Err error) old new same = tt
 
-  pub exists_follow : {E : Type 0} (names : List (List Part)) (op : Operation) (called : Result Bool E) (step : Result Step E) (behind : ℕ) (register : Bool) (s : RunState) → op ≡ test_op (exists_ask names)
-      → IfOk called (λ truth. truth ≡ truth_of delivery s (exists_ask names)) → IfOk step (Follows called (λ truth. Next behind truth))
-      → IfOk step (λ taken. StepsTo act delivery op behind register s taken s)
-  unfolding values_behind
-  exists_follow names op called step behind register s is truth follows = asks_follow (exists_ask names) op called step behind register s s is truth (still called s s refl) follows
+  pub exists_follow : {E : Type 0} (names : List (List Part)) (op : Operation) (called : Result Bool E) (step : Result Step E) (after : ℕ) (register : Bool) (s : RunState) → op ≡ test_op (exists_ask names)
+      → IfOk called (λ truth. truth ≡ truth_of delivery s (exists_ask names)) → IfOk step (Follows called (λ truth. Next after truth))
+      → IfOk step (λ taken. StepsTo act delivery op after register s taken s)
+  unfolding values_after
+  exists_follow names op called step after register s is truth follows = asks_follow (exists_ask names) op called step after register s s is truth (still called s s refl) follows
 
-  pub mailboxes_follow : {E : Type 0} (names : List (List Part)) (op : Operation) (called : Result Bool E) (step : Result Step E) (behind : ℕ) (register : Bool) (s : RunState) → op ≡ test_op (mailboxes_ask names)
-      → IfOk called (λ truth. truth ≡ truth_of delivery s (mailboxes_ask names)) → IfOk step (Follows called (λ truth. Next behind truth))
-      → IfOk step (λ taken. StepsTo act delivery op behind register s taken s)
-  unfolding values_behind
-  mailboxes_follow names op called step behind register s is truth follows = asks_follow (mailboxes_ask names) op called step behind register s s is truth (still called s s refl) follows
+  pub mailboxes_follow : {E : Type 0} (names : List (List Part)) (op : Operation) (called : Result Bool E) (step : Result Step E) (after : ℕ) (register : Bool) (s : RunState) → op ≡ test_op (mailboxes_ask names)
+      → IfOk called (λ truth. truth ≡ truth_of delivery s (mailboxes_ask names)) → IfOk step (Follows called (λ truth. Next after truth))
+      → IfOk step (λ taken. StepsTo act delivery op after register s taken s)
+  unfolding values_after
+  mailboxes_follow names op called step after register s is truth follows = asks_follow (mailboxes_ask names) op called step after register s s is truth (still called s s refl) follows
 
-  pub size_steps : (ask : Ask) (op : Operation) (truth : Bool) (step : Step) (behind : ℕ) (register : Bool) (s : RunState) → op ≡ test_op ask → truth ≡ truth_of delivery s ask → s ≡ behind_test delivery ask s → step ≡ Next behind truth → StepsTo act delivery op behind register s step s
-  size_steps ask op truth step behind register s is says stays to =
-      subst (λ o. StepsTo act delivery o behind register s step s) (sym is)
-      (subst (λ r. StepsTo act delivery (test_op ask) behind register s r s) (sym to) (asks_steps ask truth behind register s s says stays))
+  pub size_steps : (ask : Ask) (op : Operation) (truth : Bool) (step : Step) (after : ℕ) (register : Bool) (s : RunState) → op ≡ test_op ask → truth ≡ truth_of delivery s ask → s ≡ after_test delivery ask s → step ≡ Next after truth → StepsTo act delivery op after register s step s
+  size_steps ask op truth step after register s is says stays to =
+      subst (λ o. StepsTo act delivery o after register s step s) (sym is)
+      (subst (λ r. StepsTo act delivery (test_op ask) after register s r s) (sym to) (asks_steps ask truth after register s s says stays))
 
-  pub acts_follow : {E : Type 0} (leaf : Leaf) (line : ℕ) (op : Operation) (called : Result Flow E) (step : Result Step E) (behind : ℕ) (register : Bool) (old new : RunState) → op ≡ act_op leaf line
-      → IfOk called (λ flow. ending_by flow new ≡ act leaf line old) → IfOk step (Follows called (λ flow. step_after flow behind register))
-      → IfOk step (λ taken. StepsTo act delivery op behind register old taken new)
-  acts_follow leaf line op called step behind register old new is does follows = IfOk-weaker step (Follows called (λ flow. step_after flow behind register)) _
-      (λ taken f. subst (λ o. StepsTo act delivery o behind register old taken new) (sym is)
-      (acts_steps leaf line behind register f.0 taken old new f.2 (IfOk-at_ok (λ flow. ending_by flow new ≡ act leaf line old) f.1 does)))
+  pub acts_follow : {E : Type 0} (leaf : Leaf) (line : ℕ) (op : Operation) (called : Result Flow E) (step : Result Step E) (after : ℕ) (register : Bool) (old new : RunState) → op ≡ act_op leaf line
+      → IfOk called (λ flow. ending_by flow new ≡ act leaf line old) → IfOk step (Follows called (λ flow. step_after flow after register))
+      → IfOk step (λ taken. StepsTo act delivery op after register old taken new)
+  acts_follow leaf line op called step after register old new is does follows = IfOk-weaker step (Follows called (λ flow. step_after flow after register)) _
+      (λ taken f. subst (λ o. StepsTo act delivery o after register old taken new) (sym is)
+      (acts_steps leaf line after register f.0 taken old new f.2 (IfOk-at_ok (λ flow. ending_by flow new ≡ act leaf line old) f.1 does)))
       follows
 
-  pub stop_steps : (behind : ℕ) (register : Bool) (s : RunState) → StepsTo act delivery stop_op behind register s (Ended flow.Stopped) s
+  pub stop_steps : (after : ℕ) (register : Bool) (s : RunState) → StepsTo act delivery stop_op after register s (Ended flow.Stopped) s
   unfolding perform
-  stop_steps behind register s = record { before = λ place go is. refl }
+  stop_steps after register s = record { before = λ place go is. refl }
 
-  pub return_steps : (behind : ℕ) (register : Bool) (s : RunState) → StepsTo act delivery return_op behind register s (Ended flow.Returned) s
+  pub return_steps : (after : ℕ) (register : Bool) (s : RunState) → StepsTo act delivery return_op after register s (Ended flow.Returned) s
   unfolding perform
-  return_steps behind register s = record { before = λ place go is. refl }
+  return_steps after register s = record { before = λ place go is. refl }
 
   -- CODE FROM A PLACE ON
 

@@ -6,7 +6,7 @@ use Rattle.sieve_reading.specs.declared.reading.MatchType.{MatchType}
 use Rattle.sieve_reading.specs.declared.reading.MatchType.TheVariants.{Is, Contains, Matches, Value, Count}
 use Rattle.sieve_reading.specs.Script.{Condition, always, never, asks, negated, both, either, Commands, stops, returns}
 use Rattle.sieve_actions.specs.Delivery.{Delivery}
-use Rattle.sieve_matching.specs.Matching.{behind_test, match_found, sets_matched, values_behind, with_found}
+use Rattle.sieve_matching.specs.Matching.{after_test, match_found, sets_matched, values_after, with_found}
 use Rattle.sieve_actions.specs.Act.{Ending, returned, stopped}
 use Rattle.sieve_run.specs.Run.{SetsMatched, Answer, and_then, answer_of, also, or_else, decide, exec}
 use Rattle.sieve_actions.specs.State.{RunState}
@@ -40,8 +40,8 @@ found_in_keeps : (sets : Bool) (match_type : MatchType) (found : Option (List (L
 found_in_keeps true match_type found state = found_keeps match_type found state
 found_in_keeps false match_type found state = (state.values.matched, refl)
 
-ask_keeps : (delivery : Delivery) (ask : Ask) (state : RunState) → SetsMatched state (behind_test delivery ask state)
-unfolding values_behind
+ask_keeps : (delivery : Delivery) (ask : Ask) (state : RunState) → SetsMatched state (after_test delivery ask state)
+unfolding values_after
 ask_keeps delivery (compares source comparison keys) state = found_in_keeps (sets_matched source) comparison.match_type (match_found delivery state source comparison keys) state
 ask_keeps delivery (exists_ask names) state = (state.values.matched, refl)
 ask_keeps delivery (over_ask limit) state = (state.values.matched, refl)
@@ -62,11 +62,11 @@ decide_keeps delivery (either c d) state =
     or_else_keeps (decide (answer_of delivery) c state).truth (decide (answer_of delivery) d) state (decide (answer_of delivery) c state).state (decide_keeps delivery d) (decide_keeps delivery c state)
 
 -- nothing after a stop is run
-pub stop_ends : (ask : Ask → RunState → Answer) (act : Leaf → ℕ → RunState → Ending) (rest : Commands) (behind : RunState → Ending) (state : RunState) → and_then (exec ask act (stops rest) state) behind ≡ stopped state
+pub stop_ends : (ask : Ask → RunState → Answer) (act : Leaf → ℕ → RunState → Ending) (rest : Commands) (after : RunState → Ending) (state : RunState) → and_then (exec ask act (stops rest) state) after ≡ stopped state
 unfolding exec
-stop_ends ask act rest behind state = refl
+stop_ends ask act rest after state = refl
 
 -- nothing after a return is run
-pub return_ends : (ask : Ask → RunState → Answer) (act : Leaf → ℕ → RunState → Ending) (rest : Commands) (behind : RunState → Ending) (state : RunState) → and_then (exec ask act (returns rest) state) behind ≡ returned state
+pub return_ends : (ask : Ask → RunState → Answer) (act : Leaf → ℕ → RunState → Ending) (rest : Commands) (after : RunState → Ending) (state : RunState) → and_then (exec ask act (returns rest) state) after ≡ returned state
 unfolding exec
-return_ends ask act rest behind state = refl
+return_ends ask act rest after state = refl

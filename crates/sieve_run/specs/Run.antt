@@ -9,7 +9,7 @@ use Rattle.script_names.specs.declared.name.ScriptName.{ScriptName}
 use Rattle.sieve_actions.specs.Act.{Ending, goes_on, returned, stopped, failed, fails_at, act_by}
 use Rattle.sieve_actions.specs.declared.error.ErrorKind.TheVariants.{MissingScript, InvalidScript, RecursiveInclude, IncludeDepth, IncludeCount}
 use Rattle.sieve_actions.specs.Delivery.{Arrival, Delivery, inside}
-use Rattle.sieve_matching.specs.Matching.{behind_test, truth_of}
+use Rattle.sieve_matching.specs.Matching.{after_test, truth_of}
 use Rattle.sieve_run.specs.Library.{Lookup, missing, invalid, present, found_at}
 use Rattle.script_names.specs.Name.{name_eq}
 use Rattle.sieve_actions.specs.State.{RunState}
@@ -32,7 +32,7 @@ pub record Answer : Type 0 where
 
 -- what a test asks of the delivery
 abbrev pub answer_of : Delivery → Ask → RunState → Answer
-answer_of delivery ask state = record { truth = truth_of delivery state ask; state = behind_test delivery ask state }
+answer_of delivery ask state = record { truth = truth_of delivery state ask; state = after_test delivery ask state }
 
 -- a state is another one but for what a match gave
 abbrev pub SetsMatched : RunState → RunState → Type 0

@@ -4,7 +4,7 @@ ghost use Rattle.std.specs.List.{flat_map};
 ghost use Rattle.std.specs.Option.{option_copied};
 ghost use Rattle.devices.specs.Writers.{octet_spelling, quoted, name_text, piece_text, pieces_text};
 ghost use Rattle.sieve_run.specs.Lines as spec;
-ghost use Rattle.sieve_run.specs.view.Left.{behind_front, is_whole, left_says};
+ghost use Rattle.sieve_run.specs.view.Left.{after_front, is_whole, left_says};
 
 use crate::response_agreement::{skip_reject, skip_response};
 use devices::Piece;
@@ -17,14 +17,14 @@ use sieve_actions::{Action, Filing, RunError};
 
 /// What follows these octets, where the text begins with them.
 pub(crate) fn skip_octets<'a>(text: &'a [u8], octets: &[u8]) -> Option<&'a [u8]>
-    ensures { option_copied result ≡ behind_front octets.now text.now }
+    ensures { option_copied result ≡ after_front octets.now text.now }
 {
     text.strip_prefix(octets)
 }
 
 /// What follows an octet as it stands between quotes.
 fn skip_spelling(text: &[u8], octet: u8) -> Option<&[u8]>
-    ensures { option_copied result ≡ behind_front (octet_spelling octet) text.now }
+    ensures { option_copied result ≡ after_front (octet_spelling octet) text.now }
 {
     match octet {
         b'"' | b'\\' => skip_octets(text, &[b'\\', octet]),
@@ -39,7 +39,7 @@ fn skip_spelling(text: &[u8], octet: u8) -> Option<&[u8]>
 /// What follows octets as they stand between quotes.
 #[tactic(auto, using(crate::proofs::Left::left))]
 fn skip_spelled<'a>(text: &'a [u8], octets: &[u8]) -> Option<&'a [u8]>
-    ensures { option_copied result ≡ behind_front (flat_map octet_spelling octets.now) text.now }
+    ensures { option_copied result ≡ after_front (flat_map octet_spelling octets.now) text.now }
 {
     let mut left = text;
     for octet in octets {
@@ -51,7 +51,7 @@ fn skip_spelled<'a>(text: &'a [u8], octets: &[u8]) -> Option<&'a [u8]>
 /// What follows octets in their quoted form.
 #[tactic(auto, using(crate::proofs::Left::left), unfolding(devices::specs::Writers::quoted))]
 fn skip_quoted<'a>(text: &'a [u8], octets: &[u8]) -> Option<&'a [u8]>
-    ensures { option_copied result ≡ behind_front (quoted octets.now) text.now }
+    ensures { option_copied result ≡ after_front (quoted octets.now) text.now }
 {
     let left = skip_octets(text, b"\"")?;
     let left = skip_spelled(left, octets)?;
@@ -61,7 +61,7 @@ fn skip_quoted<'a>(text: &'a [u8], octets: &[u8]) -> Option<&'a [u8]>
 /// What follows the name of a script.
 #[tactic(auto, using(crate::proofs::Left::left), unfolding(devices::specs::Writers::name_text))]
 fn skip_name<'a>(text: &'a [u8], name: &ScriptName) -> Option<&'a [u8]>
-    ensures { option_copied result ≡ behind_front (name_text name.now) text.now }
+    ensures { option_copied result ≡ after_front (name_text name.now) text.now }
 {
     let left = skip_octets(text, name.location.word())?;
     let left = skip_octets(left, b" ")?;
@@ -70,7 +70,7 @@ fn skip_name<'a>(text: &'a [u8], name: &ScriptName) -> Option<&'a [u8]>
 
 /// What follows a piece.
 fn skip_piece<'a>(text: &'a [u8], piece: &Piece<'_>) -> Option<&'a [u8]>
-    ensures { option_copied result ≡ behind_front (piece_text piece.now) text.now }
+    ensures { option_copied result ≡ after_front (piece_text piece.now) text.now }
 {
     match piece {
         Piece::Raw(octets) => skip_octets(text, octets),
@@ -83,7 +83,7 @@ fn skip_piece<'a>(text: &'a [u8], piece: &Piece<'_>) -> Option<&'a [u8]>
 /// What follows pieces in turn.
 #[tactic(auto, using(crate::proofs::Left::left))]
 pub(crate) fn skip_pieces<'a>(text: &'a [u8], pieces: &[Piece<'_>]) -> Option<&'a [u8]>
-    ensures { option_copied result ≡ behind_front (pieces_text pieces.now) text.now }
+    ensures { option_copied result ≡ after_front (pieces_text pieces.now) text.now }
 {
     let mut left = text;
     for piece in pieces {
@@ -94,7 +94,7 @@ pub(crate) fn skip_pieces<'a>(text: &'a [u8], pieces: &[Piece<'_>]) -> Option<&'
 
 /// What follows a text after a space.
 pub(crate) fn skip_spaced<'a>(text: &'a [u8], word: &[u8]) -> Option<&'a [u8]>
-    ensures { option_copied result ≡ behind_front (spec.spaced_word word.now) text.now }
+    ensures { option_copied result ≡ after_front (spec.spaced_word word.now) text.now }
 {
     skip_pieces(text, &[Piece::Raw(b" "), Piece::Quoted(word)])
 }
@@ -102,7 +102,7 @@ pub(crate) fn skip_spaced<'a>(text: &'a [u8], word: &[u8]) -> Option<&'a [u8]>
 /// What follows flags, each after a space.
 #[tactic(auto, using(crate::proofs::Left::left))]
 fn skip_flags<'a>(text: &'a [u8], flags: &FlagList) -> Option<&'a [u8]>
-    ensures { option_copied result ≡ behind_front (spec.spaced_words flags.now) text.now }
+    ensures { option_copied result ≡ after_front (spec.spaced_words flags.now) text.now }
 {
     let mut left = text;
     for i in 0..flags.len() {
@@ -114,7 +114,7 @@ fn skip_flags<'a>(text: &'a [u8], flags: &FlagList) -> Option<&'a [u8]>
 /// What follows a word and a text.
 #[tactic(auto, unfolding(crate::specs::Lines::worded_text))]
 pub(crate) fn skip_worded<'a>(text: &'a [u8], word: &[u8], wanted: &[u8]) -> Option<&'a [u8]>
-    ensures { option_copied result ≡ behind_front (spec.worded_text word.now wanted.now) text.now }
+    ensures { option_copied result ≡ after_front (spec.worded_text word.now wanted.now) text.now }
 {
     skip_pieces(text, &[Piece::Raw(word), Piece::Quoted(wanted)])
 }
@@ -128,7 +128,7 @@ fn skip_mailbox_line<'a>(
     flags: &FlagList,
 ) -> Option<&'a [u8]>
     ensures { option_copied result
-        ≡ behind_front (spec.mailbox_line word.now mailbox.now flags.now) text.now }
+        ≡ after_front (spec.mailbox_line word.now mailbox.now flags.now) text.now }
 {
     let left = skip_worded(text, word, mailbox)?;
     skip_flags(left, flags)
@@ -136,7 +136,7 @@ fn skip_mailbox_line<'a>(
 
 /// What follows the word of a store that asks for its mailbox to be made, where it does.
 fn skip_create(text: &[u8], create: bool) -> Option<&[u8]>
-    ensures { option_copied result ≡ behind_front (spec.create_word create) text.now }
+    ensures { option_copied result ≡ after_front (spec.create_word create) text.now }
 {
     let word: &[u8] = if create { b" create" } else { b"" };
     skip_octets(text, word)
@@ -148,7 +148,7 @@ pub(crate) fn skip_given<'a>(
     word: &[u8],
     given: &Option<Octets>,
 ) -> Option<&'a [u8]>
-    ensures { option_copied result ≡ behind_front (spec.given_words word.now given.now) text.now }
+    ensures { option_copied result ≡ after_front (spec.given_words word.now given.now) text.now }
 {
     match given {
         Some(given) => skip_pieces(text, &[Piece::Raw(word), Piece::Quoted(given.as_slice())]),
@@ -159,7 +159,7 @@ pub(crate) fn skip_given<'a>(
 /// What follows what a store asks for beside its mailbox.
 #[tactic(auto, using(crate::proofs::Left::left), unfolding(crate::specs::Lines::filing_words))]
 fn skip_filing<'a>(text: &'a [u8], filing: &Filing) -> Option<&'a [u8]>
-    ensures { option_copied result ≡ behind_front (spec.filing_words filing.now) text.now }
+    ensures { option_copied result ≡ after_front (spec.filing_words filing.now) text.now }
 {
     let left = skip_create(text, filing.create)?;
     skip_given(left, b" special-use ", &filing.special_use)
@@ -173,7 +173,7 @@ fn skip_store<'a>(
     flags: &FlagList,
     filing: &Filing,
 ) -> Option<&'a [u8]>
-    ensures { option_copied result ≡ behind_front (spec.mailbox_line
+    ensures { option_copied result ≡ after_front (spec.mailbox_line
         (codes "store ") mailbox.now flags.now ++ spec.filing_words filing.now) text.now }
 {
     let left = skip_mailbox_line(text, b"store ", mailbox, flags)?;
@@ -183,7 +183,7 @@ fn skip_store<'a>(
 /// What follows the line of an action.
 #[tactic(auto, unfolding(crate::specs::Lines::action_line))]
 fn skip_action<'a>(text: &'a [u8], action: &Action) -> Option<&'a [u8]>
-    ensures { option_copied result ≡ behind_front (spec.action_line action.now) text.now }
+    ensures { option_copied result ≡ after_front (spec.action_line action.now) text.now }
 {
     match action {
         Action::Store {
@@ -205,14 +205,14 @@ fn skip_action<'a>(text: &'a [u8], action: &Action) -> Option<&'a [u8]>
 #[tactic(auto, unfolding(crate::specs::Lines::implicit_line))]
 fn skip_implicit<'a>(text: &'a [u8], mailbox: &[u8], flags: &FlagList) -> Option<&'a [u8]>
     ensures { option_copied result
-        ≡ behind_front (spec.implicit_line mailbox.now flags.now) text.now }
+        ≡ after_front (spec.implicit_line mailbox.now flags.now) text.now }
 {
     skip_mailbox_line(text, b"implicit ", mailbox, flags)
 }
 
 /// What follows the line of an error.
 fn skip_error<'a>(text: &'a [u8], error: &RunError) -> Option<&'a [u8]>
-    ensures { option_copied result ≡ behind_front (spec.error_line error.now) text.now }
+    ensures { option_copied result ≡ after_front (spec.error_line error.now) text.now }
 {
     skip_pieces(
         text,
@@ -239,7 +239,7 @@ fn is_whole(left: Option<&[u8]>) -> bool
 
 /// What follows the line of an action.
 #[tactic(auto, using(crate::proofs::Left::saying))]
-fn behind_action<'a>(text: &'a [u8], action: &Action) -> Option<&'a [u8]>
+fn after_action<'a>(text: &'a [u8], action: &Action) -> Option<&'a [u8]>
     ensures { (wanted : List (List ℕ)) → left_says (option_copied result) wanted
         ≡ spec.says text.now (spec.action_line action.now ∷ wanted) }
 {
@@ -253,7 +253,7 @@ fn behind_action<'a>(text: &'a [u8], action: &Action) -> Option<&'a [u8]>
 
 /// What follows the line of the implicit keep.
 #[tactic(auto, using(crate::proofs::Left::saying))]
-fn behind_implicit<'a>(text: &'a [u8], mailbox: &[u8], flags: &FlagList) -> Option<&'a [u8]>
+fn after_implicit<'a>(text: &'a [u8], mailbox: &[u8], flags: &FlagList) -> Option<&'a [u8]>
     ensures { (wanted : List (List ℕ)) → left_says (option_copied result) wanted
         ≡ spec.says text.now (spec.implicit_line mailbox.now flags.now ∷ wanted) }
 {
@@ -267,7 +267,7 @@ fn behind_implicit<'a>(text: &'a [u8], mailbox: &[u8], flags: &FlagList) -> Opti
 
 /// What follows the line of an error.
 #[tactic(auto, using(crate::proofs::Left::saying))]
-fn behind_error<'a>(text: &'a [u8], error: &RunError) -> Option<&'a [u8]>
+fn after_error<'a>(text: &'a [u8], error: &RunError) -> Option<&'a [u8]>
     ensures { (wanted : List (List ℕ)) → left_says (option_copied result) wanted
         ≡ spec.says text.now (spec.error_line error.now ∷ wanted) }
 {
@@ -281,35 +281,35 @@ fn behind_error<'a>(text: &'a [u8], error: &RunError) -> Option<&'a [u8]>
 
 /// What follows the lines of actions.
 #[tactic(auto, using(crate::proofs::Left::saying))]
-fn behind_actions<'a>(text: &'a [u8], actions: &[Action]) -> Option<&'a [u8]>
+fn after_actions<'a>(text: &'a [u8], actions: &[Action]) -> Option<&'a [u8]>
     ensures { (wanted : List (List ℕ)) → left_says (option_copied result) wanted
         ≡ spec.says text.now (map spec.action_line actions.now ++ wanted) }
 {
     let mut left = text;
     for action in actions {
-        left = behind_action(left, action)?;
+        left = after_action(left, action)?;
     }
     Some(left)
 }
 
 /// What follows the line of the implicit keep, where it stands.
-fn behind_kept<'a>(text: &'a [u8], mailbox: &[u8], kept: Option<&FlagList>) -> Option<&'a [u8]>
+fn after_kept<'a>(text: &'a [u8], mailbox: &[u8], kept: Option<&FlagList>) -> Option<&'a [u8]>
     ensures { (wanted : List (List ℕ)) → left_says (option_copied result) wanted ≡ spec.says
         text.now (spec.implicit_lines mailbox.now (option_copied kept.entry) ++ wanted) }
 {
     match kept {
-        Some(flags) => behind_implicit(text, mailbox, flags),
+        Some(flags) => after_implicit(text, mailbox, flags),
         None => Some(text),
     }
 }
 
 /// What follows the line of the error, where there is one.
-fn behind_failed<'a>(text: &'a [u8], failed: Option<&RunError>) -> Option<&'a [u8]>
+fn after_failed<'a>(text: &'a [u8], failed: Option<&RunError>) -> Option<&'a [u8]>
     ensures { (wanted : List (List ℕ)) → left_says (option_copied result) wanted
         ≡ spec.says text.now (spec.error_lines (option_copied failed.entry) ++ wanted) }
 {
     match failed {
-        Some(error) => behind_error(text, error),
+        Some(error) => after_error(text, error),
         None => Some(text),
     }
 }
@@ -333,13 +333,13 @@ pub(crate) fn says(
     ensures { result ≡ spec.says text.now (map spec.action_line actions.now ++ (spec.implicit_lines
         mailbox.now (option_copied kept.entry) ++ spec.error_lines (option_copied failed.entry))) }
 {
-    let Some(left) = behind_actions(text, actions) else {
+    let Some(left) = after_actions(text, actions) else {
         return false;
     };
-    let Some(left) = behind_kept(left, mailbox, kept) else {
+    let Some(left) = after_kept(left, mailbox, kept) else {
         return false;
     };
-    match behind_failed(left, failed) {
+    match after_failed(left, failed) {
         Some(left) => is_over(left),
         None => false,
     }

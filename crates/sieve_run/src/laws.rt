@@ -13,7 +13,7 @@ ghost use Rattle.sieve_run.specs.Distinct.{AreDistinct};
 ghost use Rattle.sieve_run.specs.Frame.{Agree, Texts, outcome_over};
 ghost use Rattle.sieve_run.specs.Library.{Lookup};
 ghost use Rattle.sieve_run.specs.Perform.{answers_of, do_gone, perform};
-ghost use Rattle.sieve_actions.specs.Act.{Ending, goes_with_rejections, is_rejection, is_response, returned, state_behind, stopped};
+ghost use Rattle.sieve_actions.specs.Act.{Ending, goes_with_rejections, is_rejection, is_response, returned, state_after, stopped};
 ghost use Rattle.sieve_run.specs.Run as spec;
 ghost use Rattle.sieve_actions.specs.State.{RunState};
 ghost use Rattle.script_names.specs.declared.name.ScriptName as names;
@@ -23,25 +23,25 @@ ghost use Rattle.script_names.specs.declared.name.ScriptName as names;
 #[tactic(auto, using(crate::proofs::Unchanged::stop_ends))]
 pub fn stop_ends_the_commands()
     ensures { (ask : Ask → RunState → spec.Answer) (act : Leaf → ℕ → RunState → Ending)
-        (rest : Commands) (behind : RunState → Ending) (state : RunState)
-        → spec.and_then (spec.exec ask act (stops rest) state) behind ≡ stopped state }
+        (rest : Commands) (after : RunState → Ending) (state : RunState)
+        → spec.and_then (spec.exec ask act (stops rest) state) after ≡ stopped state }
 {}
 
 /// Commands after a `return` change nothing either (RFC 6609, section 3.3).
 #[tactic(auto, using(crate::proofs::Unchanged::return_ends))]
 pub fn return_ends_the_commands()
     ensures { (ask : Ask → RunState → spec.Answer) (act : Leaf → ℕ → RunState → Ending)
-        (rest : Commands) (behind : RunState → Ending) (state : RunState)
-        → spec.and_then (spec.exec ask act (returns rest) state) behind ≡ returned state }
+        (rest : Commands) (after : RunState → Ending) (state : RunState)
+        → spec.and_then (spec.exec ask act (returns rest) state) after ≡ returned state }
 {}
 
 /// A run enters at most 256 scripts beside the main one. A script that was entered stays among those that were, whatever is done then.
 pub fn a_run_enters_so_many_scripts()
     ensures many { (find : names.ScriptName → Lookup) (arrival : Arrival) (main : names.ScriptName)
         (tree : List Node)
-        → length (state_behind (spec.run_of find arrival main tree)).entered ≤ suc include_limit }
+        → length (state_after (spec.run_of find arrival main tree)).entered ≤ suc include_limit }
     ensures kept { (find : names.ScriptName → Lookup) (depth : ℕ) (delivery : Delivery)
-        (tree : List Node) (state : RunState) → (more : List names.ScriptName) × ((state_behind
+        (tree : List Node) (state : RunState) → (more : List names.ScriptName) × ((state_after
         (spec.running find depth delivery tree state)).entered ≡ state.entered ++ more) }
 {}
 
@@ -58,7 +58,7 @@ pub fn scripts_include_one_another_so_deep()
         (entered_within find delivery) name once optional line state }
     ensures deepest { (find : names.ScriptName → Lookup) (delivery : Delivery)
         (name : names.ScriptName) (once optional : Bool) (line : ℕ) (state : RunState)
-        → IsDeepest delivery → (state_behind (spec.included find
+        → IsDeepest delivery → (state_after (spec.included find
         (depth_left delivery) delivery name once optional line state)).entered ≡ state.entered }
 {}
 

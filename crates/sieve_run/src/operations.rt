@@ -63,7 +63,7 @@ pub(crate) fn ask_mailboxes(turn: &Turn<'_>, names: u32, state: &State) -> Resul
 pub(crate) fn ask_duplicate(turn: &Turn<'_>) -> Step
     ensures { (act : Acts) (state : RunState) → Carries act turn.now Duplicate state result state }
 {
-    proceed(false, turn.behind)
+    proceed(false, turn.after)
 }
 
 /// Asks whether the message has more octets.
@@ -71,7 +71,7 @@ pub(crate) fn ask_over(turn: &Turn<'_>, limit: u64) -> Step
     ensures { (act : Acts) (state : RunState)
         → Carries act turn.now (Over limit) state result state }
 {
-    proceed(is_over(turn.delivery, limit), turn.behind)
+    proceed(is_over(turn.delivery, limit), turn.after)
 }
 
 /// Asks whether the message has fewer octets.
@@ -79,7 +79,7 @@ pub(crate) fn ask_under(turn: &Turn<'_>, limit: u64) -> Step
     ensures { (act : Acts) (state : RunState)
         → Carries act turn.now (Under limit) state result state }
 {
-    proceed(is_under(turn.delivery, limit), turn.behind)
+    proceed(is_under(turn.delivery, limit), turn.after)
 }
 
 /// Stores into the mailbox of the delivery.
@@ -157,7 +157,7 @@ pub(crate) fn act_set(
 {
     let Some(target) = turn.code.target(target) else {
         // No code has such an operation.
-        return Ok(proceed(false, turn.behind));
+        return Ok(proceed(false, turn.after));
     };
     let value = turn.code.string(value);
     let flow = set(

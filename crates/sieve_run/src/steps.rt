@@ -91,7 +91,7 @@ pub(crate) fn execute<L: Library>(
 fn carry_out<L: Library>(
     running: &Running<'_, L>,
     op: Op,
-    behind: usize,
+    after: usize,
     register: bool,
     fields: &mut FieldReads<'_>,
     state: &mut State,
@@ -100,20 +100,20 @@ fn carry_out<L: Library>(
     ensures arrival { fields.new ≡ fields.old }
     ensures step { IfOk result (λ step. StepsTo (act_of (library_of (L.profile running.now.lib.now)
         (L.texts running.now.lib.now)) running.now.depth (delivery_as running.now.delivery.now))
-        (delivery_as running.now.delivery.now) (op_of running.now.code.now op) behind register
+        (delivery_as running.now.delivery.now) (op_of running.now.code.now op) after register
         (state_of state.old) step (state_of state.new)) }
 {
     let code = running.code;
     let turn = &Turn {
         delivery: running.delivery,
         code,
-        behind,
+        after,
         register,
     };
     match op {
-        Op::True => Ok(proceed(true, behind)),
-        Op::False => Ok(proceed(false, behind)),
-        Op::Not => Ok(proceed(!register, behind)),
+        Op::True => Ok(proceed(true, after)),
+        Op::False => Ok(proceed(false, after)),
+        Op::Not => Ok(proceed(!register, after)),
         Op::Compares { test, keys } => ask_compares(turn, test, keys, fields, state),
         Op::Exists { names } => ask_exists(turn, names, state),
         Op::Over { limit } => Ok(ask_over(turn, limit)),
@@ -122,10 +122,10 @@ fn carry_out<L: Library>(
         Op::Duplicate => Ok(ask_duplicate(turn)),
         Op::Jump(left) => Ok(proceed(register, code.jump_place(left))),
         Op::JumpIfFalse(left) => {
-            Ok(proceed(register, chosen(register, behind, code.jump_place(left))))
+            Ok(proceed(register, chosen(register, after, code.jump_place(left))))
         }
         Op::JumpIfTrue(left) => {
-            Ok(proceed(register, chosen(register, code.jump_place(left), behind)))
+            Ok(proceed(register, chosen(register, code.jump_place(left), after)))
         }
         Op::Keep { line, flags } => act_keep(turn, line, flags, state),
         Op::Fileinto {

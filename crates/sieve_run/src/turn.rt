@@ -15,7 +15,7 @@ pub(crate) struct Turn<'a> {
     /// The code that the operation is one of.
     pub(crate) code: &'a Code,
     /// The place after the operation.
-    pub(crate) behind: usize,
+    pub(crate) after: usize,
     /// The truth in the register.
     pub(crate) register: bool,
 }
@@ -37,11 +37,11 @@ pub(crate) fn proceed(register: bool, place: usize) -> Step
 }
 
 /// The step after a command that ended so, where this is the place after its operation's.
-fn step_after(flow: Flow, behind: usize, register: bool) -> Step
-    ensures { result ≡ step_after flow behind register }
+fn step_after(flow: Flow, after: usize, register: bool) -> Step
+    ensures { result ≡ step_after flow after register }
 {
     match flow {
-        Flow::GoesOn => proceed(register, behind),
+        Flow::GoesOn => proceed(register, after),
         Flow::Returned => Step::Ended(Flow::Returned),
         Flow::Stopped => Step::Ended(Flow::Stopped),
         Flow::Failed(error) => Step::Ended(Flow::Failed(error)),
@@ -51,16 +51,16 @@ fn step_after(flow: Flow, behind: usize, register: bool) -> Step
 impl Turn<'_> {
     /// The step after a test, where its call gave its truth.
     pub(crate) fn tested(&self, truth: Result<bool, AllocError>) -> Result<Step, AllocError>
-        ensures { IfOk result (Follows truth (λ truth. Next self.now.behind truth)) }
+        ensures { IfOk result (Follows truth (λ truth. Next self.now.after truth)) }
     {
-        Ok(proceed(truth?, self.behind))
+        Ok(proceed(truth?, self.after))
     }
 
     /// The step after a command, where its call says how it ended.
     pub(crate) fn acted(&self, flow: Result<Flow, AllocError>) -> Result<Step, AllocError>
         ensures { IfOk result
-            (Follows flow (λ flow. step_after flow self.now.behind self.now.register)) }
+            (Follows flow (λ flow. step_after flow self.now.after self.now.register)) }
     {
-        Ok(step_after(flow?, self.behind, self.register))
+        Ok(step_after(flow?, self.after, self.register))
     }
 }

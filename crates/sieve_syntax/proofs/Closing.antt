@@ -20,11 +20,11 @@ module _ (view : View) where
   newest_first before level = ap (map (level_value view)) (reverse-append before (level ∷ []))
 
   -- the owner waits for one test
-  pub closes_one : (room : ℕ) (o : Outer) (all before : List levels.Level) (owner head : heads.Head) (ts behind : some_tests.Tests) (w : Symbol)
-      → all ≡ before ++ level_variants.One owner ∷ [] → tests_of view behind ≡ one_test (test_with (head_value view head) (tests_of view ts))
-      → close room o (levels_value view all) (head_value view head) (tests_of view ts) w ≡ close room o (levels_value view before) (head_value view owner) (tests_of view behind) w
+  pub closes_one : (room : ℕ) (o : Outer) (all before : List levels.Level) (owner head : heads.Head) (ts after : some_tests.Tests) (w : Symbol)
+      → all ≡ before ++ level_variants.One owner ∷ [] → tests_of view after ≡ one_test (test_with (head_value view head) (tests_of view ts))
+      → close room o (levels_value view all) (head_value view head) (tests_of view ts) w ≡ close room o (levels_value view before) (head_value view owner) (tests_of view after) w
   unfolding close
-  closes_one room o all before owner head ts behind w is seen =
+  closes_one room o all before owner head ts after w is seen =
       ap (λ ls. close room o ls (head_value view head) (tests_of view ts) w) (ap (levels_value view) is ∙ newest_first before (level_variants.One owner))
       ∙ ap (λ t. close room o (levels_value view before) (head_value view owner) t w) (sym seen)
 

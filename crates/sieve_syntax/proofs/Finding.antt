@@ -19,20 +19,20 @@ pub end_next : (text : List ℕ) (from place : ℕ) → GoesTo text from place �
 end_next text from place so e = so.goes [] (step_end text place e)
 
 -- the longest spelling at the place is the next token
-pub good_next : (text : List ℕ) (from : ℕ) (start behind : Cursor) (token : Token) (kind : TokenKind) (n : ℕ) (rest : List ℕ) → rest ≡ drop start.place text → longest_at rest ≡ Some (kind, n)
-    → IsCursor text start → IsCursor text behind → from ≤ start.place → GoesTo text from start.place → token ≡ token_at text start.place kind (start.place + n) → behind.place ≡ start.place + n
-    → IsNext text from token behind
+pub good_next : (text : List ℕ) (from : ℕ) (start after : Cursor) (token : Token) (kind : TokenKind) (n : ℕ) (rest : List ℕ) → rest ≡ drop start.place text → longest_at rest ≡ Some (kind, n)
+    → IsCursor text start → IsCursor text after → from ≤ start.place → GoesTo text from start.place → token ≡ token_at text start.place kind (start.place + n) → after.place ≡ start.place + n
+    → IsNext text from token after
 unfolding token_at
-good_next text from start behind token kind n rest e l is_start is_behind low so made place =
+good_next text from start after token kind n rest e l is_start is_after low so made place =
     let found = ap longest_at (sym e) ∙ l in
     let f : IsFound (drop start.place text) (kind, n) = longest_at-found (drop start.place text) (kind, n) found in
     let some = f.some in
     let within = is_start.within in
-    let inside = is_behind.within in
+    let inside = is_after.within in
     let start_is : token.start ≡ start.place = ap (λ t. t.start) made in
     let end_is : token.end ≡ start.place + n = ap (λ t. t.end) made in
     record {
-      is = is_behind;
+      is = is_after;
       inside = record { some = omega arith; inside = omega arith };
       line = ap (λ t. t.line) made ∙ ap (line_at text) (sym start_is);
       place = omega arith;
@@ -43,23 +43,23 @@ good_next text from start behind token kind n rest e l is_start is_behind low so
     }
 
 -- where neither white space nor a spelling begins, the rest of the text is the next token
-pub bad_next : (text : List ℕ) (from : ℕ) (start behind : Cursor) (token : Token) (rest : List ℕ) → rest ≡ drop start.place text → longest_at rest ≡ None → white_at (drop start.place text) ≡ None
-    → start.place < length text → IsCursor text behind → from ≤ start.place → GoesTo text from start.place → token ≡ token_at text start.place Bad (start.place + (length text - start.place)) → behind.place ≡ start.place + (length text - start.place)
-    → IsNext text from token behind
+pub bad_next : (text : List ℕ) (from : ℕ) (start after : Cursor) (token : Token) (rest : List ℕ) → rest ≡ drop start.place text → longest_at rest ≡ None → white_at (drop start.place text) ≡ None
+    → start.place < length text → IsCursor text after → from ≤ start.place → GoesTo text from start.place → token ≡ token_at text start.place Bad (start.place + (length text - start.place)) → after.place ≡ start.place + (length text - start.place)
+    → IsNext text from token after
 unfolding token_at
-bad_next text from start behind token rest e l w less is_behind low so made place =
+bad_next text from start after token rest e l w less is_after low so made place =
     let all : start.place + (length text - start.place) ≡ length text = omega arith in
     let start_is : token.start ≡ start.place = ap (λ t. t.start) made in
     let end_is : token.end ≡ start.place + (length text - start.place) = ap (λ t. t.end) made in
     let whole : token ≡ token_at text start.place Bad (length text) = made ∙ ap (token_at text start.place Bad) all in
     record {
-      is = is_behind;
+      is = is_after;
       inside = record { some = omega arith; inside = omega arith };
       line = ap (λ t. t.line) made ∙ ap (line_at text) (sym start_is);
       place = omega arith;
       forward = omega arith;
       goes = λ more h.
-          let none : more ≡ [] = unique_from text behind.place more [] h (step_end text behind.place (omega arith)) in
+          let none : more ≡ [] = unique_from text after.place more [] h (step_end text after.place (omega arith)) in
           so.goes (token ∷ more)
           (subst (λ t. SpellsFrom text start.place (t ∷ more)) (sym whole)
           (subst (λ ts. SpellsFrom text start.place (token_at text start.place Bad (length text) ∷ ts)) (sym none)

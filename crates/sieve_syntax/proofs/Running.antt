@@ -41,16 +41,16 @@ unfolding read
 read-end text s o e = ap (λ x. elim x as (λ z. Result (List Node) ℕ) [ Some tree ↦ Ok tree | None ↦ Err (line_at text (length text)) ]) e
 
 -- after a token that the state takes, the next state gives what the text means
-pub next_means : (text : List ℕ) (s next : ParserState) (place : ℕ) (token : Token) (behind : Cursor) → IsNext text place token behind → step test_depth block_room s (symbol_of text token) ≡ Some next → Means text s place → Means text next behind.place
-next_means text s next place token behind is e so more h = sym (read-next text s next token more e) ∙ so (token ∷ more) (is.goes more h)
+pub next_means : (text : List ℕ) (s next : ParserState) (place : ℕ) (token : Token) (after : Cursor) → IsNext text place token after → step test_depth block_room s (symbol_of text token) ≡ Some next → Means text s place → Means text next after.place
+next_means text s next place token after is e so more h = sym (read-next text s next token more e) ∙ so (token ∷ more) (is.goes more h)
 
 -- the line of a token that the state doesn't take is that of the text's fault
-pub stop_means : (view : View) (text : List ℕ) (s : ParserState) (place : ℕ) (token : Token) (behind : Cursor) (fault : SyntaxFault) (o : outers.Outer) → IsNext text place token behind → Goes view o (Err fault) (step test_depth block_room s (symbol_of text token)) token.line → Means text s place → ParsesAs view (Err fault) (syntax_of text)
-stop_means view text s place token behind (Syntax line) o is h so =
-    let more = some_tokens text behind.place is.is.within in
+pub stop_means : (view : View) (text : List ℕ) (s : ParserState) (place : ℕ) (token : Token) (after : Cursor) (fault : SyntaxFault) (o : outers.Outer) → IsNext text place token after → Goes view o (Err fault) (step test_depth block_room s (symbol_of text token)) token.line → Means text s place → ParsesAs view (Err fault) (syntax_of text)
+stop_means view text s place token after (Syntax line) o is h so =
+    let more = some_tokens text after.place is.is.within in
     sym (so (token ∷ more.0) (is.goes more.0 more.1)) ∙ read-stop text s token more.0 h.0 ∙ ap (λ n. Err n) (sym h.1)
-stop_means view text s place token behind TooLarge o is h so = absurd h
-stop_means view text s place token behind NoMemory o is h so = tt
+stop_means view text s place token after TooLarge o is h so = absurd h
+stop_means view text s place token after NoMemory o is h so = tt
 
 -- a token is never refused as a text that is too large
 pub goes_small : (view : View) (o : outers.Outer) (fault : SyntaxFault) (next : Option ParserState) (line : ℕ) → Goes view o (Err fault) next line → fault ≡ TooLarge → ⊥

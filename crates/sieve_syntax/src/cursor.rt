@@ -83,12 +83,12 @@ fn make_token(text: &[u8], cursor: Cursor, kind: TokenKind, count: usize) -> (To
     ensures place { result.1.place ≡ cursor.place + count }
     ensures is { IsCursor text.now result.1 }
 {
-    let behind = advance(text, cursor, count);
+    let after = advance(text, cursor, count);
     let token = Token {
         kind,
         start: cursor.place,
-        end: behind.place,
+        end: after.place,
         line: cursor.line_feeds as u64 + 1,
     };
-    (token, behind)
+    (token, after)
 }

@@ -93,12 +93,12 @@ fn read_commands(alloc: Global, text: &[u8]) -> Result<Vec<Command>, SyntaxFault
         place: 0,
         line_feeds: 0,
     };
-    while let Some((token, behind)) = next_token(text, cursor) {
+    while let Some((token, after)) = next_token(text, cursor) {
         match read_token(alloc, text, token, &mut outer, state) {
             Ok(next) => state = next,
             Err(fault) => return Err(fault),
         }
-        cursor = behind;
+        cursor = after;
     }
     finish(text, outer, state)
 }

@@ -106,7 +106,7 @@ fn close_block(alloc: Global, outer: &mut Outer) -> Result<ParserState, Stop>
 const FEW_ARGUMENTS: usize = 4;
 
 /// After one more argument of a head.
-fn behind_argument(head: Head, argument: Argument) -> Result<ParserState, Stop>
+fn after_argument(head: Head, argument: Argument) -> Result<ParserState, Stop>
     ensures { (view : View) (outer : Outer) → Advances view outer result
         (Some (Machine.in_arguments (outer_value view outer) (levels_value view outer.levels.items)
         (with_argument (head_value view head) (argument_of view argument)))) }
@@ -139,15 +139,15 @@ fn in_arguments(
                 items,
                 bracketed: false,
             };
-            behind_argument(head, argument)
+            after_argument(head, argument)
         }
         Symbol::Number { value, line } => {
             let argument = Argument::Number { value, line };
-            behind_argument(head, argument)
+            after_argument(head, argument)
         }
         Symbol::Tag { name, line } => {
             let argument = Argument::Tag { name, line };
-            behind_argument(head, argument)
+            after_argument(head, argument)
         }
         Symbol::OpenBracket => Ok(ParserState::BeforeString(head, Vec::new(alloc))),
         Symbol::Identifier { name, line } => open_test(alloc, outer, head, name, line),
@@ -227,7 +227,7 @@ fn after_string(head: Head, items: Vec<Text>, symbol: Symbol) -> Result<ParserSt
                 items,
                 bracketed: true,
             };
-            behind_argument(head, argument)
+            after_argument(head, argument)
         }
         _ => Err(Stop::Fault),
     }

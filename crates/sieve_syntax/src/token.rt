@@ -68,9 +68,9 @@ pub fn tokens(alloc: Global, text: &[u8]) -> Result<Vec<Token>, AllocError>
         place: 0,
         line_feeds: 0,
     };
-    while let Some((token, behind)) = next_token(text, cursor) {
+    while let Some((token, after)) = next_token(text, cursor) {
         found.push(token)?;
-        cursor = behind;
+        cursor = after;
     }
     Ok(found)
 }

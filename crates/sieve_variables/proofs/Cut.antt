@@ -19,25 +19,25 @@ unfolding before_brace
 before_brace-is [] rest is = refl
 before_brace-is (c ∷ cs) rest is =
     let here : is_inside c ≡ true = first_of_both (is_inside c) (list_all is_inside cs) is in
-    let behind = before_brace-is cs rest (last_of_both (is_inside c) (list_all is_inside cs) is) in
+    let after = before_brace-is cs rest (last_of_both (is_inside c) (list_all is_inside cs) is) in
     ap (λ b. cond b (Some []) (cond (is_inside c) (option_map (λ inside. c ∷ inside) (before_brace (cs ++ octet_of "}" ∷ rest))) None)) (not_brace c here)
     ∙ ap (λ b. cond b (option_map (λ inside. c ∷ inside) (before_brace (cs ++ octet_of "}" ∷ rest))) None) here
-    ∙ ap (option_map (λ inside. c ∷ inside)) behind
+    ∙ ap (option_map (λ inside. c ∷ inside)) after
 
 -- a text begins with what stands inside a reference and the `}` after it
 abbrev EndsIn : List ℕ → List ℕ → Type 0
 EndsIn text inside = text ≡ inside ++ octet_of "}" ∷ drop (suc (length inside)) text
 
 brace_step : (c : ℕ) (cs inside : List ℕ) (b d : Bool) (found : Option (List ℕ)) → (c == octet_of "}") ≡ b → ((within : List ℕ) → found ≡ Some within → EndsIn cs within) → cond b (Some []) (cond d (option_map (λ within. c ∷ within) found) None) ≡ Some inside → EndsIn (c ∷ cs) inside
-brace_step c cs inside true d found brace behind is =
+brace_step c cs inside true d found brace after is =
     let none : [] ≡ inside = cc in
     let same : c ≡ octet_of "}" = eqb-true c (octet_of "}") brace in
     subst (EndsIn (c ∷ cs)) none (ap (λ first. first ∷ cs) same)
-brace_step c cs inside false true None brace behind is = absurd cc
-brace_step c cs inside false true (Some within) brace behind is =
+brace_step c cs inside false true None brace after is = absurd cc
+brace_step c cs inside false true (Some within) brace after is =
     let same : (c ∷ within) ≡ inside = cc in
-    subst (EndsIn (c ∷ cs)) same (ap (λ text. c ∷ text) (behind within refl))
-brace_step c cs inside false false found brace behind is = absurd cc
+    subst (EndsIn (c ∷ cs)) same (ap (λ text. c ∷ text) (after within refl))
+brace_step c cs inside false false found brace after is = absurd cc
 
 pub before_brace-ends : (text inside : List ℕ) → before_brace text ≡ Some inside → EndsIn text inside
 unfolding before_brace
@@ -98,14 +98,14 @@ inside_at-begins (c ∷ []) inside is = absurd cc
 inside_at-begins (c ∷ d ∷ rest) inside is = sign_step c d rest inside (c == octet_of "$" && d == octet_of "{") refl is
 
 -- what stands after the reference with which a text begins
-abbrev behind : List ℕ → List ℕ → List ℕ
-behind inside text = drop (suc (length inside)) (drop 2 text)
+abbrev after : List ℕ → List ℕ → List ℕ
+after inside text = drop (suc (length inside)) (drop 2 text)
 
-written_at : (text inside : List ℕ) → BeginsWith text inside → text ≡ written (words_of inside) ++ behind inside text
+written_at : (text inside : List ℕ) → BeginsWith text inside → text ≡ written (words_of inside) ++ after inside text
 written_at text inside begins =
     begins.is
-    ∙ ap (λ one. octet_of "$" ∷ octet_of "{" ∷ (one ++ octet_of "}" ∷ behind inside text)) (sym (dotted-words_of inside))
-    ∙ sym (written-is (words_of inside) (behind inside text))
+    ∙ ap (λ one. octet_of "$" ∷ octet_of "{" ∷ (one ++ octet_of "}" ∷ after inside text)) (sym (dotted-words_of inside))
+    ∙ sym (written-is (words_of inside) (after inside text))
 
 -- what is found is a reference as it is written
 
@@ -120,7 +120,7 @@ words_start text words None at is = absurd cc
 words_start text words (Some inside) at is =
     let begins = inside_at-begins text inside at in
     let same : words_of inside ≡ words = cc in
-    subst (Starts text) same (record { legal = begins.legal; rest = behind inside text; is = written_at text inside begins })
+    subst (Starts text) same (record { legal = begins.legal; rest = after inside text; is = written_at text inside begins })
 
 reference_starts : (text : List ℕ) (words : List (List ℕ)) → reference_at text ≡ Some words → Starts text words
 reference_starts text words is = words_start text words (inside_at text) refl is

@@ -42,15 +42,15 @@ any_reference p (c ∷ rest) inside found =
     ap (list_any p) (pieces-reference c rest inside (sym found))
     ∙ ap (λ n. p (reference (words_of inside)) || list_any p (pieces_of (drop n (c ∷ rest)))) (sym same)
 
-pub passed_octet : (p : TextPiece → Bool) → ((c : ℕ) → p (octet c) ≡ false) → (text behind : List ℕ) (found all : Bool) → 0 < length text → None ≡ inside_at text → behind ≡ drop 1 text → (found || list_any p (pieces_of text)) ≡ all → (found || list_any p (pieces_of behind)) ≡ all
-passed_octet p never text behind found all some none is so_far =
+pub passed_octet : (p : TextPiece → Bool) → ((c : ℕ) → p (octet c) ≡ false) → (text after : List ℕ) (found all : Bool) → 0 < length text → None ≡ inside_at text → after ≡ drop 1 text → (found || list_any p (pieces_of text)) ≡ all → (found || list_any p (pieces_of after)) ≡ all
+passed_octet p never text after found all some none is so_far =
     ap (λ one. found || list_any p (pieces_of one)) is
     ∙ ap (λ b. found || b) (sym (any_octet p never text some none))
     ∙ so_far
 
-pub passed_reference : (p : TextPiece → Bool) (text inside behind : List ℕ) (found said all : Bool) → Some inside ≡ inside_at text → said ≡ p (reference (words_of inside)) → behind ≡ drop (3 + length inside) text → (found || list_any p (pieces_of text)) ≡ all → ((found || said) || list_any p (pieces_of behind)) ≡ all
-passed_reference p text inside behind found said all reads says is so_far =
-    ap (λ b. (found || b) || list_any p (pieces_of behind)) says
+pub passed_reference : (p : TextPiece → Bool) (text inside after : List ℕ) (found said all : Bool) → Some inside ≡ inside_at text → said ≡ p (reference (words_of inside)) → after ≡ drop (3 + length inside) text → (found || list_any p (pieces_of text)) ≡ all → ((found || said) || list_any p (pieces_of after)) ≡ all
+passed_reference p text inside after found said all reads says is so_far =
+    ap (λ b. (found || b) || list_any p (pieces_of after)) says
     ∙ ap (λ one. (found || p (reference (words_of inside))) || list_any p (pieces_of one)) is
     ∙ or_or found (p (reference (words_of inside))) (list_any p (pieces_of (drop (3 + length inside) text))) all
     (ap (λ b. found || b) (sym (any_reference p text inside reads)) ∙ so_far)
@@ -65,11 +65,11 @@ passed_all p [] found all ended is = or_false found all is
 passed_all p (c ∷ rest) found all ended is = absurd (omega arith)
 
 -- parts with octets before them
-abbrev pub in_front : List ℕ → List Part → List Part
-in_front [] parts = parts
-in_front (c ∷ octets) parts = octet_before c (in_front octets parts)
+abbrev pub put_before : List ℕ → List Part → List Part
+put_before [] parts = parts
+put_before (c ∷ octets) parts = octet_before c (put_before octets parts)
 
-pub plain_step : (left : List ℕ) (plain : ℕ) → plain < length left → None ≡ inside_at (drop plain left) → in_front (take (suc plain) left) (parts_of_text (drop (suc plain) left)) ≡ in_front (take plain left) (parts_of_text (drop plain left))
+pub plain_step : (left : List ℕ) (plain : ℕ) → plain < length left → None ≡ inside_at (drop plain left) → put_before (take (suc plain) left) (parts_of_text (drop (suc plain) left)) ≡ put_before (take plain left) (parts_of_text (drop plain left))
 plain_step [] plain within none = absurd (omega arith)
 plain_step (c ∷ rest) zero within none = ap grouped (sym (pieces-octet c rest (sym none)))
 plain_step (c ∷ rest) (suc plain) within none = ap (octet_before c) (plain_step rest plain (omega arith) none)
@@ -88,48 +88,48 @@ plain_parts [] none = none_left
 plain_parts (c ∷ rest) none = by_first (inside_at (c ∷ rest)) refl (plain_parts rest)
   where
     by_first : (found : Option (List ℕ)) → inside_at (c ∷ rest) ≡ found → (has_reference rest ≡ false → parts_of_text rest ≡ literal_part rest) → parts_of_text (c ∷ rest) ≡ literal_part (c ∷ rest)
-    by_first None is behind =
+    by_first None is after =
         let cut = pieces-octet c rest is in
-        ap grouped cut ∙ ap (octet_before c) (behind (sym (ap (list_any is_reference) cut) ∙ none)) ∙ literal_more c rest
-    by_first (Some inside) is behind = absurd (false≢true (sym none ∙ ap (list_any is_reference) (pieces-reference c rest inside is)))
+        ap grouped cut ∙ ap (octet_before c) (after (sym (ap (list_any is_reference) cut) ∙ none)) ∙ literal_more c rest
+    by_first (Some inside) is after = absurd (false≢true (sym none ∙ ap (list_any is_reference) (pieces-reference c rest inside is)))
 
-pub last_step : (left : List ℕ) (plain : ℕ) → length left ≤ plain → in_front (take plain left) (parts_of_text (drop plain left)) ≡ literal_part left
+pub last_step : (left : List ℕ) (plain : ℕ) → length left ≤ plain → put_before (take plain left) (parts_of_text (drop plain left)) ≡ literal_part left
 last_step [] zero ended = none_left
 last_step [] (suc plain) ended = none_left
 last_step (c ∷ rest) zero ended = absurd (omega arith)
 last_step (c ∷ rest) (suc plain) ended = ap (octet_before c) (last_step rest plain (omega arith)) ∙ literal_more c rest
 
-in_front-variable : (octets : List ℕ) (variable : Variable) (parts : List Part) → in_front octets (variable_part variable ∷ parts) ≡ literal_part octets ++ variable_part variable ∷ parts
-in_front-variable [] variable parts = refl
-in_front-variable (c ∷ []) variable parts = refl
-in_front-variable (c ∷ d ∷ octets) variable parts = ap (octet_before c) (in_front-variable (d ∷ octets) variable parts)
+put_before-variable : (octets : List ℕ) (variable : Variable) (parts : List Part) → put_before octets (variable_part variable ∷ parts) ≡ literal_part octets ++ variable_part variable ∷ parts
+put_before-variable [] variable parts = refl
+put_before-variable (c ∷ []) variable parts = refl
+put_before-variable (c ∷ d ∷ octets) variable parts = ap (octet_before c) (put_before-variable (d ∷ octets) variable parts)
 
-in_front-match : (octets : List ℕ) (index : ℕ) (parts : List Part) → in_front octets (match_part index ∷ parts) ≡ literal_part octets ++ match_part index ∷ parts
-in_front-match [] index parts = refl
-in_front-match (c ∷ []) index parts = refl
-in_front-match (c ∷ d ∷ octets) index parts = ap (octet_before c) (in_front-match (d ∷ octets) index parts)
+put_before-match : (octets : List ℕ) (index : ℕ) (parts : List Part) → put_before octets (match_part index ∷ parts) ≡ literal_part octets ++ match_part index ∷ parts
+put_before-match [] index parts = refl
+put_before-match (c ∷ []) index parts = refl
+put_before-match (c ∷ d ∷ octets) index parts = ap (octet_before c) (put_before-match (d ∷ octets) index parts)
 
-in_front-literal : (octets further : List ℕ) (parts : List Part) → in_front octets (literal further ∷ parts) ≡ literal (octets ++ further) ∷ parts
-in_front-literal [] further parts = refl
-in_front-literal (c ∷ octets) further parts = ap (octet_before c) (in_front-literal octets further parts)
+put_before-literal : (octets further : List ℕ) (parts : List Part) → put_before octets (literal further ∷ parts) ≡ literal (octets ++ further) ∷ parts
+put_before-literal [] further parts = refl
+put_before-literal (c ∷ octets) further parts = ap (octet_before c) (put_before-literal octets further parts)
 
-word_in_front : (octets word : List ℕ) (parts : List Part) (b : Bool) → in_front octets (cond b (local_part (folded_name word)) (match_part (index_of word)) ∷ parts) ≡ literal_part octets ++ cond b (local_part (folded_name word)) (match_part (index_of word)) ∷ parts
-word_in_front octets word parts true = in_front-variable octets (local_variable (folded_name word)) parts
-word_in_front octets word parts false = in_front-match octets (index_of word) parts
+word_before : (octets word : List ℕ) (parts : List Part) (b : Bool) → put_before octets (cond b (local_part (folded_name word)) (match_part (index_of word)) ∷ parts) ≡ literal_part octets ++ cond b (local_part (folded_name word)) (match_part (index_of word)) ∷ parts
+word_before octets word parts true = put_before-variable octets (local_variable (folded_name word)) parts
+word_before octets word parts false = put_before-match octets (index_of word) parts
 
-shared_in_front : (octets namespace name : List ℕ) (parts : List Part) (b : Bool) → not b ≡ false
-    → in_front octets (cond b (global_part (folded_name name)) (literal (written (namespace ∷ name ∷ []))) ∷ parts)
+shared_before : (octets namespace name : List ℕ) (parts : List Part) (b : Bool) → not b ≡ false
+    → put_before octets (cond b (global_part (folded_name name)) (literal (written (namespace ∷ name ∷ []))) ∷ parts)
     ≡ literal_part octets ++ cond b (global_part (folded_name name)) (literal (written (namespace ∷ name ∷ []))) ∷ parts
-shared_in_front octets namespace name parts true own = in_front-variable octets (global_variable (folded_name name)) parts
-shared_in_front octets namespace name parts false own = absurd (false≢true (sym own))
+shared_before octets namespace name parts true own = put_before-variable octets (global_variable (folded_name name)) parts
+shared_before octets namespace name parts false own = absurd (false≢true (sym own))
 
 -- a part that isn't in another namespace stands after the literal of the octets before it
-own_in_front : (octets : List ℕ) (words : List (List ℕ)) (parts : List Part) → 0 < length words → is_foreign (reference words) ≡ false
-    → in_front octets (part_of_words words ∷ parts) ≡ literal_part octets ++ part_of_words words ∷ parts
-own_in_front octets [] parts some own = absurd (omega arith)
-own_in_front octets (word ∷ []) parts some own = word_in_front octets word parts (is_identifier word)
-own_in_front octets (namespace ∷ name ∷ []) parts some own = shared_in_front octets namespace name parts (is_shared namespace name) own
-own_in_front octets (namespace ∷ word ∷ next ∷ words) parts some own = absurd (false≢true (sym own))
+own_before : (octets : List ℕ) (words : List (List ℕ)) (parts : List Part) → 0 < length words → is_foreign (reference words) ≡ false
+    → put_before octets (part_of_words words ∷ parts) ≡ literal_part octets ++ part_of_words words ∷ parts
+own_before octets [] parts some own = absurd (omega arith)
+own_before octets (word ∷ []) parts some own = word_before octets word parts (is_identifier word)
+own_before octets (namespace ∷ name ∷ []) parts some own = shared_before octets namespace name parts (is_shared namespace name) own
+own_before octets (namespace ∷ word ∷ next ∷ words) parts some own = absurd (false≢true (sym own))
 
 shared_or_written : (namespace name : List ℕ) (b : Bool) → not b ≡ true
     → cond b (global_part (folded_name name)) (literal (written (namespace ∷ name ∷ []))) ≡ literal (written (namespace ∷ name ∷ []))
@@ -158,35 +158,35 @@ reference_at : (text inside : List ℕ) → Some inside ≡ inside_at text → p
 reference_at [] inside found = let none = none_at_end in absurd cc
 reference_at (c ∷ rest) inside found = ap grouped (pieces-reference c rest inside (sym found))
 
-added_step : (octets all inside : List ℕ) (parts : List Part) (b : Bool) → is_foreign (reference (words_of inside)) ≡ b → all ≡ octets ++ written (words_of inside) → in_front octets (part_of_words (words_of inside) ∷ parts) ≡ cond b (literal_part all) (literal_part octets ++ part_of_words (words_of inside) ∷ []) ++ parts
+added_step : (octets all inside : List ℕ) (parts : List Part) (b : Bool) → is_foreign (reference (words_of inside)) ≡ b → all ≡ octets ++ written (words_of inside) → put_before octets (part_of_words (words_of inside) ∷ parts) ≡ cond b (literal_part all) (literal_part octets ++ part_of_words (words_of inside) ∷ []) ++ parts
 added_step octets all inside parts true foreign is =
-    ap (λ part. in_front octets (part ∷ parts)) (foreign_part (words_of inside) foreign)
-    ∙ in_front-literal octets (written (words_of inside)) parts
+    ap (λ part. put_before octets (part ∷ parts)) (foreign_part (words_of inside) foreign)
+    ∙ put_before-literal octets (written (words_of inside)) parts
     ∙ ap (λ first. first ++ parts) (sym (literal_written octets (words_of inside)))
     ∙ ap (λ one. literal_part one ++ parts) (sym is)
 added_step octets all inside parts false own is =
-    own_in_front octets (words_of inside) parts (some_words inside) own
+    own_before octets (words_of inside) parts (some_words inside) own
     ∙ sym (append_assoc (literal_part octets) (part_of_words (words_of inside) ∷ []) parts)
 
-pub reference_step : (left : List ℕ) (plain n : ℕ) (inside : List ℕ) → Some inside ≡ inside_at (drop plain left) → n ≡ plain + (length inside + 3) → in_front (take plain left) (parts_of_text (drop plain left)) ≡ added inside (take plain left) (take n left) ++ parts_of_text (drop n left)
+pub reference_step : (left : List ℕ) (plain n : ℕ) (inside : List ℕ) → Some inside ≡ inside_at (drop plain left) → n ≡ plain + (length inside + 3) → put_before (take plain left) (parts_of_text (drop plain left)) ≡ added inside (take plain left) (take n left) ++ parts_of_text (drop n left)
 reference_step left plain n inside found same =
     let text = drop plain left in
     let sum : n ≡ plain + length (written (words_of inside)) = omega (arith, length-written inside) in
     let all : take n left ≡ take plain left ++ written (words_of inside) =
     take_more left plain n (written (words_of inside)) (drop (suc (length inside)) (drop 2 text)) (inside_written text inside (sym found)) sum in
     let count : plain + suc (length inside + 2) ≡ n = omega arith in
-    let behind : drop (suc (length inside + 2)) text ≡ drop n left =
+    let after : drop (suc (length inside + 2)) text ≡ drop n left =
     drop-drop (suc (length inside + 2)) plain left ∙ ap (λ m. drop m left) count in
-    ap (in_front (take plain left)) (reference_at text inside found)
+    ap (put_before (take plain left)) (reference_at text inside found)
     ∙ added_step (take plain left) (take n left) inside (parts_of_text (drop (suc (length inside + 2)) text)) (is_foreign (reference (words_of inside))) refl all
-    ∙ ap (λ one. added inside (take plain left) (take n left) ++ parts_of_text one) behind
+    ∙ ap (λ one. added inside (take plain left) (take n left) ++ parts_of_text one) after
 
-pub parts_step : (done next : List Part) (left : List ℕ) (plain n : ℕ) (inside octets all behind : List ℕ) (whole : List Part) → Some inside ≡ inside_at (drop plain left) → n ≡ plain + (length inside + 3) → next ≡ done ++ added inside octets all → octets ≡ take plain left → all ≡ take n left → behind ≡ drop n left → done ++ in_front (take plain left) (parts_of_text (drop plain left)) ≡ whole → next ++ parts_of_text behind ≡ whole
-parts_step done next left plain n inside octets all behind whole found same next_is octets_is all_is behind_is so_far =
-    ap (λ one. one ++ parts_of_text behind) next_is
-    ∙ ap (λ one. (done ++ added inside one all) ++ parts_of_text behind) octets_is
-    ∙ ap (λ one. (done ++ added inside (take plain left) one) ++ parts_of_text behind) all_is
-    ∙ ap (λ one. (done ++ added inside (take plain left) (take n left)) ++ parts_of_text one) behind_is
+pub parts_step : (done next : List Part) (left : List ℕ) (plain n : ℕ) (inside octets all after : List ℕ) (whole : List Part) → Some inside ≡ inside_at (drop plain left) → n ≡ plain + (length inside + 3) → next ≡ done ++ added inside octets all → octets ≡ take plain left → all ≡ take n left → after ≡ drop n left → done ++ put_before (take plain left) (parts_of_text (drop plain left)) ≡ whole → next ++ parts_of_text after ≡ whole
+parts_step done next left plain n inside octets all after whole found same next_is octets_is all_is after_is so_far =
+    ap (λ one. one ++ parts_of_text after) next_is
+    ∙ ap (λ one. (done ++ added inside one all) ++ parts_of_text after) octets_is
+    ∙ ap (λ one. (done ++ added inside (take plain left) one) ++ parts_of_text after) all_is
+    ∙ ap (λ one. (done ++ added inside (take plain left) (take n left)) ++ parts_of_text one) after_is
     ∙ append_assoc done (added inside (take plain left) (take n left)) (parts_of_text (drop n left))
     ∙ ap (λ further. done ++ further) (sym (reference_step left plain n inside found same))
     ∙ so_far

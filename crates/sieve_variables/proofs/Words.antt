@@ -80,11 +80,11 @@ dots_before [] some = absurd (omega arith)
 dots_before (word ∷ words) some = refl
 
 dotted_step : (c : ℕ) (rest : List ℕ) (b : Bool) → is_dot c ≡ b → dotted (words_of rest) ≡ rest → dotted (cond b ([] ∷ words_of rest) (onto_first c (words_of rest))) ≡ c ∷ rest
-dotted_step c rest true is behind =
+dotted_step c rest true is after =
     let some : 0 < length (words_of rest) = omega (arith, length-slice_split is_dot rest) in
     let dot : c ≡ octet_of "." = grind (arith, nat_tests) in
-    dots_before (words_of rest) some ∙ ap (λ further. octet_of "." ∷ further) behind ∙ ap (λ first. first ∷ rest) (sym dot)
-dotted_step c rest false is behind = dotted-onto c (words_of rest) ∙ ap (λ further. c ∷ further) behind
+    dots_before (words_of rest) some ∙ ap (λ further. octet_of "." ∷ further) after ∙ ap (λ first. first ∷ rest) (sym dot)
+dotted_step c rest false is after = dotted-onto c (words_of rest) ∙ ap (λ further. c ∷ further) after
 
 pub dotted-words_of : (inside : List ℕ) → dotted (words_of inside) ≡ inside
 dotted-words_of [] = refl
@@ -162,15 +162,15 @@ legal_words : (namespace : List ℕ) (words : List (List ℕ)) → 0 < length wo
 legal_words namespace [] some = absurd (omega arith)
 legal_words namespace (word ∷ words) some = refl
 
-pub legal_cut : (inside namespace behind : List ℕ) → words_of inside ≡ namespace ∷ words_of behind → is_legal (words_of inside) ≡ (is_identifier namespace && list_all is_name (words_of behind))
-legal_cut inside namespace behind cut = ap is_legal cut ∙ legal_words namespace (words_of behind) (some_words behind)
+pub legal_cut : (inside namespace after : List ℕ) → words_of inside ≡ namespace ∷ words_of after → is_legal (words_of inside) ≡ (is_identifier namespace && list_all is_name (words_of after))
+legal_cut inside namespace after cut = ap is_legal cut ∙ legal_words namespace (words_of after) (some_words after)
 
-pub not_legal : (inside namespace behind : List ℕ) → words_of inside ≡ namespace ∷ words_of behind → is_identifier namespace ≡ false → false ≡ is_legal (words_of inside)
-not_legal inside namespace behind cut is =
-    sym (legal_cut inside namespace behind cut ∙ ap (λ b. b && list_all is_name (words_of behind)) is)
+pub not_legal : (inside namespace after : List ℕ) → words_of inside ≡ namespace ∷ words_of after → is_identifier namespace ≡ false → false ≡ is_legal (words_of inside)
+not_legal inside namespace after cut is =
+    sym (legal_cut inside namespace after cut ∙ ap (λ b. b && list_all is_name (words_of after)) is)
 
-pub names_cut : (inside word behind : List ℕ) → words_of inside ≡ word ∷ words_of behind → list_all is_name (words_of inside) ≡ (is_name word && list_all is_name (words_of behind))
-names_cut inside word behind cut = ap (list_all is_name) cut
+pub names_cut : (inside word after : List ℕ) → words_of inside ≡ word ∷ words_of after → list_all is_name (words_of inside) ≡ (is_name word && list_all is_name (words_of after))
+names_cut inside word after cut = ap (list_all is_name) cut
 
 -- whether a reference has more than one word
 
@@ -179,8 +179,8 @@ length-onto c [] some = absurd (omega arith)
 length-onto c (word ∷ words) some = refl
 
 dot_step : (c : ℕ) (rest : List ℕ) (b r : Bool) → nat_lt 1 (length (words_of rest)) ≡ r → nat_lt 1 (length (cond b ([] ∷ words_of rest) (onto_first c (words_of rest)))) ≡ (b || r)
-dot_step c rest true r behind = let some = some_words rest in grind (arith, nat_tests)
-dot_step c rest false r behind = ap (nat_lt 1) (length-onto c (words_of rest) (some_words rest)) ∙ behind
+dot_step c rest true r after = let some = some_words rest in grind (arith, nat_tests)
+dot_step c rest false r after = ap (nat_lt 1) (length-onto c (words_of rest) (some_words rest)) ∙ after
 
 pub more_words : (inside : List ℕ) → nat_lt 1 (length (words_of inside)) ≡ list_any is_dot inside
 more_words [] = refl

@@ -11,7 +11,7 @@ use std::marker::Model;
 enum Word<L> {
     /// In the value itself.
     Few { label: L, octets: Few },
-    /// Behind a pointer.
+    /// After a pointer.
     Many { label: L, octets: Box<SmallOctets> },
 }
 

@@ -17,7 +17,7 @@ enum Run {
     None,
     /// In the value itself.
     One(Part),
-    /// Behind a pointer.
+    /// After a pointer.
     Several(Box<Vec<Part>>),
 }
 

@@ -44,9 +44,9 @@ pub fn parts_of_text(alloc: Global, text: &[u8]) -> Result<Parts, AllocError>
         match inside_at(rest) {
             None => plain += 1,
             Some(inside) => {
-                let (written, behind) = left.split_at(plain + SIGN_COUNT + inside.len());
+                let (written, after) = left.split_at(plain + SIGN_COUNT + inside.len());
                 push_reference(alloc, &mut parts, inside, octets, written)?;
-                left = behind;
+                left = after;
                 plain = 0;
             }
         }
@@ -71,16 +71,16 @@ pub fn references_in(text: &[u8]) -> References
     while !rest.is_empty() {
         match inside_at(rest) {
             None => {
-                let (_, behind) = rest.split_at(1);
-                rest = behind;
+                let (_, after) = rest.split_at(1);
+                rest = after;
             }
             Some(inside) => {
                 any = true;
                 namespaced |= is_namespaced(inside);
                 foreign |= is_foreign(inside);
                 far |= is_far(inside);
-                let (_, behind) = rest.split_at(SIGN_COUNT + inside.len());
-                rest = behind;
+                let (_, after) = rest.split_at(SIGN_COUNT + inside.len());
+                rest = after;
             }
         }
     }

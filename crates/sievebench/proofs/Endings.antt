@@ -2,7 +2,7 @@
 use Rattle.octets.specs.Octet.{octet_of}
 use Rattle.std.proofs.Common.{◌≡◌, ℕ, ◌<◌, ◌≤◌, zero, suc, List, [], ◌∷◌, ◌++◌, length, take, drop, length-drop, append_assoc, append-nil, sym, ap, ◌∙◌, refl, arith, inl, inr, Bool, true, false, eqb, cond, nat_lt, codes, Option, None, Some, Result, Ok, Err}
 use Rattle.std.specs.Option.{option_map}
-use Rattle.session_text.specs.SessionLine.{cut_line, first_line, in_front, line_from, without_cr}
+use Rattle.session_text.specs.SessionLine.{cut_line, first_line, put_before, line_from, without_cr}
 use Rattle.sieve_limits.specs.Limits.{line_limit}
 use Rattle.sieve_profile.specs.Profile.{Profile}
 use Rattle.sieve_run.specs.Meter.{runs_after}
@@ -45,7 +45,7 @@ abbrev CutsFewer : ℕ → Option (List ℕ × List ℕ) → Type 0
 CutsFewer n None = Unit {0}
 CutsFewer n (Some cut) = length cut.1 < n
 
-later_fewer : (n b : ℕ) (cut : Option (List ℕ × List ℕ)) → CutsFewer n cut → CutsFewer (suc n) (option_map (in_front b) cut)
+later_fewer : (n b : ℕ) (cut : Option (List ℕ × List ℕ)) → CutsFewer n cut → CutsFewer (suc n) (option_map (put_before b) cut)
 later_fewer n b None less = tt
 later_fewer n b (Some cut) less = omega (arith, less)
 
@@ -53,7 +53,7 @@ cut_fewer : (bs : List ℕ) → CutsFewer (length bs) (cut_line bs)
 cut_fewer [] = tt
 cut_fewer (b ∷ bs) = by_octet (cut_fewer bs) (eqb b (octet_of "\n"))
   where
-    by_octet : CutsFewer (length bs) (cut_line bs) → (v : Bool) → CutsFewer (suc (length bs)) (cond v (Some ([], bs)) (option_map (in_front b) (cut_line bs)))
+    by_octet : CutsFewer (length bs) (cut_line bs) → (v : Bool) → CutsFewer (suc (length bs)) (cond v (Some ([], bs)) (option_map (put_before b) (cut_line bs)))
     by_octet later true = omega arith
     by_octet later false = later_fewer (length bs) b (cut_line bs) later
 

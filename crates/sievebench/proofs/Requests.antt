@@ -11,8 +11,8 @@ use Rattle.sieve_limits.specs.Limits.{line_limit}
 use Rattle.sieve_profile.specs.Profile.{Profile}
 use Rattle.bench.specs.Content.{Edit}
 use Rattle.session_text.specs.view.Line.{IsCutOff, IsEnded, IsLine, IsWithin}
-use Rattle.sievebench.specs.Session.{Demand, asks_question, asks_put, asks_edit, asks_report, demand_at, Request, Served, Step, profile_of, request_behind, request_of, request_at, request_by, request_so_far, with_octets, edits, truncated, unreadable}
-use Rattle.session_text.specs.SessionLine.{cut_line, ended_line, first_line, in_front, is_long_so_far, line_from, line_so_far, without_cr}
+use Rattle.sievebench.specs.Session.{Demand, asks_question, asks_put, asks_edit, asks_report, demand_at, Request, Served, Step, profile_of, request_after, request_of, request_at, request_by, request_so_far, with_octets, edits, truncated, unreadable}
+use Rattle.session_text.specs.SessionLine.{cut_line, ended_line, first_line, put_before, is_long_so_far, line_from, line_so_far, without_cr}
 use Rattle.sievebench.specs.view.Task.{IsFollowedBy}
 use Rattle.sievebench.specs.view.Progress.{AsksAlone, BreakFrom, CutFrom, StepFrom, EndFrom, MayBeRefused, ServesFrom}
 use Rattle.sievebench.proofs.Serving.{EndsAt, put_refused, question_refused, short}
@@ -109,7 +109,7 @@ cut_line_break old (Some xs) (Some ys) written pending same cut = (pending, sym 
 
 -- the octets begin with the line `front`, and ask for what this line asks for with the octets after it
 abbrev pub Begins : Profile → List ℕ → Option Demand → Option (List ℕ) → Option (List ℕ) → Type 0
-Begins profile front ask None behind = Unit {0}
+Begins profile front ask None after = Unit {0}
 Begins profile front ask (Some xs) None = ⊥
 Begins profile front ask (Some xs) (Some ys) = (xs ≡ front ++ ys) × (request_of profile xs ≡ request_by ask ys)
 
@@ -130,11 +130,11 @@ pub line_alone : (profile : Profile) (pending : List ℕ) (len skip : ℕ) → I
 unfolding request_so_far
 line_alone profile pending len skip ended within = λ more.
     let few : nat_lt line_limit (length (take len pending)) ≡ false = grind (arith, nat_tests, length-take len pending, within) in
-    ap (request_behind profile (take skip pending ++ more)) (ended more) ∙ ap (λ (v : Bool). cond v unreadable (request_by (demand_at profile (take len pending)) more)) few
+    ap (request_after profile (take skip pending ++ more)) (ended more) ∙ ap (λ (v : Bool). cond v unreadable (request_by (demand_at profile (take len pending)) more)) few
 
-pub step_served : (front : List ℕ) (ask : Option Demand) (ended : Bool) (old new : Served) (unused behind left before after' : Option (List ℕ)) → Begins (profile_of old) front ask unused behind → (ended ≡ false → BeginsAlone (profile_of old) front ask)
-    → StepFrom (request_by ask) old behind before new left after' → ServesFrom ended old unused before new left after'
-step_served front ask ended old new None behind left before after' begins alone step = tt
+pub step_served : (front : List ℕ) (ask : Option Demand) (ended : Bool) (old new : Served) (unused after left before after' : Option (List ℕ)) → Begins (profile_of old) front ask unused after → (ended ≡ false → BeginsAlone (profile_of old) front ask)
+    → StepFrom (request_by ask) old after before new left after' → ServesFrom ended old unused before new left after'
+step_served front ask ended old new None after left before after' begins alone step = tt
 step_served front ask ended old new (Some xs) None left before after' begins alone step = absurd begins
 step_served front ask ended old new (Some xs) (Some ys) None before after' begins alone step = step
 step_served front ask ended old new (Some xs) (Some ys) (Some zs) before after' begins alone step = (step.0, rw begins.1 step.1, λ is. asked (alone is), step.2)
@@ -147,23 +147,23 @@ step_served front ask ended old new (Some xs) (Some ys) (Some zs) before after' 
           λ more. rw (append_assoc front own.0 more) (rw (whole (own.0 ++ more)) (own.2 more)),
         )
 
-pub end_served : (front : List ℕ) (ask : Option Demand) (end : SessionEnd) (old new : Served) (unused behind before after' : Option (List ℕ)) → Begins (profile_of old) front ask unused behind
-    → EndFrom (request_by ask) end old behind before new after' → EndFrom (request_of (profile_of old)) end old unused before new after'
-end_served front ask end old new None behind before after' begins ended = tt
+pub end_served : (front : List ℕ) (ask : Option Demand) (end : SessionEnd) (old new : Served) (unused after before after' : Option (List ℕ)) → Begins (profile_of old) front ask unused after
+    → EndFrom (request_by ask) end old after before new after' → EndFrom (request_of (profile_of old)) end old unused before new after'
+end_served front ask end old new None after before after' begins ended = tt
 end_served front ask end old new (Some xs) None before after' begins ended = absurd begins
 end_served front ask end old new (Some xs) (Some ys) before after' begins ended = (ended.0, rw begins.1 ended.1, ended.2, ended.3)
 
-pub break_served : (front : List ℕ) (ask : Option Demand) (old new : Served) (unused behind rest before after' : Option (List ℕ)) → Begins (profile_of old) front ask unused behind → BeginsAlone (profile_of old) front ask
-    → BreakFrom (request_by ask) old behind before new rest after' → BreakFrom (request_so_far (profile_of old)) old unused before new rest after'
-break_served front ask old new None behind rest before after' begins alone broken = tt
+pub break_served : (front : List ℕ) (ask : Option Demand) (old new : Served) (unused after rest before after' : Option (List ℕ)) → Begins (profile_of old) front ask unused after → BeginsAlone (profile_of old) front ask
+    → BreakFrom (request_by ask) old after before new rest after' → BreakFrom (request_so_far (profile_of old)) old unused before new rest after'
+break_served front ask old new None after rest before after' begins alone broken = tt
 break_served front ask old new (Some xs) None rest before after' begins alone broken = absurd begins
 break_served front ask old new (Some xs) (Some ys) None before after' begins alone broken = broken
 break_served front ask old new (Some xs) (Some ys) (Some zs) before after' begins alone broken =
     (front ++ broken.0, begins.0 ∙ ap (λ l. front ++ l) broken.1 ∙ sym (append_assoc front broken.0 zs), alone broken.0 ∙ broken.2, broken.3, broken.4)
 
-pub cut_served : (front : List ℕ) (ask : Option Demand) (old new : Served) (unused behind before after' : Option (List ℕ)) → Begins (profile_of old) front ask unused behind
-    → CutFrom (request_by ask) old behind before new after' → CutFrom (request_of (profile_of old)) old unused before new after'
-cut_served front ask old new None behind before after' begins cut = tt
+pub cut_served : (front : List ℕ) (ask : Option Demand) (old new : Served) (unused after before after' : Option (List ℕ)) → Begins (profile_of old) front ask unused after
+    → CutFrom (request_by ask) old after before new after' → CutFrom (request_of (profile_of old)) old unused before new after'
+cut_served front ask old new None after before after' begins cut = tt
 cut_served front ask old new (Some xs) None before after' begins cut = absurd begins
 cut_served front ask old new (Some xs) (Some ys) before after' begins cut = (cut.0, cut.1, cut.2, cut.3, rw begins.1 cut.4, cut.5)
 
@@ -179,10 +179,10 @@ cut_kept [] more = tt
 cut_kept (b ∷ bs) more = by_octet (eqb b (octet_of "\n")) (cut_line bs) (cut_line (bs ++ more)) (cut_kept bs more)
   where
     by_octet : (v : Bool) (first all : Option (List ℕ × List ℕ)) → KeepsCut more first all
-        → KeepsCut more (cond v (Some ([], bs)) (option_map (in_front b) first)) (cond v (Some ([], bs ++ more)) (option_map (in_front b) all))
+        → KeepsCut more (cond v (Some ([], bs)) (option_map (put_before b) first)) (cond v (Some ([], bs ++ more)) (option_map (put_before b) all))
     by_octet true first all kept = refl
     by_octet false None all kept = tt
-    by_octet false (Some cut) all kept = ap (option_map (in_front b)) kept
+    by_octet false (Some cut) all kept = ap (option_map (put_before b)) kept
 
 -- what a line asks for with octets after it, it asks for with more octets after these
 line_and_more : (profile : Profile) (old new : Served) (front rest more reply left : List ℕ) → Step old (request_at profile (front, rest)) reply new left
@@ -206,6 +206,6 @@ asked_with_more profile old new (b ∷ bs) more reply left step = by_cut (cut_li
     by_length true step = step
     by_length false step = step
 
-    by_cut : (first all : Option (List ℕ × List ℕ)) → KeepsCut more first all → Step old (request_behind profile (b ∷ bs) (option_map ended_line first)) reply new left → Step old (request_at profile (line_from ((b ∷ bs) ++ more) all)) reply new (left ++ more)
+    by_cut : (first all : Option (List ℕ × List ℕ)) → KeepsCut more first all → Step old (request_after profile (b ∷ bs) (option_map ended_line first)) reply new left → Step old (request_at profile (line_from ((b ∷ bs) ++ more) all)) reply new (left ++ more)
     by_cut None all kept step = absurd (by_length (is_long_so_far (b ∷ bs)) step)
     by_cut (Some cut) all kept step = rw kept (line_and_more profile old new (without_cr cut.0) cut.1 more reply left step)

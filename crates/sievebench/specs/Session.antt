@@ -84,13 +84,13 @@ request_of profile [] = over
 request_of profile (octet ∷ octets) = request_at profile (first_line (octet ∷ octets))
 
 -- octets without the end of a line are no whole command, and may become one unless they are too long for a line already
-abbrev pub request_behind : Profile → List ℕ → Option (List ℕ × List ℕ) → Request
-request_behind profile read None = if is_long_so_far read then unreadable else truncated
-request_behind profile read (Some cut) = request_at profile cut
+abbrev pub request_after : Profile → List ℕ → Option (List ℕ × List ℕ) → Request
+request_after profile read None = if is_long_so_far read then unreadable else truncated
+request_after profile read (Some cut) = request_at profile cut
 
 -- what the octets ask for that are read, while more may come: neither their end nor that of a line without an LF is known
 unfoldable pub request_so_far : Profile → List ℕ → Request
-request_so_far profile read = request_behind profile read (line_so_far read)
+request_so_far profile read = request_after profile read (line_so_far read)
 
 -- no command is whole in these octets, while more may come
 abbrev pub NoneIsWhole : Profile → List ℕ → Type 0

@@ -31,8 +31,8 @@ drop_front front rest n text count is =
 
 module _ {S : Type 0} {written : S → List ℕ} {Legal : S → Type 0} {at : List ℕ → Option S} {further : S → ℕ} (finds : Finds written Legal at further) where
   -- what stands after a sequence
-  pub drop_further : (c : ℕ) (rest behind : List ℕ) (s : S) → Legal s → c ∷ rest ≡ written s ++ behind → drop (further s) rest ≡ behind
-  drop_further c rest behind s legal is = drop_front (written s) behind (suc (further s)) (c ∷ rest) (finds.count s legal) is
+  pub drop_further : (c : ℕ) (rest after : List ℕ) (s : S) → Legal s → c ∷ rest ≡ written s ++ after → drop (further s) rest ≡ after
+  drop_further c rest after s legal is = drop_front (written s) after (suc (further s)) (c ∷ rest) (finds.count s legal) is
 
   none_step : (text : List ℕ) (found : Option S) → at text ≡ found → (Begins written Legal text → ⊥) → found ≡ None
   none_step text None is nowhere = refl
@@ -55,18 +55,18 @@ module _ {S : Type 0} {written : S → List ℕ} {Legal : S → Type 0} {at : Li
   pieces-written [] rest s legal is =
       let some = finds.count s legal in
       absurd (omega (arith, ap length is, length-append (written s) rest))
-  pieces-written (c ∷ behind) rest s legal is =
-      pieces-sequence at further c behind s (ap at is ∙ finds.found s rest legal)
-      ∙ ap (λ one. sequence s ∷ pieces_of at further one) (drop_further c behind rest s legal is)
+  pieces-written (c ∷ after) rest s legal is =
+      pieces-sequence at further c after s (ap at is ∙ finds.found s rest legal)
+      ∙ ap (λ one. sequence s ∷ pieces_of at further one) (drop_further c after rest s legal is)
 
   -- each cut of a text is the computed one
   pub cut_is : (pieces : List (Piece S)) (text : List ℕ) → Cuts written Legal pieces text → pieces ≡ pieces_of at further text
   unfolding pieces_from
   cut_is [] text is = ap (pieces_of at further) (sym is)
   cut_is (sequence s ∷ pieces) text (legal, rest, is, cut) =
-      ap (λ behind. sequence s ∷ behind) (cut_is pieces rest cut) ∙ sym (pieces-written text rest s legal is)
+      ap (λ after. sequence s ∷ after) (cut_is pieces rest cut) ∙ sym (pieces-written text rest s legal is)
   cut_is (octet c ∷ pieces) text (nowhere, rest, is, cut) =
-      ap (λ behind. octet c ∷ behind) (cut_is pieces rest cut)
+      ap (λ after. octet c ∷ after) (cut_is pieces rest cut)
       ∙ sym (pieces-octet at further c rest (ap at (sym is) ∙ not_found text nowhere))
       ∙ ap (pieces_of at further) (sym is)
 

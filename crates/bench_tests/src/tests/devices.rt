@@ -193,7 +193,7 @@ fn check_refused_line(
 }
 
 /// Octets after `count` spaces.
-fn behind_spaces(alloc: Global, count: usize, octets: &[u8]) -> Result<Vec<u8>, AllocError> {
+fn after_spaces(alloc: Global, count: usize, octets: &[u8]) -> Result<Vec<u8>, AllocError> {
     let mut line = vec![in alloc; b' '; count]?;
     line.extend_from_slice(octets)?;
     Ok(line)
@@ -204,12 +204,12 @@ fn a_line_that_is_refused_is_read_no_further(rt: HostRuntime) -> Result<(), Allo
     check_refused_line(&rt, b"frob\nreport\n", 5)?;
     check_refused_line(
         &rt,
-        &behind_spaces(rt.alloc(), 16_385, b"\nreport\n")?,
+        &after_spaces(rt.alloc(), 16_385, b"\nreport\n")?,
         16_385,
     )?;
     check_refused_line(
         &rt,
-        &behind_spaces(rt.alloc(), 16_384, b"\rx\nreport\n")?,
+        &after_spaces(rt.alloc(), 16_384, b"\rx\nreport\n")?,
         16_386,
     )
 }

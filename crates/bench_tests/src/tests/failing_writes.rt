@@ -80,7 +80,7 @@ impl Output {
     }
 
     /// The report of the bench once so much was written: a command is carried out before it is answered.
-    fn report_behind(self, octets: usize) -> &'static [u8] {
+    fn report_after(self, octets: usize) -> &'static [u8] {
         match (self, octets) {
             (Output::Dump, _) => REPORT,
             (Output::Replies, 0..=2) => SCRIPT_REPORT,
@@ -135,7 +135,7 @@ fn check_taken(
     let (whole, done, _) = output.whole();
     holds(rt, at, whole.starts_with(taken));
     holds(rt, at, (taken.len() == whole.len()) == (end == done));
-    check_report(rt, bench, output.report_behind(taken.len()))
+    check_report(rt, bench, output.report_after(taken.len()))
 }
 
 /// Writes an output to a writer, and compares how that ends. The whole output is written where the writer didn't fail, and a front
@@ -206,11 +206,11 @@ fn check_each_call(
         let wanted = (failed, before + 1, 1);
         check_written(rt, output, piece, failures, kind, wanted)?;
     }
-    let behind = Failures {
+    let after = Failures {
         before: calls,
         times: 1,
     };
-    check_written(rt, output, piece, behind, kind, (done, calls, 0))
+    check_written(rt, output, piece, after, kind, (done, calls, 0))
 }
 
 /// Compares both outputs over writers that fail once in this way, where the writer takes little and where it takes all at once.

@@ -36,7 +36,7 @@ fn check_step(
     let mut writer = Counted::new(Vec::new(rt.alloc()));
     bench.report(meter, &mut writer)?;
     let at = (
-        "a report behind edits of so many octets",
+        "a report after edits of so many octets",
         edits.len() as u64,
         runs,
     );

@@ -45,7 +45,7 @@ fn texts_are_dumped(rt: HostRuntime) -> Result<(), AllocError> {
 }
 
 /// A command after `spaces` spaces.
-fn behind_spaces(alloc: Global, spaces: usize, command: &[u8]) -> Result<Vec<u8>, AllocError> {
+fn after_spaces(alloc: Global, spaces: usize, command: &[u8]) -> Result<Vec<u8>, AllocError> {
     let mut text = vec![in alloc; b' '; spaces]?;
     text.extend_from_slice(command)?;
     Ok(text)
@@ -64,7 +64,7 @@ fn check_sizes(
         location: Location::Personal,
         name: many(rt.alloc(), name)?,
     };
-    let text = behind_spaces(rt.alloc(), spaces, command)?;
+    let text = after_spaces(rt.alloc(), spaces, command)?;
     check_dump(rt, &name, text.as_slice(), output, wanted);
     Ok(())
 }

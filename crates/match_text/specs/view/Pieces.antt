@@ -4,6 +4,6 @@ use denote.Ref.{Bor}
 use Rattle.match_text.specs.Flags.{pieces}
 
 -- the pieces of what stands after a space, where one is there
-abbrev pub pieces_behind : Option (Bor (List ℕ)) → List (List ℕ)
-pieces_behind None = []
-pieces_behind (Some rest) = pieces rest.now
+abbrev pub pieces_after : Option (Bor (List ℕ)) → List (List ℕ)
+pieces_after None = []
+pieces_after (Some rest) = pieces rest.now

@@ -53,9 +53,9 @@ first_place test [] = if test [] then Some 0 else None
 first_place test (x ∷ text) = if test (x ∷ text) then Some 0 else option_map suc (first_place test text)
 
 -- the place that the least fit has for a segment after a star: the first, but the one at the end where no star follows
-abbrev pub place_of : (segment behind : List Item) → (text : List ℕ) → Option ℕ
+abbrev pub place_of : (segment after : List Item) → (text : List ℕ) → Option ℕ
 place_of segment [] text = first_place (ends segment) text
-place_of segment (item ∷ behind) text = first_place (begins segment) text
+place_of segment (item ∷ after) text = first_place (begins segment) text
 
 -- what the `?` of a segment take
 abbrev pub questions : (segment : List Item) → (value : List ℕ) → List (List ℕ)

@@ -14,7 +14,7 @@ IsWithin all None = Unit {0}
 IsWithin all (Some at) = at < length all
 
 -- the place is after the last element that passes, or 0 where none does
-pub record IsBehindLast {X : Type 0} (test : X → Bool) (xs : List X) (place : ℕ) : Type 0 where
+pub record IsAfterLast {X : Type 0} (test : X → Bool) (xs : List X) (place : ℕ) : Type 0 where
   pub within : place ≤ length xs
   pub before : before_last test xs ≡ take (place - 1) xs
   pub after : after_last test xs ≡ drop place xs

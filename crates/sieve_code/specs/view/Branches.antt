@@ -9,7 +9,7 @@ abbrev pub last : ℕ → Tail → Tail
 last count tail = drop (length tail - count) tail
 
 abbrev pub branches_as : TailFront → Tail → Branches
-branches_as front tail = record { has_branch = front.has_branch; with_branch = tail; behind_branches = last front.behind tail }
+branches_as front tail = record { has_branch = front.has_branch; with_branch = tail; after_branches = last front.after tail }
 
 -- the block, the first test, and a branch, of a command
 abbrev pub block_at : Node → Tail → Tail

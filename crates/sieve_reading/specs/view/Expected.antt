@@ -5,12 +5,12 @@ use Rattle.sieve_reading.specs.declared.label.Expected as expected
 use Rattle.sieve_reading.specs.declared.label.Shape.{Shape}
 use Rattle.sieve_table.specs.declared.row.Slot.{Slot}
 
-abbrev pub in_front : Option Slot → List Slot → List Slot
-in_front None slots = slots
-in_front (Some front) slots = front ∷ slots
+abbrev pub put_before : Option Slot → List Slot → List Slot
+put_before None slots = slots
+put_before (Some front) slots = front ∷ slots
 
 abbrev pub expected_as : expected.Expected → Expected
-expected_as e = record { awaited = e.awaited; slots = in_front e.front e.slots.now }
+expected_as e = record { awaited = e.awaited; slots = put_before e.front e.slots.now }
 
 -- what the tag before an argument of that shape takes, where it takes this one
 abbrev pub own_slot : Option Slot → Shape → Option Slot

@@ -3,10 +3,10 @@ use Rattle.std.specs.Prelude.{ℕ, Bool, true, false, ◌==◌, if◌then◌else
 use Rattle.sieve_run.specs.Lines.{says}
 
 -- what follows a front, where a text begins with it
-unfoldable pub behind_front : List ℕ → List ℕ → Option (List ℕ)
-behind_front [] text = Some text
-behind_front (octet ∷ front) [] = None
-behind_front (octet ∷ front) (first ∷ text) = if first == octet then behind_front front text else None
+unfoldable pub after_front : List ℕ → List ℕ → Option (List ℕ)
+after_front [] text = Some text
+after_front (octet ∷ front) [] = None
+after_front (octet ∷ front) (first ∷ text) = if first == octet then after_front front text else None
 
 -- whether a front was the whole of a text
 abbrev pub is_whole : Option (List ℕ) → Bool

@@ -37,20 +37,20 @@ abbrev pub doing_after : Acts → Delivery → (go : ℕ → Bool → Walk) → 
 doing_after act delivery go (Next place register) state = doing act delivery (go place register) state
 doing_after act delivery go (Ended flow) state = ending_by flow state
 
--- a step does its operation, whatever the walk after it; `behind` is the place after the operation's
-pub record StepsTo (act : Acts) (delivery : Delivery) (op : Operation) (behind : ℕ) (register : Bool) (old : RunState) (step : Step) (new : RunState) : Type 0 where
-  pub before : (place : ℕ) (go : ℕ → Bool → Walk) → behind ≡ place + 1 → doing act delivery (walk.step go (Some op) place register) old ≡ doing_after act delivery go step new
+-- a step does its operation, whatever the walk after it; `after` is the place after the operation's
+pub record StepsTo (act : Acts) (delivery : Delivery) (op : Operation) (after : ℕ) (register : Bool) (old : RunState) (step : Step) (new : RunState) : Type 0 where
+  pub before : (place : ℕ) (go : ℕ → Bool → Walk) → after ≡ place + 1 → doing act delivery (walk.step go (Some op) place register) old ≡ doing_after act delivery go step new
 
 -- a step does an operation in its turn
 abbrev pub Carries : Acts → Turn → Op → RunState → Step → RunState → Type 0
-Carries act turn op old step new = StepsTo act (delivery_as turn.delivery.now) (op_of turn.code.now op) turn.behind turn.register old step new
+Carries act turn op old step new = StepsTo act (delivery_as turn.delivery.now) (op_of turn.code.now op) turn.after turn.register old step new
 
 -- the step after a command that ended so, where this is the place after its operation's
 abbrev pub step_after : Flow → ℕ → Bool → Step
-step_after flow.GoesOn behind register = Next behind register
-step_after flow.Returned behind register = Ended flow.Returned
-step_after flow.Stopped behind register = Ended flow.Stopped
-step_after (flow.Failed error) behind register = Ended (flow.Failed error)
+step_after flow.GoesOn after register = Next after register
+step_after flow.Returned after register = Ended flow.Returned
+step_after flow.Stopped after register = Ended flow.Stopped
+step_after (flow.Failed error) after register = Ended (flow.Failed error)
 
 -- the step is the one after what a call gave
 abbrev pub Follows : {T E : Type 0} → Result T E → (T → Step) → Step → Type 0

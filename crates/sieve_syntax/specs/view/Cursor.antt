@@ -14,10 +14,10 @@ pub record GoesTo (text : List ℕ) (from to : ℕ) : Type 0 where
   pub goes : (more : List Token) → SpellsFrom text to more → SpellsFrom text from more
 
 -- the token comes next from the place, and the tokens after the cursor come after it
-pub record IsNext (text : List ℕ) (from : ℕ) (token : Token) (behind : Cursor) : Type 0 where
-  pub is : IsCursor text behind
+pub record IsNext (text : List ℕ) (from : ℕ) (token : Token) (after : Cursor) : Type 0 where
+  pub is : IsCursor text after
   pub inside : IsInside text token
   pub line : token.line ≡ line_at text token.start
-  pub place : behind.place ≡ token.end
-  pub forward : from < behind.place
-  pub goes : (more : List Token) → SpellsFrom text behind.place more → SpellsFrom text from (token ∷ more)
+  pub place : after.place ≡ token.end
+  pub forward : from < after.place
+  pub goes : (more : List Token) → SpellsFrom text after.place more → SpellsFrom text from (token ∷ more)

@@ -213,7 +213,7 @@ fn fields_are_found_by_name(rt: HostRuntime) -> Result<(), Fail> {
 
 /// A search that begins after all fields finds none.
 #[test]
-fn no_field_is_behind_the_last(rt: HostRuntime) -> Result<(), Fail> {
+fn no_field_is_after_the_last(rt: HostRuntime) -> Result<(), Fail> {
     let message = read(rt.alloc(), b"To: a\nTo: b\n")?;
     let name = FieldName::new(b"to");
     let places = [

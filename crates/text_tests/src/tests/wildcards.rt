@@ -166,14 +166,14 @@ fn slow(alloc: Global, value: &[u8], pattern: &[u8]) -> Result<Option<Vec<u8>>, 
         [b'*', rest @ ..] => {
             for length in 0..value.len() + 1 {
                 if let Some(told) = slow(alloc, &value[length..], rest)? {
-                    return Ok(Some(behind(alloc, &value[..length], &told)?));
+                    return Ok(Some(after(alloc, &value[..length], &told)?));
                 }
             }
             Ok(None)
         }
         [b'?', rest @ ..] => match value {
             [_, left @ ..] => match slow(alloc, left, rest)? {
-                Some(told) => Ok(Some(behind(alloc, &value[..1], &told)?)),
+                Some(told) => Ok(Some(after(alloc, &value[..1], &told)?)),
                 None => Ok(None),
             },
             [] => Ok(None),
@@ -186,7 +186,7 @@ fn slow(alloc: Global, value: &[u8], pattern: &[u8]) -> Result<Option<Vec<u8>>, 
 }
 
 /// A bar and what a wildcard takes, before what those after it take.
-fn behind(alloc: Global, taken: &[u8], told: &[u8]) -> Result<Vec<u8>, AllocError> {
+fn after(alloc: Global, taken: &[u8], told: &[u8]) -> Result<Vec<u8>, AllocError> {
     let mut all = Vec::from_slice(alloc, b"|")?;
     all.extend_from_slice(taken)?;
     all.extend_from_slice(told)?;

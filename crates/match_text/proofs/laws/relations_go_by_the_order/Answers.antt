@@ -1,5 +1,5 @@
 use Rattle.std.proofs.Common.{refl}
-use Rattle.match_text.proofs.Ordered.{from_behind}
+use Rattle.match_text.proofs.Ordered.{from_after}
 use Rattle.match_text.proofs.Relations.{eq_alone, ge_stands, le_either, le_stands, ne_stands}
 use Rattle.match_text.proofs.laws.relations_go_by_the_order.Goals as goal
 
@@ -16,7 +16,7 @@ pub returns-clause-equal : goal.returns-clause-equal
 returns-clause-equal c = le_either
 
 pub returns-clause-turned : goal.returns-clause-turned
-returns-clause-turned c = from_behind
+returns-clause-turned c = from_after
 
 pub returns-clause-greater : goal.returns-clause-greater
 returns-clause-greater c = refl

@@ -6,5 +6,5 @@ use Rattle.match_text.proofs.segments.cut.Given as goal
 abbrev pub invariant-loop-i : goal.invariant-loop-i
 invariant-loop-i l = record {
   segment : take l.i l.items ++ before_star (drop l.i l.items) ≡ before_star l.items;
-  behind : from_star (drop l.i l.items) ≡ from_star l.items;
+  after : from_star (drop l.i l.items) ≡ from_star l.items;
 }

@@ -2,11 +2,11 @@ use Rattle.std.proofs.Common.{◌≡◌, ◌∙◌, ◌∷◌, IfNone, List, Opt
 use denote.Ref.{Bor}
 use Rattle.std.proofs.Common.{ℕ}
 use Rattle.match_text.specs.Flags.{pieces}
-use Rattle.match_text.specs.view.Pieces.{pieces_behind}
+use Rattle.match_text.specs.view.Pieces.{pieces_after}
 use Rattle.match_text.proofs.sought_flags.next_key.Goals as goal
 
 pub last_key-requires : goal.last_key-requires
 last_key-requires c =
     let piece = c.next_piece.result.0.now in
-    let alone : piece ≡ c.pieces.rest.now = subst (λ (behind : Option (Bor (List ℕ))). IfNone behind (piece ≡ c.pieces.rest.now)) c.in-None.is c.next_piece.ensures.alone in
-    ap pieces alone ∙ c.next_piece.ensures.pieces ∙ ap (λ (behind : Option (Bor (List ℕ))). piece ∷ pieces_behind behind) c.in-None.is
+    let alone : piece ≡ c.pieces.rest.now = subst (λ (after : Option (Bor (List ℕ))). IfNone after (piece ≡ c.pieces.rest.now)) c.in-None.is c.next_piece.ensures.alone in
+    ap pieces alone ∙ c.next_piece.ensures.pieces ∙ ap (λ (after : Option (Bor (List ℕ))). piece ∷ pieces_after after) c.in-None.is

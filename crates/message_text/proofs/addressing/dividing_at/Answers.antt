@@ -4,4 +4,4 @@ use Rattle.message_text.proofs.addressing.dividing_at.Goals as goal
 
 pub returns : goal.returns
 returns c =
-    with_both c.args.marks.now c.behind_last_at-behind.result c.requires c.behind_last_at-behind.ensures (omega arith) (omega (arith, c.behind_last_at-behind.ensures.within))
+    with_both c.args.marks.now c.after_last_at-after.result c.requires c.after_last_at-after.ensures (omega arith) (omega (arith, c.after_last_at-after.ensures.within))

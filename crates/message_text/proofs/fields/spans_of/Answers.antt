@@ -4,7 +4,7 @@ use Rattle.std.specs.Str.Lines.{lines}
 use Rattle.std.proofs.lemmas.List.{drop_all}
 use Rattle.message_text.specs.Fields.{Group, field_groups}
 use Rattle.message_text.specs.view.Spans.{field_here, group_at}
-use Rattle.message_text.proofs.GroupLemmas.{are_spans, field_groups-end, field_groups-first, field_groups-nil, none_behind, none_first, slice-empty, slice-filled}
+use Rattle.message_text.proofs.GroupLemmas.{are_spans, field_groups-end, field_groups-first, field_groups-nil, none_after, none_first, slice-empty, slice-filled}
 use Rattle.message_text.proofs.fields.spans_of.Goals.{else-loop-start-test, then-loop-start-test+then-line-start}
 use Rattle.message_text.proofs.fields.spans_of.Goals as goal
 
@@ -49,7 +49,7 @@ returns-in_err-push_span-clause-no_field c = λ none.
     let here = field_here line (lines (drop next octets)) in
     let others = field_groups (drop next octets) in
     let filled = slice-filled octets start end (omega arith) c.line_at-line.ensures.end_within in
-    let left : field_groups (drop start octets) ≡ [] = none_behind so_far _ (c.loop-start.invariant.0 ∙ none) in
+    let left : field_groups (drop start octets) ≡ [] = none_after so_far _ (c.loop-start.invariant.0 ∙ none) in
     let both : here ++ others ≡ [] = sym (field_groups-first (drop start octets) (drop next octets) line c.line_at-line.ensures.first filled) ∙ left in
     let refused : false ≡ true = c.in_err-push_span.ensures.no_field (none_first here others both) in
     cc

@@ -10,9 +10,9 @@ loop-place-preserved c =
     let value = c.args.value.now in
     let place = c.loop-place.place in
     let spot = c.loop-place.spot in (
-      omega (arith, c.loop-place.invariant.0, c.surroundings_behind-spot.ensures.depth),
-      ap (λ (marked : List Marked). marked ++ marks_from c.surroundings_behind-spot.result (drop (place + 1) value)) c.in_ok-push.ensures.items
-          ∙ marks_more c.loop-place.marked.items _ spot c.surroundings_behind-spot.result value place (omega arith) (marked_by spot _ _ _ c.mark_at.ensures) c.surroundings_behind-spot.ensures.spot c.loop-place.invariant.1,
+      omega (arith, c.loop-place.invariant.0, c.surroundings_after-spot.ensures.depth),
+      ap (λ (marked : List Marked). marked ++ marks_from c.surroundings_after-spot.result (drop (place + 1) value)) c.in_ok-push.ensures.items
+          ∙ marks_more c.loop-place.marked.items _ spot c.surroundings_after-spot.result value place (omega arith) (marked_by spot _ _ _ c.mark_at.ensures) c.surroundings_after-spot.ensures.spot c.loop-place.invariant.1,
     )
 
 pub returns : goal.returns

@@ -14,7 +14,7 @@ pub returns-then-is_named-clause-some : goal.returns-then-is_named-clause-some
 returns-then-is_named-clause-some c =
     let len = spans_len c.args.octets.now c.args.spans.now c.requires in
     record {
-      behind = c.loop-i.auto.i;
+      after = c.loop-i.auto.i;
       within = omega arith;
       is = named_at c.args.octets.now c.args.name.now c.loop-i.i _ c.span_in.ensures.group ∙ ap Some (sym c.is_named.ensures ∙ c.if-is_named.true);
       others = c.loop-i.invariant;
@@ -26,9 +26,9 @@ loop-i-preserved c =
     let name = c.args.name.now in
     let here = named_at c.args.octets.now name c.loop-i.i _ c.span_in.ensures.group ∙ ap Some (sym c.is_named.ensures ∙ c.if-is_named.false) in
     let Other : ℕ → Type 0 = λ k. c.args.start ≤ k → slice_get (map (is_field_named name) fields) k ≡ Some false in
-    λ k behind below. below_more Other c.loop-i.i (λ j before from. c.loop-i.invariant j from before) (λ _. here) k below behind
+    λ k after below. below_more Other c.loop-i.i (λ j before from. c.loop-i.invariant j from before) (λ _. here) k below after
 
 pub returns-clause-none : goal.returns-clause-none
 returns-clause-none c =
     let len = spans_len c.args.octets.now c.args.spans.now c.requires in
-    λ k behind below. c.loop-i.invariant k behind (omega arith)
+    λ k after below. c.loop-i.invariant k after (omega arith)

@@ -6,7 +6,7 @@ use Rattle.sieve_check.specs.view.Context.{context_as}
 use Rattle.sieve_reading.specs.Tree.{Argument}
 use Rattle.sieve_reading.specs.declared.label.Label.{Label}
 use Rattle.sieve_reading.specs.view.Tree.{argument_of}
-use Rattle.sieve_check.proofs.InPlace.{left_behind, whole_end, whole_more}
+use Rattle.sieve_check.proofs.InPlace.{left_after, whole_end, whole_more}
 use Rattle.sieve_check.proofs.cutting.cut_arguments.Goals as goal
 
 pub loop-i-preserved : goal.loop-i-preserved
@@ -19,7 +19,7 @@ loop-i-preserved c =
           (ap (λ a. a ∷ parted (drop 1 c.loop-i.labels_left.now) (drop (i + 1) old)) (sym (c.in_ok-cut_argument.ensures ∙ ap (λ role. parted_argument context role (seen.argument_of x)) c.first_role.ensures))
           ∙ ap (λ labels. argument_of new ∷ parted labels (drop (i + 1) old)) (sym c.after_first-labels_left.ensures))
           c.loop-i.invariant.cut;
-      left = left_behind now old i new c.loop-i.invariant.left;
+      left = left_after now old i new c.loop-i.invariant.left;
     }
 
 pub returns : goal.returns

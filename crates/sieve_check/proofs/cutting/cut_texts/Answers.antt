@@ -5,7 +5,7 @@ use Rattle.sieve_check.specs.Parted.{parted_text}
 use Rattle.sieve_check.specs.view.Context.{context_as}
 use Rattle.sieve_reading.specs.Tree.{Text}
 use Rattle.sieve_reading.specs.view.Tree.{text_of}
-use Rattle.sieve_check.proofs.InPlace.{left_behind, whole_end, whole_more}
+use Rattle.sieve_check.proofs.InPlace.{left_after, whole_end, whole_more}
 use Rattle.sieve_check.proofs.cutting.cut_texts.Goals as goal
 
 pub loop-i-preserved : goal.loop-i-preserved
@@ -14,7 +14,7 @@ loop-i-preserved c =
     let below : i < length old = search rules in
     let parted : List texts.Text → List Text = λ l. map (parted_text (context_as c.args.context) c.args.role) (map seen.text_of l) in record {
       cut = whole_more text_of parted parted now old i c.index_mut.result.now c.cut_text.new.text _ below c.index_mut.ensures.value c.loop-i.invariant.left (ap (λ t. t ∷ parted (drop (i + 1) old)) (sym c.in_ok-cut_text.ensures)) c.loop-i.invariant.cut;
-      left = left_behind now old i c.cut_text.new.text c.loop-i.invariant.left;
+      left = left_after now old i c.cut_text.new.text c.loop-i.invariant.left;
     }
 
 pub returns : goal.returns

@@ -5,7 +5,7 @@ use Rattle.sieve_syntax.specs.view.Tree.{argument_of}
 use Rattle.sieve_check.specs.Said.{said_argument, said_arguments}
 use Rattle.sieve_reading.specs.declared.label.Label.{Label}
 use Rattle.sieve_table.specs.view.Required.{required_as}
-use Rattle.sieve_check.proofs.InPlace.{left_behind, whole_end, whole_more}
+use Rattle.sieve_check.proofs.InPlace.{left_after, whole_end, whole_more}
 use Rattle.sieve_check.proofs.said.say_arguments.Goals as goal
 
 pub loop-i-preserved : goal.loop-i-preserved
@@ -18,7 +18,7 @@ loop-i-preserved c =
           (ap (λ a. a ∷ made (drop 1 c.loop-i.labels_left.now) (drop (i + 1) old)) (sym (c.in_ok-say_argument.ensures ∙ ap (λ role. said_argument required role (argument_of x)) c.first_role.ensures))
           ∙ ap (λ labels. argument_of new ∷ made labels (drop (i + 1) old)) (sym c.after_first-labels_left.ensures))
           c.loop-i.invariant.said;
-      left = left_behind now old i new c.loop-i.invariant.left;
+      left = left_after now old i new c.loop-i.invariant.left;
     }
 
 pub returns : goal.returns

@@ -4,7 +4,7 @@ use Rattle.sieve_syntax.specs.declared.tree.Text as texts
 use Rattle.sieve_syntax.specs.view.Tree.{text_of}
 use Rattle.sieve_check.specs.Said.{said_text}
 use Rattle.sieve_table.specs.view.Required.{required_as}
-use Rattle.sieve_check.proofs.InPlace.{left_behind, whole_end, whole_more}
+use Rattle.sieve_check.proofs.InPlace.{left_after, whole_end, whole_more}
 use Rattle.sieve_check.proofs.said.say_texts.Goals as goal
 
 pub loop-i-preserved : goal.loop-i-preserved
@@ -13,7 +13,7 @@ loop-i-preserved c =
     let below : i < length old = search rules in
     let made : List texts.Text → List Text = λ l. map (said_text (required_as c.args.required) c.args.role) (map text_of l) in record {
       said = whole_more text_of made made now old i c.index_mut.result.now c.say_text.new.text _ below c.index_mut.ensures.value c.loop-i.invariant.left (ap (λ t. t ∷ made (drop (i + 1) old)) (sym c.in_ok-say_text.ensures)) c.loop-i.invariant.said;
-      left = left_behind now old i c.say_text.new.text c.loop-i.invariant.left;
+      left = left_after now old i c.say_text.new.text c.loop-i.invariant.left;
     }
 
 pub returns : goal.returns

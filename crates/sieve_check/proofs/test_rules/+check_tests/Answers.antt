@@ -11,7 +11,7 @@ use Rattle.sieve_check.specs.view.Context.{context_as}
 use Rattle.sieve_reading.specs.Tree.{Test}
 use Rattle.sieve_reading.specs.view.Tree.{test_of}
 use Rattle.sieve_check.proofs.Cuts.{list_cut, one_cut}
-use Rattle.sieve_check.proofs.InPlace.{left_behind, was_there, whole_more}
+use Rattle.sieve_check.proofs.InPlace.{left_after, was_there, whole_more}
 use Rattle.sieve_check.proofs.Searches.{none_in}
 use Rattle.sieve_check.proofs.Walk.{list_ends, list_goes_on, list_stops}
 use Rattle.sieve_syntax.proofs.Views.{none_seen}
@@ -36,7 +36,7 @@ check_test_list-loop-i-preserved t c =
     let parted : List one_tests.Test → List Test = λ l. map (parted_test context) (map seen.test_of l) in record {
       found = list_goes_on context (drop i old) (drop (i + 1) old) x was c.in_ok-check_test.ensures.found ∙ c.loop-i.invariant.found;
       cut = whole_more test_of parted parted now old i x new _ below there left (ap (λ a. a ∷ parted (drop (i + 1) old)) (sym c.in_ok-check_test.ensures.cut)) c.loop-i.invariant.cut;
-      left = left_behind now old i new left;
+      left = left_after now old i new left;
       unvisited = search rules;
     }
 

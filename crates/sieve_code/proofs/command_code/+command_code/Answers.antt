@@ -24,13 +24,13 @@ pub put_command-returns-in-Some-If-clause-value :
     goal.put_command-returns-in-Some-If-clause-value
 put_command-returns-in-Some-If-clause-value t c =
     let o = out-Command c.args.command in let commands = c.match-block.commands in
-    let inside : (behind : Tail) → block_on commands.items behind ≡ block_before (block_of o.block) behind =
+    let inside : (after : Tail) → block_on commands.items after ≡ block_before (block_of o.block) after =
     elim c.match-block.branch [
       | put_command-in-Some w ↦ block_some o.block w.in-Some.commands commands w.in-Some.is w.commands-is
       | put_command-in-None w ↦ block_none o.block w.new-commands.result commands w.in-None.is w.new-commands.ensures.items w.commands-is
     ] in
     let b = branches_as c.args.front c.args.tail.now in
-    alone c.without_branch.result c.put_branch.new.tail c.without_branch.ensures.branches c.without_branch.ensures.behind
+    alone c.without_branch.result c.put_branch.new.tail c.without_branch.ensures.branches c.without_branch.ensures.after
     ∙ ap no_branch (c.in_ok-put_branch-in-Some-If.ensures ∙ (branch_along (first_before (tests_of o.tests)) (block_on commands.items) (block_before (block_of o.block)) b inside ∙ branch_seen c.args.command b))
     ∙ command_put (node_of c.args.command) (Some reading.reads_if) b
     (ap (λ r. Some (command_reading_as r)) (sym c.in-Some-If.field-0-is) ∙ c.in-Some-If.ensures ∙ reading_seen c.args.command)
@@ -39,7 +39,7 @@ pub put_command-returns-in-Some-Elsif-clause-within :
     goal.put_command-returns-in-Some-Elsif-clause-within
 put_command-returns-in-Some-Elsif-clause-within t c =
     let o = out-Command c.args.command in let commands = c.match-block.commands in
-    let inside : (behind : Tail) → block_on commands.items behind ≡ block_before (block_of o.block) behind =
+    let inside : (after : Tail) → block_on commands.items after ≡ block_before (block_of o.block) after =
     elim c.match-block.branch [
       | put_command-in-Some w ↦ block_some o.block w.in-Some.commands commands w.in-Some.is w.commands-is
       | put_command-in-None w ↦ block_none o.block w.new-commands.result commands w.in-None.is w.new-commands.ensures.items w.commands-is
@@ -52,15 +52,15 @@ pub put_command-returns-in-Some-Elsif-clause-value :
     goal.put_command-returns-in-Some-Elsif-clause-value
 put_command-returns-in-Some-Elsif-clause-value t c =
     let o = out-Command c.args.command in let commands = c.match-block.commands in
-    let inside : (behind : Tail) → block_on commands.items behind ≡ block_before (block_of o.block) behind =
+    let inside : (after : Tail) → block_on commands.items after ≡ block_before (block_of o.block) after =
     elim c.match-block.branch [
       | put_command-in-Some w ↦ block_some o.block w.in-Some.commands commands w.in-Some.is w.commands-is
       | put_command-in-None w ↦ block_none o.block w.new-commands.result commands w.in-None.is w.new-commands.ensures.items w.commands-is
     ] in
     let n = node_of c.args.command in
     let b = branches_as c.args.front c.args.tail.now in
-    ap (λ tail. made true tail (last c.args.front.behind tail)) (c.in_ok-put_branch-in-Some-Elsif.ensures ∙ (branch_along (first_before (tests_of o.tests)) (block_on commands.items) (block_before (block_of o.block)) b inside ∙ branch_seen c.args.command b))
-    ∙ ap (made true (branch_at n b)) (with_front c.args.front.behind c.args.tail.now (branch_at n b) c.requires (branch_at_ends n b))
+    ap (λ tail. made true tail (last c.args.front.after tail)) (c.in_ok-put_branch-in-Some-Elsif.ensures ∙ (branch_along (first_before (tests_of o.tests)) (block_on commands.items) (block_before (block_of o.block)) b inside ∙ branch_seen c.args.command b))
+    ∙ ap (made true (branch_at n b)) (with_front c.args.front.after c.args.tail.now (branch_at n b) c.requires (branch_at_ends n b))
     ∙ command_put n (Some reading.reads_elsif) b
     (ap (λ r. Some (command_reading_as r)) (sym c.in-Some-Elsif.field-0-is) ∙ c.in-Some-Elsif.ensures ∙ reading_seen c.args.command)
 
@@ -68,26 +68,26 @@ pub put_command-returns-in-Some-Else-clause-within :
     goal.put_command-returns-in-Some-Else-clause-within
 put_command-returns-in-Some-Else-clause-within t c =
     let o = out-Command c.args.command in let commands = c.match-block.commands in
-    let inside : (behind : Tail) → block_on commands.items behind ≡ block_before (block_of o.block) behind =
+    let inside : (after : Tail) → block_on commands.items after ≡ block_before (block_of o.block) after =
     elim c.match-block.branch [
       | put_command-in-Some w ↦ block_some o.block w.in-Some.commands commands w.in-Some.is w.commands-is
       | put_command-in-None w ↦ block_none o.block w.new-commands.result commands w.in-None.is w.new-commands.ensures.items w.commands-is
     ] in
     let n = node_of c.args.command in
     let kept = c.keep_last.new.self in
-    omega (arith, ap length c.keep_last.ensures, length_last c.args.front.behind c.args.tail.now c.requires, ap length (c.in_ok-put_commands-in-Some-Else.ensures ∙ block_put commands.items kept ∙ inside kept ∙ block_seen c.args.command kept), ends_below (block_at n kept) kept (block_at_ends n kept))
+    omega (arith, ap length c.keep_last.ensures, length_last c.args.front.after c.args.tail.now c.requires, ap length (c.in_ok-put_commands-in-Some-Else.ensures ∙ block_put commands.items kept ∙ inside kept ∙ block_seen c.args.command kept), ends_below (block_at n kept) kept (block_at_ends n kept))
 
 pub put_command-returns-in-Some-Else-clause-value :
     goal.put_command-returns-in-Some-Else-clause-value
 put_command-returns-in-Some-Else-clause-value t c =
     let o = out-Command c.args.command in let commands = c.match-block.commands in
-    let inside : (behind : Tail) → block_on commands.items behind ≡ block_before (block_of o.block) behind =
+    let inside : (after : Tail) → block_on commands.items after ≡ block_before (block_of o.block) after =
     elim c.match-block.branch [
       | put_command-in-Some w ↦ block_some o.block w.in-Some.commands commands w.in-Some.is w.commands-is
       | put_command-in-None w ↦ block_none o.block w.new-commands.result commands w.in-None.is w.new-commands.ensures.items w.commands-is
     ] in
     let n = node_of c.args.command in
-    last_branch n c.args.front.behind c.args.tail.now c.keep_last.new.self c.put_commands.new.tail c.requires c.keep_last.ensures (c.in_ok-put_commands-in-Some-Else.ensures ∙ block_put commands.items c.keep_last.new.self ∙ inside c.keep_last.new.self ∙ block_seen c.args.command c.keep_last.new.self)
+    last_branch n c.args.front.after c.args.tail.now c.keep_last.new.self c.put_commands.new.tail c.requires c.keep_last.ensures (c.in_ok-put_commands-in-Some-Else.ensures ∙ block_put commands.items c.keep_last.new.self ∙ inside c.keep_last.new.self ∙ block_seen c.args.command c.keep_last.new.self)
     ∙ command_put n (Some reading.reads_else) (branches_as c.args.front c.args.tail.now)
     (ap (λ r. Some (command_reading_as r)) (sym c.in-Some-Else.field-0-is) ∙ c.in-Some-Else.ensures ∙ reading_seen c.args.command)
 
@@ -97,7 +97,7 @@ put_command-returns-in-Some-Act-clause-value t c =
     let b = branches_as c.args.front c.args.tail.now in
     let leaf = leaf_as c.in-Some-Act.leaf in
     fronts_along _ _ _ _
-    (ap (λ line. no_branch (act_op leaf line ∷ b.behind_branches)) (sym (line_seen c.args.command))
+    (ap (λ line. no_branch (act_op leaf line ∷ b.after_branches)) (sym (line_seen c.args.command))
     ∙ command_put (node_of c.args.command) (Some (reading.reads_act leaf)) b
     (ap (λ r. Some (command_reading_as r)) (sym c.in-Some-Act.field-0-is) ∙ c.in-Some-Act.ensures ∙ reading_seen c.args.command))
     c.put_act.ensures.value
@@ -133,9 +133,9 @@ put_command-returns-clause-value t c =
 pub put_commands-loop-command-init : goal.put_commands-loop-command-init
 put_commands-loop-command-init t c =
     let all = c.args.commands.items in record {
-      within = omega (arith, c.without_branch-front.ensures.behind);
+      within = omega (arith, c.without_branch-front.ensures.after);
       value =
-          alone c.without_branch-front.result c.args.tail.now c.without_branch-front.ensures.branches c.without_branch-front.ensures.behind
+          alone c.without_branch-front.result c.args.tail.now c.without_branch-front.ensures.branches c.without_branch-front.ensures.after
           ∙ sym (commands_none all (length all) c.args.tail.now (omega arith));
       left = none_taken all;
     }

@@ -6,7 +6,7 @@ use Rattle.sieve_code.proofs.command_code.+command_code.Given as goal
 -- the commands that were taken from the end stand before the given tail, with the branches that `front` says of, which end within the tail; and all commands are those that are left and those that were taken
 abbrev pub invariant-put_commands-loop-command : goal.invariant-put_commands-loop-command
 invariant-put_commands-loop-command l = record {
-  within : l.front.behind ≤ length l.tail;
+  within : l.front.after ≤ length l.tail;
   value : branches_as l.front l.tail ≡ branches_on (drop (length l.commands.items) l.fn.commands.items) l.fn.tail;
   left : l.fn.commands.items ≡ l.commands.items ++ drop (length l.commands.items) l.fn.commands.items;
 }

@@ -12,7 +12,7 @@ use Rattle.sieve_code.proofs.compiler.compile.Goals as goal
 pub invariant_of-result : goal.invariant_of-result
 invariant_of-result c =
     let tree = tree_of c.args.checked in
-    let tail = c.in_ok-put_commands.ensures ∙ ap (λ b. (nodes_before (nodes (map node_of c.into_commands.result.items)) b).behind_branches) c.new-tail.ensures ∙ ap tail_of c.into_commands.ensures in
+    let tail = c.in_ok-put_commands.ensures ∙ ap (λ b. (nodes_before (nodes (map node_of c.into_commands.result.items)) b).after_branches) c.new-tail.ensures ∙ ap tail_of c.into_commands.ensures in
     let made = code_made tree (pool_as c.into_parts-ops.result.1) c.into_parts-ops.result.0.items c.put_commands.new.tail c.into_parts-ops.ensures tail in
     record {
       forward = subst (λ ops. AllGoForward ops) (sym made) (code_forward tree);
@@ -25,13 +25,13 @@ invariant_of-result c =
 pub returns-clause-code : goal.returns-clause-code
 returns-clause-code c =
     let tree = tree_of c.args.checked in
-    let tail = c.in_ok-put_commands.ensures ∙ ap (λ b. (nodes_before (nodes (map node_of c.into_commands.result.items)) b).behind_branches) c.new-tail.ensures ∙ ap tail_of c.into_commands.ensures in
+    let tail = c.in_ok-put_commands.ensures ∙ ap (λ b. (nodes_before (nodes (map node_of c.into_commands.result.items)) b).after_branches) c.new-tail.ensures ∙ ap tail_of c.into_commands.ensures in
     let made = code_made tree (pool_as c.into_parts-ops.result.1) c.into_parts-ops.result.0.items c.put_commands.new.tail c.into_parts-ops.ensures tail in
     record { chosen = made; does = ap (λ ops. code_walk ops (length ops)) made ∙ code_walks tree }
 
 pub returns-clause-answers : goal.returns-clause-answers
 returns-clause-answers c = λ answers.
     let tree = tree_of c.args.checked in
-    let tail = c.in_ok-put_commands.ensures ∙ ap (λ b. (nodes_before (nodes (map node_of c.into_commands.result.items)) b).behind_branches) c.new-tail.ensures ∙ ap tail_of c.into_commands.ensures in
+    let tail = c.in_ok-put_commands.ensures ∙ ap (λ b. (nodes_before (nodes (map node_of c.into_commands.result.items)) b).after_branches) c.new-tail.ensures ∙ ap tail_of c.into_commands.ensures in
     let made = code_made tree (pool_as c.into_parts-ops.result.1) c.into_parts-ops.result.0.items c.put_commands.new.tail c.into_parts-ops.ensures tail in
     ap (λ walk. gone walk answers) (ap (λ ops. code_walk ops (length ops)) made ∙ code_walks tree)

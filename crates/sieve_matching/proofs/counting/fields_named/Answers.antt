@@ -13,7 +13,7 @@ returns-in_default c =
 pub loop-start-preserved : goal.loop-start-preserved
 loop-start-preserved c =
     let next = c.in-Some.ensures.some in
-    let behind = next.behind in
+    let after = next.after in
     let few = c.loop-start.invariant.1 in (
       one_named (fields_of c.args.message.now) c.args.name.now c.loop-start.start c.in-Some.i c.loop-start.count _ next c.loop-start.invariant.0,
       omega arith,

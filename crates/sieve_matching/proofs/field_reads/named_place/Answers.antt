@@ -6,7 +6,7 @@ use Rattle.sieve_matching.proofs.field_reads.named_place.Goals as goal
 pub returns-in-Some : goal.returns-in-Some
 returns-in-Some c =
     let next = c.in-Some.ensures.some in
-    is_named_place c.args.message.now c.args.name.now c.args.first c.in-Some.next c.requires.first c.requires.countable (let low = next.behind in omega arith) next.others
+    is_named_place c.args.message.now c.args.name.now c.args.first c.in-Some.next c.requires.first c.requires.countable (let low = next.after in omega arith) next.others
 
 pub returns-in-None : goal.returns-in-None
 returns-in-None c =

@@ -3,7 +3,7 @@ use Rattle.std.specs.List.{slice_get}
 use Rattle.message_text.specs.Fields.{IsNextNamed, fields_of, is_field_named}
 use Rattle.sieve_actions.specs.Delivery.{Arrival}
 use Rattle.sieve_matching.specs.view.FieldTests.{field_found, found_with, value_found}
-use Rattle.sieve_matching.proofs.Searching.{first_at, first_after, next_found, none_behind, none_left, skips}
+use Rattle.sieve_matching.proofs.Searching.{first_at, first_after, next_found, none_after, none_left, skips}
 use Rattle.sieve_matching.proofs.field_values.find_in_fields.Goals as goal
 
 pub after_named-start-requires-clause-named : goal.after_named-start-requires-clause-named
@@ -52,4 +52,4 @@ returns-clause-found c =
     let fields = fields_of c.args.fields.now.message in
     let name = c.args.name.now in
     let counted : c.fields.result ≡ length fields = c.fields.ensures ∙ ap (λ (m : List ℕ). length (fields_of m)) c.message-message.ensures in
-    none_behind find c.args.fields.now.profile c.args.part fields name c.loop-start.start _ c.loop-start.invariant.1 (omega arith)
+    none_after find c.args.fields.now.profile c.args.part fields name c.loop-start.start _ c.loop-start.invariant.1 (omega arith)

@@ -17,7 +17,7 @@ loop-piece-init c rest =
 pub loop-piece-preserved : goal.loop-piece-preserved
 loop-piece-preserved c rest =
     let best = best_of c.args.matcher.now.comparison c.args.flags.now c.loop-piece.best in
-    c.in_ok-best.ensures (filled_pieces c.in-Some.behind.now ++ rest) ∙ ap (λ (keys : List (List ℕ)). best (keys ++ rest)) (sym c.in-Some.ensures.some) ∙ c.loop-piece.invariant rest
+    c.in_ok-best.ensures (filled_pieces c.in-Some.after.now ++ rest) ∙ ap (λ (keys : List (List ℕ)). best (keys ++ rest)) (sym c.in-Some.ensures.some) ∙ c.loop-piece.invariant rest
 
 pub returns : goal.returns
 returns c rest =

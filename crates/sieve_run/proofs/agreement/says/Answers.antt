@@ -9,10 +9,10 @@ returns-in-None c =
     let acted : List (List ℕ) = map action_line c.args.actions.now in
     let kept : List (List ℕ) = implicit_lines c.args.mailbox.now (option_copied c.args.kept) in
     let failed : List (List ℕ) = error_lines (option_copied c.args.failed) in
-    let first : option_copied c.behind_actions.result ≡ Some c.in-Some.left.now = search rules in
-    let second : option_copied c.behind_kept.result ≡ Some c.in-Some-behind_kept.left.now = search rules in
-    let none : option_copied c.behind_failed.result ≡ None = search rules in
-    part_none failed [] c.in-Some-behind_kept.left.now _ c.behind_failed.ensures none
-    ∙ ap (says c.in-Some-behind_kept.left.now) (append-nil failed)
-    ∙ part_some kept failed c.in-Some.left.now c.in-Some-behind_kept.left.now _ c.behind_kept.ensures second
-    ∙ part_some acted (kept ++ failed) c.args.text.now c.in-Some.left.now _ c.behind_actions.ensures first
+    let first : option_copied c.after_actions.result ≡ Some c.in-Some.left.now = search rules in
+    let second : option_copied c.after_kept.result ≡ Some c.in-Some-after_kept.left.now = search rules in
+    let none : option_copied c.after_failed.result ≡ None = search rules in
+    part_none failed [] c.in-Some-after_kept.left.now _ c.after_failed.ensures none
+    ∙ ap (says c.in-Some-after_kept.left.now) (append-nil failed)
+    ∙ part_some kept failed c.in-Some.left.now c.in-Some-after_kept.left.now _ c.after_kept.ensures second
+    ∙ part_some acted (kept ++ failed) c.args.text.now c.in-Some.left.now _ c.after_actions.ensures first

@@ -19,4 +19,4 @@ returns-clause-step c = λ act.
     (ap (λ t. test_op (compares_in pool t c.args.keys)) (sym c.test-test.ensures)
     ∙ ap (λ v. test_op (compares v test.comparison (list_in pool.lists c.args.keys))) (sym c.source-source.ensures)
     ∙ ap (λ k. test_op (compares source test.comparison k)) (sym c.list-keys.ensures))
-    c.compare-truth.ensures.truth c.compare-truth.ensures.behind c.tested.ensures
+    c.compare-truth.ensures.truth c.compare-truth.ensures.after c.tested.ensures

@@ -20,12 +20,12 @@ loop-token-init c = record {
 
 pub returns-in-Err-clause-exact : goal.returns-in-Err-clause-exact
 returns-in-Err-clause-exact c = λ view sees.
-    stop_means view c.args.text.now (state_value view c.loop-token.outer c.loop-token.state) c.loop-token.cursor.place c.in-Some.token c.in-Some.behind c.in-Err.fault c.read_token.new.outer c.in-Some.ensures (c.in-Err.ensures view sees) (c.loop-token.invariant.means view sees)
+    stop_means view c.args.text.now (state_value view c.loop-token.outer c.loop-token.state) c.loop-token.cursor.place c.in-Some.token c.in-Some.after c.in-Err.fault c.read_token.new.outer c.in-Some.ensures (c.in-Err.ensures view sees) (c.loop-token.invariant.means view sees)
 
 pub loop-token-preserved : goal.loop-token-preserved
 loop-token-preserved c = record {
   is = c.in-Some.ensures.is;
-  means = λ view sees. next_means c.args.text.now (state_value view c.loop-token.outer c.loop-token.state) (state_value view c.read_token.new.outer c.in-Ok.next) c.loop-token.cursor.place c.in-Some.token c.in-Some.behind c.in-Some.ensures (c.in-Ok.ensures view sees) (c.loop-token.invariant.means view sees);
+  means = λ view sees. next_means c.args.text.now (state_value view c.loop-token.outer c.loop-token.state) (state_value view c.read_token.new.outer c.in-Ok.next) c.loop-token.cursor.place c.in-Some.token c.in-Some.after c.in-Some.ensures (c.in-Ok.ensures view sees) (c.loop-token.invariant.means view sees);
 }
 
 pub returns-clause-exact : goal.returns-clause-exact

@@ -1,6 +1,6 @@
 use Rattle.std.proofs.Common.{◌≡◌, ◌++◌, ◌-◌, ◌≤◌, length, take, drop}
 use Rattle.sieve_variables.specs.Scan.{parts_of_text}
-use Rattle.sieve_variables.proofs.Steps.{in_front}
+use Rattle.sieve_variables.proofs.Steps.{put_before}
 use Rattle.sieve_variables.proofs.references.parts_of_text.Given as goal
 
 -- the parts so far, and then the octets that stand for themselves with the parts of what is left after them, are the parts of the text
@@ -8,7 +8,7 @@ abbrev pub invariant-loop-plain : goal.invariant-loop-plain
 invariant-loop-plain l = record {
   within : l.plain ≤ length l.left;
   shorter : length l.left ≤ length l.text;
-  parts : l.parts ++ in_front (take l.plain l.left) (parts_of_text (drop l.plain l.left)) ≡ parts_of_text l.text;
+  parts : l.parts ++ put_before (take l.plain l.left) (parts_of_text (drop l.plain l.left)) ≡ parts_of_text l.text;
 }
 
 abbrev pub decreases-loop-plain : goal.decreases-loop-plain

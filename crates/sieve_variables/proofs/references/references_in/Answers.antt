@@ -7,33 +7,33 @@ use Rattle.sieve_variables.proofs.references.references_in.Goals as goal
 pub loop-rest-preserved-in-None : goal.loop-rest-preserved-in-None
 loop-rest-preserved-in-None c =
     let rest = c.loop-rest.rest.now in
-    let behind = c.split_at.result.1.now in
+    let after = c.split_at.result.1.now in
     let some : 0 < length rest = grind (arith, eqb-false) in
     let none = c.in-None.ensures.is in
     let is = c.split_at.ensures.back in
     record {
-      any = passed_octet is_reference (λ _. refl) rest behind c.loop-rest.any _ some none is c.loop-rest.invariant.any;
-      namespaced = passed_octet is_namespaced (λ _. refl) rest behind c.loop-rest.namespaced _ some none is c.loop-rest.invariant.namespaced;
-      foreign = passed_octet is_foreign (λ _. refl) rest behind c.loop-rest.foreign _ some none is c.loop-rest.invariant.foreign;
-      far = passed_octet is_far (λ _. refl) rest behind c.loop-rest.far _ some none is c.loop-rest.invariant.far;
+      any = passed_octet is_reference (λ _. refl) rest after c.loop-rest.any _ some none is c.loop-rest.invariant.any;
+      namespaced = passed_octet is_namespaced (λ _. refl) rest after c.loop-rest.namespaced _ some none is c.loop-rest.invariant.namespaced;
+      foreign = passed_octet is_foreign (λ _. refl) rest after c.loop-rest.foreign _ some none is c.loop-rest.invariant.foreign;
+      far = passed_octet is_far (λ _. refl) rest after c.loop-rest.far _ some none is c.loop-rest.invariant.far;
     }
 
 pub loop-rest-preserved : goal.loop-rest-preserved
 loop-rest-preserved c =
     let rest = c.loop-rest.rest.now in
     let inside = c.in-Some.inside.now in
-    let behind = c.split_at-in-Some.result.1.now in
+    let after = c.split_at-in-Some.result.1.now in
     let found = c.in-Some.ensures.is in
     let is = c.split_at-in-Some.ensures.back in
     record {
       any =
           true_once c.loop-rest.any _ _
-          (passed_reference is_reference rest inside behind c.loop-rest.any _ _ found refl is c.loop-rest.invariant.any);
+          (passed_reference is_reference rest inside after c.loop-rest.any _ _ found refl is c.loop-rest.invariant.any);
       namespaced =
-          passed_reference is_namespaced rest inside behind c.loop-rest.namespaced _ _ found c.is_namespaced-namespaced.ensures is c.loop-rest.invariant.namespaced;
+          passed_reference is_namespaced rest inside after c.loop-rest.namespaced _ _ found c.is_namespaced-namespaced.ensures is c.loop-rest.invariant.namespaced;
       foreign =
-          passed_reference is_foreign rest inside behind c.loop-rest.foreign _ _ found c.is_foreign-foreign.ensures is c.loop-rest.invariant.foreign;
-      far = passed_reference is_far rest inside behind c.loop-rest.far _ _ found c.is_far-far.ensures is c.loop-rest.invariant.far;
+          passed_reference is_foreign rest inside after c.loop-rest.foreign _ _ found c.is_foreign-foreign.ensures is c.loop-rest.invariant.foreign;
+      far = passed_reference is_far rest inside after c.loop-rest.far _ _ found c.is_far-far.ensures is c.loop-rest.invariant.far;
     }
 
 pub returns-clause-any : goal.returns-clause-any

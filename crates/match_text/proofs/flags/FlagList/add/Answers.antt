@@ -2,7 +2,7 @@ use Rattle.std.proofs.Common.{◌≡◌, ◌∙◌, ◌-◌, ℕ, List, SomeInde
 use Rattle.std.specs.List.{All}
 use Rattle.std.proofs.lemmas.Result.{on_err_weaker, on_ok_weaker}
 use Rattle.match_text.specs.Flags.{flag_union, has_flag}
-use Rattle.match_text.proofs.FlagLists.{none_behind, union_behind_some, union_has, union_slice}
+use Rattle.match_text.proofs.FlagLists.{none_after, union_after_some, union_has, union_slice}
 use Rattle.match_text.proofs.flags.FlagList.add.Goals as goal
 
 joined : (c : goal.After-len-count) → flag_union c.self.inside.flags.keys (take (length c.as_slice.result.now - c.first_missing-known.result) (drop c.first_missing-known.result c.as_slice.result.now)) ≡ flag_union c.args.self.now c.args.flags.now
@@ -22,11 +22,11 @@ returns-clause-there c =
 pub returns-clause-err : goal.returns-clause-err
 returns-clause-err c =
     on_err_weaker c.insert_each-added.result
-    (λ some. union_behind_some c.args.self.now c.args.flags.now c.as_slice.result.now c.args.known c.first_missing-known.result _ (c.as_slice.ensures.keys ∙ c.flags.view_is) c.first_missing-known.ensures.behind c.first_missing-known.ensures.within c.first_missing-known.ensures.there
+    (λ some. union_after_some c.args.self.now c.args.flags.now c.as_slice.result.now c.args.known c.first_missing-known.result _ (c.as_slice.ensures.keys ∙ c.flags.view_is) c.first_missing-known.ensures.after c.first_missing-known.ensures.within c.first_missing-known.ensures.there
     (subst (λ (l : List (List ℕ)). SomeIndex (take (length c.as_slice.result.now - c.first_missing-known.result) (drop c.first_missing-known.result c.as_slice.result.now)) (λ i. c.insert_each-added.new.flags.keys ≡ flag_union l (take i (take (length c.as_slice.result.now - c.first_missing-known.result) (drop c.first_missing-known.result c.as_slice.result.now))))) c.self.view_is some))
     c.insert_each-added.ensures.err
 
 pub returns-clause-held : goal.returns-clause-held
 returns-clause-held c =
     λ all. c.insert_each-added.ensures.none
-    (none_behind c.args.flags.now c.as_slice.result.now c.first_missing-known.result (c.as_slice.ensures.keys ∙ c.flags.view_is) (c.first_missing-known.ensures.all all))
+    (none_after c.args.flags.now c.as_slice.result.now c.first_missing-known.result (c.as_slice.ensures.keys ∙ c.flags.view_is) (c.first_missing-known.ensures.all all))

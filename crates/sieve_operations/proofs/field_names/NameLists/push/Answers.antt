@@ -4,4 +4,4 @@ use Rattle.sieve_operations.proofs.field_names.NameLists.push.Goals as goal
 
 pub returns-in-Ok-clause-kept : goal.returns-in-Ok-clause-kept
 returns-in-Ok-clause-kept c = λ more.
-    ap (λ (l : Lists). list_in (lists_plus c.put_behind.new.lists more) (length l.ends)) (sym c.self.view_is) ∙ c.in-Ok.ensures.kept more
+    ap (λ (l : Lists). list_in (lists_plus c.put_after.new.lists more) (length l.ends)) (sym c.self.view_is) ∙ c.in-Ok.ensures.kept more

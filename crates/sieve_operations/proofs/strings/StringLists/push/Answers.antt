@@ -7,12 +7,12 @@ use Rattle.sieve_operations.proofs.strings.StringLists.push.Goals as goal
 
 pub invariant_of-self : goal.invariant_of-self
 invariant_of-self c =
-    let old = c.self.inside in let new = c.put_behind.new in
+    let old = c.self.inside in let new = c.put_after.new in
     joined_end old.ends.items new.ends.items old.strings new.strings (texts_as c.args.texts.items) c.self.invariant c.in-Ok.ensures.0 c.in-Ok.ensures.1
 
 pub returns-in-Ok-clause-kept : goal.returns-in-Ok-clause-kept
 returns-in-Ok-clause-kept c = λ more.
-    let new = c.put_behind.new in let texts = texts_as c.args.texts.items in
+    let new = c.put_after.new in let texts = texts_as c.args.texts.items in
     let lists : Lists = record { strings = c.self.inside.strings; ends = c.self.inside.ends.items } in
     let seen = c.self.view_is in
     let is : record { strings = new.strings; ends = new.ends.items } ≡ lists_with lists texts =

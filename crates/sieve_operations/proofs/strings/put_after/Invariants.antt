@@ -1,6 +1,6 @@
 use Rattle.std.proofs.Common.{◌≡◌, ◌++◌}
 use Rattle.sieve_reading.specs.view.Reading.{texts_as}
-use Rattle.sieve_operations.proofs.strings.put_behind.Given as goal
+use Rattle.sieve_operations.proofs.strings.put_after.Given as goal
 
 -- the strings so far, and then those of the texts that are left, are those at the start and then those of all texts
 abbrev pub invariant-loop-text : goal.invariant-loop-text
