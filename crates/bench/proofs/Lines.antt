@@ -15,10 +15,10 @@ use Rattle.sieve_actions.specs.declared.error.RunError.{RunError}
 use Rattle.sieve_profile.specs.Profile.{Profile, has}
 use Rattle.sieve_profile.specs.declared.extension.Extension.{Extension}
 use Rattle.sieve_profile.specs.declared.extension.Extension.TheVariants.{Lines}
-use Rattle.sieve_run.specs.Lines.{action_line, error_line, error_lines, implicit_line, implicit_lines, origin_line, read_line, read_lines}
+use Rattle.sieve_run.specs.Lines.{action_line, error_line, error_lines, implicit_line, implicit_lines, origin_line, lookup_line, lookup_lines}
 use Rattle.sieve_run.specs.Verdict.{Verdict}
 use Rattle.bench.specs.Report.{addresses_line, indent, judgement_text, envelope_line, extension_text, extensions_line, indented, script_line, told_lines, total_line, traced_lines, verdict_text}
-use Rattle.bench.specs.view.Lines.{action_text, action_texts, error_text, implicit_text, read_text, traced_text, verdict_texts}
+use Rattle.bench.specs.view.Lines.{action_text, action_texts, error_text, implicit_text, lookup_text, traced_text, verdict_texts}
 
 -- the line of the envelope
 pub envelope_pieces : (envelope : Envelope) (from to mailbox : List ℕ) → from ≡ envelope.from → to ≡ envelope.to → mailbox ≡ envelope.mailbox
@@ -151,7 +151,7 @@ told_is true mailbox verdict =
 pub verdict_in_turn : (profile : Profile) (mailbox : List ℕ) (verdict : Verdict) → verdict_text profile mailbox verdict ≡ verdict_texts (has profile Lines) mailbox verdict
 unfolding verdict_texts
 verdict_in_turn profile mailbox verdict =
-    flat_map-append indented (told_lines (has profile Lines) mailbox verdict) (read_lines verdict)
-    ∙ rw (told_is (has profile Lines) mailbox verdict, flat_map-map indented read_line verdict.reads)
-    (append_assoc (action_texts (has profile Lines) verdict) (implicit_text mailbox verdict.implicit ++ error_text verdict.error) (flat_map read_text verdict.reads)
-    ∙ ap (λ l. action_texts (has profile Lines) verdict ++ l) (append_assoc (implicit_text mailbox verdict.implicit) (error_text verdict.error) (flat_map read_text verdict.reads)))
+    flat_map-append indented (told_lines (has profile Lines) mailbox verdict) (lookup_lines verdict)
+    ∙ rw (told_is (has profile Lines) mailbox verdict, flat_map-map indented lookup_line verdict.lookups)
+    (append_assoc (action_texts (has profile Lines) verdict) (implicit_text mailbox verdict.implicit ++ error_text verdict.error) (flat_map lookup_text verdict.lookups)
+    ∙ ap (λ l. action_texts (has profile Lines) verdict ++ l) (append_assoc (implicit_text mailbox verdict.implicit) (error_text verdict.error) (flat_map lookup_text verdict.lookups)))

@@ -12,7 +12,7 @@ use Rattle.sieve_actions.specs.Delivery.{Arrival}
 use Rattle.script_names.specs.declared.name.ScriptName.{ScriptName}
 use Rattle.sieve_actions.specs.declared.envelope.Addresses.{Addresses}
 use Rattle.sieve_run.specs.Frame.{Agree, Texts, outcome_over}
-use Rattle.sieve_run.specs.Run.{is_read}
+use Rattle.sieve_run.specs.Run.{is_looked_up}
 use Rattle.sieve_run.specs.Verdict.{Verdict}
 use Rattle.bench.specs.Content.{Sample, changed, text_at}
 use Rattle.bench.specs.Report.{Site, verdict_by}
@@ -86,20 +86,20 @@ tells_too test other (e ∷ es) alike tells = (alike (e.0, sample_of e.1) ∙ te
 abbrev pub marked : ScriptName → List (List ℕ × Entry) → List (List ℕ × Entry)
 marked name es = map (λ e. (e.0, unread name e.1)) es
 
-stale_for : (due : Verdict) (name : ScriptName) (before : Bool) (kept : Option Verdict) → IfSome kept (λ verdict. verdict ≡ due) → before ≡ is_none kept → (is_read name due.reads || before) ≡ is_none (kept_without name kept)
-stale_for due name before None is tells = rw tells (by (is_read name due.reads))
+stale_for : (due : Verdict) (name : ScriptName) (before : Bool) (kept : Option Verdict) → IfSome kept (λ verdict. verdict ≡ due) → before ≡ is_none kept → (is_looked_up name due.lookups || before) ≡ is_none (kept_without name kept)
+stale_for due name before None is tells = rw tells (by (is_looked_up name due.lookups))
   where
     by : (b : Bool) → (b || true) ≡ true
     by true = refl
     by false = refl
-stale_for due name before (Some verdict) is tells = rw (tells, ← is) (by (is_read name verdict.reads))
+stale_for due name before (Some verdict) is tells = rw (tells, ← is) (by (is_looked_up name verdict.lookups))
   where
     by : (b : Bool) → (b || false) ≡ is_none (cond b None (Some verdict))
     by true = refl
     by false = refl
 
 -- after a mark for a name those entries are stale whose runs looked the name up, and those that were stale
-pub tells-marked : (due : Sample → Verdict) (name : ScriptName) (test : List ℕ × Sample → Bool) (es : List (List ℕ × Entry)) → KeepsDue due es → Tells test es → Tells (λ m. is_read name (due m.1).reads || test m) (marked name es)
+pub tells-marked : (due : Sample → Verdict) (name : ScriptName) (test : List ℕ × Sample → Bool) (es : List (List ℕ × Entry)) → KeepsDue due es → Tells test es → Tells (λ m. is_looked_up name (due m.1).lookups || test m) (marked name es)
 unfolding KeepsDue
 tells-marked due name test [] kept tells = tt
 tells-marked due name test (e ∷ es) kept tells = (stale_for (due (sample_of e.1)) name (test (e.0, sample_of e.1)) e.1.kept kept.0 tells.0, tells-marked due name test es kept.1 tells.1)
@@ -107,7 +107,7 @@ tells-marked due name test (e ∷ es) kept tells = (stale_for (due (sample_of e.
 -- the frame: a verdict is the same over each library that has the same text, or none, at each name that it looked up
 abbrev pub IsFramed : Type 0
 IsFramed =
-    (texts others : Texts) (main : Option ScriptName) (arrival : Arrival) → Agree texts others (outcome_over texts main arrival).reads
+    (texts others : Texts) (main : Option ScriptName) (arrival : Arrival) → Agree texts others (outcome_over texts main arrival).lookups
     → outcome_over others main arrival ≡ outcome_over texts main arrival
 
 -- a verdict that isn't marked stays due, where the text at no other name changes
@@ -115,16 +115,16 @@ still_due : IsFramed → (texts others : Texts) (main : Option ScriptName) (arri
     → ((other : ScriptName) → name_eq name other ≡ false → texts other ≡ others other)
     → IfSome kept (λ verdict. verdict ≡ outcome_over texts main arrival) → IfSome (kept_without name kept) (λ verdict. verdict ≡ outcome_over others main arrival)
 still_due frame texts others main arrival name None alike is = tt
-still_due frame texts others main arrival name (Some verdict) alike is = by (is_read name verdict.reads) refl
+still_due frame texts others main arrival name (Some verdict) alike is = by (is_looked_up name verdict.lookups) refl
   where
-    agree : is_read name verdict.reads ≡ false → (other : ScriptName) → is_read other verdict.reads ≡ true → (b : Bool) → name_eq name other ≡ b → texts other ≡ others other
-    agree unread other read true is = let e : name ≡ other = is_name name other is in absurd (let f : is_read other verdict.reads ≡ false = rw (← e) unread in cc)
+    agree : is_looked_up name verdict.lookups ≡ false → (other : ScriptName) → is_looked_up other verdict.lookups ≡ true → (b : Bool) → name_eq name other ≡ b → texts other ≡ others other
+    agree unread other read true is = let e : name ≡ other = is_name name other is in absurd (let f : is_looked_up other verdict.lookups ≡ false = rw (← e) unread in cc)
     agree unread other read false is = alike other is
 
-    by : (b : Bool) → is_read name verdict.reads ≡ b → IfSome (cond b None (Some verdict)) (λ verdict. verdict ≡ outcome_over others main arrival)
+    by : (b : Bool) → is_looked_up name verdict.lookups ≡ b → IfSome (cond b None (Some verdict)) (λ verdict. verdict ≡ outcome_over others main arrival)
     by true read = tt
     by false unread =
-        let all : Agree texts others (outcome_over texts main arrival).reads = λ other read. agree unread other (rw is read) (name_eq name other) refl in
+        let all : Agree texts others (outcome_over texts main arrival).lookups = λ other read. agree unread other (rw is read) (name_eq name other) refl in
         is ∙ sym (frame texts others main arrival all)
 
 pub due-marked : IsFramed → (site : Site) (scripts : List (ScriptName × List ℕ)) (name : ScriptName) (es : List (List ℕ × Entry))
@@ -140,7 +140,7 @@ due-marked frame site scripts name (e ∷ es) alike kept = (
 -- a verdict that is due and that a mark leaves is still due
 kept_due : (due : Verdict) (name : ScriptName) (kept : Option Verdict) → IfSome kept (λ verdict. verdict ≡ due) → IfSome (kept_without name kept) (λ verdict. verdict ≡ due)
 kept_due due name None is = tt
-kept_due due name (Some verdict) is = by (is_read name verdict.reads)
+kept_due due name (Some verdict) is = by (is_looked_up name verdict.lookups)
   where
     by : (b : Bool) → IfSome (cond b None (Some verdict)) (λ verdict. verdict ≡ due)
     by true = tt
@@ -303,7 +303,7 @@ stale-listed es distinct = passing _ es (told es distinct)
 -- THE STALE ONES BEHIND AN EDIT
 
 pub stale-marked : (due : Sample → Verdict) (name : ScriptName) (es : List (List ℕ × Entry)) → KeepsDue due es → IsDistinct (pointwise nat_eq) (keys_of es)
-    → stale_of (marked name es) ≡ ids_where (λ m. is_read name (due m.1).reads || is_among m.0 (stale_of es)) (messages_of (marked name es))
+    → stale_of (marked name es) ≡ ids_where (λ m. is_looked_up name (due m.1).lookups || is_among m.0 (stale_of es)) (messages_of (marked name es))
 stale-marked due name es kept distinct = passing _ (marked name es) (tells-marked due name (λ m. is_among m.0 (stale_of es)) es kept (told es distinct))
 
 or_assoc : (a b c : Bool) → ((a || b) || c) ≡ (a || (b || c))
@@ -312,13 +312,13 @@ or_assoc false b c = refl
 
 pub stale-marked_twice : (due : Sample → Verdict) (from to : ScriptName) (es : List (List ℕ × Entry)) → KeepsDue due es → IsDistinct (pointwise nat_eq) (keys_of es)
     → stale_of (marked from (marked to es))
-    ≡ ids_where (λ m. (is_read from (due m.1).reads || is_read to (due m.1).reads) || is_among m.0 (stale_of es)) (messages_of (marked from (marked to es)))
+    ≡ ids_where (λ m. (is_looked_up from (due m.1).lookups || is_looked_up to (due m.1).lookups) || is_among m.0 (stale_of es)) (messages_of (marked from (marked to es)))
 stale-marked_twice due from to es kept distinct =
-    let first : Tells (λ m. is_read to (due m.1).reads || is_among m.0 (stale_of es)) (marked to es) = tells-marked due to (λ m. is_among m.0 (stale_of es)) es kept (told es distinct) in
+    let first : Tells (λ m. is_looked_up to (due m.1).lookups || is_among m.0 (stale_of es)) (marked to es) = tells-marked due to (λ m. is_among m.0 (stale_of es)) es kept (told es distinct) in
     passing _ (marked from (marked to es))
-    (tells_too (λ m. is_read from (due m.1).reads || (is_read to (due m.1).reads || is_among m.0 (stale_of es))) _ (marked from (marked to es))
-    (λ m. or_assoc (is_read from (due m.1).reads) (is_read to (due m.1).reads) (is_among m.0 (stale_of es)))
-    (tells-marked due from (λ m. is_read to (due m.1).reads || is_among m.0 (stale_of es)) (marked to es) (due-kept due to es kept) first))
+    (tells_too (λ m. is_looked_up from (due m.1).lookups || (is_looked_up to (due m.1).lookups || is_among m.0 (stale_of es))) _ (marked from (marked to es))
+    (λ m. or_assoc (is_looked_up from (due m.1).lookups) (is_looked_up to (due m.1).lookups) (is_among m.0 (stale_of es)))
+    (tells-marked due from (λ m. is_looked_up to (due m.1).lookups || is_among m.0 (stale_of es)) (marked to es) (due-kept due to es kept) first))
 
 pub stale-all_marked : (es : List (List ℕ × Entry)) → stale_of (all_marked es) ≡ ids_where (λ m. true || is_among m.0 (stale_of es)) (messages_of (all_marked es))
 stale-all_marked es = passing _ (all_marked es) (tells-all_marked (λ m. is_among m.0 (stale_of es)) es)

@@ -98,7 +98,7 @@ module _ (profile : Profile) where
 
   -- the run on each message looks the main script up, and no other
   abbrev IsAlone : List ℕ → Type 0
-  IsAlone text = (sample : Sample) → (verdict_on (present text) sample).reads ≡ (main, true) ∷ []
+  IsAlone text = (sample : Sample) → (verdict_on (present text) sample).lookups ≡ (main, true) ∷ []
 
   -- a main script whose text is past the limit, has a fault, or is one keep, looks up no other
   long_row : (text : List ℕ) → nat_lt text_limit (length text) ≡ true → IsAlone text

@@ -12,7 +12,7 @@ use Rattle.sieve_actions.specs.declared.action.Origin.{Origin}
 use Rattle.sieve_actions.specs.declared.envelope.Addresses.{Addresses}
 use Rattle.sieve_actions.specs.declared.envelope.Envelope.{Envelope}
 use Rattle.sieve_run.specs.Library.{library_of}
-use Rattle.sieve_run.specs.Lines.{action_line, agrees, error_lines, implicit_lines, origin_line, read_lines, verdict_lines}
+use Rattle.sieve_run.specs.Lines.{action_line, agrees, error_lines, implicit_lines, origin_line, lookup_lines, verdict_lines}
 use Rattle.sieve_run.specs.Run.{outcome_of}
 use Rattle.sieve_run.specs.Verdict.{Verdict}
 use Rattle.sieve_profile.specs.Extension.{extension_name, extensions}
@@ -84,7 +84,7 @@ told_lines true mailbox verdict = flat_map traced_lines (zip verdict.actions ver
 
 -- the lines of a verdict, with `lines` also of where each action comes from, and of the names that were looked up
 abbrev pub verdict_text : Profile → (mailbox : List ℕ) → Verdict → List ℕ
-verdict_text profile mailbox verdict = flat_map indented (told_lines (has profile Lines) mailbox verdict ++ read_lines verdict)
+verdict_text profile mailbox verdict = flat_map indented (told_lines (has profile Lines) mailbox verdict ++ lookup_lines verdict)
 
 -- the first line of a message
 unfoldable pub message_line : List ℕ → List ℕ

@@ -4,7 +4,7 @@ use Rattle.std.specs.Prelude.{ℕ, Bool, true, false, ◌||◌, List, map, filte
 use Rattle.std.specs.Option.{option_map}
 use lib.Pointwise.{pointwise}
 use Rattle.script_names.specs.declared.name.ScriptName.{ScriptName}
-use Rattle.sieve_run.specs.Run.{is_read}
+use Rattle.sieve_run.specs.Run.{is_looked_up}
 use Rattle.sieve_run.specs.Verdict.{Verdict}
 use Rattle.bench.specs.Content.{Content, Edit, Sample, message_at, put_script, put_message, set_main, rename_script, remove_script, remove_message, clear_main, set_envelope, set_mailbox, set_expected, clear_expected, set_mailboxes, set_message_envelope, clear_message_envelope, set_clock, clear_clock}
 use Rattle.bench.specs.Report.{site_of, verdict_by}
@@ -19,7 +19,7 @@ verdict_of content id = option_map (verdict_on content) (message_at content.mess
 
 -- whether the run on a message looks a name up, present or missing
 abbrev pub looks_up : Content → ScriptName → Sample → Bool
-looks_up content name sample = is_read name (verdict_on content sample).reads
+looks_up content name sample = is_looked_up name (verdict_on content sample).lookups
 
 -- whether an edit of a content touches a message; what is expected of one is no part of the run
 abbrev pub touches : Content → Edit → List ℕ × Sample → Bool

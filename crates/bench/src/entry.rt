@@ -2,7 +2,7 @@
 ghost use Rattle.std.specs.Prelude.{◌≡◌, IfOk, OnOk, OnErr, None, is_some};
 ghost use Rattle.std.specs.Option.{option_copied};
 ghost use Rattle.sieve_run.specs.Meter.{next_run};
-ghost use Rattle.sieve_run.specs.Run.{is_read};
+ghost use Rattle.sieve_run.specs.Run.{is_looked_up};
 ghost use Rattle.bench.specs.Report.{is_unlike, verdict_by};
 ghost use Rattle.bench.specs.view.Entry.{disagrees, expecting, forgotten, has_error, readdressed, refreshed, renewed, runs_at, unread};
 ghost use Rattle.bench.specs.view.Site.{site_as};
@@ -40,9 +40,9 @@ impl Model for EntryBox {
 
 /// Whether a run looked a name up, present or missing.
 fn looked_up(outcome: &Outcome, name: &ScriptName) -> bool
-    ensures { result ≡ is_read name.now outcome.now.reads }
+    ensures { result ≡ is_looked_up name.now outcome.now.lookups }
 {
-    outcome.reads().contains_key(name)
+    outcome.lookups().contains_key(name)
 }
 
 /// Whether a text is expected of a verdict, and it has another.

@@ -10,7 +10,7 @@ ghost use Rattle.bench.specs.Stale.{verdict_of};
 ghost use Rattle.bench.specs.Test.{after_all};
 ghost use Rattle.sieve_profile.specs.Profile.{Profile, has};
 ghost use Rattle.sieve_profile.specs.declared.extension.Extension.TheVariants.{Lines};
-ghost use Rattle.sieve_run.specs.Lines.{read_lines, verdict_lines};
+ghost use Rattle.sieve_run.specs.Lines.{lookup_lines, verdict_lines};
 ghost use Rattle.sieve_run.specs.Verdict.{Verdict};
 ghost use Rattle.bench.specs.declared.fault.EditFault as faults;
 
@@ -76,5 +76,5 @@ pub fn own_addresses_are_one_messages()
 pub fn origins_are_told_where_they_are_asked_for()
     ensures { (profile : Profile) (mailbox : List ℕ) (verdict : Verdict) → has profile Lines ≡ false
         → verdict_text profile mailbox verdict
-        ≡ flat_map indented (verdict_lines mailbox verdict ++ read_lines verdict) }
+        ≡ flat_map indented (verdict_lines mailbox verdict ++ lookup_lines verdict) }
 {}

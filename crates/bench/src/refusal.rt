@@ -9,7 +9,10 @@ use crate::scripts::Scripts;
 use named_list::NamedList;
 use octets::Octets;
 use script_names::ScriptName;
-use sieve_limits::{MAX_ADDRESS, MAX_EXPECTED, MAX_ID, MAX_MAILBOX, MAX_MAILBOXES, MAX_MESSAGE, MAX_MESSAGES, MAX_NAME, MAX_SCRIPTS, MAX_TEXT};
+use sieve_limits::{
+    MAX_ADDRESS, MAX_EXPECTED, MAX_ID, MAX_MAILBOX, MAX_MAILBOXES, MAX_MESSAGE, MAX_MESSAGES,
+    MAX_NAME, MAX_SCRIPTS, MAX_TEXT,
+};
 
 /// Whether a script's name is past its limit.
 pub(crate) fn is_long(name: &Octets) -> bool

@@ -5,7 +5,7 @@ ghost use Rattle.named_list.specs.Named.{IsUnique};
 ghost use Rattle.devices.specs.Writers.{Writes};
 ghost use Rattle.bench.specs.Bench.{RefusedAmong};
 ghost use Rattle.bench.specs.Report.{script_line, verdict_by, message_lines, error_count, profile_lines, unexpected_count, site_lines, total_line, report_with};
-ghost use Rattle.bench.specs.view.Lines.{action_text, action_texts, read_text, traced_text, verdict_texts};
+ghost use Rattle.bench.specs.view.Lines.{action_text, action_texts, lookup_text, traced_text, verdict_texts};
 ghost use Rattle.bench.specs.view.Site.{site_as};
 ghost use Rattle.sieve_run.specs.Meter.{runs_after};
 ghost use Rattle.bench.specs.Test.{is_clean_with};
@@ -99,12 +99,12 @@ fn write_told_actions<W: Sink>(
 
 /// Writes the lines of the looked-up names.
 #[tactic(auto, using(crate::proofs::Writing::writing))]
-fn write_reads<W: Sink>(outcome: &Outcome, writer: &mut W) -> Result<(), WriteFault>
+fn write_lookups<W: Sink>(outcome: &Outcome, writer: &mut W) -> Result<(), WriteFault>
     ensures { Writes W.contents W.fault_count result writer.old writer.new
-        (flat_map read_text outcome.now.reads) }
+        (flat_map lookup_text outcome.now.lookups) }
 {
-    let reads = outcome.reads();
-    for (name, is_present) in reads {
+    let lookups = outcome.lookups();
+    for (name, is_present) in lookups {
         write_read_line(name, *is_present, writer)?;
     }
     Ok(())
@@ -135,7 +135,7 @@ fn write_verdict<W: Sink>(
     write_told_actions(traced, outcome, writer)?;
     write_implicit_line(envelope, outcome, writer)?;
     write_error_line(outcome, writer)?;
-    write_reads(outcome, writer)
+    write_lookups(outcome, writer)
 }
 
 /// Writes the lines of a message, where its verdict is kept.

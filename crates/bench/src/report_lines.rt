@@ -4,7 +4,7 @@ ghost use Rattle.std.specs.List.{flat_map, list_any};
 ghost use Rattle.std.specs.Option.{option_copied};
 ghost use Rattle.devices.specs.Writers.{Writes};
 ghost use Rattle.bench.specs.Report.{addresses_line, addresses_text, main_line, envelope_line, extension_text, mailboxes_line, profile_line, script_line, indent, indented, message_line, expectation_line, expectation_text, total_line};
-ghost use Rattle.bench.specs.view.Lines.{action_text, error_text, implicit_text, read_text, traced_text};
+ghost use Rattle.bench.specs.view.Lines.{action_text, error_text, implicit_text, lookup_text, traced_text};
 ghost use Rattle.sieve_profile.specs.Extension.{extensions};
 ghost use Rattle.sieve_profile.specs.Profile.{has};
 ghost use Rattle.sieve_run.specs.Lines.{error_line, implicit_line, origin_line};
@@ -15,7 +15,7 @@ use script_names::ScriptName;
 use sieve_profile::{EXTENSIONS, Extension, Profile};
 use sieve_run::{
     Action, Addresses, Envelope, FlagList, Origin, Outcome, RunError, Script, mailbox_count,
-    write_action, write_error, write_implicit, write_origin, write_read,
+    write_action, write_error, write_implicit, write_lookup, write_origin,
 };
 
 /// Writes the line of the main script.
@@ -321,10 +321,10 @@ pub(crate) fn write_read_line<W: Sink>(
     writer: &mut W,
 ) -> Result<(), WriteFault>
     ensures { Writes W.contents W.fault_count result writer.old writer.new
-        (read_text (name.now, is_present)) }
+        (lookup_text (name.now, is_present)) }
 {
     write_indent(writer)?;
-    write_read(name, is_present, writer)?;
+    write_lookup(name, is_present, writer)?;
     write_out(b"\n", writer)
 }
 

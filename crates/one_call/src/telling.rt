@@ -94,7 +94,7 @@ pub(crate) fn tell_outcome(rt: &impl Print, outcome: &Outcome) -> io::Result<()>
     if let Some(error) = outcome.error() {
         end_line(rt, write_error(error, &mut writer))?;
     }
-    for (name, is_present) in outcome.reads() {
+    for (name, is_present) in outcome.lookups() {
         end_line(rt, write_read(name, *is_present, &mut writer))?;
     }
     Ok(())

@@ -14,7 +14,7 @@ pub record RunState : Type 0 where
   -- 3894, section 3; RFC 5230, section 4.7; RFC 5429, section 2.4)
   pub cancelled : Bool
   -- the names looked up so far, each present or missing
-  pub reads : List (ScriptName × Bool)
+  pub lookups : List (ScriptName × Bool)
   -- the scripts that were entered, in turn, the main script first (RFC 6609, section 3.2)
   pub entered : List ScriptName
   -- the variables of the script that runs, and those that scripts share

@@ -16,7 +16,7 @@ pub struct State {
     /// Whether an action took the place of the implicit keep (RFC 5228, section 2.10.2).
     pub cancelled: bool,
     /// The names looked up so far, and whether each was there.
-    pub reads: IndexMap<ScriptName, bool>,
+    pub lookups: IndexMap<ScriptName, bool>,
     /// The scripts that were entered, in turn, the main script first (RFC 6609, section 3.2).
     pub entered: Vec<ScriptName>,
     /// The variables of the script that runs (RFC 5229, section 3), and those that scripts share (RFC 6609, section 3.4).

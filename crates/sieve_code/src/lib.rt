@@ -20,8 +20,8 @@ mod test_code;
 
 pub use code::Code;
 pub use compiler::compile;
+pub use devices::{Counted, Faults, Sink, Source, WriteFault, write_out, write_quoted};
 pub use given::GivenPlace;
 pub use op::{Inclusion, Op, PackedSource, PackedTest};
 pub use pools::Target;
-pub use devices::{Counted, Faults, Sink, Source, WriteFault, write_out, write_quoted};
 pub use script_names::Location;

@@ -11,7 +11,7 @@ use Rattle.message_text.proofs.LawLemmas.{addresses_are_whole}
 use Rattle.octets.specs.Octet.{is_filled}
 use Rattle.sieve_profile.specs.Profile.{Profile}
 use Rattle.sieve_matching.specs.Matching.{address_parts, decoded_named, parts_of_envelope, parts_of_value, values_named}
-use Rattle.sieve_matching.specs.view.FieldReads.{address_lists_of}
+use Rattle.sieve_matching.specs.view.FieldCache.{address_lists_of}
 use Rattle.sieve_operations.proofs.Joining.{get_map}
 
 -- ONE AFTER ANOTHER

@@ -4,8 +4,8 @@ use Rattle.std.specs.List.{slice_get}
 use Rattle.match_text.specs.Comparator.{ascii_casemap, same}
 use Rattle.match_text.specs.view.Hashing.{same_equiv}
 use Rattle.message_text.specs.Fields.{Field, IsNextNamed, fields_of, is_field_named, names_of}
-use Rattle.sieve_matching.specs.declared.field_reads.NamedPlace.{NamedPlace}
-use Rattle.sieve_matching.specs.view.FieldReads.{IsNamedPlace}
+use Rattle.sieve_matching.specs.declared.field_cache.NamedPlace.{NamedPlace}
+use Rattle.sieve_matching.specs.view.FieldCache.{IsNamedPlace}
 
 -- names that are the same as one text are names of the same fields
 names_agree : (text a b : List ℕ) → same ascii_casemap text a ≡ true → same ascii_casemap text b ≡ true → (field : Field) → is_field_named a field ≡ is_field_named b field

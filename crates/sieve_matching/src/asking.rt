@@ -10,10 +10,10 @@ ghost use Rattle.sieve_actions.specs.view.State.{state_of};
 use crate::body_values::find_in_body;
 use crate::counting::count_in_source;
 use crate::date_values::{find_in_clock, find_in_date};
-use crate::field_reads::FieldReads;
+use crate::field_cache::FieldCache;
 use crate::field_values::{find_in_named, has_fields};
 use crate::flag_values::find_in_held;
-use crate::matcher::{MatchValues, Matcher, keep_found};
+use crate::matcher::{MatchValues, Matcher, set_found};
 use crate::path_values::find_in_paths;
 use crate::string_values::find_in_strings;
 use itoa::Buffer;
@@ -25,7 +25,7 @@ use std::alloc::AllocError;
 /// What the first value of a source gives that matches some key.
 fn find_in_source(
     delivery: &Delivery<'_>,
-    fields: &mut FieldReads<'_>,
+    fields: &mut FieldCache<'_>,
     state: &State,
     source: &SourceOp<'_>,
     matcher: &Matcher<'_>,
@@ -62,7 +62,7 @@ fn find_in_source(
 /// What the number of the values of a source gives, in decimal (RFC 5231, section 4.2).
 fn find_by_count(
     delivery: &Delivery<'_>,
-    fields: &mut FieldReads<'_>,
+    fields: &mut FieldCache<'_>,
     state: &State,
     source: &SourceOp<'_>,
     matcher: &Matcher<'_>,
@@ -81,7 +81,7 @@ fn find_by_count(
 /// What the first gives that matches some key: of the values of a source, or their number under `:count`.
 fn find_keyed(
     delivery: &Delivery<'_>,
-    fields: &mut FieldReads<'_>,
+    fields: &mut FieldCache<'_>,
     state: &State,
     source: &SourceOp<'_>,
     matcher: &Matcher<'_>,
@@ -119,7 +119,7 @@ fn cuts_keys(source: &SourceOp<'_>) -> bool
 /// What a test finds that compares values with keys.
 fn find_match(
     delivery: &Delivery<'_>,
-    fields: &mut FieldReads<'_>,
+    fields: &mut FieldCache<'_>,
     state: &State,
     source: &SourceOp<'_>,
     comparison: Comparison,
@@ -156,7 +156,7 @@ fn sets_matched(source: &SourceOp<'_>) -> bool
 }
 
 /// Keeps what was found in a source, where that sets match variables. Answers whether something was found.
-fn keep_found_in(
+fn set_found_in(
     source: &SourceOp<'_>,
     match_type: MatchType,
     found: Option<MatchValues>,
@@ -169,7 +169,7 @@ fn keep_found_in(
     } }
 {
     if sets_matched(source) {
-        keep_found(match_type, found, state)
+        set_found(match_type, found, state)
     } else {
         found.is_some()
     }
@@ -184,7 +184,7 @@ pub fn compare(
     source: &SourceOp<'_>,
     comparison: Comparison,
     keys: &Strings<'_>,
-    fields: &mut FieldReads<'_>,
+    fields: &mut FieldCache<'_>,
     state: &mut State,
 ) -> Result<bool, AllocError>
     requires { fields.old ≡ (delivery_as delivery.now).arrival }
@@ -196,7 +196,7 @@ pub fn compare(
         (compares (source_op_as source.now) comparison keys.now) (state_of state.old)) }
 {
     let found = find_match(delivery, fields, &*state, source, comparison, keys)?;
-    Ok(keep_found_in(source, comparison.match_type, found, state))
+    Ok(set_found_in(source, comparison.match_type, found, state))
 }
 
 /// Whether all named fields are there (RFC 5228, section 5.5). Fails where memory is refused.

@@ -16,7 +16,7 @@ ghost use Rattle.sieve_operations.specs.view.Ops.{body_op_as};
 ghost use Rattle.sieve_actions.specs.view.State.{state_of};
 
 use crate::counting::plus;
-use crate::field_reads::FieldReads;
+use crate::field_cache::FieldCache;
 use crate::matcher::{MatchValues, Matcher};
 use mime_text::{Entity, Given, TransferEncoding, WantedType, body_of};
 use sieve_actions::{Delivery, State};
@@ -158,7 +158,7 @@ fn find_in_each(
 /// What the entities give that these entries name.
 fn find_in_named(
     delivery: &Delivery<'_>,
-    fields: &mut FieldReads<'_>,
+    fields: &mut FieldCache<'_>,
     entries: &[CowSlice<'_, u8>],
     matcher: &Matcher<'_>,
 ) -> Result<Option<MatchValues>, AllocError>
@@ -171,7 +171,7 @@ fn find_in_named(
     let entities = fields.take_entities(delivery.alloc)?;
     let profile = delivery.arrival.profile;
     let found = find_in_each(delivery.alloc, profile, &entities, entries, matcher)?;
-    fields.keep_entities(entities);
+    fields.cache_entities(entities);
     Ok(found)
 }
 
@@ -192,7 +192,7 @@ fn find_in_all(
 /// What a body gives.
 pub(crate) fn find_in_body(
     delivery: &Delivery<'_>,
-    fields: &mut FieldReads<'_>,
+    fields: &mut FieldCache<'_>,
     state: &State,
     transform: &BodyOp<'_>,
     matcher: &Matcher<'_>,
@@ -246,7 +246,7 @@ fn count_in_each(entities: &[Entity<'_>], entries: &[CowSlice<'_, u8>]) -> Resul
 /// How many values the entities have that these entries name.
 fn count_in_named(
     alloc: Global,
-    fields: &mut FieldReads<'_>,
+    fields: &mut FieldCache<'_>,
     entries: &[CowSlice<'_, u8>],
 ) -> Result<usize, AllocError>
     ensures arrival { fields.new ≡ fields.old }
@@ -255,7 +255,7 @@ fn count_in_named(
 {
     let entities = fields.take_entities(alloc)?;
     let count = count_in_each(&entities, entries)?;
-    fields.keep_entities(entities);
+    fields.cache_entities(entities);
     Ok(count)
 }
 
@@ -272,7 +272,7 @@ fn count_in_all(message: &[u8]) -> usize
 /// How many values a `body` test has.
 pub(crate) fn count_body(
     delivery: &Delivery<'_>,
-    fields: &mut FieldReads<'_>,
+    fields: &mut FieldCache<'_>,
     state: &State,
     transform: &BodyOp<'_>,
 ) -> Result<usize, AllocError>

@@ -9,14 +9,14 @@ ghost use Rattle.sieve_reading.specs.Reading.{address_values, envelope_values, f
 ghost use Rattle.sieve_actions.specs.Delivery.{envelope_of};
 ghost use Rattle.sieve_matching.specs.Matching.{counted_of, envelope_named, parts_named, parts_of_envelope, parts_of_value, values_named, values_of};
 ghost use Rattle.sieve_actions.specs.view.Delivery.{arrival_as, delivery_as};
-ghost use Rattle.sieve_matching.specs.view.FieldReads.{address_lists_of};
+ghost use Rattle.sieve_matching.specs.view.FieldCache.{address_lists_of};
 ghost use Rattle.sieve_operations.specs.view.Ops.{source_op_as};
 ghost use Rattle.sieve_actions.specs.view.State.{state_of};
 ghost use Rattle.sieve_variables.specs.Value.{text_value};
 
 use crate::body_values::count_body;
 use crate::date_values::{count_clock, count_date};
-use crate::field_reads::FieldReads;
+use crate::field_cache::FieldCache;
 use crate::path_values::{envelope_text, is_null_path};
 use match_text::flags_of;
 use message_text::{FieldName, Message};
@@ -85,7 +85,7 @@ fn count_fields(
 }
 
 /// How many addresses there are in the value of field `i`.
-fn addresses_at(alloc: Global, fields: &mut FieldReads<'_>, i: usize) -> Result<usize, AllocError>
+fn addresses_at(alloc: Global, fields: &mut FieldCache<'_>, i: usize) -> Result<usize, AllocError>
     requires { i < length (fields_of fields.old.message) }
     ensures arrival { fields.new ≡ fields.old }
     ensures count { IfOk result (λ count. slice_get
@@ -93,14 +93,14 @@ fn addresses_at(alloc: Global, fields: &mut FieldReads<'_>, i: usize) -> Result<
 {
     let listed = fields.take_addresses(alloc, i)?;
     let count = listed.len();
-    fields.keep_addresses(i, listed)?;
+    fields.cache_addresses(i, listed)?;
     Ok(count)
 }
 
 /// How many addresses there are in the fields of that name.
 fn addresses_in_fields(
     alloc: Global,
-    fields: &mut FieldReads<'_>,
+    fields: &mut FieldCache<'_>,
     name: &FieldName<'_>,
 ) -> Result<usize, AllocError>
     ensures arrival { fields.new ≡ fields.old }
@@ -123,7 +123,7 @@ fn addresses_in_fields(
 /// How many addresses there are in the fields of that name, where such fields hold addresses.
 fn addresses_by_name(
     alloc: Global,
-    fields: &mut FieldReads<'_>,
+    fields: &mut FieldCache<'_>,
     name: &FieldName<'_>,
 ) -> Result<usize, AllocError>
     ensures arrival { fields.new ≡ fields.old }
@@ -140,7 +140,7 @@ fn addresses_by_name(
 /// How many addresses there are in the fields of some names.
 fn addresses_by_names(
     alloc: Global,
-    fields: &mut FieldReads<'_>,
+    fields: &mut FieldCache<'_>,
     values: &Values,
     names: &FieldNames<'_>,
 ) -> Result<usize, AllocError>
@@ -160,7 +160,7 @@ fn addresses_by_names(
 /// How many addresses there are for a test of some fields, whatever part of them it names.
 fn count_addresses(
     delivery: &Delivery<'_>,
-    fields: &mut FieldReads<'_>,
+    fields: &mut FieldCache<'_>,
     state: &State,
     names: &FieldNames<'_>,
 ) -> Result<usize, AllocError>
@@ -281,7 +281,7 @@ fn count_flags(
 /// How many values of a source count.
 pub(crate) fn count_in_source(
     delivery: &Delivery<'_>,
-    fields: &mut FieldReads<'_>,
+    fields: &mut FieldCache<'_>,
     state: &State,
     source: &SourceOp<'_>,
 ) -> Result<usize, AllocError>

@@ -9,7 +9,7 @@ ghost use Rattle.sieve_matching.specs.view.FieldTests.{field_found, field_source
 ghost use Rattle.sieve_actions.specs.view.State.{state_of};
 ghost use Rattle.sieve_variables.specs.Value.{text_value};
 
-use crate::field_reads::FieldReads;
+use crate::field_cache::FieldCache;
 use crate::matcher::{MatchValues, Matcher};
 use message_text::{Address, AddressPart, FieldName, Message};
 use sieve_actions::{Delivery, State};
@@ -136,7 +136,7 @@ pub(crate) fn find_in_part(
 /// What the value of field `i` gives, with its encoded words replaced (RFC 5228, section 2.7.2).
 fn find_in_decoded(
     alloc: Global,
-    fields: &mut FieldReads<'_>,
+    fields: &mut FieldCache<'_>,
     i: usize,
     matcher: &Matcher<'_>,
 ) -> Result<Option<MatchValues>, AllocError>
@@ -152,14 +152,14 @@ fn find_in_decoded(
     }
     let value = fields.take_decoded(alloc, i)?;
     let found = matcher.first_match(alloc, value.as_slice())?;
-    fields.keep_decoded(i, value)?;
+    fields.cache_decoded(i, value)?;
     Ok(found)
 }
 
 /// What that part of the addresses in the value of field `i` gives.
 fn find_in_listed(
     alloc: Global,
-    fields: &mut FieldReads<'_>,
+    fields: &mut FieldCache<'_>,
     i: usize,
     part: AddressPart,
     matcher: &Matcher<'_>,
@@ -172,14 +172,14 @@ fn find_in_listed(
 {
     let listed = fields.take_addresses(alloc, i)?;
     let found = find_in_addresses(alloc, part, &listed, matcher)?;
-    fields.keep_addresses(i, listed)?;
+    fields.cache_addresses(i, listed)?;
     Ok(found)
 }
 
 /// What the value of field `i` gives, or that part of the addresses in it.
 fn find_in_value(
     alloc: Global,
-    fields: &mut FieldReads<'_>,
+    fields: &mut FieldCache<'_>,
     i: usize,
     part: Option<AddressPart>,
     matcher: &Matcher<'_>,
@@ -199,7 +199,7 @@ fn find_in_value(
 /// What the first field of that name gives whose value matches some key.
 fn find_in_fields(
     alloc: Global,
-    fields: &mut FieldReads<'_>,
+    fields: &mut FieldCache<'_>,
     part: Option<AddressPart>,
     name: &FieldName<'_>,
     matcher: &Matcher<'_>,
@@ -235,7 +235,7 @@ fn is_looked_at(part: Option<AddressPart>, name: &[u8]) -> bool
 /// What fields of that name give, where they are looked at.
 fn find_by_name(
     alloc: Global,
-    fields: &mut FieldReads<'_>,
+    fields: &mut FieldCache<'_>,
     part: Option<AddressPart>,
     name: &FieldName<'_>,
     matcher: &Matcher<'_>,
@@ -254,7 +254,7 @@ fn find_by_name(
 /// What fields of the first name give of which one matches.
 fn find_by_names(
     alloc: Global,
-    fields: &mut FieldReads<'_>,
+    fields: &mut FieldCache<'_>,
     part: Option<AddressPart>,
     values: &Values,
     names: &FieldNames<'_>,
@@ -278,7 +278,7 @@ fn find_by_names(
 /// What the values of some named fields give, or that part of the addresses in them.
 pub(crate) fn find_in_named(
     delivery: &Delivery<'_>,
-    fields: &mut FieldReads<'_>,
+    fields: &mut FieldCache<'_>,
     state: &State,
     part: Option<AddressPart>,
     names: &FieldNames<'_>,

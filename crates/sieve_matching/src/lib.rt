@@ -6,7 +6,7 @@ mod asking;
 mod body_values;
 mod counting;
 mod date_values;
-mod field_reads;
+mod field_cache;
 mod field_values;
 mod flag_values;
 pub mod laws;
@@ -16,5 +16,5 @@ mod path_values;
 mod string_values;
 
 pub use asking::{compare, exists, is_over, is_under};
-pub use field_reads::FieldReads;
+pub use field_cache::FieldCache;
 pub use mailboxes::{mailbox_count, mailboxes_exist};

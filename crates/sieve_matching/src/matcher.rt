@@ -63,7 +63,7 @@ impl MatchValues {
 }
 
 /// Keeps what was found, where that sets match variables (RFC 5229, section 3.2). Answers whether something was found.
-pub(crate) fn keep_found(
+pub(crate) fn set_found(
     match_type: MatchType,
     found: Option<MatchValues>,
     state: &mut State,

@@ -21,8 +21,8 @@ pub use reading::{
     Ask, BodyTransform, CommandReading, Comparison, DateZone, FlagChange, Leaf, MatchType,
     Rejection, Settings, TestReading, Vacation, ValueSource,
 };
-pub use shape::{AsOctets, AsParts, RowLabels, StringView, known_labels};
 pub use script_names::Location;
+pub use shape::{AsOctets, AsParts, RowLabels, StringView, known_labels};
 pub use sieve_syntax::{Argument, Command, CommandName, Test, TestName, Tests, Text};
 pub use sieve_table::{CommandKind, TestKind};
 pub use sieve_variables::{

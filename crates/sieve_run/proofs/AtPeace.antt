@@ -81,7 +81,7 @@ at_peace : IsKept (λ s. AreAtPeace s.actions)
 at_peace = record {
   values = λ s values h. h;
   flags = λ s flags h. h;
-  reads = λ s reads h. h;
+  lookups = λ s lookups h. h;
   acts = λ delivery line deed s h. performed_holds (λ t. AreAtPeace t.actions) delivery line deed s h (λ none. peace_joined deed.action s.actions h) (λ none apart room. peace_entered deed.action s.actions none h);
   enters = λ name s few h. h;
 }

@@ -16,7 +16,7 @@ use Rattle.sieve_run.specs.Library.{Lookup, missing, invalid, present, found_at}
 use Rattle.sieve_matching.specs.Matching.{after_test, truth_of}
 use Rattle.sieve_run.specs.Perform.{perform}
 use Rattle.sieve_actions.specs.Act.{deed_of, store_deed, Ending, goes_on, returned, stopped, failed, Performed, entered, joined, refused, unless, conflict_among, same_action, joined_with, changes, ends_with, gives, origin_at, performs, fails_at, filing_of, is_mailbox, may_be_from, may_be_used, only_address, redirects, response_of, held_flags, changed_flags, flags_named, state_after}
-use Rattle.sieve_run.specs.Run.{entering, included, include_of, includes, is_running, is_script, is_there, looked_up, act_of, and_then, answer_of, begun, chosen, delivery_to, exec, resumed, run_of, running, verdict_at, verdict_of, outcome_of, with_found_script, with_read}
+use Rattle.sieve_run.specs.Run.{entering, included, include_of, includes, is_running, is_script, is_there, looked_up, act_of, and_then, answer_of, begun, chosen, delivery_to, exec, resumed, run_of, running, verdict_at, verdict_of, outcome_of, with_found_script, with_lookup}
 use Rattle.sieve_actions.specs.State.{RunState}
 use Rattle.sieve_actions.specs.declared.flow.Flow.{Flow}
 use Rattle.sieve_actions.specs.declared.flow.Flow.TheVariants as flow
@@ -64,7 +64,7 @@ module _ (Holds : RunState → Type 0) (delivery : Delivery) (line : ℕ) (deed 
 pub record IsKept (Holds : RunState → Type 0) : Type 0 where
   pub values : (s : RunState) (values : Values) → Holds s → Holds (record s { values = values })
   pub flags : (s : RunState) (flags : List (List ℕ)) → Holds s → Holds (record s { flags = flags })
-  pub reads : (s : RunState) (reads : List (ScriptName × Bool)) → Holds s → Holds (record s { reads = reads })
+  pub lookups : (s : RunState) (lookups : List (ScriptName × Bool)) → Holds s → Holds (record s { lookups = lookups })
   pub acts : (delivery : Delivery) (line : ℕ) (deed : Deed) (s : RunState) → Holds s → Holds (state_after (performs delivery line deed s))
   pub enters : (name : ScriptName) (s : RunState) → nat_lt include_limit (length s.entered) ≡ false → Holds s → Holds (entering name s)
 
@@ -114,7 +114,7 @@ module _ (Holds : RunState → Type 0) (kept : IsKept Holds) where
       → (many : Bool) → nat_lt include_limit (length s.entered) ≡ many → Ends (if many then fails_at delivery line IncludeCount s else with_found_script delivery optional line (enter name) name (found_at find name) (looked_up name (found_at find name) s))
   counted_holds find delivery enter name optional line s runs h true is = h
   counted_holds find delivery enter name optional line s runs h false is =
-      found_holds delivery optional line (enter name) name (found_at find name) (looked_up name (found_at find name) s) is runs (kept.reads s (with_read name (is_there (found_at find name)) s.reads) h)
+      found_holds delivery optional line (enter name) name (found_at find name) (looked_up name (found_at find name) s) is runs (kept.lookups s (with_lookup name (is_there (found_at find name)) s.lookups) h)
 
   includes_holds : (find : ScriptName → Lookup) (delivery : Delivery) (enter : Option (ScriptName → List Node → RunState → Ending)) (name : ScriptName) (optional : Bool) (line : ℕ) (s : RunState)
       → ((one : ScriptName → List Node → RunState → Ending) → enter ≡ Some one → (tree : List Node) (t : RunState) → Holds t → Ends (one name tree t)) → Holds s → Ends (includes find delivery enter name optional line s)
@@ -228,7 +228,7 @@ bounded : IsKept IsBounded
 bounded = record {
   values = λ s values h. h;
   flags = λ s flags h. h;
-  reads = λ s reads h. h;
+  lookups = λ s lookups h. h;
   acts = λ delivery line deed s h. performed_holds IsBounded delivery line deed s h (λ none. subst (λ n. n ≤ action_limit) (sym (length-map s.actions (joined_with deed.action))) h) (λ none apart room. one_has_room deed.action s.actions room);
   enters = λ name s few h. h;
 }
@@ -259,7 +259,7 @@ originated : IsKept IsOriginated
 originated = record {
   values = λ s values h. h;
   flags = λ s flags h. h;
-  reads = λ s reads h. h;
+  lookups = λ s lookups h. h;
   acts = λ delivery line deed s h. performed_holds IsOriginated delivery line deed s h (λ none. h ∙ sym (length-map s.actions (joined_with deed.action)))
       (λ none apart room. length_push s.origins (origin_at delivery line) ∙ ap (λ n. n + 1) h ∙ sym (length_push s.actions deed.action));
   enters = λ name s few h. h;
@@ -284,7 +284,7 @@ short : IsKept IsShort
 short = record {
   values = λ s values h. h;
   flags = λ s flags h. h;
-  reads = λ s reads h. h;
+  lookups = λ s lookups h. h;
   acts = λ delivery line deed s h. subst (λ entered. length entered ≤ suc include_limit) (sym (performs_enters delivery line deed s)) h;
   enters = λ name s few h. one_more name s few;
 }
@@ -301,7 +301,7 @@ keeping : (front : List ScriptName) → IsKept (Keeps front)
 keeping front = record {
   values = λ s values h. h;
   flags = λ s flags h. h;
-  reads = λ s reads h. h;
+  lookups = λ s lookups h. h;
   acts = λ delivery line deed s h. (h.0, performs_enters delivery line deed s ∙ h.1);
   enters = λ name s few h. (h.0 ++ name ∷ [], ap (λ (entered : List ScriptName). entered ++ name ∷ []) h.1 ∙ append_assoc front h.0 (name ∷ []));
 }

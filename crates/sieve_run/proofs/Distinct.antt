@@ -84,7 +84,7 @@ apart : IsKept ActsApart
 apart = record {
   values = λ s values h. h;
   flags = λ s flags h. h;
-  reads = λ s reads h. h;
+  lookups = λ s lookups h. h;
   acts = λ delivery line deed s h. performed_holds ActsApart delivery line deed s h (λ none. distinct_joined deed.action s.actions h) (λ none apart room. IsDistinct-push same_equiv s.actions deed.action h apart);
   enters = λ name s few h. h;
 }

@@ -17,7 +17,7 @@ use Rattle.sieve_run.specs.Frame.{Agree, Texts, outcome_over}
 use Rattle.sieve_run.specs.Library.{Lookup, found_at, invalid, library_of, lookup_of, missing, present}
 use Rattle.script_names.specs.Name.{name_eq, location_eq}
 use Rattle.sieve_actions.specs.Act.{deed_of, store_deed, Ending, goes_on, returned, stopped, failed, changes, changed_flags, flags_named, held_flags, performs, fails_at, filing_of, is_mailbox, may_be_from, may_be_used, only_address, redirects, response_of, act_by, state_after}
-use Rattle.sieve_run.specs.Run.{entering, included, include_of, includes, is_read, is_running, is_script, is_there, looked_up, act_of, and_then, answer_of, begun, chosen, decide, delivery_to, exec, resumed, run_of, running, verdict_at, verdict_of, outcome_of, with_found_script, with_read}
+use Rattle.sieve_run.specs.Run.{entering, included, include_of, includes, is_looked_up, is_running, is_script, is_there, looked_up, act_of, and_then, answer_of, begun, chosen, decide, delivery_to, exec, resumed, run_of, running, verdict_at, verdict_of, outcome_of, with_found_script, with_lookup}
 use Rattle.sieve_actions.specs.State.{RunState}
 use Rattle.script_names.specs.declared.name.ScriptName.{ScriptName}
 use Rattle.sieve_actions.specs.declared.action.Deed.{Deed}
@@ -68,79 +68,79 @@ or_front : (a b c : Bool) → (b ≡ true → c ≡ true) → (a || b) ≡ true 
 or_front true b c more is = refl
 or_front false b c more is = more is
 
-read_before : (name : ScriptName) (reads more : List (ScriptName × Bool)) → is_read name reads ≡ true → is_read name (reads ++ more) ≡ true
-read_before name [] more is = absurd cc
-read_before name (read ∷ reads) more is = or_front (name_eq name read.0) (is_read name reads) (is_read name (reads ++ more)) (read_before name reads more) is
+lookup_before : (name : ScriptName) (lookups more : List (ScriptName × Bool)) → is_looked_up name lookups ≡ true → is_looked_up name (lookups ++ more) ≡ true
+lookup_before name [] more is = absurd cc
+lookup_before name (read ∷ lookups) more is = or_front (name_eq name read.0) (is_looked_up name lookups) (is_looked_up name (lookups ++ more)) (lookup_before name lookups more) is
 
-read_last : (name : ScriptName) (there : Bool) (reads : List (ScriptName × Bool)) → is_read name (reads ++ (name, there) ∷ []) ≡ true
-read_last name there [] = or_first (name_eq name name) false (same_name name)
-read_last name there (read ∷ reads) = or_second (name_eq name read.0) (is_read name (reads ++ (name, there) ∷ [])) (read_last name there reads)
+lookup_last : (name : ScriptName) (there : Bool) (lookups : List (ScriptName × Bool)) → is_looked_up name (lookups ++ (name, there) ∷ []) ≡ true
+lookup_last name there [] = or_first (name_eq name name) false (same_name name)
+lookup_last name there (read ∷ lookups) = or_second (name_eq name read.0) (is_looked_up name (lookups ++ (name, there) ∷ [])) (lookup_last name there lookups)
 
-read_there : (name : ScriptName) (there : Bool) (reads : List (ScriptName × Bool)) → is_read name (with_read name there reads) ≡ true
-read_there name there reads = by (is_read name reads) refl
+lookup_there : (name : ScriptName) (there : Bool) (lookups : List (ScriptName × Bool)) → is_looked_up name (with_lookup name there lookups) ≡ true
+lookup_there name there lookups = by (is_looked_up name lookups) refl
   where
-    by : (b : Bool) → is_read name reads ≡ b → is_read name (if b then reads else reads ++ (name, there) ∷ []) ≡ true
+    by : (b : Bool) → is_looked_up name lookups ≡ b → is_looked_up name (if b then lookups else lookups ++ (name, there) ∷ []) ≡ true
     by true is = is
-    by false is = read_last name there reads
+    by false is = lookup_last name there lookups
 
-read_still : (other name : ScriptName) (there : Bool) (reads : List (ScriptName × Bool)) → is_read other reads ≡ true → is_read other (with_read name there reads) ≡ true
-read_still other name there reads is = by (is_read name reads)
+lookup_still : (other name : ScriptName) (there : Bool) (lookups : List (ScriptName × Bool)) → is_looked_up other lookups ≡ true → is_looked_up other (with_lookup name there lookups) ≡ true
+lookup_still other name there lookups is = by (is_looked_up name lookups)
   where
-    by : (b : Bool) → is_read other (if b then reads else reads ++ (name, there) ∷ []) ≡ true
+    by : (b : Bool) → is_looked_up other (if b then lookups else lookups ++ (name, there) ∷ []) ≡ true
     by true = is
-    by false = read_before other reads ((name, there) ∷ []) is
+    by false = lookup_before other lookups ((name, there) ∷ []) is
 
 -- each name that is read in one state is read in the other
 abbrev Grows : RunState → RunState → Type 0
-Grows s t = (name : ScriptName) → is_read name s.reads ≡ true → is_read name t.reads ≡ true
+Grows s t = (name : ScriptName) → is_looked_up name s.lookups ≡ true → is_looked_up name t.lookups ≡ true
 
-reads_stay : (s t : RunState) → t.reads ≡ s.reads → Grows s t
-reads_stay s t same name r = subst (λ reads. is_read name reads ≡ true) (sym same) r
+lookups_stay : (s t : RunState) → t.lookups ≡ s.lookups → Grows s t
+lookups_stay s t same name r = subst (λ lookups. is_looked_up name lookups ≡ true) (sym same) r
 
 -- WHAT COMMANDS READ THAT INCLUDE NOTHING
 
-performs_reads : (delivery : Delivery) (line : ℕ) (deed : Deed) (s : RunState) → (state_after (performs delivery line deed s)).reads ≡ s.reads
-performs_reads delivery line deed s = performed_holds (λ t. t.reads ≡ s.reads) delivery line deed s refl (λ none. refl) (λ none apart room. refl)
+performs_lookups : (delivery : Delivery) (line : ℕ) (deed : Deed) (s : RunState) → (state_after (performs delivery line deed s)).lookups ≡ s.lookups
+performs_lookups delivery line deed s = performed_holds (λ t. t.lookups ≡ s.lookups) delivery line deed s refl (λ none. refl) (λ none apart room. refl)
 
-allowed_reads : (delivery : Delivery) (line : ℕ) (kind : ErrorKind) (deed : Deed) (s : RunState) (may : Bool) → (state_after (if may then performs delivery line deed s else fails_at delivery line kind s)).reads ≡ s.reads
-allowed_reads delivery line kind deed s true = performs_reads delivery line deed s
-allowed_reads delivery line kind deed s false = refl
+allowed_lookups : (delivery : Delivery) (line : ℕ) (kind : ErrorKind) (deed : Deed) (s : RunState) (may : Bool) → (state_after (if may then performs delivery line deed s else fails_at delivery line kind s)).lookups ≡ s.lookups
+allowed_lookups delivery line kind deed s true = performs_lookups delivery line deed s
+allowed_lookups delivery line kind deed s false = refl
 
-redirected_reads : (delivery : Delivery) (line : ℕ) (address : Option (List ℕ)) (copy : Bool) (s : RunState) → (state_after (redirects delivery line address copy s)).reads ≡ s.reads
-redirected_reads delivery line None copy s = refl
-redirected_reads delivery line (Some address) copy s = performs_reads delivery line (deed_of (Redirect address) copy) s
+redirected_lookups : (delivery : Delivery) (line : ℕ) (address : Option (List ℕ)) (copy : Bool) (s : RunState) → (state_after (redirects delivery line address copy s)).lookups ≡ s.lookups
+redirected_lookups delivery line None copy s = refl
+redirected_lookups delivery line (Some address) copy s = performs_lookups delivery line (deed_of (Redirect address) copy) s
 
-given_reads : (delivery : Delivery) (line : ℕ) (variable : Variable) (value : List ℕ) (s : RunState) (room : Bool) → (state_after (if room then goes_on (record s { values = with_variable variable value s.values }) else fails_at delivery line TooManyGlobals s)).reads ≡ s.reads
-given_reads delivery line variable value s true = refl
-given_reads delivery line variable value s false = refl
+given_lookups : (delivery : Delivery) (line : ℕ) (variable : Variable) (value : List ℕ) (s : RunState) (room : Bool) → (state_after (if room then goes_on (record s { values = with_variable variable value s.values }) else fails_at delivery line TooManyGlobals s)).lookups ≡ s.lookups
+given_lookups delivery line variable value s true = refl
+given_lookups delivery line variable value s false = refl
 
-changed_reads : (delivery : Delivery) (line : ℕ) (how : FlagChange) (variable : Option Variable) (texts : List (List Part)) (s : RunState) → (state_after (changes delivery line how variable texts s)).reads ≡ s.reads
-changed_reads delivery line how None texts s = refl
-changed_reads delivery line how (Some variable) texts s =
-    given_reads delivery line variable (held_flags (changed_flags how (flag_list (variable_value s.values variable)) (flags_named s texts))) s (has_room_for variable s.values)
+changed_lookups : (delivery : Delivery) (line : ℕ) (how : FlagChange) (variable : Option Variable) (texts : List (List Part)) (s : RunState) → (state_after (changes delivery line how variable texts s)).lookups ≡ s.lookups
+changed_lookups delivery line how None texts s = refl
+changed_lookups delivery line how (Some variable) texts s =
+    given_lookups delivery line variable (held_flags (changed_flags how (flag_list (variable_value s.values variable)) (flags_named s texts))) s (has_room_for variable s.values)
 
-resumed_reads : (before : Values) (e : Ending) → (state_after (resumed before e)).reads ≡ (state_after e).reads
-resumed_reads before (goes_on s) = refl
-resumed_reads before (returned s) = refl
-resumed_reads before (stopped s) = refl
-resumed_reads before (failed error s) = refl
+resumed_lookups : (before : Values) (e : Ending) → (state_after (resumed before e)).lookups ≡ (state_after e).lookups
+resumed_lookups before (goes_on s) = refl
+resumed_lookups before (returned s) = refl
+resumed_lookups before (stopped s) = refl
+resumed_lookups before (failed error s) = refl
 
 -- OVER TWO LIBRARIES
 
 module _ (find other : ScriptName → Lookup) where
   -- two libraries find the same at each name that was read
   abbrev AgreeOn : List (ScriptName × Bool) → Type 0
-  AgreeOn reads = (name : ScriptName) → is_read name reads ≡ true → find name ≡ other name
+  AgreeOn lookups = (name : ScriptName) → is_looked_up name lookups ≡ true → find name ≡ other name
 
   -- `f` over the first library keeps the names that were read, and `g` over the other does the same as `f` wherever the libraries agree on
   -- what `f` has read
   record Frames (f g : RunState → Ending) : Type 0 where
     grows : (s : RunState) → Grows s (state_after (f s))
-    same : (s : RunState) → AgreeOn (state_after (f s)).reads → g s ≡ f s
+    same : (s : RunState) → AgreeOn (state_after (f s)).lookups → g s ≡ f s
 
   -- what reads no name does the same over both libraries
-  own_frames : (f : RunState → Ending) → ((s : RunState) → (state_after (f s)).reads ≡ s.reads) → Frames f f
-  own_frames f stay = record { grows = λ s. reads_stay s (state_after (f s)) (stay s); same = λ s agree. refl }
+  own_frames : (f : RunState → Ending) → ((s : RunState) → (state_after (f s)).lookups ≡ s.lookups) → Frames f f
+  own_frames f stay = record { grows = λ s. lookups_stay s (state_after (f s)) (stay s); same = λ s agree. refl }
 
   -- COMMANDS IN TURN
 
@@ -150,7 +150,7 @@ module _ (find other : ScriptName → Lookup) where
   then_grows (stopped t) h k second = λ name r. r
   then_grows (failed error t) h k second = λ name r. r
 
-  then_same : (e e' : Ending) (h k : RunState → Ending) → Frames h k → (AgreeOn (state_after e).reads → e' ≡ e) → AgreeOn (state_after (and_then e h)).reads → and_then e' k ≡ and_then e h
+  then_same : (e e' : Ending) (h k : RunState → Ending) → Frames h k → (AgreeOn (state_after e).lookups → e' ≡ e) → AgreeOn (state_after (and_then e h)).lookups → and_then e' k ≡ and_then e h
   then_same (goes_on t) e' h k second is agree = ap (λ x. and_then x k) (is (λ name r. agree name (second.grows t name r))) ∙ second.same t agree
   then_same (returned t) e' h k second is agree = ap (λ x. and_then x k) (is agree)
   then_same (stopped t) e' h k second is agree = ap (λ x. and_then x k) (is agree)
@@ -166,19 +166,19 @@ module _ (find other : ScriptName → Lookup) where
   chosen_grows true f g h k first second s = first.grows s
   chosen_grows false f g h k first second s = second.grows s
 
-  chosen_same : (truth : Bool) (f g h k : RunState → Ending) → Frames f g → Frames h k → (s : RunState) → AgreeOn (state_after (chosen truth f h s)).reads → chosen truth g k s ≡ chosen truth f h s
+  chosen_same : (truth : Bool) (f g h k : RunState → Ending) → Frames f g → Frames h k → (s : RunState) → AgreeOn (state_after (chosen truth f h s)).lookups → chosen truth g k s ≡ chosen truth f h s
   chosen_same true f g h k first second s agree = first.same s agree
   chosen_same false f g h k first second s agree = second.same s agree
 
   module _ (delivery : Delivery) where
-    decide_reads : (c : Condition) (s : RunState) → (decide (answer_of delivery) c s).state.reads ≡ s.reads
-    decide_reads c s = ap (λ t. t.reads) (decide_keeps delivery c s).1
+    decide_lookups : (c : Condition) (s : RunState) → (decide (answer_of delivery) c s).state.lookups ≡ s.lookups
+    decide_lookups c s = ap (λ t. t.lookups) (decide_keeps delivery c s).1
 
     choice_frames : (c : Condition) (f g h k : RunState → Ending) → Frames f g → Frames h k
         → Frames (λ s. chosen (decide (answer_of delivery) c s).truth f h (decide (answer_of delivery) c s).state) (λ s. chosen (decide (answer_of delivery) c s).truth g k (decide (answer_of delivery) c s).state)
     choice_frames c f g h k first second = record {
       grows = λ s name r.
-          chosen_grows (decide (answer_of delivery) c s).truth f g h k first second (decide (answer_of delivery) c s).state name (reads_stay s (decide (answer_of delivery) c s).state (decide_reads c s) name r);
+          chosen_grows (decide (answer_of delivery) c s).truth f g h k first second (decide (answer_of delivery) c s).state name (lookups_stay s (decide (answer_of delivery) c s).state (decide_lookups c s) name r);
       same = λ s agree. chosen_same (decide (answer_of delivery) c s).truth f g h k first second (decide (answer_of delivery) c s).state agree;
     }
 
@@ -209,13 +209,13 @@ module _ (find other : ScriptName → Lookup) where
     found_grows frames missing t = optional_grows optional t
     found_grows frames invalid t = λ n r. r
     found_grows frames (present tree) t = λ n r.
-        reads_stay (state_after (enter tree (entering name t))) (state_after (resumed t.values (enter tree (entering name t)))) (resumed_reads t.values (enter tree (entering name t))) n ((frames tree).grows (entering name t) n r)
+        lookups_stay (state_after (enter tree (entering name t))) (state_after (resumed t.values (enter tree (entering name t)))) (resumed_lookups t.values (enter tree (entering name t))) n ((frames tree).grows (entering name t) n r)
 
-    found_same : ((tree : List Node) → Frames (enter tree) (enter' tree)) → (lookup : Lookup) (t : RunState) → AgreeOn (state_after (with_found_script delivery optional line enter name lookup t)).reads → with_found_script delivery optional line enter' name lookup t ≡ with_found_script delivery optional line enter name lookup t
+    found_same : ((tree : List Node) → Frames (enter tree) (enter' tree)) → (lookup : Lookup) (t : RunState) → AgreeOn (state_after (with_found_script delivery optional line enter name lookup t)).lookups → with_found_script delivery optional line enter' name lookup t ≡ with_found_script delivery optional line enter name lookup t
     found_same frames missing t agree = refl
     found_same frames invalid t agree = refl
     found_same frames (present tree) t agree =
-        ap (resumed t.values) ((frames tree).same (entering name t) (λ n r. agree n (reads_stay (state_after (enter tree (entering name t))) (state_after (resumed t.values (enter tree (entering name t)))) (resumed_reads t.values (enter tree (entering name t))) n r)))
+        ap (resumed t.values) ((frames tree).same (entering name t) (λ n r. agree n (lookups_stay (state_after (enter tree (entering name t))) (state_after (resumed t.values (enter tree (entering name t)))) (resumed_lookups t.values (enter tree (entering name t))) n r)))
 
     -- what is found at a name is the same where the libraries agree on it
     same_found : find name ≡ other name → found_at find name ≡ found_at other name
@@ -224,14 +224,14 @@ module _ (find other : ScriptName → Lookup) where
     abbrev does : Enter → Lookup → RunState → Ending
     does one lookup s = with_found_script delivery optional line one name lookup (looked_up name lookup s)
 
-    lookup_grows : ((tree : List Node) → Frames (enter tree) (enter' tree)) → (s : RunState) (n : ScriptName) → is_read n (looked_up name (found_at find name) s).reads ≡ true → is_read n (state_after (does enter (found_at find name) s)).reads ≡ true
+    lookup_grows : ((tree : List Node) → Frames (enter tree) (enter' tree)) → (s : RunState) (n : ScriptName) → is_looked_up n (looked_up name (found_at find name) s).lookups ≡ true → is_looked_up n (state_after (does enter (found_at find name) s)).lookups ≡ true
     lookup_grows frames s n r = found_grows frames (found_at find name) (looked_up name (found_at find name) s) n r
 
     lookup_frames : ((tree : List Node) → Frames (enter tree) (enter' tree)) → Frames (does enter (found_at find name)) (does enter' (found_at other name))
     lookup_frames frames = record {
-      grows = λ s n r. lookup_grows frames s n (read_still n name (is_there (found_at find name)) s.reads r);
+      grows = λ s n r. lookup_grows frames s n (lookup_still n name (is_there (found_at find name)) s.lookups r);
       same = λ s agree.
-          ap (λ lookup. does enter' lookup s) (sym (same_found (agree name (lookup_grows frames s name (read_there name (is_there (found_at find name)) s.reads)))))
+          ap (λ lookup. does enter' lookup s) (sym (same_found (agree name (lookup_grows frames s name (lookup_there name (is_there (found_at find name)) s.lookups)))))
           ∙ found_same frames (found_at find name) (looked_up name (found_at find name) s) agree;
     }
 
@@ -246,7 +246,7 @@ module _ (find other : ScriptName → Lookup) where
       by_grows true s = first.grows s
       by_grows false s = second.grows s
 
-      by_same : (b : Bool) (s : RunState) → AgreeOn (state_after (if b then f s else h s)).reads → (if b then g s else k s) ≡ (if b then f s else h s)
+      by_same : (b : Bool) (s : RunState) → AgreeOn (state_after (if b then f s else h s)).lookups → (if b then g s else k s) ≡ (if b then f s else h s)
       by_same true s agree = first.same s agree
       by_same false s agree = second.same s agree
 
@@ -274,18 +274,18 @@ module _ (find other : ScriptName → Lookup) where
 
   acts_frames : (delivery : Delivery) (include include' : ScriptName → (once optional : Bool) → ℕ → RunState → Ending) → ((name : ScriptName) (once optional : Bool) (line : ℕ) → Frames (include name once optional line) (include' name once optional line))
       → (leaf : Leaf) (line : ℕ) → Frames (act_by include delivery leaf line) (act_by include' delivery leaf line)
-  acts_frames delivery include include' frames (keep_leaf flags) line = own_frames _ (λ s. performs_reads delivery line (store_deed s delivery.arrival.envelope.mailbox (record plain_settings { flags = flags })) s)
-  acts_frames delivery include include' frames (fileinto_leaf mailbox settings) line = own_frames _ (λ s. allowed_reads delivery line BadMailbox (store_deed s (text_value s.values mailbox) settings) s (is_mailbox (text_value s.values mailbox) && may_be_used (filing_of s.values settings).special_use))
-  acts_frames delivery include include' frames (redirect_leaf address copy) line = own_frames _ (λ s. redirected_reads delivery line (only_address (addresses_of (text_value s.values address))) copy s)
-  acts_frames delivery include include' frames discard_leaf line = own_frames _ (λ s. performs_reads delivery line (deed_of Discard false) s)
-  acts_frames delivery include include' frames (set_leaf variable modifiers value) line = own_frames _ (λ s. given_reads delivery line variable (modified modifiers (text_value s.values value)) s (has_room_for variable s.values))
-  acts_frames delivery include include' frames (flag_leaf how variable flags) line = own_frames _ (λ s. changed_reads delivery line how variable flags s)
+  acts_frames delivery include include' frames (keep_leaf flags) line = own_frames _ (λ s. performs_lookups delivery line (store_deed s delivery.arrival.envelope.mailbox (record plain_settings { flags = flags })) s)
+  acts_frames delivery include include' frames (fileinto_leaf mailbox settings) line = own_frames _ (λ s. allowed_lookups delivery line BadMailbox (store_deed s (text_value s.values mailbox) settings) s (is_mailbox (text_value s.values mailbox) && may_be_used (filing_of s.values settings).special_use))
+  acts_frames delivery include include' frames (redirect_leaf address copy) line = own_frames _ (λ s. redirected_lookups delivery line (only_address (addresses_of (text_value s.values address))) copy s)
+  acts_frames delivery include include' frames discard_leaf line = own_frames _ (λ s. performs_lookups delivery line (deed_of Discard false) s)
+  acts_frames delivery include include' frames (set_leaf variable modifiers value) line = own_frames _ (λ s. given_lookups delivery line variable (modified modifiers (text_value s.values value)) s (has_room_for variable s.values))
+  acts_frames delivery include include' frames (flag_leaf how variable flags) line = own_frames _ (λ s. changed_lookups delivery line how variable flags s)
   acts_frames delivery include include' frames (include_leaf location once optional name) line =
       let all = frames (record { location = location; name = name }) once optional line in record { grows = all.grows; same = all.same }
   acts_frames delivery include include' frames (vacation_leaf vacation) line =
-      own_frames _ (λ s. allowed_reads delivery line BadAddress (record { action = Respond (response_of s.values vacation); leaves_keep = true }) s (may_be_from (response_of s.values vacation).from))
+      own_frames _ (λ s. allowed_lookups delivery line BadAddress (record { action = Respond (response_of s.values vacation); leaves_keep = true }) s (may_be_from (response_of s.values vacation).from))
   acts_frames delivery include include' frames (reject_leaf how reason) line =
-      own_frames _ (λ s. performs_reads delivery line (record { action = Reject how (text_value s.values reason); leaves_keep = false }) s)
+      own_frames _ (λ s. performs_lookups delivery line (record { action = Reject how (text_value s.values reason); leaves_keep = false }) s)
 
   included_frames : (depth : ℕ) (delivery : Delivery) (name : ScriptName) (once optional : Bool) (line : ℕ) → Frames (included find depth delivery name once optional line) (included other depth delivery name once optional line)
   unfolding included
@@ -304,34 +304,34 @@ module _ (find other : ScriptName → Lookup) where
 
   -- VERDICTS
 
-  verdict_reads : (e : Ending) → (verdict_of e).reads ≡ (state_after e).reads
-  verdict_reads (goes_on s) = refl
-  verdict_reads (returned s) = refl
-  verdict_reads (stopped s) = refl
-  verdict_reads (failed error s) = refl
+  verdict_lookups : (e : Ending) → (verdict_of e).lookups ≡ (state_after e).lookups
+  verdict_lookups (goes_on s) = refl
+  verdict_lookups (returned s) = refl
+  verdict_lookups (stopped s) = refl
+  verdict_lookups (failed error s) = refl
 
-  main_read : (arrival : Arrival) (main : ScriptName) (lookup : Lookup) → is_read main (verdict_at find arrival main lookup).reads ≡ true
-  main_read arrival main missing = or_first (name_eq main main) false (same_name main)
-  main_read arrival main invalid = or_first (name_eq main main) false (same_name main)
-  main_read arrival main (present tree) =
-      subst (λ reads. is_read main reads ≡ true) (sym (verdict_reads (run_of find arrival main tree)))
+  main_lookup : (arrival : Arrival) (main : ScriptName) (lookup : Lookup) → is_looked_up main (verdict_at find arrival main lookup).lookups ≡ true
+  main_lookup arrival main missing = or_first (name_eq main main) false (same_name main)
+  main_lookup arrival main invalid = or_first (name_eq main main) false (same_name main)
+  main_lookup arrival main (present tree) =
+      subst (λ lookups. is_looked_up main lookups ≡ true) (sym (verdict_lookups (run_of find arrival main tree)))
       ((running_frames include_depth (delivery_to arrival main) tree).grows (begun main) main (or_first (name_eq main main) false (same_name main)))
 
-  verdict_same : (arrival : Arrival) (main : ScriptName) (lookup : Lookup) → AgreeOn (verdict_at find arrival main lookup).reads → verdict_at other arrival main lookup ≡ verdict_at find arrival main lookup
+  verdict_same : (arrival : Arrival) (main : ScriptName) (lookup : Lookup) → AgreeOn (verdict_at find arrival main lookup).lookups → verdict_at other arrival main lookup ≡ verdict_at find arrival main lookup
   verdict_same arrival main missing agree = refl
   verdict_same arrival main invalid agree = refl
   verdict_same arrival main (present tree) agree =
       ap verdict_of ((running_frames include_depth (delivery_to arrival main) tree).same (begun main)
-      (λ name r. agree name (subst (λ reads. is_read name reads ≡ true) (sym (verdict_reads (run_of find arrival main tree))) r)))
+      (λ name r. agree name (subst (λ lookups. is_looked_up name lookups ≡ true) (sym (verdict_lookups (run_of find arrival main tree))) r)))
 
-  outcome_same : (main : Option ScriptName) (arrival : Arrival) → AgreeOn (outcome_of find main arrival).reads → outcome_of other main arrival ≡ outcome_of find main arrival
+  outcome_same : (main : Option ScriptName) (arrival : Arrival) → AgreeOn (outcome_of find main arrival).lookups → outcome_of other main arrival ≡ outcome_of find main arrival
   unfolding outcome_of
   outcome_same None arrival agree = refl
   outcome_same (Some main) arrival agree =
-      ap (λ lookup. verdict_at other arrival main (if nat_lt name_limit (length main.name) then missing else lookup)) (sym (agree main (main_read arrival main (found_at find main))))
+      ap (λ lookup. verdict_at other arrival main (if nat_lt name_limit (length main.name) then missing else lookup)) (sym (agree main (main_lookup arrival main (found_at find main))))
       ∙ verdict_same arrival main (found_at find main) agree
 
 -- the verdict over a library is the verdict over another that has the same at each name that was looked up
-pub frame : (texts others : Texts) (main : Option ScriptName) (arrival : Arrival) → Agree texts others (outcome_over texts main arrival).reads → outcome_over others main arrival ≡ outcome_over texts main arrival
+pub frame : (texts others : Texts) (main : Option ScriptName) (arrival : Arrival) → Agree texts others (outcome_over texts main arrival).lookups → outcome_over others main arrival ≡ outcome_over texts main arrival
 frame texts others main arrival agree =
     outcome_same (library_of arrival.profile texts) (library_of arrival.profile others) main arrival (λ name r. ap (lookup_of arrival.profile) (agree name r))

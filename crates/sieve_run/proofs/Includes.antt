@@ -9,7 +9,7 @@ use Rattle.sieve_code.specs.Walk.{code_walk}
 use Rattle.sieve_actions.specs.Delivery.{Delivery, inside}
 use Rattle.sieve_run.specs.Library.{Lookup, missing, invalid, present, HasCode, found_at}
 use Rattle.sieve_actions.specs.Act.{Ending, goes_on, fails_at}
-use Rattle.sieve_run.specs.Run.{act_of, answer_of, entering, exec, include_of, included, includes, is_running, is_script, is_there, looked_up, resumed, resuming, with_read}
+use Rattle.sieve_run.specs.Run.{act_of, answer_of, entering, exec, include_of, included, includes, is_running, is_script, is_there, looked_up, resumed, resuming, with_lookup}
 use Rattle.sieve_actions.specs.State.{RunState}
 use Rattle.sieve_actions.specs.declared.flow.Flow.{Flow}
 use Rattle.sieve_actions.specs.declared.flow.Flow.TheVariants.{GoesOn, Returned, Stopped, Failed}
@@ -94,9 +94,9 @@ has_text (present tree) ops has = refl
 
 -- a script that is found is added to the names looked up, and runs
 pub looks_present : (find : ScriptName → Lookup) (depth : ℕ) (delivery : Delivery) (name : ScriptName) (optional : Bool) (line : ℕ) (ops : List Operation) (old new : RunState) (there : Bool) → HasCode (found_at find name) ops → there ≡ true
-    → new ≡ record old { reads = with_read name there old.reads } → enters find depth delivery name ops new ≡ looks_up find depth delivery name optional line old
+    → new ≡ record old { lookups = with_lookup name there old.lookups } → enters find depth delivery name ops new ≡ looks_up find depth delivery name optional line old
 looks_present find depth delivery name optional line ops old new there has is noted =
-    ap (enters find depth delivery name ops) (noted ∙ ap (λ b. record old { reads = with_read name b old.reads }) (is ∙ sym (has_text (found_at find name) ops has)))
+    ap (enters find depth delivery name ops) (noted ∙ ap (λ b. record old { lookups = with_lookup name b old.lookups }) (is ∙ sym (has_text (found_at find name) ops has)))
     ∙ by_found_code find depth delivery name optional line (found_at find name) ops (looked_up name (found_at find name) old) has
 
 -- how the including script goes on after the included one, by how that ended

@@ -3,7 +3,7 @@ use Rattle.std.proofs.Common.{◌≡◌, Bool, true, false, ◌||◌, List, [], 
 use Rattle.std.specs.Map.{lookup}
 use Rattle.indexmap.specs.IndexMap as ordered
 use Rattle.script_names.specs.Name.{name_eq}
-use Rattle.sieve_run.specs.Run.{is_read, with_read}
+use Rattle.sieve_run.specs.Run.{is_looked_up, with_lookup}
 use Rattle.script_names.specs.declared.name.ScriptName.{ScriptName}
 use Rattle.script_names.specs.contracts.name.ScriptNamePartialEq.TheImpl as equality
 
@@ -12,33 +12,33 @@ pub names_alike : (a b : ScriptName) → equality.eq-value.it a b ≡ name_eq a 
 names_alike a b = search rules
 
 -- a name is found where it was looked up
-pub lookup_read : (is : ScriptName → Bool) (name : ScriptName) (reads : List (ScriptName × Bool)) → ((other : ScriptName) → is other ≡ name_eq name other) → is_some (lookup is reads) ≡ is_read name reads
-lookup_read is name [] same = refl
-lookup_read is name ((other, there) ∷ reads) same =
-    by (is other) (lookup_read is name reads same) ∙ ap (λ b. b || is_read name reads) (same other)
+pub found_is_looked_up : (is : ScriptName → Bool) (name : ScriptName) (lookups : List (ScriptName × Bool)) → ((other : ScriptName) → is other ≡ name_eq name other) → is_some (lookup is lookups) ≡ is_looked_up name lookups
+found_is_looked_up is name [] same = refl
+found_is_looked_up is name ((other, there) ∷ lookups) same =
+    by (is other) (found_is_looked_up is name lookups same) ∙ ap (λ b. b || is_looked_up name lookups) (same other)
   where
-    by : (b : Bool) → is_some (lookup is reads) ≡ is_read name reads → is_some (cond b (Some there) (lookup is reads)) ≡ (b || is_read name reads)
+    by : (b : Bool) → is_some (lookup is lookups) ≡ is_looked_up name lookups → is_some (cond b (Some there) (lookup is lookups)) ≡ (b || is_looked_up name lookups)
     by true rest = refl
     by false rest = rest
 
 -- a name that wasn't looked up is put at the end
-insert_read : (eq : ScriptName → ScriptName → Bool) (name : ScriptName) (there : Bool) (reads : List (ScriptName × Bool)) → is_some (lookup (eq name) reads) ≡ false → ordered.insert_entry eq reads name there ≡ reads ++ (name, there) ∷ []
-insert_read eq name there [] none = refl
-insert_read eq name there ((other, old) ∷ reads) none = by (eq name other) none (insert_read eq name there reads)
+insert_lookup : (eq : ScriptName → ScriptName → Bool) (name : ScriptName) (there : Bool) (lookups : List (ScriptName × Bool)) → is_some (lookup (eq name) lookups) ≡ false → ordered.insert_entry eq lookups name there ≡ lookups ++ (name, there) ∷ []
+insert_lookup eq name there [] none = refl
+insert_lookup eq name there ((other, old) ∷ lookups) none = by (eq name other) none (insert_lookup eq name there lookups)
   where
-    by : (b : Bool) → is_some (cond b (Some old) (lookup (eq name) reads)) ≡ false → (is_some (lookup (eq name) reads) ≡ false → ordered.insert_entry eq reads name there ≡ reads ++ (name, there) ∷ [])
-        → (if b then (other, there) ∷ reads else (other, old) ∷ ordered.insert_entry eq reads name there) ≡ (other, old) ∷ reads ++ (name, there) ∷ []
+    by : (b : Bool) → is_some (cond b (Some old) (lookup (eq name) lookups)) ≡ false → (is_some (lookup (eq name) lookups) ≡ false → ordered.insert_entry eq lookups name there ≡ lookups ++ (name, there) ∷ [])
+        → (if b then (other, there) ∷ lookups else (other, old) ∷ ordered.insert_entry eq lookups name there) ≡ (other, old) ∷ lookups ++ (name, there) ∷ []
     by true none rest = absurd cc
     by false none rest = ap (λ entries. (other, old) ∷ entries) (rest none)
 
 -- the names that were looked up stay as they are where one of them is looked up again
-pub read_stays : (name : ScriptName) (there : Bool) (reads : List (ScriptName × Bool)) → is_read name reads ≡ true → reads ≡ with_read name there reads
-read_stays name there reads is = sym (ap (λ b. if b then reads else reads ++ (name, there) ∷ []) is)
+pub lookup_stays : (name : ScriptName) (there : Bool) (lookups : List (ScriptName × Bool)) → is_looked_up name lookups ≡ true → lookups ≡ with_lookup name there lookups
+lookup_stays name there lookups is = sym (ap (λ b. if b then lookups else lookups ++ (name, there) ∷ []) is)
 
 -- a look-up of a name that wasn't looked up is recorded
-pub read_is_new : (eq : ScriptName → ScriptName → Bool) (name other : ScriptName) (there : Bool) (reads new : List (ScriptName × Bool)) → is_some (lookup (eq name) reads) ≡ false → is_read name reads ≡ false → other ≡ name
-    → new ≡ ordered.insert_entry eq reads other there → new ≡ with_read name there reads
-read_is_new eq name other there reads new none is same made =
-    made ∙ ap (λ n. ordered.insert_entry eq reads n there) same
-    ∙ insert_read eq name there reads none
-    ∙ sym (ap (λ b. if b then reads else reads ++ (name, there) ∷ []) is)
+pub lookup_is_new : (eq : ScriptName → ScriptName → Bool) (name other : ScriptName) (there : Bool) (lookups new : List (ScriptName × Bool)) → is_some (lookup (eq name) lookups) ≡ false → is_looked_up name lookups ≡ false → other ≡ name
+    → new ≡ ordered.insert_entry eq lookups other there → new ≡ with_lookup name there lookups
+lookup_is_new eq name other there lookups new none is same made =
+    made ∙ ap (λ n. ordered.insert_entry eq lookups n there) same
+    ∙ insert_lookup eq name there lookups none
+    ∙ sym (ap (λ b. if b then lookups else lookups ++ (name, there) ∷ []) is)

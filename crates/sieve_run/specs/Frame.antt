@@ -3,7 +3,7 @@
 use Rattle.std.specs.Prelude.{◌≡◌, ℕ, Bool, true, List, Option}
 use Rattle.sieve_actions.specs.Delivery.{Arrival}
 use Rattle.sieve_run.specs.Library.{library_of}
-use Rattle.sieve_run.specs.Run.{is_read, outcome_of}
+use Rattle.sieve_run.specs.Run.{is_looked_up, outcome_of}
 use Rattle.sieve_run.specs.Verdict.{Verdict}
 use Rattle.script_names.specs.declared.name.ScriptName.{ScriptName}
 
@@ -13,7 +13,7 @@ Texts = ScriptName → Option (List ℕ)
 
 -- two libraries have the same text, or none, at each name that was looked up
 abbrev pub Agree : (texts others : Texts) → List (ScriptName × Bool) → Type 0
-Agree texts others reads = (name : ScriptName) → is_read name reads ≡ true → texts name ≡ others name
+Agree texts others lookups = (name : ScriptName) → is_looked_up name lookups ≡ true → texts name ≡ others name
 
 -- the verdict over a library of the profile that the message is judged by
 abbrev pub outcome_over : Texts → Option ScriptName → Arrival → Verdict

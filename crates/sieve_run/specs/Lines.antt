@@ -95,9 +95,9 @@ unfoldable pub origin_line : Origin → List ℕ
 origin_line origin = codes "at " ++ name_text origin.script ++ codes " line " ++ decimal origin.line
 
 -- the line of a looked-up name, present or missing
-unfoldable pub read_line : ScriptName × Bool → List ℕ
-read_line (name, true) = codes "read " ++ name_text name
-read_line (name, false) = codes "read " ++ name_text name ++ codes " missing"
+unfoldable pub lookup_line : ScriptName × Bool → List ℕ
+lookup_line (name, true) = codes "read " ++ name_text name
+lookup_line (name, false) = codes "read " ++ name_text name ++ codes " missing"
 
 abbrev pub implicit_lines : (mailbox : List ℕ) → Option (List (List ℕ)) → List (List ℕ)
 implicit_lines mailbox None = []
@@ -112,8 +112,8 @@ abbrev pub verdict_lines : (mailbox : List ℕ) → Verdict → List (List ℕ)
 verdict_lines mailbox verdict = map action_line verdict.actions ++ (implicit_lines mailbox verdict.implicit ++ error_lines verdict.error)
 
 -- the lines of the names that were looked up
-abbrev pub read_lines : Verdict → List (List ℕ)
-read_lines verdict = map read_line verdict.reads
+abbrev pub lookup_lines : Verdict → List (List ℕ)
+lookup_lines verdict = map lookup_line verdict.lookups
 
 -- Whether a text has these lines and no others. A line of a text ends before an LF and a CR directly before that; nothing after the last LF is
 -- no line.

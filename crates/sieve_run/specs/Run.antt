@@ -94,15 +94,15 @@ is_there invalid = true
 is_there (present tree) = true
 
 -- whether a name is among those looked up
-abbrev pub is_read : ScriptName → List (ScriptName × Bool) → Bool
-is_read name reads = list_any (λ read. name_eq name read.0) reads
+abbrev pub is_looked_up : ScriptName → List (ScriptName × Bool) → Bool
+is_looked_up name lookups = list_any (λ read. name_eq name read.0) lookups
 
 -- the names looked up, with one more, each once and in the order of first lookups
-abbrev pub with_read : ScriptName → Bool → List (ScriptName × Bool) → List (ScriptName × Bool)
-with_read name there reads = if is_read name reads then reads else reads ++ (name, there) ∷ []
+abbrev pub with_lookup : ScriptName → Bool → List (ScriptName × Bool) → List (ScriptName × Bool)
+with_lookup name there lookups = if is_looked_up name lookups then lookups else lookups ++ (name, there) ∷ []
 
 abbrev pub looked_up : ScriptName → Lookup → RunState → RunState
-looked_up name lookup state = record state { reads = with_read name (is_there lookup) state.reads }
+looked_up name lookup state = record state { lookups = with_lookup name (is_there lookup) state.lookups }
 
 -- the state in which an included script begins: it shares actions, flags and global variables with the script that includes it, and has
 -- no variables of its own (RFC 6609, section 3.4)
@@ -164,14 +164,14 @@ implicit_of state = if state.cancelled then None else Some state.flags
 -- In the main script a return is the end (RFC 6609, section 3.3). After an error no action is taken, and the implicit keep stands
 -- (RFC 5228, sections 2.10.2 and 2.10.6), without flags.
 abbrev pub verdict_of : Ending → Verdict
-verdict_of (goes_on state) = record { actions = state.actions; origins = state.origins; implicit = implicit_of state; error = None; reads = state.reads }
-verdict_of (returned state) = record { actions = state.actions; origins = state.origins; implicit = implicit_of state; error = None; reads = state.reads }
-verdict_of (stopped state) = record { actions = state.actions; origins = state.origins; implicit = implicit_of state; error = None; reads = state.reads }
-verdict_of (failed error state) = record { actions = []; origins = []; implicit = Some []; error = Some error; reads = state.reads }
+verdict_of (goes_on state) = record { actions = state.actions; origins = state.origins; implicit = implicit_of state; error = None; lookups = state.lookups }
+verdict_of (returned state) = record { actions = state.actions; origins = state.origins; implicit = implicit_of state; error = None; lookups = state.lookups }
+verdict_of (stopped state) = record { actions = state.actions; origins = state.origins; implicit = implicit_of state; error = None; lookups = state.lookups }
+verdict_of (failed error state) = record { actions = []; origins = []; implicit = Some []; error = Some error; lookups = state.lookups }
 
 -- the state in which the main script begins
 abbrev pub begun : ScriptName → RunState
-begun main = record { actions = []; origins = []; cancelled = false; reads = (main, true) ∷ []; entered = main ∷ []; values = no_values; flags = [] }
+begun main = record { actions = []; origins = []; cancelled = false; lookups = (main, true) ∷ []; entered = main ∷ []; values = no_values; flags = [] }
 
 -- the delivery as the main script knows it
 abbrev pub delivery_to : Arrival → ScriptName → Delivery
@@ -183,11 +183,11 @@ run_of find arrival main tree = running find include_depth (delivery_to arrival 
 
 -- the verdict where the main script is this
 abbrev pub verdict_at : (ScriptName → Lookup) → Arrival → ScriptName → Lookup → Verdict
-verdict_at find arrival main missing = record { actions = []; origins = []; implicit = Some []; error = Some (record { script = main; line = 0; kind = MissingScript }); reads = (main, false) ∷ [] }
-verdict_at find arrival main invalid = record { actions = []; origins = []; implicit = Some []; error = Some (record { script = main; line = 0; kind = InvalidScript }); reads = (main, true) ∷ [] }
+verdict_at find arrival main missing = record { actions = []; origins = []; implicit = Some []; error = Some (record { script = main; line = 0; kind = MissingScript }); lookups = (main, false) ∷ [] }
+verdict_at find arrival main invalid = record { actions = []; origins = []; implicit = Some []; error = Some (record { script = main; line = 0; kind = InvalidScript }); lookups = (main, true) ∷ [] }
 verdict_at find arrival main (present tree) = verdict_of (run_of find arrival main tree)
 
 -- the verdict on a message, and the names that it looked up, over a library
 unfoldable pub outcome_of : (ScriptName → Lookup) → Option ScriptName → Arrival → Verdict
-outcome_of find None arrival = record { actions = []; origins = []; implicit = Some []; error = None; reads = [] }
+outcome_of find None arrival = record { actions = []; origins = []; implicit = Some []; error = None; lookups = [] }
 outcome_of find (Some main) arrival = verdict_at find arrival main (found_at find main)

@@ -12,4 +12,4 @@ pub record Verdict : Type 0 where
   pub origins : List Origin
   pub implicit : Option (List (List ℕ))
   pub error : Option RunError
-  pub reads : List (ScriptName × Bool)
+  pub lookups : List (ScriptName × Bool)

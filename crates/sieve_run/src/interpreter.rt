@@ -26,7 +26,7 @@ use sieve_actions::{
 };
 use sieve_code::Code;
 use sieve_limits::MAX_INCLUDE_DEPTH;
-use sieve_matching::FieldReads;
+use sieve_matching::FieldCache;
 use sieve_variables::Values;
 use std::alloc::{AllocError, Global};
 
@@ -42,11 +42,11 @@ fn failed_at_main(
       origins = [];
       implicit = Some [];
       error = Some (record { script = main.now; line = 0; kind = kind });
-      reads = (main.now, is_present) ∷ [];
+      lookups = (main.now, is_present) ∷ [];
     }) }
 {
     let script = main.copy(alloc)?;
-    let reads = first_read(alloc, main, is_present)?;
+    let lookups = first_lookup(alloc, main, is_present)?;
     Ok(Outcome {
         actions: Vec::new(alloc),
         origins: Vec::new(alloc),
@@ -56,21 +56,21 @@ fn failed_at_main(
             line: 0,
             kind,
         }),
-        reads,
+        lookups,
     })
 }
 
 /// The record of lookups after that of the main script.
-fn first_read(
+fn first_lookup(
     alloc: Global,
     main: &ScriptName,
     is_present: bool,
 ) -> Result<IndexMap<ScriptName, bool>, AllocError>
-    ensures { IfOk result (λ reads. reads.entries ≡ (main.now, is_present) ∷ []) }
+    ensures { IfOk result (λ lookups. lookups.entries ≡ (main.now, is_present) ∷ []) }
 {
-    let mut reads = IndexMap::new(alloc);
-    reads.insert(main.copy(alloc)?, is_present)?;
-    Ok(reads)
+    let mut lookups = IndexMap::new(alloc);
+    lookups.insert(main.copy(alloc)?, is_present)?;
+    Ok(lookups)
 }
 
 /// The flags of the implicit keep, where no action cancelled it.
@@ -89,7 +89,7 @@ fn ended(alloc: Global, flow: Flow, state: State) -> Outcome
         actions,
         origins,
         cancelled,
-        reads,
+        lookups,
         entered,
         values,
     } = state;
@@ -102,14 +102,14 @@ fn ended(alloc: Global, flow: Flow, state: State) -> Outcome
             origins: Vec::new(alloc),
             implicit: Some(FlagList::new(alloc)),
             error: Some(error),
-            reads,
+            lookups,
         },
         Flow::GoesOn | Flow::Returned | Flow::Stopped => Outcome {
             actions,
             origins,
             implicit: kept(cancelled, flags),
             error: None,
-            reads,
+            lookups,
         },
     }
 }
@@ -125,7 +125,7 @@ fn begun(alloc: Global, main: &ScriptName) -> Result<State, AllocError>
         // Most runs perform one action, and each verdict keeps the list.
         origins: Vec::with_capacity(alloc, 1)?,
         cancelled: false,
-        reads: first_read(alloc, main, true)?,
+        lookups: first_lookup(alloc, main, true)?,
         entered,
         values: Values::new(alloc),
     })
@@ -145,7 +145,7 @@ fn run_main<L: Library>(
         (code_walk (ops_of code.now) (length (ops_of code.now))) (begun main.now))) }
 {
     let mut state = begun(alloc, main)?;
-    let mut fields = FieldReads::new(alloc, arrival);
+    let mut fields = FieldCache::new(alloc, arrival);
     let delivery = Delivery {
         alloc,
         arrival,
@@ -165,14 +165,14 @@ fn run_main<L: Library>(
 /// The outcome where there is no main script: the implicit keep, and nothing is looked up.
 fn no_main(alloc: Global) -> Outcome
     ensures { result
-        ≡ record { actions = []; origins = []; implicit = Some []; error = None; reads = [] } }
+        ≡ record { actions = []; origins = []; implicit = Some []; error = None; lookups = [] } }
 {
     Outcome {
         actions: Vec::new(alloc),
         origins: Vec::new(alloc),
         implicit: Some(FlagList::new(alloc)),
         error: None,
-        reads: IndexMap::new(alloc),
+        lookups: IndexMap::new(alloc),
     }
 }
 

@@ -75,7 +75,7 @@ pub fn no_run_comes_to_a_deeper_script()
 #[tactic(auto, using(crate::proofs::Frame::frame))]
 pub fn a_verdict_depends_on_what_it_looked_up()
     ensures { (texts others : Texts) (main : Option names.ScriptName) (arrival : Arrival)
-        → Agree texts others (outcome_over texts main arrival).reads
+        → Agree texts others (outcome_over texts main arrival).lookups
         → outcome_over others main arrival ≡ outcome_over texts main arrival }
 {}
 

@@ -1,7 +1,7 @@
 //! The lines of a verdict: what becomes of a message, and which names were looked up. Writing them takes no memory.
 ghost use Rattle.devices.specs.Writers.{Writes};
 ghost use Rattle.std.specs.Prelude.{◌++◌, codes};
-ghost use Rattle.sieve_run.specs.Lines.{action_line, create_word, error_line, filing_words, given_words, implicit_line, mailbox_line, origin_line, read_line, spaced_word, spaced_words, worded_text};
+ghost use Rattle.sieve_run.specs.Lines.{action_line, create_word, error_line, filing_words, given_words, implicit_line, mailbox_line, origin_line, lookup_line, spaced_word, spaced_words, worded_text};
 
 use crate::response_lines::{write_reject, write_response};
 use devices::{Piece, Sink, WriteFault, write_out, write_pieces};
@@ -178,14 +178,14 @@ pub fn write_origin<W: Sink>(origin: &Origin, writer: &mut W) -> Result<(), Writ
 }
 
 /// Writes the line of a looked-up name, without what stands before and after it in a report. An error comes from the writer alone.
-#[tactic(auto, unfolding(crate::specs::Lines::read_line))]
-pub fn write_read<W: Sink>(
+#[tactic(auto, unfolding(crate::specs::Lines::lookup_line))]
+pub fn write_lookup<W: Sink>(
     name: &ScriptName,
     is_present: bool,
     writer: &mut W,
 ) -> Result<(), WriteFault>
     ensures { Writes W.contents W.fault_count result writer.old writer.new
-        (read_line (name.now, is_present)) }
+        (lookup_line (name.now, is_present)) }
 {
     let end: &[u8] = if is_present { b"" } else { b" missing" };
     write_pieces(

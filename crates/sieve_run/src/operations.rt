@@ -10,7 +10,7 @@ ghost use Rattle.sieve_run.specs.view.Step.{Acts, Carries, Includes};
 use crate::turn::{Step, Turn, proceed};
 use sieve_actions::{State, change, discard, file_into, keep, redirect, reject, respond, set};
 use sieve_code::GivenPlace;
-use sieve_matching::{FieldReads, compare, exists, is_over, is_under, mailboxes_exist};
+use sieve_matching::{FieldCache, compare, exists, is_over, is_under, mailboxes_exist};
 use sieve_reading::{FlagChange, Rejection};
 use std::alloc::AllocError;
 
@@ -19,7 +19,7 @@ pub(crate) fn ask_compares(
     turn: &Turn<'_>,
     test: u32,
     keys: u32,
-    fields: &mut FieldReads<'_>,
+    fields: &mut FieldCache<'_>,
     state: &mut State,
 ) -> Result<Step, AllocError>
     requires { fields.old ≡ (delivery_as turn.now.delivery.now).arrival }

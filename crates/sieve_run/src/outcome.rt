@@ -19,7 +19,7 @@ pub struct Outcome {
     pub(crate) origins: Vec<Origin>,
     pub(crate) implicit: Option<FlagList>,
     pub(crate) error: Option<RunError>,
-    pub(crate) reads: IndexMap<ScriptName, bool>,
+    pub(crate) lookups: IndexMap<ScriptName, bool>,
 }
 
 impl Model for Outcome {
@@ -29,7 +29,7 @@ impl Model for Outcome {
 
     ghost Value = { Verdict };
 
-    ghost view = { λ a. record { actions = a.actions.items; origins = a.origins.items; implicit = a.implicit; error = a.error; reads = a.reads.entries } };
+    ghost view = { λ a. record { actions = a.actions.items; origins = a.origins.items; implicit = a.implicit; error = a.error; lookups = a.lookups.entries } };
 
     ghost invariant = { λ a. length a.actions.items ≤ action_limit };
 }
@@ -66,10 +66,10 @@ impl Outcome {
 
     /// The names that were looked up, in the order of their first lookups, and whether each was there. Takes no
     /// memory.
-    pub fn reads(&self) -> &IndexMap<ScriptName, bool>
-        ensures { result.now.entries ≡ self.now.reads }
+    pub fn lookups(&self) -> &IndexMap<ScriptName, bool>
+        ensures { result.now.entries ≡ self.now.lookups }
     {
-        &self.reads
+        &self.lookups
     }
 
     /// Whether a text says what becomes of the message where mail is kept in `mailbox`: whether its lines are those of the verdict, each without the

@@ -15,18 +15,18 @@ use crate::including::{
     begin_included, find, including_next, is_running, is_script, is_there, resumed,
 };
 use crate::library::{Found, Library};
+use crate::lookups::note_lookup;
 use crate::operations::{
     act_discard, act_fileinto, act_flags, act_keep, act_redirect, act_reject, act_set,
     act_vacation, ask_compares, ask_duplicate, ask_exists, ask_mailboxes, ask_over, ask_under,
 };
-use crate::reads::note_read;
 use crate::turn::{Step, Turn, proceed};
 use octets::Octets;
 use script_names::ScriptName;
 use sieve_actions::{Delivery, ErrorKind, Flow, State, fail};
 use sieve_code::{Code, Inclusion, Op};
 use sieve_limits::MAX_INCLUDES;
-use sieve_matching::FieldReads;
+use sieve_matching::FieldCache;
 use std::alloc::AllocError;
 
 /// A script that runs.
@@ -46,7 +46,7 @@ pub(crate) struct Running<'a, L: Library> {
 #[cycle(execute)]
 pub(crate) fn execute<L: Library>(
     running: &Running<'_, L>,
-    fields: &mut FieldReads<'_>,
+    fields: &mut FieldCache<'_>,
     state: &mut State,
 ) -> Result<Flow, AllocError>
     requires { fields.old ≡ (delivery_as running.now.delivery.now).arrival }
@@ -93,7 +93,7 @@ fn carry_out<L: Library>(
     op: Op,
     after: usize,
     register: bool,
-    fields: &mut FieldReads<'_>,
+    fields: &mut FieldCache<'_>,
     state: &mut State,
 ) -> Result<Step, AllocError>
     requires { fields.old ≡ (delivery_as running.now.delivery.now).arrival }
@@ -163,7 +163,7 @@ fn carry_out<L: Library>(
 fn include_named<L: Library>(
     running: &Running<'_, L>,
     inclusion: Inclusion,
-    fields: &mut FieldReads<'_>,
+    fields: &mut FieldCache<'_>,
     state: &mut State,
 ) -> Result<Flow, AllocError>
     requires { fields.old ≡ (delivery_as running.now.delivery.now).arrival }
@@ -189,7 +189,7 @@ fn execute_inside<L: Library>(
     running: &Running<'_, L>,
     name: &ScriptName,
     code: &Code,
-    fields: &mut FieldReads<'_>,
+    fields: &mut FieldCache<'_>,
     state: &mut State,
 ) -> Result<Flow, AllocError>
     requires { fields.old ≡ (delivery_as running.now.delivery.now).arrival }
@@ -223,7 +223,7 @@ fn enter<L: Library>(
     running: &Running<'_, L>,
     name: &ScriptName,
     code: &Code,
-    fields: &mut FieldReads<'_>,
+    fields: &mut FieldCache<'_>,
     state: &mut State,
 ) -> Result<Flow, AllocError>
     requires { fields.old ≡ (delivery_as running.now.delivery.now).arrival }
@@ -244,7 +244,7 @@ fn look_up<L: Library>(
     running: &Running<'_, L>,
     name: &ScriptName,
     inclusion: Inclusion,
-    fields: &mut FieldReads<'_>,
+    fields: &mut FieldCache<'_>,
     state: &mut State,
 ) -> Result<Flow, AllocError>
     requires { fields.old ≡ (delivery_as running.now.delivery.now).arrival }
@@ -257,7 +257,7 @@ fn look_up<L: Library>(
     let delivery = running.delivery;
     let line = inclusion.line as u64;
     let found = find(running.lib, name);
-    note_read(delivery.alloc, &mut state.reads, name, is_there(&found))?;
+    note_lookup(delivery.alloc, &mut state.lookups, name, is_there(&found))?;
     match found {
         Found::Missing => {
             if inclusion.optional {
@@ -277,7 +277,7 @@ fn include<L: Library>(
     running: &Running<'_, L>,
     name: &ScriptName,
     inclusion: Inclusion,
-    fields: &mut FieldReads<'_>,
+    fields: &mut FieldCache<'_>,
     state: &mut State,
 ) -> Result<Flow, AllocError>
     requires { fields.old ≡ (delivery_as running.now.delivery.now).arrival }

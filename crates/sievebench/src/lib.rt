@@ -12,10 +12,10 @@ pub use bench::{
 };
 pub use command_line::{Argument, CommandLine, Job, TestWords, UsageFault, command_of};
 pub use date_text::{Clock, Zone, zone_named};
-pub use server::session;
 pub use devices::{Counted, Faults, Sink, Source};
 pub use octets::Octets;
 pub use script_names::{Location, ScriptName};
+pub use server::session;
 pub use sieve_profile::{EXTENSIONS, Extension, Profile};
 pub use sieve_run::{Action, Meter, Outcome};
 pub use status::{End, SessionEnd, status_of};

@@ -7,7 +7,7 @@ use lib.Pointwise.{pointwise}
 use Rattle.script_names.specs.declared.name.ScriptName.{ScriptName}
 use Rattle.sieve_actions.specs.declared.envelope.Addresses.{Addresses}
 use Rattle.sieve_run.specs.Meter.{next_run}
-use Rattle.sieve_run.specs.Run.{is_read}
+use Rattle.sieve_run.specs.Run.{is_looked_up}
 use Rattle.sieve_run.specs.Verdict.{Verdict}
 use Rattle.bench.specs.Content.{Sample, put_over}
 use Rattle.bench.specs.Report.{Judged, is_unlike}
@@ -42,7 +42,7 @@ forgotten entry = record entry { kept = None }
 -- what is kept of a verdict when a name changes
 abbrev pub kept_without : ScriptName → Option Verdict → Option Verdict
 kept_without name None = None
-kept_without name (Some verdict) = cond (is_read name verdict.reads) None (Some verdict)
+kept_without name (Some verdict) = cond (is_looked_up name verdict.lookups) None (Some verdict)
 
 -- an entry that is marked if its run looked the name up
 abbrev pub unread : ScriptName → Entry → Entry

@@ -5,7 +5,7 @@ use Rattle.script_names.specs.declared.name.ScriptName.{ScriptName}
 use Rattle.sieve_actions.specs.declared.action.Action.{Action}
 use Rattle.sieve_actions.specs.declared.action.Origin.{Origin}
 use Rattle.sieve_actions.specs.declared.error.RunError.{RunError}
-use Rattle.sieve_run.specs.Lines.{action_line, error_line, implicit_line, origin_line, read_line}
+use Rattle.sieve_run.specs.Lines.{action_line, error_line, implicit_line, origin_line, lookup_line}
 use Rattle.sieve_run.specs.Verdict.{Verdict}
 use Rattle.bench.specs.Report.{indented}
 
@@ -27,9 +27,9 @@ abbrev pub error_text : Option RunError → List ℕ
 error_text None = []
 error_text (Some error) = indented (error_line error)
 
-abbrev pub read_text : ScriptName × Bool → List ℕ
-read_text read = indented (read_line read)
+abbrev pub lookup_text : ScriptName × Bool → List ℕ
+lookup_text read = indented (lookup_line read)
 
 -- a verdict's lines in a report, as the program writes them in turn
 unfoldable pub verdict_texts : (traced : Bool) → (mailbox : List ℕ) → Verdict → List ℕ
-verdict_texts traced mailbox verdict = action_texts traced verdict ++ (implicit_text mailbox verdict.implicit ++ (error_text verdict.error ++ flat_map read_text verdict.reads))
+verdict_texts traced mailbox verdict = action_texts traced verdict ++ (implicit_text mailbox verdict.implicit ++ (error_text verdict.error ++ flat_map lookup_text verdict.lookups))

@@ -103,7 +103,7 @@ fn error_of(outcome: &Outcome) -> Option<(u64, ErrorKind)> {
 /// Whether the last name that a run looked up was there.
 fn last_read(outcome: &Outcome) -> Option<bool> {
     let mut found = None;
-    for (_name, present) in outcome.reads() {
+    for (_name, present) in outcome.lookups() {
         found = Some(*present);
     }
     found

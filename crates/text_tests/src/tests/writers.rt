@@ -1,7 +1,9 @@
 //! What the writers print, and what they do at writers that take little, interrupt or give up.
 
 use super::{holds, same};
-use devices::{Counted, Faults, Piece, Sink, Source, WriteFault, write_out, write_pieces, write_quoted};
+use devices::{
+    Counted, Faults, Piece, Sink, Source, WriteFault, write_out, write_pieces, write_quoted,
+};
 use std::io;
 use std::io::{ErrorKind, Read, Write};
 use std::process::Abort;

@@ -21,4 +21,4 @@ returns-in_err-write_error_line g c =
 pub returns : goal.returns
 unfolding verdict_texts
 returns g c =
-    ends_last _ _ _ _ _ _ _ _ (goes_on _ _ _ _ _ _ _ _ (goes_on _ _ _ _ _ _ _ _ (goes_on _ _ _ _ _ _ _ _ (begins _ _ _ _) c.in_ok-write_told_actions.ensures) c.in_ok-write_implicit_line.ensures) c.in_ok-write_error_line.ensures) c.write_reads.ensures
+    ends_last _ _ _ _ _ _ _ _ (goes_on _ _ _ _ _ _ _ _ (goes_on _ _ _ _ _ _ _ _ (goes_on _ _ _ _ _ _ _ _ (begins _ _ _ _) c.in_ok-write_told_actions.ensures) c.in_ok-write_implicit_line.ensures) c.in_ok-write_error_line.ensures) c.write_lookups.ensures

@@ -4,7 +4,7 @@ use Rattle.message_text.specs.Fields.{IsNextNamed, fields_of, is_field_named}
 use Rattle.message_text.specs.declared.addressing.AddressPart.TheVariants.{All}
 use Rattle.sieve_actions.specs.Delivery.{Arrival}
 use Rattle.sieve_matching.specs.Matching.{parts_of_value, values_named}
-use Rattle.sieve_matching.specs.view.FieldReads.{address_lists_of}
+use Rattle.sieve_matching.specs.view.FieldCache.{address_lists_of}
 use Rattle.sieve_matching.proofs.Counted.{addresses_more, none_named}
 use Rattle.sieve_matching.proofs.counting.addresses_in_fields.Goals as goal
 

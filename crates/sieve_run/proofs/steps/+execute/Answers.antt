@@ -203,5 +203,5 @@ look_up-returns-in-Present-clause-ending g t c =
     let there : c.is_there.result ≡ true = c.is_there.ensures ∙ ap there_as c.in-Present.is in
     IfOk-weaker c.enter.result _
     (λ (flow : Flow). ending_by flow (state_of c.enter.new.state) ≡ looks_up find c.args.running.now.depth d c.args.name.now c.args.inclusion.optional c.args.inclusion.line s)
-    (λ flow is. is ∙ looks_present find c.args.running.now.depth d c.args.name.now c.args.inclusion.optional c.args.inclusion.line ops s _ c.is_there.result has there (ap (λ reads. record s { reads = reads }) c.in_ok-note_read.ensures))
+    (λ flow is. is ∙ looks_present find c.args.running.now.depth d c.args.name.now c.args.inclusion.optional c.args.inclusion.line ops s _ c.is_there.result has there (ap (λ lookups. record s { lookups = lookups }) c.in_ok-note_lookup.ensures))
     c.enter.ensures.ending

@@ -1,7 +1,7 @@
 use Rattle.std.proofs.Common.{◌≡◌, length, arith}
 use Rattle.message_text.specs.Fields.{fields_of}
 use Rattle.sieve_matching.proofs.NamedPlaces.{is_named_place}
-use Rattle.sieve_matching.proofs.field_reads.named_place.Goals as goal
+use Rattle.sieve_matching.proofs.field_cache.named_place.Goals as goal
 
 pub returns-in-Some : goal.returns-in-Some
 returns-in-Some c =

@@ -10,7 +10,7 @@ use Rattle.message_text.specs.Fields.{decoded_values_of, fields_of, is_field_nam
 use Rattle.mime_text.specs.Entities.{entities_of}
 use Rattle.mime_text.specs.declared.entities.Entity as entity
 use Rattle.mime_text.specs.view.Entities.{entity_as}
-use Rattle.sieve_matching.specs.declared.field_reads.NamedPlace.{NamedPlace}
+use Rattle.sieve_matching.specs.declared.field_cache.NamedPlace.{NamedPlace}
 
 -- the addresses in the values of the fields, in order
 abbrev pub address_lists_of : List ℕ → List (List AddrSpec)

@@ -1,6 +1,6 @@
 use Rattle.std.proofs.Common.{length, ◌+◌, ◌-◌}
-use Rattle.sieve_matching.specs.view.FieldReads.{HasNoMore}
-use Rattle.sieve_matching.proofs.field_reads.reach.Given as goal
+use Rattle.sieve_matching.specs.view.FieldCache.{HasNoMore}
+use Rattle.sieve_matching.proofs.field_cache.reach.Given as goal
 
 abbrev pub invariant-loop-places : goal.invariant-loop-places
 invariant-loop-places g l = HasNoMore l.initial.places.items l.places.items

@@ -2,9 +2,9 @@ use Rattle.std.proofs.Common.{◌≡◌, Some, true, sym, ap, ◌∙◌, rules}
 use Rattle.std.specs.List.{slice_get}
 use Rattle.match_text.specs.Comparator.{ascii_casemap, same}
 use Rattle.message_text.specs.Fields.{names_of}
-use Rattle.sieve_matching.specs.view.FieldReads.{IsNamedPlace}
+use Rattle.sieve_matching.specs.view.FieldCache.{IsNamedPlace}
 use Rattle.sieve_matching.proofs.NamedPlaces.{first_written}
-use Rattle.sieve_matching.proofs.field_reads.FieldReads.kept_first.Goals as goal
+use Rattle.sieve_matching.proofs.field_cache.FieldCache.kept_first.Goals as goal
 
 pub returns-then-is-clause-some : goal.returns-then-is-clause-some
 returns-then-is-clause-some c =

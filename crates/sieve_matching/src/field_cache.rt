@@ -5,7 +5,7 @@ ghost use Rattle.message_text.specs.Fields.{IsNextNamed, decoded_values_of, fiel
 ghost use Rattle.mime_text.specs.Entities.{entities_of};
 ghost use Rattle.mime_text.specs.view.Entities.{entity_as};
 ghost use Rattle.sieve_actions.specs.view.Delivery.{arrival_as};
-ghost use Rattle.sieve_matching.specs.view.FieldReads.{HasNoMore, IsNamedPlace, address_lists_of};
+ghost use Rattle.sieve_matching.specs.view.FieldCache.{HasNoMore, IsNamedPlace, address_lists_of};
 
 use match_text::{AsciiCasemap, is};
 use message_text::{Address, FieldName, Message, addresses};
@@ -28,7 +28,7 @@ struct NamedPlace {
 /// What a run has made of a message, so that none of its tests makes it again. Contracts see what is delivered. It has a place for each
 /// field up to the last that a test has looked at, and 32 for the first fields of names.
 #[derive(Drop)]
-pub struct FieldReads<'a> {
+pub struct FieldCache<'a> {
     arrival: &'a Arrival<'a>,
     // The addresses in the values of fields, each list at its field's place.
     listed: Vec<Option<Vec<Address>>>,
@@ -40,10 +40,10 @@ pub struct FieldReads<'a> {
     named: Vec<Option<NamedPlace>>,
 }
 
-impl<'a> Model for FieldReads<'a> {
+impl<'a> Model for FieldCache<'a> {
     ghost use Rattle.sieve_actions.specs.Delivery.{Arrival};
     ghost use Rattle.sieve_actions.specs.view.Delivery.{arrival_as};
-    ghost use Rattle.sieve_matching.specs.view.FieldReads.{AreDecoded, AreEntities, AreListed, AreNamed};
+    ghost use Rattle.sieve_matching.specs.view.FieldCache.{AreDecoded, AreEntities, AreListed, AreNamed};
 
     ghost Value = { Arrival };
 
@@ -113,12 +113,12 @@ fn kept_at(places: &[Option<NamedPlace>], place: usize) -> Option<NamedPlace>
     }
 }
 
-impl<'a> FieldReads<'a> {
+impl<'a> FieldCache<'a> {
     /// Nothing is read yet. Takes no memory.
-    pub fn new(alloc: Global, arrival: &'a Arrival<'a>) -> FieldReads<'a>
+    pub fn new(alloc: Global, arrival: &'a Arrival<'a>) -> FieldCache<'a>
         ensures { result ≡ arrival_as arrival.now }
     {
-        FieldReads {
+        FieldCache {
             arrival,
             listed: Vec::new(alloc),
             decoded: Vec::new(alloc),
@@ -148,7 +148,7 @@ impl<'a> FieldReads<'a> {
     }
 
     /// Keeps where a field stands that is the first of its name.
-    fn keep_place(&mut self, place: usize, kept: NamedPlace) -> Result<(), AllocError>
+    fn cache_place(&mut self, place: usize, kept: NamedPlace) -> Result<(), AllocError>
         requires { IsNamedPlace self.old.message kept }
         ensures { self.new ≡ self.old }
     {
@@ -176,7 +176,7 @@ impl<'a> FieldReads<'a> {
         let message = self.arrival.message;
         let i = message.next_named(name, 0)?;
         // Where memory is refused, nothing is kept.
-        let _is_kept = self.keep_place(place_of(name.octets()), named_place(message, name, i));
+        let _is_kept = self.cache_place(place_of(name.octets()), named_place(message, name, i));
         Some(i)
     }
 
@@ -197,7 +197,7 @@ impl<'a> FieldReads<'a> {
         i + 1
     }
 
-    /// The addresses in the value of field `i`, which is read where they aren't kept. [`keep_addresses`](FieldReads::keep_addresses) takes
+    /// The addresses in the value of field `i`, which is read where they aren't kept. [`keep_addresses`](FieldCache::keep_addresses) takes
     /// them back.
     pub(crate) fn take_addresses(
         &mut self,
@@ -217,7 +217,7 @@ impl<'a> FieldReads<'a> {
     }
 
     /// Keeps the addresses of field `i`.
-    pub(crate) fn keep_addresses(
+    pub(crate) fn cache_addresses(
         &mut self,
         i: usize,
         listed: Vec<Address>,
@@ -244,7 +244,7 @@ impl<'a> FieldReads<'a> {
     }
 
     /// The value of field `i` with its encoded words replaced, which is made where it isn't kept.
-    /// [`keep_decoded`](FieldReads::keep_decoded) takes it back.
+    /// [`keep_decoded`](FieldCache::keep_decoded) takes it back.
     pub(crate) fn take_decoded(
         &mut self,
         alloc: Global,
@@ -268,7 +268,7 @@ impl<'a> FieldReads<'a> {
     }
 
     /// Keeps the value of field `i` with its encoded words replaced.
-    pub(crate) fn keep_decoded(
+    pub(crate) fn cache_decoded(
         &mut self,
         i: usize,
         value: CowSlice<'a, u8>,
@@ -282,7 +282,7 @@ impl<'a> FieldReads<'a> {
         Ok(())
     }
 
-    /// The entities of the message, which are found where they aren't kept. [`keep_entities`](FieldReads::keep_entities) takes them back.
+    /// The entities of the message, which are found where they aren't kept. [`keep_entities`](FieldCache::keep_entities) takes them back.
     pub(crate) fn take_entities(&mut self, alloc: Global) -> Result<Vec<Entity<'a>>, AllocError>
         ensures arrival { self.new ≡ self.old }
         ensures entities { IfOk result
@@ -295,7 +295,7 @@ impl<'a> FieldReads<'a> {
     }
 
     /// Keeps the entities of the message.
-    pub(crate) fn keep_entities(&mut self, entities: Vec<Entity<'a>>)
+    pub(crate) fn cache_entities(&mut self, entities: Vec<Entity<'a>>)
         requires { map entity_as entities.items ≡ entities_of self.old.message }
         ensures { self.new ≡ self.old }
     {
