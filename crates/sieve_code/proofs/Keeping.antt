@@ -5,14 +5,13 @@ use Rattle.std.specs.List.{slice_get}
 use Rattle.std.proofs.Math.Seq.{get_or-append_seam}
 use Rattle.std.proofs.lemmas.List.{append-nil, append_assoc, drop-map}
 use Rattle.sieve_operations.specs.Joined.{Lists, list_in, lists_plus, lists_with, no_lists}
-use Rattle.sieve_reading.specs.Reading.{Vacation}
+use Rattle.sieve_reading.specs.Reading as reading
+use Rattle.sieve_reading.specs.declared.reading.Settings.{Settings}
+use Rattle.sieve_reading.specs.declared.reading.Vacation.{Vacation}
 use Rattle.sieve_variables.specs.Part.{Part}
-use Rattle.sieve_code.specs.declared.op.PackedDate.{PackedDate}
-use Rattle.sieve_code.specs.declared.op.PackedSettings.{PackedSettings}
 use Rattle.sieve_code.specs.declared.op.PackedTest.{PackedTest}
-use Rattle.sieve_code.specs.declared.op.PackedVacation.{PackedVacation}
 use Rattle.sieve_code.specs.declared.pools.Target.{Target}
-use Rattle.sieve_code.specs.Pool.{Grows, Keeps, Kept, Pool, date_packed_in, given_list, given_string, given_variable, no_date, no_pool, no_test, no_vacation, packed_in, plain_packed, plus, test_in, vacation_packed_in, vacation_unpacked}
+use Rattle.sieve_code.specs.Pool.{Grows, Keeps, Kept, Pool, given_list, given_string, given_variable, no_pool, no_test, no_vacation, packed_in, plain_packed, plus, test_in, vacation_packed_in, vacation_unpacked}
 use Rattle.sieve_code.specs.Operation.{Operation}
 use Rattle.sieve_code.specs.view.Op.{is_plain, op_in, plain_as}
 use Rattle.sieve_code.specs.declared.op.Op.{Op}
@@ -30,11 +29,10 @@ plus_none p =
     ∙ ap (λ (l : Lists). record (plus p no_pool) { strings = p.strings; lists = l }) (lists_none p.lists)
     ∙ ap (λ (n : Lists). record (plus p no_pool) { strings = p.strings; lists = p.lists; names = n }) (lists_none p.names)
     ∙ ap (λ (t : List Target). record (plus p no_pool) { strings = p.strings; lists = p.lists; names = p.names; targets = t }) (append-nil p.targets)
-    ∙ ap (λ (s : List (List ℕ)). record p { scripts = s; tests = p.tests ++ []; settings = p.settings ++ []; vacations = p.vacations ++ []; dates = p.dates ++ [] }) (append-nil p.scripts)
-    ∙ ap (λ (t : List PackedTest). record p { tests = t; settings = p.settings ++ []; vacations = p.vacations ++ []; dates = p.dates ++ [] }) (append-nil p.tests)
-    ∙ ap (λ (s : List PackedSettings). record p { settings = s; vacations = p.vacations ++ []; dates = p.dates ++ [] }) (append-nil p.settings)
-    ∙ ap (λ (v : List PackedVacation). record p { vacations = v; dates = p.dates ++ [] }) (append-nil p.vacations)
-    ∙ ap (λ (d : List PackedDate). record p { dates = d }) (append-nil p.dates)
+    ∙ ap (λ (s : List (List ℕ)). record p { scripts = s; tests = p.tests ++ []; settings = p.settings ++ []; vacations = p.vacations ++ [] }) (append-nil p.scripts)
+    ∙ ap (λ (t : List PackedTest). record p { tests = t; settings = p.settings ++ []; vacations = p.vacations ++ [] }) (append-nil p.tests)
+    ∙ ap (λ (s : List (Settings ℕ ℕ)). record p { settings = s; vacations = p.vacations ++ [] }) (append-nil p.settings)
+    ∙ ap (λ (v : List (Vacation ℕ ℕ)). record p { vacations = v }) (append-nil p.vacations)
 
 pub grows_self : (p : Pool) → Grows p p
 grows_self p = λ more. (more, refl)
@@ -56,6 +54,10 @@ kept_two g p q r f h x y first second = record {
   grows = grows_on p q r first.grows second.grows;
   keeps = λ more. ap (λ a. g a (h (plus r more))) (keeps_on q r f x second.grows first.keeps more) ∙ ap (g x) (second.keeps more);
 }
+
+-- what is made of one thing more
+pub kept_then : {X Y : Type 0} (p q r : Pool) (f : Pool → X → Y) (h : Pool → X) (g : X → Y) (x : X) → Kept p q f g → Kept q r h x → Kept p r (λ s. f s (h s)) (g x)
+kept_then p q r f h g x first second = kept_two (λ g x. g x) p q r f h g x first second
 
 -- what is made of what is found
 pub kept_as : {X Y : Type 0} (g : X → Y) (p q : Pool) (f : Pool → X) (x : X) → Kept p q f x → Kept p q (λ s. g (f s)) (g x)
@@ -102,23 +104,17 @@ module _ (p q : Pool) (place : ℕ) where
     keeps = λ more. ap (λ (l : List PackedTest). get_or l place no_test) (append_assoc p.tests (test ∷ []) more.tests) ∙ ap (λ n. get_or (p.tests ++ test ∷ more.tests) n no_test) at ∙ get_or-append_seam p.tests test more.tests no_test;
   })
 
-  pub settings_kept : (settings : PackedSettings) → place ≡ length p.settings → q ≡ record p { settings = p.settings ++ settings ∷ [] } → Kept p q (λ r. packed_in r (Some place)) settings
+  pub settings_kept : (settings : Settings ℕ ℕ) → place ≡ length p.settings → q ≡ record p { settings = p.settings ++ settings ∷ [] } → Kept p q (λ r. packed_in r (Some place)) settings
   settings_kept settings at is = subst (λ (q : Pool). Kept p q (λ r. packed_in r (Some place)) settings) (sym is) (record {
-    grows = λ more. (record more { settings = settings ∷ more.settings }, ap (λ (s : List PackedSettings). record (plus p more) { settings = s }) (append_assoc p.settings (settings ∷ []) more.settings));
+    grows = λ more. (record more { settings = settings ∷ more.settings }, ap (λ (s : List (Settings ℕ ℕ)). record (plus p more) { settings = s }) (append_assoc p.settings (settings ∷ []) more.settings));
     keeps = λ more.
-        ap (λ (l : List PackedSettings). get_or l place plain_packed) (append_assoc p.settings (settings ∷ []) more.settings) ∙ ap (λ n. get_or (p.settings ++ settings ∷ more.settings) n plain_packed) at ∙ get_or-append_seam p.settings settings more.settings plain_packed;
+        ap (λ (l : List (Settings ℕ ℕ)). get_or l place plain_packed) (append_assoc p.settings (settings ∷ []) more.settings) ∙ ap (λ n. get_or (p.settings ++ settings ∷ more.settings) n plain_packed) at ∙ get_or-append_seam p.settings settings more.settings plain_packed;
   })
 
-  pub vacation_kept : (vacation : PackedVacation) → place ≡ length p.vacations → q ≡ record p { vacations = p.vacations ++ vacation ∷ [] } → Kept p q (λ r. vacation_packed_in r place) vacation
+  pub vacation_kept : (vacation : Vacation ℕ ℕ) → place ≡ length p.vacations → q ≡ record p { vacations = p.vacations ++ vacation ∷ [] } → Kept p q (λ r. vacation_packed_in r place) vacation
   vacation_kept vacation at is = subst (λ (q : Pool). Kept p q (λ r. vacation_packed_in r place) vacation) (sym is) (record {
-    grows = λ more. (record more { vacations = vacation ∷ more.vacations }, ap (λ (v : List PackedVacation). record (plus p more) { vacations = v }) (append_assoc p.vacations (vacation ∷ []) more.vacations));
-    keeps = λ more. ap (λ (l : List PackedVacation). get_or l place no_vacation) (append_assoc p.vacations (vacation ∷ []) more.vacations) ∙ ap (λ n. get_or (p.vacations ++ vacation ∷ more.vacations) n no_vacation) at ∙ get_or-append_seam p.vacations vacation more.vacations no_vacation;
-  })
-
-  pub date_kept : (date : PackedDate) → place ≡ length p.dates → q ≡ record p { dates = p.dates ++ date ∷ [] } → Kept p q (λ r. date_packed_in r place) date
-  date_kept date at is = subst (λ (q : Pool). Kept p q (λ r. date_packed_in r place) date) (sym is) (record {
-    grows = λ more. (record more { dates = date ∷ more.dates }, ap (λ (d : List PackedDate). record (plus p more) { dates = d }) (append_assoc p.dates (date ∷ []) more.dates));
-    keeps = λ more. ap (λ (l : List PackedDate). get_or l place no_date) (append_assoc p.dates (date ∷ []) more.dates) ∙ ap (λ n. get_or (p.dates ++ date ∷ more.dates) n no_date) at ∙ get_or-append_seam p.dates date more.dates no_date;
+    grows = λ more. (record more { vacations = vacation ∷ more.vacations }, ap (λ (v : List (Vacation ℕ ℕ)). record (plus p more) { vacations = v }) (append_assoc p.vacations (vacation ∷ []) more.vacations));
+    keeps = λ more. ap (λ (l : List (Vacation ℕ ℕ)). get_or l place no_vacation) (append_assoc p.vacations (vacation ∷ []) more.vacations) ∙ ap (λ n. get_or (p.vacations ++ vacation ∷ more.vacations) n no_vacation) at ∙ get_or-append_seam p.vacations vacation more.vacations no_vacation;
   })
 
 lists_more : (lists more : Lists) (texts : List (List Part)) → lists_plus (lists_with lists texts) more ≡ lists_plus lists (record { strings = texts ++ more.strings; ends = length (lists.strings ++ texts) ∷ more.ends })
@@ -145,22 +141,16 @@ module _ (p q : Pool) (place : ℕ) (texts : List (List Part)) where
 pub kept_at : {X : Type 0} (p q : Pool) (given place : Option ℕ) (find : Option ℕ → Pool → X) (x : X) → given ≡ place → Kept p q (find place) x → Kept p q (find given) x
 kept_at p q given place find x is kept = subst (λ (g : Option ℕ). Kept p q (find g) x) (sym is) kept
 
-pub given_kept : (p q : Pool) (place : ℕ) (texts : List (List Part)) → Kept p q (λ r. list_in r.lists place) texts → Kept p q (λ r. given_list r (Some place)) (Some texts)
-given_kept p q place texts kept = kept_as Some p q (λ r. list_in r.lists place) texts kept
-
-pub given_string_kept : (p q : Pool) (place : ℕ) (string : List Part) → Kept p q (λ r. get_or r.strings place []) string → Kept p q (λ r. given_string r (Some place)) (Some string)
-given_string_kept p q place string kept = kept_as Some p q (λ r. get_or r.strings place []) string kept
-
 pub variable_kept : (p q : Pool) (place : ℕ) (target : Target) → Kept p q (λ r. slice_get r.targets place) (Some target) → Kept p q (λ r. given_variable r (Some place)) (Some target.variable)
 variable_kept p q place target kept = kept_as (option_map (λ (t : Target). t.variable)) p q (λ r. slice_get r.targets place) (Some target) kept
 
 -- WHAT A VACATION SAYS
 
-abbrev said : PackedVacation → List Part → (subject from : Option (List Part)) → (addresses : Option (List (List Part))) → (handle : Option (List Part)) → Vacation
+abbrev said : Vacation ℕ ℕ → List Part → (subject from : Option (List Part)) → (addresses : Option (List (List Part))) → (handle : Option (List Part)) → reading.Vacation
 said packed reason subject from addresses handle = record { reason = reason; days = packed.days; subject = subject; from = from; addresses = addresses; mime = packed.mime; handle = handle }
 
 -- its strings and its list are kept one after another
-module _ (p q r s t u : Pool) (packed : PackedVacation) (reason : List Part) (subject from : Option (List Part)) (addresses : Option (List (List Part))) (handle : Option (List Part)) where
+module _ (p q r s t u : Pool) (packed : Vacation ℕ ℕ) (reason : List Part) (subject from : Option (List Part)) (addresses : Option (List (List Part))) (handle : Option (List Part)) where
   pub said_kept :
       Kept p q (λ x. get_or x.strings packed.reason []) reason → Kept q r (λ x. given_string x packed.subject) subject
       → Kept r s (λ x. given_string x packed.from) from → Kept s t (λ x. given_list x packed.addresses) addresses
@@ -168,9 +158,9 @@ module _ (p q r s t u : Pool) (packed : PackedVacation) (reason : List Part) (su
       → Kept p u (λ x. vacation_unpacked x packed) (said packed reason subject from addresses handle)
   said_kept first second third fourth fifth =
       let two = kept_two (said packed) p q r _ _ reason subject first second in
-      let three = kept_two (λ (f : Option (List Part) → Option (List (List Part)) → Option (List Part) → Vacation) (x : Option (List Part)). f x) p r s _ _ _ from two third in
-      let four = kept_two (λ (f : Option (List (List Part)) → Option (List Part) → Vacation) (x : Option (List (List Part))). f x) p s t _ _ _ addresses three fourth in
-      kept_two (λ (f : Option (List Part) → Vacation) (x : Option (List Part)). f x) p t u _ _ _ handle four fifth
+      let three = kept_then p r s _ _ _ from two third in
+      let four = kept_then p s t _ _ _ addresses three fourth in
+      kept_then p t u _ _ _ handle four fifth
 
 -- OPERATIONS
 
@@ -188,7 +178,7 @@ plain_in pool (op.JumpIfFalse left) plain = refl
 plain_in pool (op.JumpIfTrue left) plain = refl
 plain_in pool op.Stop plain = refl
 plain_in pool op.Return plain = refl
-plain_in pool (op.Compares test values keys) plain = absurd (no_plain plain)
+plain_in pool (op.Compares test keys) plain = absurd (no_plain plain)
 plain_in pool (op.Exists names) plain = absurd (no_plain plain)
 plain_in pool (op.Over limit) plain = absurd (no_plain plain)
 plain_in pool (op.Under limit) plain = absurd (no_plain plain)

@@ -3,24 +3,22 @@ ghost use Rattle.std.specs.Prelude.{◌≡◌, ◌<◌, [], length, Some, slice_
 ghost use Rattle.std.specs.Option.{option_copied};
 ghost use Rattle.devices.specs.Writers.{Writes};
 ghost use Rattle.sieve_operations.specs.Joined.{list_in};
-ghost use Rattle.sieve_operations.specs.view.Ops.{settings_op_as, source_op_as, vacation_op_as, zone_op_as};
+ghost use Rattle.sieve_operations.specs.view.Ops.{body_op_as, settings_op_as, source_op_as, vacation_op_as, zone_op_as};
 ghost use Rattle.sieve_code.specs.Choice.{AllGoForward};
 ghost use Rattle.sieve_code.specs.Compiles.{IsCode};
 ghost use Rattle.sieve_code.specs.Dump.{line_at};
-ghost use Rattle.sieve_code.specs.Pool.{date_packed_in, given_list, given_string, given_variable, no_date, no_test, no_vacation, packed_in, plain_packed, settings_in, test_in, vacation_in, vacation_packed_in};
-ghost use Rattle.sieve_code.specs.view.Op.{clock_in, date_in, ops_in, source_in, zone_in};
+ghost use Rattle.sieve_code.specs.Pool.{body_in, given_list, given_string, given_variable, no_test, no_vacation, packed_in, plain_packed, settings_in, source_in, string_in, test_in, vacation_in, vacation_packed_in, zone_in};
+ghost use Rattle.sieve_code.specs.view.Op.{ops_in};
 ghost use Rattle.sieve_code.specs.view.Pools.{pool_as};
 
 use crate::dump::write_line;
 use crate::given::GivenPlace;
-use crate::op::{
-    Op, PackedDate, PackedSettings, PackedTest, PackedVacation, PackedZone, SourceKind,
-};
+use crate::op::{Op, PackedSettings, PackedSource, PackedTest, PackedVacation};
 use crate::pools::{Pools, Target};
 use devices::{Sink, WriteFault};
 use match_text::Collation;
 use sieve_operations::{BodyOp, FieldNames, SettingsOp, SourceOp, Strings, VacationOp, ZoneOp};
-use sieve_reading::{Comparison, MatchType};
+use sieve_reading::{BodyTransform, Comparison, DateZone, MatchType};
 use sieve_variables::{Part, Variable};
 
 /// The code of a checked script. It starts at the first operation and ends after the last. Each jump goes forward, and at most
@@ -33,12 +31,12 @@ pub struct Code {
     pub ghost compiled: { ∥ IsCode (ops_in (pool_as pools) ops.items) ∥₁ },
 }
 
-/// What a place past the end says: a `string` test.
+/// What a place past the end says: a `string` test of the first list.
 fn no_test() -> PackedTest
     ensures { result ≡ no_test }
 {
     PackedTest {
-        source: SourceKind::String,
+        source: PackedSource::String { texts: 0 },
         comparison: Comparison {
             match_type: MatchType::Is,
             collation: Collation::Octet,
@@ -51,10 +49,10 @@ fn plain_packed() -> PackedSettings
     ensures { result ≡ plain_packed }
 {
     PackedSettings {
-        flags: GivenPlace::none(),
+        flags: None,
         copy: false,
         create: false,
-        special_use: GivenPlace::none(),
+        special_use: None,
     }
 }
 
@@ -65,22 +63,11 @@ fn no_vacation() -> PackedVacation
     PackedVacation {
         reason: 0,
         days: None,
-        subject: GivenPlace::none(),
-        from: GivenPlace::none(),
-        addresses: GivenPlace::none(),
+        subject: None,
+        from: None,
+        addresses: None,
         mime: false,
-        handle: GivenPlace::none(),
-    }
-}
-
-/// What a place past the end says: a test of dates by the first string.
-fn no_date() -> PackedDate
-    ensures { result ≡ no_date }
-{
-    PackedDate {
-        zone: PackedZone::Local,
-        field: 0,
-        part: 0,
+        handle: None,
     }
 }
 
@@ -111,16 +98,16 @@ impl Code {
 
     /// The parts of the string at a place. Takes no memory.
     pub fn string(&self, place: u32) -> &[Part]
-        ensures { result.now ≡ slice_index_or (pool_of self.now).strings place [] }
+        ensures { result.now ≡ string_in (pool_of self.now) place }
     {
         self.pools.strings.get(place as usize)
     }
 
     /// The string at a place, where one is given. Takes no memory.
-    fn given_string(&self, place: GivenPlace) -> Option<&[Part]>
+    fn given_string(&self, place: Option<u32>) -> Option<&[Part]>
         ensures { option_copied result ≡ given_string (pool_of self.now) place }
     {
-        match place.get() {
+        match place {
             Some(place) => Some(self.string(place)),
             None => None,
         }
@@ -134,10 +121,10 @@ impl Code {
     }
 
     /// The list at a place, where one is given. Takes no memory.
-    pub fn given_list(&self, place: GivenPlace) -> Option<Strings<'_>>
+    pub fn given_list(&self, place: Option<u32>) -> Option<Strings<'_>>
         ensures { result ≡ given_list (pool_of self.now) place }
     {
-        match place.get() {
+        match place {
             Some(place) => Some(self.list(place)),
             None => None,
         }
@@ -150,7 +137,7 @@ impl Code {
         self.pools.names.list(place as usize)
     }
 
-    /// What a test that compares says beside its values and its keys, by its place. Takes no memory.
+    /// What a test that compares says beside its keys, by its place. Takes no memory.
     pub fn test(&self, place: u32) -> PackedTest
         ensures { result ≡ test_in (pool_of self.now) place }
     {
@@ -160,87 +147,63 @@ impl Code {
         }
     }
 
-    /// The zone in which a date is shown. Takes no memory.
-    fn zone(&self, zone: PackedZone) -> ZoneOp<'_>
+    /// The zone in which a date is shown.
+    fn zone(&self, zone: DateZone<u32>) -> ZoneOp<'_>
         ensures { zone_op_as result ≡ zone_in (pool_of self.now) zone }
     {
         match zone {
-            PackedZone::Local => ZoneOp::Local,
-            PackedZone::Original => ZoneOp::Original,
-            PackedZone::Named(place) => ZoneOp::Named(self.string(place)),
+            DateZone::Local => DateZone::Local,
+            DateZone::Original => DateZone::Original,
+            DateZone::Named(place) => DateZone::Named(self.string(place)),
         }
     }
 
-    /// What a test of dates says, by its place, as it is kept.
-    fn packed_date(&self, place: u32) -> PackedDate
-        ensures { result ≡ date_packed_in (pool_of self.now) place }
+    /// What is taken of a body.
+    fn body(&self, transform: BodyTransform<u32>) -> BodyOp<'_>
+        ensures { body_op_as result ≡ body_in (pool_of self.now) transform }
     {
-        match self.pools.dates.get(place as usize) {
-            Some(date) => *date,
-            None => no_date(),
-        }
-    }
-
-    /// What a `date` test takes its value from, by its place.
-    fn date(&self, place: u32) -> SourceOp<'_>
-        ensures { source_op_as result
-            ≡ date_in (pool_of self.now) (date_packed_in (pool_of self.now) place) }
-    {
-        let packed = self.packed_date(place);
-        SourceOp::Date {
-            zone: self.zone(packed.zone),
-            field: self.string(packed.field),
-            part: self.string(packed.part),
-        }
-    }
-
-    /// What a `currentdate` test takes its value from, by its place.
-    fn current_date(&self, place: u32) -> SourceOp<'_>
-        ensures { source_op_as result
-            ≡ clock_in (pool_of self.now) (date_packed_in (pool_of self.now) place) }
-    {
-        let packed = self.packed_date(place);
-        SourceOp::CurrentDate {
-            zone: self.zone(packed.zone),
-            part: self.string(packed.part),
-        }
-    }
-
-    /// What a test takes values from, where its list or what a test of dates says lies at a place. Takes no memory.
-    pub fn source(&self, kind: SourceKind, place: u32) -> SourceOp<'_>
-        ensures { source_op_as result ≡ source_in (pool_of self.now) kind place }
-    {
-        match kind {
-            SourceKind::Header => SourceOp::Header {
-                names: self.names(place),
+        match transform {
+            BodyTransform::Raw => BodyTransform::Raw,
+            BodyTransform::Content { entries } => BodyTransform::Content {
+                entries: self.list(entries),
             },
-            SourceKind::Address(part) => SourceOp::Address {
+            BodyTransform::Text => BodyTransform::Text,
+        }
+    }
+
+    /// Where a test takes values from. Takes no memory.
+    pub fn source(&self, source: PackedSource) -> SourceOp<'_>
+        ensures { source_op_as result ≡ source_in (pool_of self.now) source }
+    {
+        match source {
+            PackedSource::Header { names } => SourceOp::Header {
+                names: self.names(names),
+            },
+            PackedSource::Address { part, names } => SourceOp::Address {
                 part,
-                names: self.names(place),
+                names: self.names(names),
             },
-            SourceKind::Envelope(part) => SourceOp::Envelope {
+            PackedSource::Envelope { part, names } => SourceOp::Envelope {
                 part,
-                names: self.list(place),
+                names: self.list(names),
             },
-            SourceKind::String => SourceOp::String {
-                texts: self.list(place),
+            PackedSource::String { texts } => SourceOp::String {
+                texts: self.list(texts),
             },
-            SourceKind::InternalFlags => SourceOp::Flags { variables: None },
-            SourceKind::VariableFlags => SourceOp::Flags {
-                variables: Some(self.list(place)),
+            PackedSource::Flags { variables } => SourceOp::Flags {
+                variables: self.given_list(variables),
             },
-            SourceKind::Date => self.date(place),
-            SourceKind::CurrentDate => self.current_date(place),
-            SourceKind::RawBody => SourceOp::Body {
-                transform: BodyOp::Raw,
+            PackedSource::Date { zone, field, part } => SourceOp::Date {
+                zone: self.zone(zone),
+                field: self.string(field),
+                part: self.string(part),
             },
-            SourceKind::BodyContent => SourceOp::Body {
-                transform: BodyOp::Content {
-                    entries: self.list(place),
-                },
+            PackedSource::CurrentDate { zone, part } => SourceOp::CurrentDate {
+                zone: self.zone(zone),
+                part: self.string(part),
             },
-            SourceKind::BodyText => SourceOp::Body {
-                transform: BodyOp::Text,
+            PackedSource::Body { transform } => SourceOp::Body {
+                transform: self.body(transform),
             },
         }
     }

@@ -24,15 +24,14 @@ use sieve_reading::{FlagChange, Rejection};
 fn write_matching<W: Sink>(
     code: &Code,
     test: u32,
-    values: u32,
     keys: u32,
     writer: &mut W,
 ) -> Result<(), WriteFault>
     ensures { Writes W.contents W.fault_count result writer.old writer.new
-        (operation_text (op_of code.now (Compares test values keys))) }
+        (operation_text (op_of code.now (Compares test keys))) }
 {
     let test = code.test(test);
-    let source = code.source(test.source, values);
+    let source = code.source(test.source);
     write_compares(&source, test.comparison, &code.list(keys), writer)
 }
 
@@ -62,7 +61,7 @@ fn write_jump<W: Sink>(
 #[tactic(auto, using(devices::proofs::Writing::writing), unfolding(crate::specs::Dump::operation_text, crate::specs::Dump::leaf_text))]
 fn write_keeping<W: Sink>(
     code: &Code,
-    flags: GivenPlace,
+    flags: Option<u32>,
     line: u32,
     writer: &mut W,
 ) -> Result<(), WriteFault>
@@ -215,7 +214,7 @@ fn write_op<W: Sink>(code: &Code, op: Op, writer: &mut W) -> Result<(), WriteFau
         Op::True => write_out(b"true", writer),
         Op::False => write_out(b"false", writer),
         Op::Not => write_out(b"not", writer),
-        Op::Compares { test, values, keys } => write_matching(code, test, values, keys, writer),
+        Op::Compares { test, keys } => write_matching(code, test, keys, writer),
         Op::Exists { names } => write_list(b"exists ", code.names(names).strings(), writer),
         Op::Over { limit } => write_number(b"size over ", limit, writer),
         Op::Under { limit } => write_number(b"size under ", limit, writer),

@@ -22,6 +22,6 @@ pub use code::Code;
 pub use compiler::compile;
 pub use devices::{Counted, Faults, Sink, Source, WriteFault, write_out, write_quoted};
 pub use given::GivenPlace;
-pub use op::{Inclusion, Op, PackedTest, SourceKind};
+pub use op::{Inclusion, Op, PackedSource, PackedTest};
 pub use pools::Target;
 pub use script_names::Location;

@@ -1,99 +1,26 @@
 //! The operations of code.
 
 use crate::given::GivenPlace;
-use message_text::AddressPart;
 use script_names::Location;
-use sieve_reading::{Comparison, FlagChange, Rejection};
+use sieve_reading::{Comparison, FlagChange, Rejection, Settings, Vacation, ValueSource};
 use std::mem::size_of;
 
-/// The zone in which a date is shown (RFC 5260, section 4.1).
-#[derive(Clone, Copy)]
-pub(crate) enum PackedZone {
-    /// The local one.
-    Local,
-    /// The one in which the date was written.
-    Original,
-    /// The one that the string at a place names.
-    Named(u32),
-}
+/// Where a test takes values from, with the places of what it names.
+pub type PackedSource = ValueSource<u32, u32, u32>;
 
-/// Where a test takes values from: a list that lies at a place, or what a test of dates says, which lies at a place too.
-#[derive(Clone, Copy)]
-pub enum SourceKind {
-    /// From the fields of some names (RFC 5228, section 5.7).
-    Header,
-    /// From a part of the addresses in the fields of some names (RFC 5228, section 5.1).
-    Address(AddressPart),
-    /// From a part of the envelope's addresses (RFC 5228, section 5.4).
-    Envelope(AddressPart),
-    /// Strings themselves (RFC 5229, section 5).
-    String,
-    /// The internal flags, without a list (RFC 5232, section 4).
-    InternalFlags,
-    /// Flags that variables hold (RFC 5232, section 4).
-    VariableFlags,
-    /// From the date of a field (RFC 5260, section 4).
-    Date,
-    /// From the current date (RFC 5260, section 5).
-    CurrentDate,
-    /// From all of the body as it stands, without a list (RFC 5173, section 5.1).
-    RawBody,
-    /// From the contents of some types (RFC 5173, section 5.2).
-    BodyContent,
-    /// From the texts of the body, without a list (RFC 5173, section 5.3).
-    BodyText,
-}
+/// What a `fileinto` says beside its mailbox, with the places of its strings.
+pub(crate) type PackedSettings = Settings<u32, u32>;
 
-/// What a test of dates says beside its keys (RFC 5260, sections 4 and 5), whose strings lie at places.
-#[derive(Clone, Copy)]
-pub(crate) struct PackedDate {
-    /// The zone in which the date is shown.
-    pub(crate) zone: PackedZone,
-    /// The place of the field's name; any place if the date is the current one.
-    pub(crate) field: u32,
-    /// The place of the string that says which part.
-    pub(crate) part: u32,
-}
+/// What a `vacation` says (RFC 5230, section 4), with the places of its strings.
+pub(crate) type PackedVacation = Vacation<u32, u32>;
 
-/// What a test that compares says beside its values and its keys.
+/// What a test that compares says beside its keys.
 #[derive(Clone, Copy)]
 pub struct PackedTest {
     /// Where the values are from.
-    pub source: SourceKind,
+    pub source: PackedSource,
     /// How a value is compared with a key.
     pub comparison: Comparison,
-}
-
-/// What a `fileinto` says beside its mailbox.
-#[derive(Clone, Copy)]
-pub(crate) struct PackedSettings {
-    /// The place of the flags, if any are given (RFC 5232, section 5).
-    pub(crate) flags: GivenPlace,
-    /// Whether the implicit keep stays as it is (RFC 3894, section 3).
-    pub(crate) copy: bool,
-    /// Whether a mailbox that isn't there is to be made (RFC 5490, section 3.2).
-    pub(crate) create: bool,
-    /// The place of the use of a mailbox, if one is named (RFC 8579, section 4).
-    pub(crate) special_use: GivenPlace,
-}
-
-/// What a `vacation` says (RFC 5230, section 4), whose strings and list lie at places.
-#[derive(Clone, Copy)]
-pub(crate) struct PackedVacation {
-    /// The place of the text of the response.
-    pub(crate) reason: u32,
-    /// For how many days a sender gets no other response, where that is said (section 4.1).
-    pub(crate) days: Option<u64>,
-    /// The place of the subject, if one is said (section 4.3).
-    pub(crate) subject: GivenPlace,
-    /// The place of whom the response is from, if that is said (section 4.3).
-    pub(crate) from: GivenPlace,
-    /// The place of further addresses of the user, if any are given (section 4.5).
-    pub(crate) addresses: GivenPlace,
-    /// Whether the text is a MIME entity (section 4.4).
-    pub(crate) mime: bool,
-    /// The place of what a server would know such a response by, if that is said (section 4.2).
-    pub(crate) handle: GivenPlace,
 }
 
 /// What an `include` says (RFC 6609, section 3.2).
@@ -113,8 +40,7 @@ pub struct Inclusion {
 
 /// An operation. Code has one truth register, which tests set. Where an operation has strings, a variable or the name of a script, it says
 /// their places, and the [`Code`](crate::Code) that it is one of has what lies there; it also knows to which
-/// place a jump goes. What a test that compares, a test of dates, a `fileinto` or a `vacation` says beside its strings lies at a place too, so
-/// that it may grow.
+/// place a jump goes. What a test that compares, a `fileinto` or a `vacation` says lies at a place too, so that it may grow.
 #[derive(Clone, Copy)]
 pub enum Op {
     /// Sets the register to true.
@@ -125,10 +51,8 @@ pub enum Op {
     Not,
     /// Sets it to whether some value matches some key (RFC 5228, section 2.7).
     Compares {
-        /// The place of what the test says beside.
+        /// The place of what the test says beside its keys.
         test: u32,
-        /// The place of the source's list, or of what a test of dates says.
-        values: u32,
         /// The place of the keys.
         keys: u32,
     },
@@ -165,7 +89,7 @@ pub enum Op {
         /// The command's line.
         line: u32,
         /// The place of the flags, if any are given (RFC 5232, section 5).
-        flags: GivenPlace,
+        flags: Option<u32>,
     },
     /// Stores into a mailbox (RFC 5228, section 4.1).
     Fileinto {

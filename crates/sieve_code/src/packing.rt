@@ -1,14 +1,14 @@
 //! The operations of tests that ask and of commands that act, with what they say in pools.
 ghost use Rattle.std.specs.Prelude.{◌≡◌, IfOk};
 ghost use Rattle.std.specs.Option.{option_map};
-ghost use Rattle.sieve_reading.specs.Reading.{body_values, clock_values, compares, date_values, exists_ask, fileinto_leaf, flag_leaf, flag_values, include_leaf, keep_leaf, mailboxes_ask, redirect_leaf, reject_leaf, set_leaf, vacation_leaf};
+ghost use Rattle.sieve_reading.specs.Reading.{compares, exists_ask, fileinto_leaf, flag_leaf, include_leaf, keep_leaf, mailboxes_ask, redirect_leaf, reject_leaf, set_leaf, vacation_leaf};
 ghost use Rattle.sieve_reading.specs.view.Reading.{ask_as, date_zone_as, leaf_as, settings_as, source_as, texts_as, transform_as, vacation_as};
 ghost use Rattle.sieve_code.specs.Operation.{act_op, test_op};
-ghost use Rattle.sieve_code.specs.Pool.{Kept, date_packed_in};
-ghost use Rattle.sieve_code.specs.view.Op.{clock_in, date_in, op_in, source_in, zone_in};
+ghost use Rattle.sieve_code.specs.Pool.{Kept, body_in, source_in, zone_in};
+ghost use Rattle.sieve_code.specs.view.Op.{op_in};
 ghost use Rattle.sieve_code.specs.view.Pools.{pool_as};
 
-use crate::op::{Inclusion, Op, PackedDate, PackedTest, PackedZone, SourceKind};
+use crate::op::{Inclusion, Op, PackedSource, PackedTest};
 use crate::pools::{Pools, Target};
 use script_names::Location;
 use sieve_reading::{
@@ -29,127 +29,99 @@ impl Pools {
     }
 
     /// Adds the zone in which a date is shown.
-    fn add_zone(&mut self, zone: DateZone) -> Result<PackedZone, AllocError>
+    fn add_zone(&mut self, zone: DateZone<Parts>) -> Result<DateZone<u32>, AllocError>
         ensures { IfOk result (λ kept. Kept (pool_as self.old) (pool_as self.new)
             (λ p. zone_in p kept) (date_zone_as zone)) }
     {
         match zone {
-            DateZone::Local => Ok(PackedZone::Local),
-            DateZone::Original => Ok(PackedZone::Original),
+            DateZone::Local => Ok(DateZone::Local),
+            DateZone::Original => Ok(DateZone::Original),
             DateZone::Named(zone) => {
                 let place = self.add_string(zone)?;
-                Ok(PackedZone::Named(place))
+                Ok(DateZone::Named(place))
             }
         }
     }
 
-    /// Adds where a `date` test takes its value from. Answers its place.
-    fn add_date(&mut self, zone: DateZone, field: Parts, part: Parts) -> Result<u32, AllocError>
-        ensures { IfOk result (λ place. Kept (pool_as self.old) (pool_as self.new) (λ p. date_in p
-            (date_packed_in p place)) (date_values (date_zone_as zone) field part)) }
-    {
-        let zone = self.add_zone(zone)?;
-        let field = self.add_string(field)?;
-        let part = self.add_string(part)?;
-        self.put_date(PackedDate { zone, field, part })
-    }
-
-    /// Adds where a `currentdate` test takes its value from. Answers its place.
-    fn add_current_date(&mut self, zone: DateZone, part: Parts) -> Result<u32, AllocError>
-        ensures { IfOk result (λ place. Kept (pool_as self.old) (pool_as self.new)
-            (λ p. clock_in p (date_packed_in p place)) (clock_values (date_zone_as zone) part)) }
-    {
-        let zone = self.add_zone(zone)?;
-        let part = self.add_string(part)?;
-        self.put_date(PackedDate {
-            zone,
-            field: 0,
-            part,
-        })
-    }
-
-    /// Adds the variables whose flags a test takes, if it names any. Answers the kind of source, and the place of their list, if there is one.
-    fn add_flag_lists(
+    /// Adds what is taken of a body.
+    fn add_body(
         &mut self,
-        variables: Option<Vec<Text>>,
-    ) -> Result<(SourceKind, u32), AllocError>
+        transform: BodyTransform<Vec<Text>>,
+    ) -> Result<BodyTransform<u32>, AllocError>
         ensures { IfOk result (λ kept. Kept (pool_as self.old) (pool_as self.new)
-            (λ p. source_in p kept.0 kept.1)
-            (flag_values (option_map (λ given. texts_as given.items) variables))) }
-    {
-        match variables {
-            Some(texts) => {
-                let place = self.add_list(texts)?;
-                Ok((SourceKind::VariableFlags, place))
-            }
-            None => Ok((SourceKind::InternalFlags, 0)),
-        }
-    }
-
-    /// Adds what is taken of a body. Answers its kind, and the place of its list, if it has one.
-    fn add_body(&mut self, transform: BodyTransform) -> Result<(SourceKind, u32), AllocError>
-        ensures { IfOk result (λ kept. Kept (pool_as self.old) (pool_as self.new)
-            (λ p. source_in p kept.0 kept.1) (body_values (transform_as transform))) }
+            (λ p. body_in p kept) (transform_as transform)) }
     {
         match transform {
-            BodyTransform::Raw => Ok((SourceKind::RawBody, 0)),
+            BodyTransform::Raw => Ok(BodyTransform::Raw),
             BodyTransform::Content { entries } => {
-                let place = self.add_list(entries)?;
-                Ok((SourceKind::BodyContent, place))
+                let entries = self.add_list(entries)?;
+                Ok(BodyTransform::Content { entries })
             }
-            BodyTransform::Text => Ok((SourceKind::BodyText, 0)),
+            BodyTransform::Text => Ok(BodyTransform::Text),
         }
     }
 
-    /// Adds where a test takes values from. Answers its kind, and the place of its list or of what a test of dates says.
-    fn add_source(&mut self, source: ValueSource) -> Result<(SourceKind, u32), AllocError>
+    /// Adds where a test takes values from.
+    fn add_source(
+        &mut self,
+        source: ValueSource<Vec<Text>, Vec<Text>, Parts>,
+    ) -> Result<PackedSource, AllocError>
         ensures { IfOk result (λ kept. Kept (pool_as self.old) (pool_as self.new)
-            (λ p. source_in p kept.0 kept.1) (source_as source)) }
+            (λ p. source_in p kept) (source_as source)) }
     {
         match source {
             ValueSource::Header { names } => {
-                let place = self.add_names(names)?;
-                Ok((SourceKind::Header, place))
+                let names = self.add_names(names)?;
+                Ok(ValueSource::Header { names })
             }
             ValueSource::Address { part, names } => {
-                let place = self.add_names(names)?;
-                Ok((SourceKind::Address(part), place))
+                let names = self.add_names(names)?;
+                Ok(ValueSource::Address { part, names })
             }
             ValueSource::Envelope { part, names } => {
-                let place = self.add_list(names)?;
-                Ok((SourceKind::Envelope(part), place))
+                let names = self.add_list(names)?;
+                Ok(ValueSource::Envelope { part, names })
             }
             ValueSource::String { texts } => {
-                let place = self.add_list(texts)?;
-                Ok((SourceKind::String, place))
+                let texts = self.add_list(texts)?;
+                Ok(ValueSource::String { texts })
             }
-            ValueSource::Flags { variables } => self.add_flag_lists(variables),
+            ValueSource::Flags { variables } => {
+                let variables = self.add_given(variables)?;
+                Ok(ValueSource::Flags { variables })
+            }
             ValueSource::Date { zone, field, part } => {
-                let place = self.add_date(zone, field, part)?;
-                Ok((SourceKind::Date, place))
+                let zone = self.add_zone(zone)?;
+                let field = self.add_string(field)?;
+                let part = self.add_string(part)?;
+                Ok(ValueSource::Date { zone, field, part })
             }
             ValueSource::CurrentDate { zone, part } => {
-                let place = self.add_current_date(zone, part)?;
-                Ok((SourceKind::CurrentDate, place))
+                let zone = self.add_zone(zone)?;
+                let part = self.add_string(part)?;
+                Ok(ValueSource::CurrentDate { zone, part })
             }
-            ValueSource::Body { transform } => self.add_body(transform),
+            ValueSource::Body { transform } => {
+                let transform = self.add_body(transform)?;
+                Ok(ValueSource::Body { transform })
+            }
         }
     }
 
     /// The operation of a test that compares values with keys.
     fn pack_compares(
         &mut self,
-        source: ValueSource,
+        source: ValueSource<Vec<Text>, Vec<Text>, Parts>,
         comparison: Comparison,
         keys: Vec<Text>,
     ) -> Result<Op, AllocError>
         ensures { IfOk result (λ op. Kept (pool_as self.old) (pool_as self.new) (λ p. op_in p op)
             (test_op (compares (source_as source) comparison (texts_as keys.items)))) }
     {
-        let (source, values) = self.add_source(source)?;
+        let source = self.add_source(source)?;
         let keys = self.add_list(keys)?;
         let test = self.add_test(PackedTest { source, comparison })?;
-        Ok(Op::Compares { test, values, keys })
+        Ok(Op::Compares { test, keys })
     }
 
     /// The operation of a `mailboxexists`.
@@ -193,7 +165,7 @@ impl Pools {
     fn pack_fileinto(
         &mut self,
         mailbox: Parts,
-        settings: Settings,
+        settings: Settings<Vec<Text>, Parts>,
         line: u32,
     ) -> Result<Op, AllocError>
         ensures { IfOk result (λ op. Kept (pool_as self.old) (pool_as self.new) (λ p. op_in p op)
@@ -288,7 +260,11 @@ impl Pools {
     }
 
     /// The operation of a `vacation`.
-    fn pack_vacation(&mut self, vacation: Vacation, line: u32) -> Result<Op, AllocError>
+    fn pack_vacation(
+        &mut self,
+        vacation: Vacation<Vec<Text>, Parts>,
+        line: u32,
+    ) -> Result<Op, AllocError>
         ensures { IfOk result (λ op. Kept (pool_as self.old) (pool_as self.new) (λ p. op_in p op)
             (act_op (vacation_leaf (vacation_as vacation)) line)) }
     {

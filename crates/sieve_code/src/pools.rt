@@ -5,11 +5,11 @@ ghost use Rattle.std.specs.Option.{option_map};
 ghost use Rattle.sieve_reading.specs.Reading.{plain_settings};
 ghost use Rattle.sieve_reading.specs.view.Reading.{settings_as, texts_as, vacation_as};
 ghost use Rattle.sieve_operations.specs.Joined.{list_in};
-ghost use Rattle.sieve_code.specs.Pool.{Kept, date_packed_in, given_list, given_string, given_variable, no_pool, packed_in, settings_in, test_in, vacation_in, vacation_packed_in};
+ghost use Rattle.sieve_code.specs.Pool.{Kept, given_list, given_string, given_variable, no_pool, packed_in, settings_in, string_in, test_in, vacation_in, vacation_packed_in};
 ghost use Rattle.sieve_code.specs.view.Pools.{pool_as};
 
 use crate::given::GivenPlace;
-use crate::op::{PackedDate, PackedSettings, PackedTest, PackedVacation};
+use crate::op::{PackedSettings, PackedTest, PackedVacation};
 use sieve_operations::{JoinedStrings, NameLists, StringLists};
 use sieve_reading::{Settings, Text, Vacation};
 use sieve_variables::{Literal, Modifiers, Parts, Variable};
@@ -35,7 +35,6 @@ pub(crate) struct Pools {
     pub(crate) tests: Vec<PackedTest>,
     pub(crate) settings: Vec<PackedSettings>,
     pub(crate) vacations: Vec<PackedVacation>,
-    pub(crate) dates: Vec<PackedDate>,
 }
 
 /// The number of items as the place of the next. 4,294,967,295 and more are answered as out of memory.
@@ -61,7 +60,7 @@ fn unmodified() -> Modifiers {
 }
 
 /// Whether a `fileinto` says nothing beside its mailbox.
-fn are_plain(settings: &Settings) -> bool
+fn are_plain(settings: &Settings<Vec<Text>, Parts>) -> bool
     ensures { result ≡ true → settings_as settings.now ≡ plain_settings }
 {
     match (&settings.flags, &settings.special_use) {
@@ -84,7 +83,6 @@ impl Pools {
             tests: Vec::new(alloc),
             settings: Vec::new(alloc),
             vacations: Vec::new(alloc),
-            dates: Vec::new(alloc),
         }
     }
 
@@ -100,14 +98,12 @@ impl Pools {
         self.tests.shrink_to_fit();
         self.settings.shrink_to_fit();
         self.vacations.shrink_to_fit();
-        self.dates.shrink_to_fit();
     }
 
     /// Adds a string. Answers its place.
     pub(crate) fn add_string(&mut self, string: Parts) -> Result<u32, AllocError>
-        ensures string { IfOk result (λ place. Kept (pool_as self.old) (pool_as self.new)
-            (λ p. slice_index_or p.strings place []) string) }
-        ensures given { IfOk result (λ place. place < 4294967295) }
+        ensures { IfOk result (λ place. Kept (pool_as self.old) (pool_as self.new)
+            (λ p. string_in p place) string) }
     {
         let place = place_of(self.strings.len())?;
         self.strings.push(string)?;
@@ -115,24 +111,23 @@ impl Pools {
     }
 
     /// Adds a string that may be left out. Answers its place.
-    fn add_given_string(&mut self, string: Option<Parts>) -> Result<GivenPlace, AllocError>
+    fn add_given_string(&mut self, string: Option<Parts>) -> Result<Option<u32>, AllocError>
         ensures { IfOk result (λ place. Kept (pool_as self.old) (pool_as self.new)
             (λ p. given_string p place) string) }
     {
         match string {
             Some(string) => {
                 let place = self.add_string(string)?;
-                Ok(GivenPlace::at(place))
+                Ok(Some(place))
             }
-            None => Ok(GivenPlace::none()),
+            None => Ok(None),
         }
     }
 
     /// Adds a list. Answers its place.
     pub(crate) fn add_list(&mut self, texts: Vec<Text>) -> Result<u32, AllocError>
-        ensures list { IfOk result (λ place. Kept (pool_as self.old) (pool_as self.new)
+        ensures { IfOk result (λ place. Kept (pool_as self.old) (pool_as self.new)
             (λ p. list_in p.lists place) (texts_as texts.items)) }
-        ensures given { IfOk result (λ place. place < 4294967295) }
     {
         let place = place_of(self.lists.len())?;
         self.lists.push(texts)?;
@@ -140,16 +135,16 @@ impl Pools {
     }
 
     /// Adds a list that may be left out. Answers its place.
-    pub(crate) fn add_given(&mut self, texts: Option<Vec<Text>>) -> Result<GivenPlace, AllocError>
+    pub(crate) fn add_given(&mut self, texts: Option<Vec<Text>>) -> Result<Option<u32>, AllocError>
         ensures { IfOk result (λ place. Kept (pool_as self.old) (pool_as self.new)
             (λ p. given_list p place) (option_map (λ given. texts_as given.items) texts)) }
     {
         match texts {
             Some(texts) => {
                 let place = self.add_list(texts)?;
-                Ok(GivenPlace::at(place))
+                Ok(Some(place))
             }
-            None => Ok(GivenPlace::none()),
+            None => Ok(None),
         }
     }
 
@@ -205,7 +200,7 @@ impl Pools {
         Ok(place)
     }
 
-    /// Adds what a test that compares says beside. Answers its place.
+    /// Adds what a test that compares says beside its keys. Answers its place.
     pub(crate) fn add_test(&mut self, test: PackedTest) -> Result<u32, AllocError>
         ensures { IfOk result
             (λ place. Kept (pool_as self.old) (pool_as self.new) (λ p. test_in p place) test) }
@@ -226,7 +221,10 @@ impl Pools {
     }
 
     /// Adds what a `fileinto` says beside its mailbox. Answers its place.
-    pub(crate) fn add_settings(&mut self, settings: Settings) -> Result<GivenPlace, AllocError>
+    pub(crate) fn add_settings(
+        &mut self,
+        settings: Settings<Vec<Text>, Parts>,
+    ) -> Result<GivenPlace, AllocError>
         ensures { IfOk result (λ place. Kept (pool_as self.old) (pool_as self.new)
             (λ p. settings_in p place) (settings_as settings)) }
     {
@@ -256,7 +254,10 @@ impl Pools {
     }
 
     /// Adds what a `vacation` says. Answers its place.
-    pub(crate) fn add_vacation(&mut self, vacation: Vacation) -> Result<u32, AllocError>
+    pub(crate) fn add_vacation(
+        &mut self,
+        vacation: Vacation<Vec<Text>, Parts>,
+    ) -> Result<u32, AllocError>
         ensures { IfOk result (λ place. Kept (pool_as self.old) (pool_as self.new)
             (λ p. vacation_in p place) (vacation_as vacation)) }
     {
@@ -276,15 +277,5 @@ impl Pools {
             mime,
             handle,
         })
-    }
-
-    /// Adds what a test of dates says, whose strings lie at their places. Answers its place.
-    pub(crate) fn put_date(&mut self, date: PackedDate) -> Result<u32, AllocError>
-        ensures { IfOk result (λ place. Kept (pool_as self.old) (pool_as self.new)
-            (λ p. date_packed_in p place) date) }
-    {
-        let place = place_of(self.dates.len())?;
-        self.dates.push(date)?;
-        Ok(place)
     }
 }

@@ -69,7 +69,7 @@ fn into_strings(row: &Row, args: Vec<Argument>) -> Strings
 }
 
 /// The zone in which a date is shown, by a tag and what `:zone` names.
-fn zone_by(tag: Option<Tag>, named: Option<Parts>) -> DateZone
+fn zone_by(tag: Option<Tag>, named: Option<Parts>) -> DateZone<Parts>
     ensures { date_zone_as result ≡ spec.zone_by tag named }
 {
     match (tag, named) {
@@ -81,7 +81,7 @@ fn zone_by(tag: Option<Tag>, named: Option<Parts>) -> DateZone
 
 /// The zone in which a date is shown.
 #[tactic(auto, unfolding(crate::specs::TestReading::zone_of))]
-fn zone_of(tags: Tags, named: Option<Parts>) -> DateZone
+fn zone_of(tags: Tags, named: Option<Parts>) -> DateZone<Parts>
     ensures { date_zone_as result ≡ spec.zone_of (tags_as tags) named }
 {
     zone_by(tags.of(TagKind::Zone), named)

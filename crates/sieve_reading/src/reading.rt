@@ -1,5 +1,6 @@
 //! What the commands and tests of a checked script are, with defaults filled in (RFC 5228, sections 3, 4 and 5). A reading has the
-//! strings of the arguments that it is made of.
+//! strings of the arguments that it is made of. Those that operations have too are over how names of fields (`N`), lists of strings (`L`)
+//! and strings (`S`) are kept; a script's tree keeps a string as its parts.
 ghost use Rattle.std.specs.Prelude.{◌≡◌};
 ghost use Rattle.sieve_reading.specs.Reading.{rejection_word};
 
@@ -34,82 +35,82 @@ pub struct Comparison {
 }
 
 /// The zone in which a date is shown (RFC 5260, section 4.1).
-#[derive(Drop)]
-pub enum DateZone {
+#[derive(Clone, Copy, Drop)]
+pub enum DateZone<S> {
     /// The local one.
     Local,
     /// The one in which the date was written.
     Original,
-    /// The one that a string names, as its parts.
-    Named(Parts),
+    /// The one that a string names.
+    Named(S),
 }
 
 /// What is taken of a body (RFC 5173, section 5).
-#[derive(Drop)]
-pub enum BodyTransform {
+#[derive(Clone, Copy, Drop)]
+pub enum BodyTransform<L> {
     /// All of it as it stands.
     Raw,
     /// The contents of some types.
     Content {
         /// The entries that name them.
-        entries: Vec<Text>,
+        entries: L,
     },
     /// Its texts.
     Text,
 }
 
 /// Where a test takes values from.
-#[derive(Drop)]
-pub enum ValueSource {
+#[derive(Clone, Copy, Drop)]
+pub enum ValueSource<N, L, S> {
     /// From the fields of some names (RFC 5228, section 5.7).
     Header {
         /// The names of fields.
-        names: Vec<Text>,
+        names: N,
     },
     /// From the addresses in the fields of some names (RFC 5228, section 5.1).
     Address {
         /// Which part of an address.
         part: AddressPart,
         /// The names of fields.
-        names: Vec<Text>,
+        names: N,
     },
     /// From the envelope (RFC 5228, section 5.4).
     Envelope {
         /// Which part of an address.
         part: AddressPart,
         /// The names of the envelope's parts.
-        names: Vec<Text>,
+        names: L,
     },
     /// Strings themselves (RFC 5229, section 5).
     String {
         /// The strings.
-        texts: Vec<Text>,
+        texts: L,
     },
     /// Flags (RFC 5232, section 4).
     Flags {
         /// The variables that hold them, each by its name; the internal flags where none are named.
-        variables: Option<Vec<Text>>,
+        variables: Option<L>,
     },
     /// From the date of the first field of a name (RFC 5260, section 4).
     Date {
         /// The zone in which it is shown.
-        zone: DateZone,
-        /// The name of the field, as its parts.
-        field: Parts,
-        /// Which part of the date, as its parts.
-        part: Parts,
+        zone: DateZone<S>,
+        /// The name of the field.
+        field: S,
+        /// Which part of the date.
+        part: S,
     },
     /// From the current date (RFC 5260, section 5).
     CurrentDate {
         /// The zone in which it is shown.
-        zone: DateZone,
-        /// Which part of the date, as its parts.
-        part: Parts,
+        zone: DateZone<S>,
+        /// Which part of the date.
+        part: S,
     },
     /// From the body of the message (RFC 5173, section 4).
     Body {
         /// What is taken of it.
-        transform: BodyTransform,
+        transform: BodyTransform<L>,
     },
 }
 
@@ -119,7 +120,7 @@ pub enum Ask {
     /// Whether some value matches some key (RFC 5228, section 2.7).
     Compares {
         /// Where the values are from.
-        source: ValueSource,
+        source: ValueSource<Vec<Text>, Vec<Text>, Parts>,
         /// How a value is compared with a key.
         comparison: Comparison,
         /// The keys.
@@ -178,35 +179,35 @@ pub enum FlagChange {
 }
 
 /// What a `fileinto` says beside its mailbox.
-#[derive(Drop)]
-pub struct Settings {
+#[derive(Clone, Copy, Drop)]
+pub struct Settings<L, S> {
     /// The flags of what the command stores, where it names them (RFC 5232, section 5).
-    pub flags: Option<Vec<Text>>,
+    pub flags: Option<L>,
     /// Whether the command's action leaves the implicit keep as it is (RFC 3894, section 3).
     pub copy: bool,
     /// Whether a mailbox that isn't there is to be made (RFC 5490, section 3.2).
     pub create: bool,
     /// The use of the mailbox to store into, where the command names one (RFC 8579, section 4).
-    pub special_use: Option<Parts>,
+    pub special_use: Option<S>,
 }
 
 /// What a `vacation` says (RFC 5230, section 4).
-#[derive(Drop)]
-pub struct Vacation {
-    /// The text of the response, as its parts.
-    pub reason: Parts,
+#[derive(Clone, Copy, Drop)]
+pub struct Vacation<L, S> {
+    /// The text of the response.
+    pub reason: S,
     /// For how many days a sender gets no other response, where that is said (section 4.1).
     pub days: Option<u64>,
     /// The subject of the response, where it is said (section 4.3).
-    pub subject: Option<Parts>,
+    pub subject: Option<S>,
     /// Whom the response is from, where that is said (section 4.3).
-    pub from: Option<Parts>,
+    pub from: Option<S>,
     /// Further addresses of the user, where they are given (section 4.5).
-    pub addresses: Option<Vec<Text>>,
+    pub addresses: Option<L>,
     /// Whether the text is a MIME entity (section 4.4).
     pub mime: bool,
     /// What a server would know such a response by, where that is said (section 4.2).
-    pub handle: Option<Parts>,
+    pub handle: Option<S>,
 }
 
 /// The action by which a message is rejected (RFC 5429, section 2).
@@ -243,7 +244,7 @@ pub enum Leaf {
         /// The name, as its parts.
         mailbox: Parts,
         /// What the command says beside.
-        settings: Settings,
+        settings: Settings<Vec<Text>, Parts>,
     },
     /// A command that sends the message on to that address (RFC 5228, section 4.2).
     Redirect {
@@ -286,7 +287,7 @@ pub enum Leaf {
     /// A command that answers the sender (RFC 5230).
     Vacation {
         /// What the command says.
-        vacation: Vacation,
+        vacation: Vacation<Vec<Text>, Parts>,
     },
     /// A command that rejects the message (RFC 5429).
     Reject {

@@ -121,7 +121,7 @@ fn flag_ask(alloc: Global, row: &Row, args: Vec<Argument>) -> Ask
 }
 
 /// What is taken of a body, by a tag and the entries that `:content` takes.
-fn transform_by(tag: Option<Tag>, named: Option<Vec<Text>>) -> BodyTransform
+fn transform_by(tag: Option<Tag>, named: Option<Vec<Text>>) -> BodyTransform<Vec<Text>>
     ensures { transform_as result
         ≡ spec.transform_by tag (option_map (λ texts. texts_as texts.items) named) }
 {
@@ -134,7 +134,7 @@ fn transform_by(tag: Option<Tag>, named: Option<Vec<Text>>) -> BodyTransform
 
 /// What is taken of a body.
 #[tactic(auto, unfolding(crate::specs::TestReading::transform_of))]
-fn transform_of(tags: Tags, named: Option<Vec<Text>>) -> BodyTransform
+fn transform_of(tags: Tags, named: Option<Vec<Text>>) -> BodyTransform<Vec<Text>>
     ensures { transform_as result
         ≡ spec.transform_of (tags_as tags) (option_map (λ texts. texts_as texts.items) named) }
 {

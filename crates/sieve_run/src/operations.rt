@@ -18,7 +18,6 @@ use std::alloc::AllocError;
 pub(crate) fn ask_compares(
     turn: &Turn<'_>,
     test: u32,
-    values: u32,
     keys: u32,
     fields: &mut FieldCache<'_>,
     state: &mut State,
@@ -26,10 +25,10 @@ pub(crate) fn ask_compares(
     requires { fields.old ≡ (delivery_as turn.now.delivery.now).arrival }
     ensures arrival { fields.new ≡ fields.old }
     ensures step { (act : Acts) → IfOk result (λ step. Carries act turn.now
-        (Compares test values keys) (state_of state.old) step (state_of state.new)) }
+        (Compares test keys) (state_of state.old) step (state_of state.new)) }
 {
     let test = turn.code.test(test);
-    let source = turn.code.source(test.source, values);
+    let source = turn.code.source(test.source);
     let keys = turn.code.list(keys);
     let truth = compare(
         turn.delivery,
@@ -87,7 +86,7 @@ pub(crate) fn ask_under(turn: &Turn<'_>, limit: u64) -> Step
 pub(crate) fn act_keep(
     turn: &Turn<'_>,
     line: u32,
-    flags: GivenPlace,
+    flags: Option<u32>,
     state: &mut State,
 ) -> Result<Step, AllocError>
     ensures { (include : Includes)

@@ -114,9 +114,7 @@ fn carry_out<L: Library>(
         Op::True => Ok(proceed(true, after)),
         Op::False => Ok(proceed(false, after)),
         Op::Not => Ok(proceed(!register, after)),
-        Op::Compares { test, values, keys } => ask_compares(
-            turn, test, values, keys, fields, state,
-        ),
+        Op::Compares { test, keys } => ask_compares(turn, test, keys, fields, state),
         Op::Exists { names } => ask_exists(turn, names, state),
         Op::Over { limit } => Ok(ask_over(turn, limit)),
         Op::Under { limit } => Ok(ask_under(turn, limit)),

@@ -192,7 +192,11 @@ fn check_header(rt: &impl Abort, alloc: Global, test: Test) {
 }
 
 /// The names of fields and the keys of the test.
-fn check_source(rt: &impl Abort, source: ValueSource, keys: Vec<Text>) {
+fn check_source<S: Drop>(
+    rt: &impl Abort,
+    source: ValueSource<Vec<Text>, Vec<Text>, S>,
+    keys: Vec<Text>,
+) {
     match source {
         ValueSource::Header { names } => check_strings(rt, names.as_slice(), keys.as_slice()),
         _ => panic!(rt; "another source"),

@@ -3,49 +3,17 @@ use Rattle.sieve_variables.specs.Part.{Part}
 use Rattle.std.specs.Prelude.{ℕ, ◌-◌, Bool, true, false, List, [], map, length, Option, Some, None, slice_index_or}
 use Rattle.std.specs.List.{slice_get}
 use Rattle.sieve_operations.specs.Joined.{list_in}
-use Rattle.sieve_reading.specs.Reading.{raw_transform, content_transform, text_transform, DateZone, local_zone, original_zone, named_zone, date_values, clock_values, body_values, ValueSource, Ask, compares, exists_ask, over_ask, under_ask, mailboxes_ask, duplicate_ask, header_values, address_values, envelope_values, string_values, flag_values, keep_leaf, fileinto_leaf, redirect_leaf, discard_leaf, set_leaf, flag_leaf, include_leaf, vacation_leaf, reject_leaf}
+use Rattle.sieve_reading.specs.Reading.{Ask, compares, exists_ask, over_ask, under_ask, mailboxes_ask, duplicate_ask, keep_leaf, fileinto_leaf, redirect_leaf, discard_leaf, set_leaf, flag_leaf, include_leaf, vacation_leaf, reject_leaf}
 use Rattle.sieve_code.specs.Operation.{Operation, set_op, invert_op, test_op, jump_op, jump_if_op, act_op, stop_op, return_op, targeting}
-use Rattle.sieve_code.specs.Pool.{Pool, no_pool, date_packed_in, given_list, given_variable, settings_in, test_in, vacation_in}
+use Rattle.sieve_code.specs.Pool.{Pool, no_pool, given_list, given_variable, settings_in, source_in, string_in, test_in, vacation_in}
 use Rattle.sieve_code.specs.declared.pools.Target.{Target}
-use Rattle.sieve_code.specs.declared.op.PackedDate.{PackedDate}
 use Rattle.sieve_code.specs.declared.op.PackedTest.{PackedTest}
-use Rattle.sieve_code.specs.declared.op.PackedZone.{PackedZone}
-use Rattle.sieve_code.specs.declared.op.PackedZone.TheVariants as zone
-use Rattle.sieve_code.specs.declared.op.SourceKind.{SourceKind}
-use Rattle.sieve_code.specs.declared.op.SourceKind.TheVariants as source
 use Rattle.sieve_code.specs.declared.op.Op.{Op}
 use Rattle.sieve_code.specs.declared.op.Op.TheVariants as op
 
--- the zone in which a date is shown
-abbrev pub zone_in : Pool → PackedZone → DateZone
-zone_in pool zone.Local = local_zone
-zone_in pool zone.Original = original_zone
-zone_in pool (zone.Named place) = named_zone (slice_index_or pool.strings place [])
-
--- where a test of dates takes its value from: the date of a field, or the current one
-abbrev pub date_in : Pool → PackedDate → ValueSource
-date_in pool date = date_values (zone_in pool date.zone) (slice_index_or pool.strings date.field []) (slice_index_or pool.strings date.part [])
-
-abbrev pub clock_in : Pool → PackedDate → ValueSource
-clock_in pool date = clock_values (zone_in pool date.zone) (slice_index_or pool.strings date.part [])
-
--- where a test takes values from
-abbrev pub source_in : Pool → SourceKind → ℕ → ValueSource
-source_in pool source.Header place = header_values (list_in pool.names place)
-source_in pool (source.Address part) place = address_values part (list_in pool.names place)
-source_in pool (source.Envelope part) place = envelope_values part (list_in pool.lists place)
-source_in pool source.String place = string_values (list_in pool.lists place)
-source_in pool source.InternalFlags place = flag_values None
-source_in pool source.VariableFlags place = flag_values (Some (list_in pool.lists place))
-source_in pool source.Date place = date_in pool (date_packed_in pool place)
-source_in pool source.CurrentDate place = clock_in pool (date_packed_in pool place)
-source_in pool source.RawBody place = body_values raw_transform
-source_in pool source.BodyContent place = body_values (content_transform (list_in pool.lists place))
-source_in pool source.BodyText place = body_values text_transform
-
 -- what a test asks that compares
-abbrev pub compares_in : Pool → PackedTest → (values keys : ℕ) → Ask
-compares_in pool test values keys = compares (source_in pool test.source values) test.comparison (list_in pool.lists keys)
+abbrev pub compares_in : Pool → PackedTest → (keys : ℕ) → Ask
+compares_in pool test keys = compares (source_in pool test.source) test.comparison (list_in pool.lists keys)
 
 -- a `set` of the target that lies at its place; false where none lies there, and code always has one
 abbrev pub set_in : Option Target → ℕ → List Part → Operation
@@ -57,7 +25,7 @@ abbrev pub op_in : Pool → Op → Operation
 op_in pool op.True = set_op true
 op_in pool op.False = set_op false
 op_in pool op.Not = invert_op
-op_in pool (op.Compares test values keys) = test_op (compares_in pool (test_in pool test) values keys)
+op_in pool (op.Compares test keys) = test_op (compares_in pool (test_in pool test) keys)
 op_in pool (op.Exists names) = test_op (exists_ask (list_in pool.names names))
 op_in pool (op.Over limit) = test_op (over_ask limit)
 op_in pool (op.Under limit) = test_op (under_ask limit)
@@ -67,14 +35,14 @@ op_in pool (op.Jump left) = jump_op left
 op_in pool (op.JumpIfFalse left) = jump_if_op false left
 op_in pool (op.JumpIfTrue left) = jump_if_op true left
 op_in pool (op.Keep line flags) = act_op (keep_leaf (given_list pool flags)) line
-op_in pool (op.Fileinto line mailbox settings) = act_op (fileinto_leaf (slice_index_or pool.strings mailbox []) (settings_in pool settings)) line
-op_in pool (op.Redirect line address copy) = act_op (redirect_leaf (slice_index_or pool.strings address []) copy) line
+op_in pool (op.Fileinto line mailbox settings) = act_op (fileinto_leaf (string_in pool mailbox) (settings_in pool settings)) line
+op_in pool (op.Redirect line address copy) = act_op (redirect_leaf (string_in pool address) copy) line
 op_in pool (op.Discard line) = act_op discard_leaf line
-op_in pool (op.Set line target value) = set_in (slice_get pool.targets target) line (slice_index_or pool.strings value [])
+op_in pool (op.Set line target value) = set_in (slice_get pool.targets target) line (string_in pool value)
 op_in pool (op.Flags change line variable flags) = act_op (flag_leaf change (given_variable pool variable) (list_in pool.lists flags)) line
 op_in pool (op.Include i) = act_op (include_leaf i.location i.once i.optional (slice_index_or pool.scripts i.name [])) i.line
 op_in pool (op.Vacation line vacation) = act_op (vacation_leaf (vacation_in pool vacation)) line
-op_in pool (op.Reject how line reason) = act_op (reject_leaf how (slice_index_or pool.strings reason [])) line
+op_in pool (op.Reject how line reason) = act_op (reject_leaf how (string_in pool reason)) line
 op_in pool op.Stop = stop_op
 op_in pool op.Return = return_op
 

@@ -1,46 +1,27 @@
 -- Where the tests of compiled code take values from, and what its commands say beside.
+use Rattle.std.specs.Prelude.{List}
 use Rattle.std.specs.Option.{option_copied}
-use Rattle.sieve_reading.specs.Reading.{Settings, Vacation}
+use denote.Ref.{Bor}
 use Rattle.sieve_reading.specs.Reading as reading
-use Rattle.sieve_operations.specs.declared.ops.BodyOp.{BodyOp}
-use Rattle.sieve_operations.specs.declared.ops.BodyOp.TheVariants as body
-use Rattle.sieve_operations.specs.declared.ops.SettingsOp.{SettingsOp}
-use Rattle.sieve_operations.specs.declared.ops.SourceOp.{SourceOp}
-use Rattle.sieve_operations.specs.declared.ops.SourceOp.TheVariants as source
-use Rattle.sieve_operations.specs.declared.ops.VacationOp.{VacationOp}
-use Rattle.sieve_operations.specs.declared.ops.ZoneOp.{ZoneOp}
-use Rattle.sieve_operations.specs.declared.ops.ZoneOp.TheVariants as zone
+use Rattle.sieve_reading.specs.declared.reading.BodyTransform.{BodyTransform}
+use Rattle.sieve_reading.specs.declared.reading.DateZone.{DateZone}
+use Rattle.sieve_reading.specs.declared.reading.Settings.{Settings}
+use Rattle.sieve_reading.specs.declared.reading.Vacation.{Vacation}
+use Rattle.sieve_reading.specs.declared.reading.ValueSource.{ValueSource}
+use Rattle.sieve_reading.specs.view.Reading.{answered_by, body_by, date_zone_by, filed_by, source_by}
+use Rattle.sieve_variables.specs.Part.{Part}
 
-abbrev pub zone_op_as : ZoneOp → reading.DateZone
-zone_op_as zone.Local = reading.local_zone
-zone_op_as zone.Original = reading.original_zone
-zone_op_as (zone.Named named) = reading.named_zone named.now
+abbrev pub zone_op_as : DateZone (Bor (List Part)) → reading.DateZone
+zone_op_as = date_zone_by (λ string. string.now)
 
-abbrev pub body_op_as : BodyOp → reading.BodyTransform
-body_op_as body.Raw = reading.raw_transform
-body_op_as (body.Content entries) = reading.content_transform entries
-body_op_as body.Text = reading.text_transform
+abbrev pub body_op_as : BodyTransform (List (List Part)) → reading.BodyTransform
+body_op_as = body_by (λ list. list)
 
-abbrev pub source_op_as : SourceOp → reading.ValueSource
-source_op_as (source.Header names) = reading.header_values names
-source_op_as (source.Address part names) = reading.address_values part names
-source_op_as (source.Envelope part names) = reading.envelope_values part names
-source_op_as (source.String texts) = reading.string_values texts
-source_op_as (source.Flags variables) = reading.flag_values variables
-source_op_as (source.Date zone field part) = reading.date_values (zone_op_as zone) field.now part.now
-source_op_as (source.CurrentDate zone part) = reading.clock_values (zone_op_as zone) part.now
-source_op_as (source.Body transform) = reading.body_values (body_op_as transform)
+abbrev pub source_op_as : ValueSource (List (List Part)) (List (List Part)) (Bor (List Part)) → reading.ValueSource
+source_op_as = source_by (λ names. names) (λ list. list) (λ given. given) (λ string. string.now)
 
-abbrev pub settings_op_as : SettingsOp → Settings
-settings_op_as s = record { flags = s.flags; copy = s.copy; create = s.create; special_use = option_copied s.special_use }
+abbrev pub settings_op_as : Settings (List (List Part)) (Bor (List Part)) → reading.Settings
+settings_op_as = filed_by (λ given. given) option_copied
 
-abbrev pub vacation_op_as : VacationOp → Vacation
-vacation_op_as v = record {
-  reason = v.reason.now;
-  days = v.days;
-  subject = option_copied v.subject;
-  from = option_copied v.from;
-  addresses = v.addresses;
-  mime = v.mime;
-  handle = option_copied v.handle;
-}
+abbrev pub vacation_op_as : Vacation (List (List Part)) (Bor (List Part)) → reading.Vacation
+vacation_op_as = answered_by (λ string. string.now) (λ given. given) option_copied

@@ -1,6 +1,8 @@
 -- The program's readings of commands and tests.
-use Rattle.std.specs.Prelude.{List, map}
+use Rattle.std.specs.Prelude.{List, map, Option}
 use Rattle.std.specs.Option.{option_map}
+use Rattle.std.specs.declared.alloc.Global.{Global}
+use Rattle.std.specs.declared.vec.Vec.{Vec}
 use Rattle.sieve_reading.specs.Reading as reading
 use Rattle.sieve_reading.specs.view.Tree.{text_of}
 use Rattle.sieve_variables.specs.Part.{Part}
@@ -13,7 +15,7 @@ use Rattle.sieve_reading.specs.declared.reading.DateZone.TheVariants as zone
 use Rattle.sieve_reading.specs.declared.reading.CommandReading.{CommandReading}
 use Rattle.sieve_reading.specs.declared.reading.CommandReading.TheVariants.{If, Elsif, Else, Stop, Return, Nothing, Act}
 use Rattle.sieve_reading.specs.declared.reading.Leaf.{Leaf}
-use Rattle.sieve_reading.specs.declared.reading.Settings.{Settings}
+use Rattle.sieve_reading.specs.declared.reading.Settings as settings
 use Rattle.sieve_reading.specs.declared.reading.Leaf.TheVariants.{Keep, Fileinto, Redirect, Discard, Set, Flags, Include, Vacation, Reject}
 use Rattle.sieve_reading.specs.declared.reading.Vacation as vacations
 use Rattle.sieve_reading.specs.declared.reading.ValueSource.{ValueSource}
@@ -26,25 +28,62 @@ use Rattle.sieve_syntax.specs.declared.tree.Text.{Text}
 abbrev pub texts_as : List Text → List (List Part)
 texts_as texts = map (λ t. t.string) (map text_of texts)
 
-abbrev pub date_zone_as : DateZone → reading.DateZone
-date_zone_as zone.Local = reading.local_zone
-date_zone_as zone.Original = reading.original_zone
-date_zone_as (zone.Named named) = reading.named_zone named
+-- a list of strings that is kept as they are read
+abbrev pub list_as : Vec Text Global → List (List Part)
+list_as texts = texts_as texts.items
 
-abbrev pub transform_as : BodyTransform → reading.BodyTransform
-transform_as transform.Raw = reading.raw_transform
-transform_as (transform.Content entries) = reading.content_transform (texts_as entries.items)
-transform_as transform.Text = reading.text_transform
+-- the zone in which a date is shown, what is taken of a body, and where a test takes values from, by what the names of fields, the lists,
+-- a list that may be left out, and the strings in it are
+abbrev pub date_zone_by : {S : Type 0} → (S → List Part) → DateZone S → reading.DateZone
+date_zone_by string zone.Local = reading.local_zone
+date_zone_by string zone.Original = reading.original_zone
+date_zone_by string (zone.Named named) = reading.named_zone (string named)
 
-abbrev pub source_as : ValueSource → reading.ValueSource
-source_as (source.Header names) = reading.header_values (texts_as names.items)
-source_as (source.Address part names) = reading.address_values part (texts_as names.items)
-source_as (source.Envelope part names) = reading.envelope_values part (texts_as names.items)
-source_as (source.String texts) = reading.string_values (texts_as texts.items)
-source_as (source.Flags variables) = reading.flag_values (option_map (λ texts. texts_as texts.items) variables)
-source_as (source.Date zone field part) = reading.date_values (date_zone_as zone) field part
-source_as (source.CurrentDate zone part) = reading.clock_values (date_zone_as zone) part
-source_as (source.Body transform) = reading.body_values (transform_as transform)
+abbrev pub body_by : {L : Type 0} → (L → List (List Part)) → BodyTransform L → reading.BodyTransform
+body_by list transform.Raw = reading.raw_transform
+body_by list (transform.Content entries) = reading.content_transform (list entries)
+body_by list transform.Text = reading.text_transform
+
+abbrev pub source_by : {N L S : Type 0} → (N → List (List Part)) → (L → List (List Part)) → (Option L → Option (List (List Part))) → (S → List Part) → ValueSource N L S → reading.ValueSource
+source_by names list given string (source.Header fields) = reading.header_values (names fields)
+source_by names list given string (source.Address part fields) = reading.address_values part (names fields)
+source_by names list given string (source.Envelope part parts) = reading.envelope_values part (list parts)
+source_by names list given string (source.String texts) = reading.string_values (list texts)
+source_by names list given string (source.Flags variables) = reading.flag_values (given variables)
+source_by names list given string (source.Date zone field part) = reading.date_values (date_zone_by string zone) (string field) (string part)
+source_by names list given string (source.CurrentDate zone part) = reading.clock_values (date_zone_by string zone) (string part)
+source_by names list given string (source.Body transform) = reading.body_values (body_by list transform)
+
+-- what a `fileinto` says beside its mailbox, and what a `vacation` says, by what its string, and a list and a string that may be left out, are
+abbrev pub filed_by : {L S : Type 0} → (Option L → Option (List (List Part))) → (Option S → Option (List Part)) → settings.Settings L S → reading.Settings
+filed_by list string s = record { flags = list s.flags; copy = s.copy; create = s.create; special_use = string s.special_use }
+
+abbrev pub answered_by : {L S : Type 0} → (S → List Part) → (Option L → Option (List (List Part))) → (Option S → Option (List Part)) → vacations.Vacation L S → reading.Vacation
+answered_by reason list string v = record {
+  reason = reason v.reason;
+  days = v.days;
+  subject = string v.subject;
+  from = string v.from;
+  addresses = list v.addresses;
+  mime = v.mime;
+  handle = string v.handle;
+}
+
+-- those of a script
+abbrev pub date_zone_as : DateZone (List Part) → reading.DateZone
+date_zone_as = date_zone_by (λ parts. parts)
+
+abbrev pub transform_as : BodyTransform (Vec Text Global) → reading.BodyTransform
+transform_as = body_by list_as
+
+abbrev pub source_as : ValueSource (Vec Text Global) (Vec Text Global) (List Part) → reading.ValueSource
+source_as = source_by list_as list_as (option_map list_as) (λ parts. parts)
+
+abbrev pub settings_as : settings.Settings (Vec Text Global) (List Part) → reading.Settings
+settings_as = filed_by (option_map list_as) (λ string. string)
+
+abbrev pub vacation_as : vacations.Vacation (Vec Text Global) (List Part) → reading.Vacation
+vacation_as = answered_by (λ parts. parts) (option_map list_as) (λ string. string)
 
 abbrev pub ask_as : Ask → reading.Ask
 ask_as (Compares source comparison keys) = reading.compares (source_as source) comparison (texts_as keys.items)
@@ -61,20 +100,6 @@ test_reading_as (Asks ask) = reading.reads_ask (ask_as ask)
 test_reading_as AllOf = reading.reads_all
 test_reading_as AnyOf = reading.reads_any
 test_reading_as Not = reading.reads_not
-
-abbrev pub settings_as : Settings → reading.Settings
-settings_as s = record { flags = option_map (λ texts. texts_as texts.items) s.flags; copy = s.copy; create = s.create; special_use = s.special_use }
-
-abbrev pub vacation_as : vacations.Vacation → reading.Vacation
-vacation_as v = record {
-  reason = v.reason;
-  days = v.days;
-  subject = v.subject;
-  from = v.from;
-  addresses = option_map (λ texts. texts_as texts.items) v.addresses;
-  mime = v.mime;
-  handle = v.handle;
-}
 
 abbrev pub leaf_as : Leaf → reading.Leaf
 leaf_as (Keep flags) = reading.keep_leaf (option_map (λ texts. texts_as texts.items) flags)

@@ -16,7 +16,7 @@ returns-clause-step c = λ act.
     let test = c.test-test.result in
     let source = source_op_as c.source-source.result in
     asks_follow act (delivery_as turn.delivery.now) (compares source test.comparison c.list-keys.result) _ _ _ _ _ _ _
-    (ap (λ t. test_op (compares_in pool t c.args.values c.args.keys)) (sym c.test-test.ensures)
+    (ap (λ t. test_op (compares_in pool t c.args.keys)) (sym c.test-test.ensures)
     ∙ ap (λ v. test_op (compares v test.comparison (list_in pool.lists c.args.keys))) (sym c.source-source.ensures)
     ∙ ap (λ k. test_op (compares source test.comparison k)) (sym c.list-keys.ensures))
     c.compare-truth.ensures.truth c.compare-truth.ensures.after c.tested.ensures

@@ -1,13 +1,11 @@
-use Rattle.std.proofs.Common.{None, Some}
-use Rattle.sieve_code.specs.Pool.{given_string}
-use Rattle.sieve_code.specs.view.Pools.{pool_as}
-use Rattle.sieve_code.proofs.Keeping.{given_string_kept, kept_at, kept_still}
+use Rattle.std.proofs.Common.{Some}
+use Rattle.sieve_code.specs.Pool.{Pool, string_in}
+use Rattle.sieve_code.proofs.Keeping.{kept_as, kept_still}
 use Rattle.sieve_code.proofs.pools.Pools.add_given_string.Goals as goal
 
 pub returns-in-None : goal.returns-in-None
-returns-in-None c = let p = pool_as c.args.self.now in rw c.in-None.is (kept_at p p _ None (λ g q. given_string q g) _ c.none.ensures (kept_still p _))
+returns-in-None c = rw c.in-None.is (kept_still _ _)
 
 pub returns-in_ok-place-in-Some : goal.returns-in_ok-place-in-Some
 returns-in_ok-place-in-Some c =
-    rw c.in-Some.is (kept_at _ _ _ (Some c.in_ok-place-in-Some.place) (λ g q. given_string q g) _ c.at.ensures
-    (given_string_kept (pool_as c.args.self.now) _ c.in_ok-place-in-Some.place c.in-Some.string c.in_ok-place-in-Some.ensures.string))
+    rw c.in-Some.is (kept_as Some _ _ (λ (p : Pool). string_in p c.in_ok-place-in-Some.place) c.in-Some.string c.in_ok-place-in-Some.ensures)

@@ -1,6 +1,5 @@
 use Rattle.sieve_reading.specs.Reading.{named_zone}
-use Rattle.std.specs.Prelude.{[], slice_index_or}
-use Rattle.sieve_code.specs.Pool.{Pool}
+use Rattle.sieve_code.specs.Pool.{Pool, string_in}
 use Rattle.sieve_code.proofs.Keeping.{kept_as, kept_still}
 use Rattle.sieve_code.proofs.pools.Pools.add_zone.Goals as goal
 
@@ -12,4 +11,4 @@ returns-in-Original c = rw c.in-Original.is (kept_still _ _)
 
 pub returns-in_ok-place-in-Named : goal.returns-in_ok-place-in-Named
 returns-in_ok-place-in-Named c =
-    rw c.in-Named.is (kept_as named_zone _ _ (λ (p : Pool). slice_index_or p.strings c.in_ok-place-in-Named.place []) c.in-Named.zone c.in_ok-place-in-Named.ensures.string)
+    rw c.in-Named.is (kept_as named_zone _ _ (λ (p : Pool). string_in p c.in_ok-place-in-Named.place) c.in-Named.zone c.in_ok-place-in-Named.ensures)
