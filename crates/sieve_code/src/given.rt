@@ -1,5 +1,6 @@
 //! Places of what may be left out.
 ghost use Rattle.std.specs.Prelude.{◌≡◌, ◌<◌, None, Some};
+ghost use Rattle.sieve_code.specs.view.Given.{no_place};
 
 use std::marker::Model;
 
@@ -35,7 +36,7 @@ impl GivenPlace {
 
     /// A place. Takes no memory.
     pub(crate) fn at(place: u32) -> GivenPlace
-        requires { place < 4294967295 }
+        requires { place < no_place }
         ensures { result ≡ Some place }
     {
         GivenPlace { place }

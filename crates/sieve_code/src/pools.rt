@@ -6,6 +6,7 @@ ghost use Rattle.sieve_reading.specs.Reading.{plain_settings};
 ghost use Rattle.sieve_reading.specs.view.Reading.{settings_as, texts_as, vacation_as};
 ghost use Rattle.sieve_operations.specs.Joined.{list_in};
 ghost use Rattle.sieve_code.specs.Pool.{Kept, given_list, given_string, given_variable, no_pool, packed_in, settings_in, string_in, test_in, vacation_in, vacation_packed_in};
+ghost use Rattle.sieve_code.specs.view.Given.{no_place};
 ghost use Rattle.sieve_code.specs.view.Pools.{pool_as};
 
 use crate::given::GivenPlace;
@@ -40,8 +41,8 @@ pub(crate) struct Pools {
 /// The number of items as the place of the next. 4,294,967,295 and more are answered as out of memory.
 fn place_of(len: usize) -> Result<u32, AllocError>
     ensures is { IfOk result (λ place. place ≡ len) }
-    ensures given { IfOk result (λ place. place < 4294967295) }
-    ensures err { OnErr result (4294967295 ≤ len) }
+    ensures given { IfOk result (λ place. place < no_place) }
+    ensures err { OnErr result (no_place ≤ len) }
 {
     match u32::try_from(len) {
         Ok(place) if place < u32::MAX => Ok(place),
@@ -162,7 +163,7 @@ impl Pools {
     pub(crate) fn add_target(&mut self, target: Target) -> Result<u32, AllocError>
         ensures target { IfOk result (λ place. Kept (pool_as self.old) (pool_as self.new)
             (λ p. slice_get p.targets place) (Some target)) }
-        ensures given { IfOk result (λ place. place < 4294967295) }
+        ensures given { IfOk result (λ place. place < no_place) }
     {
         let place = place_of(self.targets.len())?;
         self.targets.push(target)?;

@@ -3,16 +3,20 @@ use Rattle.std.specs.Prelude.{◌≡◌, ℕ, ◌==◌, Bool, true, false, Optio
 use Rattle.std.proofs.Common.{refl, sym}
 use Rattle.std.proofs.lemmas.Bool.{eqb-true}
 
+-- what stands where no place is given: the greatest number of 32 bits
+abbrev pub no_place : ℕ
+no_place = 4294967295
+
 abbrev pub given_place : ℕ → Option ℕ
-given_place place = if place == 4294967295 then None else Some place
+given_place place = if place == no_place then None else Some place
 
 abbrev pub place_given : Option ℕ → ℕ
-place_given None = 4294967295
+place_given None = no_place
 place_given (Some place) = place
 
-back_by : (place : ℕ) (none : Bool) → (place == 4294967295) ≡ none → place_given (if none then None else Some place) ≡ place
-back_by place true is = sym (eqb-true place 4294967295 is)
+back_by : (place : ℕ) (none : Bool) → (place == no_place) ≡ none → place_given (if none then None else Some place) ≡ place
+back_by place true is = sym (eqb-true place no_place is)
 back_by place false is = refl
 
 pub given_back : (place : ℕ) → place_given (given_place place) ≡ place
-given_back place = back_by place (place == 4294967295) refl
+given_back place = back_by place (place == no_place) refl
