@@ -4,7 +4,6 @@
 //! `tools/checks`.
 
 mod clocks;
-mod devices;
 mod edits;
 mod failing_reads;
 mod failing_writes;
@@ -16,6 +15,7 @@ mod memory;
 mod message_envelopes;
 mod meters;
 mod origins;
+mod readers;
 mod test_jobs;
 mod texts;
 mod usage;
