@@ -85,9 +85,10 @@ def of_times(room):
     yield Linear(room, "a key of two or three parts for each value", [judged(script, [mail]) for mail in mails])
     keys = [b'if header "x" [%s] { discard; }' % b", ".join(b'"%d"' % number for number in range(count)) for count in (3, 3_000)]
     yield Linear(room, "a value for each key", [judged(script, [b"X: " + b"v" * 5_000_000 + b"\n\n"]) for script in keys])
-    lines_of_one = b"message m%d 0\n", b"drop-message m%d\n"
-    dropped = [b"".join(line % number for line in lines_of_one for number in range(count)) + b"report\n" for count in (1_000, 30_000)]
-    yield Linear(room, "the messages that stay for each that is dropped", dropped, 0)
+    one, count = (b"message m%d 0\n", b"drop-message m%d\n"), 20_000
+    in_turn = b"".join(line % number for number in range(count) for line in one)
+    at_last = b"".join(line % number for line in one for number in range(count))
+    yield Linear(room, "the messages that stay for each that is dropped", [in_turn + b"report\n", at_last + b"report\n"], 0)
     require = b'require ["imap4flags", "variables"];\n'
     stores = [require + b"".join(b'addflag "flag%d"; keep;\n' % number for number in range(count)) for count in (500, 10_000)]
     yield Linear(room, "flags that a store has for each store", [judged(script, [b""]) for script in stores])
