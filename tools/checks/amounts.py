@@ -4,6 +4,7 @@ from .runs import lines, put, reported, session, some
 
 TEXT_LIMIT, MESSAGE_LIMIT, EXPECTED_LIMIT, NAME_LIMIT, MAILBOX_LIMIT, SCRIPT_LIMIT, MAIL_LIMIT, LINE_LIMIT = 1_048_576, 16_777_216, 65_536, 1_024, 255, 4_096, 65_536, 16_384
 MAILBOXES_LIMIT = 1_048_576
+VALUE_LIMIT = 4_096
 LAST_SECOND = 253_402_300_799
 KEPT = ['implicit "INBOX"']
 SESSION = b"script personal main 9\ndiscard;\nmessage m1 0\nmain personal main\nreport\n"

@@ -79,6 +79,16 @@ def of_times(room):
     yield Linear(room, "the hash of a name for each run", [judged(b'if exists "' + b"x" * size + b'" {}', mails) for size in (1, 500_000)], len(mails))
     script = b'require "variables"; set "a" "x"; if header "x" "' + b"${a}" * 20_000 + b'" { discard; }'
     yield Linear(room, "a key for each value", [judged(script, [b"X: v\n" * count]) for count in (3, 1_500)])
+    kinds = b", ".join(b'header %s "x" ["${1}${1}", "${1}-${1}"]' % kind for kind in (b":is", b":contains", b":matches"))
+    script = b'require "variables"; if header :matches "subject" "*" { if anyof (%s) { discard; } }' % kinds
+    mails = [b"Subject: " + b"x" * 2_000_000 + b"\n" + b"X: v\n" * count + b"\n" for count in (3, 1_500)]
+    yield Linear(room, "a key of two or three parts for each value", [judged(script, [mail]) for mail in mails])
+    keys = [b'if header "x" [%s] { discard; }' % b", ".join(b'"%d"' % number for number in range(count)) for count in (3, 3_000)]
+    yield Linear(room, "a value for each key", [judged(script, [b"X: " + b"v" * 5_000_000 + b"\n\n"]) for script in keys])
+    one, count = (b"message m%d 0\n", b"drop-message m%d\n"), 20_000
+    in_turn = b"".join(line % number for number in range(count) for line in one)
+    at_last = b"".join(line % number for line in one for number in range(count))
+    yield Linear(room, "the messages that stay for each that is dropped", [in_turn + b"report\n", at_last + b"report\n"], 0)
     require = b'require ["imap4flags", "variables"];\n'
     stores = [require + b"".join(b'addflag "flag%d"; keep;\n' % number for number in range(count)) for count in (500, 10_000)]
     yield Linear(room, "flags that a store has for each store", [judged(script, [b""]) for script in stores])

@@ -117,6 +117,7 @@ PLACES = {
     "MAX_VALUE": [
         (LANGUAGE, rf"\| a variable's value \| {NUMBER} octets"),
         ("docs/PROVED.md", rf"the value is cut at {NUMBER} octets"),
+        (AMOUNTS, "VALUE_LIMIT"),
     ],
     "MAX_INCLUDE_DEPTH": [
         (LANGUAGE, rf"\| scripts that run below the main one \| {NUMBER} \|"),

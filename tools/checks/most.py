@@ -6,7 +6,7 @@ Each session is of one kind of thing: for each count a script and a mail are put
 called by a length that they count. Where the limits allow less than 65,537 of a kind, its greatest count is less.
 """
 from . import runs
-from .amounts import EXPECTED_LIMIT, KEPT, LINE_LIMIT, MESSAGE_LIMIT, TEXT_LIMIT
+from .amounts import EXPECTED_LIMIT, KEPT, LINE_LIMIT, MESSAGE_LIMIT, TEXT_LIMIT, VALUE_LIMIT
 from .files import write
 from .runs import Run, lines, put, some
 
@@ -96,6 +96,9 @@ def of_fields(room):
     ]:
         most = fitting(b"x", front, end, limit=MESSAGE_LIMIT)
         yield turns(room, title, [(COUNTS % test, front + b"x" * count + end, [f'store "{count}"']) for count in around(most)])
+    most = fitting(b"x", b"To: \n\n", limit=MESSAGE_LIMIT)
+    whole = [(COUNTS % b'address :matches "to" "*"', b"To: " + b"x" * (count - 2) + b"@b\n\n", [f'store "{count}"']) for count in around(most)]
+    yield turns(room, "octets of an address", whole)
     for title, form in ("octets of a field's name", b'if exists "%s" { discard; }'), ("octets of a name of `header`", b'if header "%s" "v" { discard; }'):
         most = fitting(b"x", form % b"")
         yield turns(room, title, [(form % (b"x" * count), b"X" * count + b": v\n\n", ["discard"]) for count in around(most)])
@@ -229,6 +232,29 @@ def of_code(room):
     yield runs.dumped(room, f"as many as there may be: {len(code)} operations, printed", text, [f"{place}: {operation}" for place, operation in enumerate(code)])
 
 
+def of_faults(room):
+    """What stands before a fault, or has it: octets of names, arguments, tests, and commands with their blocks."""
+    for title, front, piece, end, fault in [
+        ("octets of a command's name", b"", b"x", b";", "unknown-command"),
+        ("octets of a test's name", b"if ", b"x", b"{}", "unknown-command"),
+        ("octets of a tag", b"keep :", b"x", b";", "bad-tag"),
+        ("octets of a capability", b'require "', b"x", b'";', "unknown-capability"),
+        ("octets of a comparator", b'if header :comparator "', b"x", b'" "a" "b"{}', "unknown-comparator"),
+        ("octets of a variable's name", b'require "variables"; set "', b"-", b'" "";', "bad-variable-name"),
+        ("octets of a part of the envelope", b'require "envelope"; if envelope "', b"x", b'" ""{}', "bad-envelope-part"),
+        ("octets of a field of `address`", b'if address "', b"x", b'" ""{}', "not-address-header"),
+        ("arguments of a command", b"keep", b" 1", b";", "bad-arguments"),
+        ("lists of a command", b"keep", b'[""]', b";", "bad-arguments"),
+        ("tags of a command", b"keep", b":x", b";", "bad-tag"),
+        ("arguments of a test", b"if true", b" 1", b"{}", "bad-arguments"),
+        ("tests in a list that aren't there", b"if anyof(", b"x,", b"x){}", "unknown-command"),
+        ("commands with blocks", b"", b"x{}", b"", "unknown-command"),
+    ]:
+        most = fitting(piece, front, end)
+        told = [(front + piece * count + end, b"", KEPT, f"line 1 {fault}") for count in around(most, 8, 10, 12, 16, 18)]
+        yield turns(room, title, told)
+
+
 def of_strings(room):
     """Octets of a string, by what has it in a report; of its parts; and lines of a text."""
     for title, form, told, names in [
@@ -241,6 +267,9 @@ def of_strings(room):
         ("octets of its sender", b'require "vacation"; vacation :from "%s@b" "r";', ['vacation "r" from "%s@b"', *KEPT], "vacation"),
         ("octets of one of its addresses", b'require "vacation"; vacation :addresses "%s" "r";', ['vacation "r" addresses "%s"', *KEPT], "vacation"),
         ("octets of its handle", b'require "vacation"; vacation :handle "%s" "r";', ['vacation "r" handle "%s"', *KEPT], "vacation"),
+        ("octets of a special use", b'require ["fileinto", "special-use"]; fileinto :specialuse "\\\\%s" "a";', ['store "a" special-use "\\\\%s"'], "special-use"),
+        ("octets of an included script's name", b'require "include"; include :optional "a%s";', [*KEPT, 'read personal "main"', 'read personal "a%s" missing'], ""),
+        ("octets of a mailbox that is too long", b'require "fileinto"; fileinto "%s";', [*KEPT, 'error personal "main" line 1 bad-mailbox'], ""),
     ]:
         most = fitting(b"x", form % b"")
         cases = [(form % (b"x" * count), b"", [line % ("x" * count) if "%s" in line else line for line in told]) for count in around(most, 10, 12, 16, 19)]
@@ -307,6 +336,12 @@ def of_names(room):
         flags = [f"{number:x}" for number in range(count)]
         cases.append((require + " ".join(flags).encode() + b'"; keep;', b"", ['store "INBOX"' + "".join(f' "{flag}"' for flag in flags)]))
     yield turns(room, "flags of a store", cases)
+    require, cases = b'require ["imap4flags", "variables", "fileinto"];\nsetflag "v" "', []
+    end = b'"; set :length "n" "${v}"; fileinto "${n}";'
+    for count in around(fitting(b"12345 ", require, end), 9, 12, 15, 16):
+        text = " ".join(f"{number:x}" for number in range(count)).encode()
+        cases.append((require + text + end, b"", [f'store "{min(len(text), VALUE_LIMIT)}"']))
+    yield turns(room, "flags of a variable", cases)
     octets, told = [b"main personal main\nmessage m 0\n"], ["ok", "ok"]
     for count in around(EXPECTED_LIMIT, 8, 12, 15):
         address = "x" * (count - len('redirect "@b"\n')) + "@b"
@@ -326,6 +361,11 @@ def of_bodies(room):
         ("comments in one another in a type", b"Content-Type: text/plain ", b"(", b"\n\nx", b'body :content "text" :count "eq" "0" # %d\n'),
         ("fields of a part", b"", b"A: b\n", b"\nx", b'body "x" # %d\n'),
         ("lines of a body", b"\n", b"x\n", b"y", b'body :contains "x\r\ny" # %d\n'),
+        ("octets of a type", b"Content-Type: text/", b"x", b"\n\nx", b'body :is "x" # %d\n'),
+        ("octets of a parameter", b"Content-Type: text/plain; a=", b"x", b"\n\nx", b'body :is "x" # %d\n'),
+        ("octets of a parameter in quotes", b'Content-Type: text/plain; a="', b"x", b'"\n\nx', b'body :is "x" # %d\n'),
+        ("octets of a charset", b"Content-Type: text/plain; charset=", b"x", b"\n\nx", b'body :is "x" # %d\n'),
+        ("octets of an encoding", b"Content-Transfer-Encoding: ", b"x", b"\n\nx", b'body :content "application/octet-stream" :is "x" # %d\n'),
     ]:
         most = fitting(piece, front, end, limit=MESSAGE_LIMIT)
         key = b'body :contains "y" # %d\n' if title == "lines of a body" else test
@@ -360,6 +400,10 @@ def of_words(room):
     for count in around(21_800, 9, 12, 14):
         (folder / f"{count}w").write_text("--with=" + ",".join(["lines"] * count))
         yield Run(f"{count} names in one word", folder, f"sievebench test $(cat {count}w) main.sieve mail", told)
+    for count in around(131_071, 11, 12, 13, 14, 15, 16):
+        (folder / f"{count}m").write_text("x" * count)
+        told = f'sievebench: too large "{"x" * count}"\n'.encode()
+        yield Run(f"an option of {count} octets", folder, f"sievebench test -m $(cat {count}m) main.sieve mail", b"", told, 2)
     counts = around(LINE_LIMIT - len("envelope  "), 8, 9, 10, 12)
     octets = b"".join(b"envelope " + b" " * count + b"a b\n" for count in counts[:-1])
     yield runs.session(room, "blanks of a line", octets, b"ok\n" * (len(counts) - 1))
@@ -367,7 +411,7 @@ def of_words(room):
 
 def of_sessions(room):
     """All of them."""
-    for part in (of_values, of_fields, of_keys, of_lists, of_commands, of_strings, of_references, of_names, of_bodies, of_words):
+    for part in (of_values, of_fields, of_keys, of_lists, of_commands, of_faults, of_strings, of_references, of_names, of_bodies, of_words):
         folder = room / f"most_{part.__name__}"
         folder.mkdir()
         yield from some(part.__name__, part(folder))

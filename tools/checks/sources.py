@@ -1,9 +1,11 @@
-"""What the sources of the libraries must not have, and each place where they and the program say themselves that memory is out.
+"""What the sources of the libraries must not have, each place where they and the program say themselves that memory is out, and each where they
+ask for room by a number.
 
-Such a place answers it of something else than what answered it first, so nothing but its reason says that memory was refused there. The table
-`no_memory.tsv` has a line for each, in cells with tabs between them: the file below `crates`; the function; the code, from what opens the block
-that the place stands in, or the place alone where that is the function's own block; and the reason, which a reader checks. One place more, or
-one that is gone or has changed, is a failure.
+A place of the first kind answers it of something else than what answered it first, so nothing but its reason says that memory was refused
+there. One of the second kind may ask for more than there is. The tables `no_memory.tsv` and `room.tsv` have a line for each, in cells with tabs
+between them: the file below `crates`; the function; the code, from what opens the block that the place stands in, or the place alone where
+that is the function's own block; and the reason, which a reader checks. Of room it says what bounds it. One place more, or one that is gone or has
+changed, is a failure.
 """
 import pathlib
 import re
@@ -11,7 +13,22 @@ import re
 from .runs import Reading
 
 TOP = pathlib.Path(__file__).resolve().parent.parent.parent
-TABLE = pathlib.Path(__file__).with_name("no_memory.tsv")
+# What answers that memory is out. Apart from it: comments, what is brought or is ghost, a variant where it is declared, a type, a value in a
+# contract, a pattern, and what is compared.
+OUT_OF_MEMORY = r"\b(?:AllocError|AllocFailed|NoMemory|OutOfMemory)\b"
+SAYS_NOTHING = (
+    r"//.*"
+    r"|^ *(?:pub(?:\(\w+\))? )?(?:ghost|use) [^;]*;"
+    r"|^ *(?:ensures|requires) .*"
+    r"|^ *(?:NoMemory|OutOfMemory)(?: = \d+)?,$"
+    r"|\bAllocError>|: AllocError\b|\bAllocFailed<T>"
+    r"|\.NoMemory\b|≡ NoMemory\b"
+    r"|\S*NoMemory\b[^\n=]*=>|\S*OutOfMemory\b[^\n=]*=>"
+    r"|== ErrorKind::OutOfMemory\b"
+)
+# What asks for room by a number. Apart from it: what is brought or is ghost.
+ROOM = r"\bwith_capacity\(|\breserve(?:_exact)?\(|\bresize(?:_with)?\(|\brepeat(?:_n)?\(|\bvec!\[in [^;\]]*;[^;\]]*;"
+ASKS_NOTHING = r"^ *(?:pub(?:\(\w+\))? )?(?:ghost|use) [^;]*;"
 
 
 def files_of(library):
@@ -73,35 +90,23 @@ class OneName(Reading):
         return found + ([] if uses else ["no file brings a definition"])
 
 
-class NoMemory(Reading):
-    """Whether the places that say that memory is out are those of the table."""
+class Places(Reading):
+    """Whether the places that have certain words are those of a table."""
 
-    title, command = "the places that say that memory is out", TABLE.name
-    word = re.compile(r"\b(?:AllocError|AllocFailed|NoMemory|OutOfMemory)\b")
-    # What says it of nothing: comments, what is brought or is ghost, a variant where it is declared, a type, a value in a contract, a pattern,
-    # and what is compared.
-    apart = re.compile(
-        r"//.*"
-        r"|^ *(?:pub(?:\(\w+\))? )?(?:ghost|use) [^;]*;"
-        r"|^ *(?:ensures|requires) .*"
-        r"|^ *(?:NoMemory|OutOfMemory)(?: = \d+)?,$"
-        r"|\bAllocError>|: AllocError\b|\bAllocFailed<T>"
-        r"|\.NoMemory\b|≡ NoMemory\b"
-        r"|\S*NoMemory\b[^\n=]*=>|\S*OutOfMemory\b[^\n=]*=>"
-        r"|== ErrorKind::OutOfMemory\b",
-        re.M,
-    )
+    def __init__(self, title, table, word, apart):
+        self.title, self.command, self.table = title, table, pathlib.Path(__file__).with_name(table)
+        self.word, self.apart = re.compile(word), re.compile(apart, re.M)
 
     def found(self, path):
         """The places that only one of the two has."""
-        head, *rows = (line.split("\t") for line in TABLE.read_text(encoding="utf-8").splitlines())
+        head, *rows = (line.split("\t") for line in self.table.read_text(encoding="utf-8").splitlines())
         made = [place for file in self.files() for place in self.places(file)]
         self.looked = len(made)
         found = [] if head == ["file", "function", "code", "reason"] else [f"its columns are {head}"]
         found += [f"no reason: {row}" for row in rows if len(row) != 4 or not row[3].strip()]
         wanted = [tuple(row[:3]) for row in rows]
-        found += [f"without a line of {TABLE.name}: {it}" for it in sorted(set(made)) if made.count(it) > wanted.count(it)]
-        return found + [f"{TABLE.name} has what isn't there: {it}" for it in sorted(set(wanted)) if wanted.count(it) > made.count(it)]
+        found += [f"without a line of {self.command}: {it}" for it in sorted(set(made)) if made.count(it) > wanted.count(it)]
+        return found + [f"{self.command} has what isn't there: {it}" for it in sorted(set(wanted)) if wanted.count(it) > made.count(it)]
 
     def files(self):
         """The sources that aren't tests."""
@@ -149,4 +154,5 @@ def of_libraries():
     yield Without("no library runs by itself", ["bench", "sievebench", "session_text", "command_line"], {r"Meter::new": "one_call", r"\.op\(": "sieve_run", r"^(?!ghost ).*\bsieve_(?:operations|actions|matching)::": "sieve_run"})
     yield Without("no library reads by itself", ["bench", "sievebench", "command_line"], {r"\bread_some\(": "session_text"})
     yield OneName()
-    yield NoMemory()
+    yield Places("the places that say that memory is out", "no_memory.tsv", OUT_OF_MEMORY, SAYS_NOTHING)
+    yield Places("the places that ask for room by a number", "room.tsv", ROOM, ASKS_NOTHING)

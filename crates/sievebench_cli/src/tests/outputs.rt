@@ -2,7 +2,7 @@
 
 use super::machine::{Given, Machine, Room, Written};
 use super::program::{
-    SESSION_WORDS, check_kept, check_steps, check_written, lines_of, status_with, whole,
+    KINDS, SESSION_WORDS, check_kept, check_steps, check_written, lines_of, status_with, whole,
 };
 use super::{At, holds};
 use crate::streams::Output;
@@ -40,6 +40,7 @@ fn check_front_written(
 fn check_failure(
     rt: &(impl AllocGlobal + Abort),
     what: &str,
+    kind: ErrorKind,
     (octets, piece, before, output, writes, before_reads): Row<'_>,
 ) -> Result<(), Fail> {
     let written = Written::new(rt.alloc());
@@ -50,7 +51,7 @@ fn check_failure(
     };
     let room = Room {
         octets: 1_000,
-        failure: Some((before, ErrorKind::Other)),
+        failure: Some((before, kind)),
     };
     let status = status_with(rt.alloc(), SESSION_WORDS, input, room, &written);
     let at = (what, before);
@@ -65,7 +66,7 @@ fn check_failures(
     rows: &[Row<'_>],
 ) -> Result<(), Fail> {
     for row in rows {
-        check_failure(rt, what, *row)?;
+        check_failure(rt, what, ErrorKind::Other, *row)?;
     }
     Ok(())
 }
@@ -93,6 +94,16 @@ fn the_first_write_that_fails_ends_the_session(rt: HostRuntime) -> Result<(), Fa
             (refused, 8, 1, b"ok\n", &[3, 0], &[0, 3, 3]),
         ],
     )
+}
+
+/// In whatever way a write fails, it is the last one.
+#[test]
+fn a_write_that_fails_in_any_way_is_the_last(rt: HostRuntime) -> Result<(), Fail> {
+    for kind in KINDS {
+        let row: Row<'_> = (b"no-main\n", 8, 0, b"", &[0], &[0]);
+        check_failure(&rt, "a write that fails", kind, row)?;
+    }
+    Ok(())
 }
 
 /// Compares what was written on standard output and on standard error, and how much by each write.

@@ -98,16 +98,45 @@ pub(crate) fn failing(octets: &[u8], kind: ErrorKind) -> Given<'_> {
     }
 }
 
-/// Ways in which a device fails, but for those that have a meaning of their own.
-pub(crate) const KINDS: [ErrorKind; 8] = [
+/// All ways in which a device fails, but for those that have a meaning of their own.
+pub(crate) const KINDS: [ErrorKind; 37] = [
+    ErrorKind::AddrInUse,
+    ErrorKind::AddrNotAvailable,
+    ErrorKind::AlreadyExists,
+    ErrorKind::ArgumentListTooLong,
     ErrorKind::BrokenPipe,
+    ErrorKind::ConnectionAborted,
+    ErrorKind::ConnectionRefused,
     ErrorKind::ConnectionReset,
+    ErrorKind::CrossesDevices,
+    ErrorKind::Deadlock,
+    ErrorKind::DirectoryNotEmpty,
+    ErrorKind::ExecutableFileBusy,
+    ErrorKind::FileTooLarge,
+    ErrorKind::HostUnreachable,
+    ErrorKind::InProgress,
     ErrorKind::InvalidData,
+    ErrorKind::InvalidFilename,
+    ErrorKind::InvalidInput,
     ErrorKind::IsADirectory,
+    ErrorKind::NetworkDown,
+    ErrorKind::NetworkUnreachable,
+    ErrorKind::NotConnected,
+    ErrorKind::NotSeekable,
     ErrorKind::Other,
     ErrorKind::PermissionDenied,
+    ErrorKind::QuotaExceeded,
+    ErrorKind::ReadOnlyFilesystem,
+    ErrorKind::ResourceBusy,
+    ErrorKind::StaleNetworkFileHandle,
+    ErrorKind::StorageFull,
     ErrorKind::TimedOut,
+    ErrorKind::TooManyLinks,
+    ErrorKind::Uncategorized,
     ErrorKind::UnexpectedEof,
+    ErrorKind::Unsupported,
+    ErrorKind::WouldBlock,
+    ErrorKind::WriteZero,
 ];
 
 /// Runs a session whose input fails after the octets, and compares.
