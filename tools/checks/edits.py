@@ -53,6 +53,9 @@ def text_of(dice, has_names):
 class Bench:
     """What a bench of some names holds, by the rules of its edits: of each message the octets, what is expected and its own addresses."""
 
+    # How often the edits are made that only some names bring.
+    often = 1
+
     def __init__(self, names):
         self.names, self.scripts, self.messages = names, {}, {}
         self.main, self.envelope, self.mailbox, self.mailboxes, self.clock = None, (b"", b""), b"INBOX", b"", None
@@ -68,9 +71,9 @@ class Bench:
     def edit(self, dice):
         """Makes an edit, and gives its octets and the reply that is due."""
         kinds = ["script"] * 6 + ["rename"] * 3 + ["message"] * 3 + ["drop-script", "drop-script", "drop-message", "main", "main", "no-main", "envelope", "mailbox", "expect", "expect", "no-expect"]
-        kinds += ["mailboxes"] * ("mailbox" in self.names)
+        kinds += ["mailboxes"] * self.often * ("mailbox" in self.names)
         kinds += ["message-envelope", "message-envelope", "no-message-envelope"] * ("envelopes" in self.names)
-        kind = dice.choice(kinds + ["clock", "no-clock"] * ("date" in self.names))
+        kind = dice.choice(kinds + ["clock", "no-clock"] * self.often * ("date" in self.names))
         place, name = dice.choice([b"personal", b"personal", b"global"]), dice.choice(NAMES)
         words = place + b" " + quoted(name)
         key, at = (place != b"personal", name), dice.choice(IDS)

@@ -7,8 +7,9 @@ import re
 
 from . import bodies, dates, faults
 
-# A row: a command or a test, and its arguments. Those in square brackets may be left out; a bar stands between tags of which one is taken, and
-# after a plus stands what has to be required. A word in capital letters is a value; PART and COMPARE are tags that several rows have.
+# A row: a command or a test, and its arguments. Those in square brackets may be left out, those in braces are left out seldom, and those in angle
+# brackets never. A bar stands between tags of which one is taken, and after a plus stands what has to be required. A word in capital letters is a
+# value; PART and COMPARE stand for tags that several rows have.
 COMMANDS = """
 keep [:flags+imap4flags FLAGS]
 fileinto+fileinto [:flags+imap4flags FLAGS] [:copy+copy] [:create+mailbox] [:specialuse+special-use USE] BOX
@@ -23,7 +24,7 @@ set+variables [:lower|:upper] [:lowerfirst|:upperfirst] [:quotewildcard] [:lengt
 setflag+imap4flags [NAME+variables] FLAGS
 addflag+imap4flags [NAME+variables] FLAGS
 removeflag+imap4flags [NAME+variables] FLAGS
-include+include [:personal|:global] [:once] [:optional] SCRIPT
+include+include [:personal|:global] [:once] {:optional} SCRIPT
 global+include+variables GLOBALS
 """
 TESTS = """
@@ -42,6 +43,14 @@ date+date [:zone ZONE|:originalzone] [COMPARE] DATE_FIELD DATE_PART KEYS
 currentdate+date [:zone ZONE] [COMPARE] DATE_PART KEYS
 body+body [:raw|:text|:content TYPES] [COMPARE] KEYS
 """
+# Tests of which the verdict shows what they find.
+SHOWN = """
+header :matches FIELDS "*"
+envelope+envelope :matches ENVELOPE_PARTS "*"
+currentdate+date [:zone ZONE] :matches DATE_PART "*"
+date+date [:zone ZONE] :matches DATE_FIELD DATE_PART "*"
+mailboxexists+mailbox ASKED_BOX
+"""
 PARTS = ":all|:localpart|:domain|:user+subaddress|:detail+subaddress"
 MATCH_TYPES = ":is|:contains|:matches|:value+relational RELATION|:count+relational RELATION"
 COMPARATORS = {"i;octet": "", "i;ascii-casemap": "", "i;ascii-numeric": "comparator-i;ascii-numeric"}
@@ -57,9 +66,9 @@ FREQUENT = {"fileinto": 5, "include": 3, "set": 2, "header": 3, "envelope": 2, "
 
 SCRIPTS = ["main", "a", "b", "c", 'd "e"']
 VARIABLES = ["a", "B", "box_1", "_x"]
-BOXES = ["INBOX", "Lists", "one", "Lists/sieve", "Bücher", "lists", "Lists", "one", "two", ""]
+BOXES = ["INBOX", "Lists", "one", "Lists/sieve", "Bücher", "lists", "Lists", "one", "two"]
 FLAGS = ["\\Seen", "\\seen", "$Junk", "\\Flagged \\Draft", "work", "\\Recent", ""]
-ADDRESSES = ["ada@home.example", "Ada <ada@home.example>", "a@b.example", "c@d.example", "ada+lists@home.example", "<x@[10.0.0.1]>", "nobody"]
+ADDRESSES = ["ada@home.example", "Ada <ada@home.example>", "a@b.example", "c@d.example", "ada+lists@home.example", "<x@[10.0.0.1]>"]
 FIELDS = "Subject subject List-Id X-Spam-Score From To Date Received Message-ID Content-Type X-None".split()
 ADDRESS_FIELDS = "from to cc bcc sender reply-to return-path delivered-to errors-to disposition-notification-to x-original-to envelope-to".split()
 ADDRESS_FIELDS += [f"resent-{name}" for name in ADDRESS_FIELDS[:6]]
@@ -69,13 +78,13 @@ TEXTS = ["order", "Offer 7", "one two", "I am away.", "No.", "Grüße", "a*b?c\\
 TYPES = ["text", "text/plain", "TEXT/html", "", "multipart", "message/rfc822", "application/octet-stream", "a/b/c"]
 NUMBERS = ["0", "1", "7", "30", "100", "1K", "2m", "1G", "18446744073709551615"]
 LISTS = {"FLAGS": FLAGS, "ADDRESSES": ADDRESSES, "BOXES": BOXES, "KEYS": KEYS, "TEXTS": TEXTS, "FIELDS": FIELDS, "TYPES": TYPES, "NAMES": VARIABLES}
-SINGLES = {"TEXT": TEXTS, "PLAIN": TEXTS, "BOX": BOXES, "ADDRESS": ADDRESSES, "SCRIPT": SCRIPTS}
-SINGLES.update({"USE": ["\\Junk", "\\Archive", "Junk"], "ZONE": ["+0200", "-0700", "+0000", "0200"], "DATE_FIELD": ["Date", "Received", "X-None"]})
+SINGLES = {"TEXT": TEXTS, "PLAIN": TEXTS, "BOX": BOXES, "ASKED_BOX": ["Lists", "one", "lists"], "ADDRESS": ADDRESSES, "SCRIPT": SCRIPTS}
+SINGLES.update({"USE": ["\\Junk", "\\Archive"], "ZONE": ["+0200", "-0700", "+0000", "0200"], "DATE_FIELD": ["Date", "Received", "X-None"]})
 # Values of which each is noted.
 NOTED = {"ADDRESS_FIELDS": ADDRESS_FIELDS, "ENVELOPE_PARTS": ["from", "to"], "DATE_PART": dates.PARTS, "RELATION": RELATIONS}
 GAPS = [" "] * 20 + ["\n", "\r\n\t", " # one; {\n", " /* two; } */ "]
 SUBJECTS = ["one", "two", "one two", "order 7", "Offer", "[sieve] news", "Grüße", "", "É"]
-ROW = re.compile(r"\[[^]]*\]|<[^>]*>|\S+")
+ROW = re.compile(r"[\[{<][^\]}>]*[\]}>]|\S+")
 
 
 def rows(text):
@@ -83,7 +92,7 @@ def rows(text):
     return {re.match(r"[a-z]+", line)[0]: ROW.findall(line) for line in text.replace("PART]", f"{PARTS}]").split("\n") if line}
 
 
-COMMAND_ROWS, TEST_ROWS = rows(COMMANDS), rows(TESTS)
+COMMAND_ROWS, TEST_ROWS, SHOWN_ROWS = rows(COMMANDS), rows(TESTS), rows(SHOWN)
 
 
 def quoted(text):
@@ -99,8 +108,8 @@ def in_lines(text):
 class Author:
     """Writes one script, of what is known by some names, and notes the words that it has written."""
 
-    def __init__(self, dice, names, words, barred=()):
-        self.dice, self.words = dice, words
+    def __init__(self, dice, names, barred=()):
+        self.dice, self.words = dice, set()
         self.known = (ALWAYS | set(names)) - set(barred)
         # What the script has to require; the variables that are its own; and those that it shares.
         self.required, self.own, self.shared = set(), set(), set()
@@ -110,7 +119,7 @@ class Author:
         return self.dice.random() < chance
 
     def can(self, needs):
-        """Whether all of this may be required, or now and then something that may not."""
+        """Whether all of this may be required."""
         return set(needs) <= self.known
 
     def word(self, item):
@@ -126,7 +135,7 @@ class Author:
         """A string with this text, or where it is open, maybe with a reference in it."""
         if is_open and self.can(["variables"]) and self.is_rare(0.2):
             self.required.add("variables")
-            text = self.dice.choice([text, text, text, ""]) + self.reference()
+            text += self.reference()
         if text and self.can(["encoded-character"]) and self.is_rare(0.05):
             self.required.add("encoded-character")
             at = self.dice.randrange(len(text))
@@ -150,7 +159,9 @@ class Author:
     # VALUES, BY THEIR WORDS IN THE ROWS
 
     def value(self, kind):
-        """A value of this kind."""
+        """A value of this kind, or now and then one that nothing can be."""
+        if kind in ("BOX", "ADDRESS", "USE") and self.is_rare(0.04):
+            return self.string(self.dice.choice(["", "a\tb", "nobody"]))
         if kind in LISTS:
             return self.list_of(LISTS[kind], kind != "NAMES")
         if kind in SINGLES:
@@ -160,7 +171,9 @@ class Author:
             self.words.update(f"{kind} {name}" for name in names)
             strings = [self.string(name if kind == "RELATION" or self.is_rare(0.8) else name.title(), False) for name in names]
             return strings[0] if len(strings) == 1 else f"[{', '.join(strings)}]"
-        return {"NUMBER": lambda: self.dice.choice(NUMBERS), "NAME": self.assigned, "GLOBALS": self.declared}[kind]()
+        if kind == "NUMBER":
+            return self.dice.choice(NUMBERS)
+        return self.declared() if kind == "GLOBALS" else self.assigned()
 
     def assigned(self):
         """The name of a variable that a command changes."""
@@ -210,20 +223,21 @@ class Author:
         head, *parts = row
         name, tags, slots = head.partition("+")[0], [], []
         for part in parts:
-            inner = part.strip("[]<>")
+            inner, chance = part.strip("[]{}<>"), {"[": 0.45, "{": 0.9}.get(part[0], 1)
             if inner == "COMPARE":
                 tags += self.comparing(name)
-            elif part[0] == "<" or part[0] == "[" and self.is_rare(0.45):
-                (tags if inner[0] == ":" else slots).extend(self.option(name, inner))
-            elif part[0] != "[":
-                slots.append(self.value(part))
+            elif inner[0] == ":" or chance < 1:
+                (tags if inner[0] == ":" else slots).extend(self.option(name, inner) if self.is_rare(chance) else [])
+            else:
+                slots.append(inner if inner[0] == '"' else self.value(inner))
         self.dice.shuffle(tags)
         return self.dice.choice(GAPS).join([self.word(head), *tags, *slots])
 
-    def chosen(self, table):
-        """A row of those that may be taken."""
-        rows = [it for name, it in table.items() if self.can(it[0].split("+")[1:]) for _ in range(1 if name in RARE else 3 * FREQUENT.get(name, 1))]
-        return self.dice.choice(rows)
+    def chosen(self, table, evenly=False):
+        """A row of those that may be taken, each as often as it is to be."""
+        rows = {name: row for name, row in table.items() if self.can(row[0].split("+")[1:])}
+        weights = [1 if evenly or name in RARE else 3 * FREQUENT.get(name, 1) for name in rows]
+        return self.dice.choices(list(rows.values()), weights)[0]
 
     def test(self, depth=0):
         """A test, maybe of others."""
@@ -249,9 +263,15 @@ class Author:
             branches.append(f"{self.word('else')} {self.block(depth)}")
         return self.dice.choice(GAPS).join(branches)
 
+    def shown(self):
+        """A command of which the verdict shows what the message or the bench is like."""
+        self.required.update(["fileinto", "variables"])
+        return f'{self.word("if")} {self.by_row(self.chosen(SHOWN_ROWS, evenly=True))} {{ {self.word("fileinto")} "{self.dice.choice("xyz")} ${{1}}"; }}'
+
     def script(self, wrong=None, at_top=False):
         """A script, which has this line of the table of faults where one is given, and the number of that line."""
-        commands = [self.command() for _ in range(self.dice.randrange(1, 6))]
+        commands = [self.shown() for _ in range(self.dice.randrange(1, 4) if self.can(["fileinto"]) else 0)]
+        commands += [self.command() for _ in range(self.dice.randrange(1, 5))]
         # What is required after another command is another fault.
         place = 0 if wrong is None or at_top or wrong["wrong"].startswith("require ") else self.dice.randrange(len(commands) + 1)
         if wrong is not None:

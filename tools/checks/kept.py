@@ -23,19 +23,25 @@ from .edits import fresh, quoted, served
 from .homes import FORMATS, LANGUAGE, rows, text_of, words
 from .runs import Reading, put, wanted_and_got
 
-WALKS, REPORTS = 16, 20
+WALKS, REPORTS = 16, 50
 # Of so many reports one is compared with that of a bench that is made anew, and one verdict with that of its own run.
 EVERY = 1
+# So many scripts are written until one has a word that is looked for.
+TRIES = 9
 NAMES = words("crates/sieve_profile/src/extension.rt")
 TABLE = grammar.table()
 # A reply ends by such a line, and has no other one.
 REPLY = re.compile(rb"(?:.*\n)*?(?:ok|no .*|total .*)\n")
+MAIN = b'personal "main"'
+ACTION = rb"^  (?:store|redirect|discard|vacation|reject|ereject)\b"
 OWN_LINES = (b"  envelope ", b"  expected\n", b"  unexpected\n")
 
 
 class Bench(edits.Bench):
     """A bench whose scripts and mails are of all words. `faults` has the fault that is wanted of each text, or `ok`, or `fault` where it isn't
     known which one."""
+
+    often = 5
 
     def __init__(self, names, covered):
         super().__init__(names)
@@ -44,27 +50,38 @@ class Bench(edits.Bench):
     def text(self, dice):
         """A script: mostly one without a fault."""
         kind = dice.random()
-        return self.wrong(dice, dice.choice(TABLE))[0] if kind < 0.08 else self.sound(dice, NAMES if kind < 0.12 else self.names)
+        if kind < 0.06:
+            return self.wrong(dice, dice.choice(TABLE))[0]
+        return self.beyond(dice) if kind < 0.14 and len(self.names) < len(NAMES) else self.sound(dice, self.names)
 
     def mail(self, dice):
         """A mail."""
         return grammar.mail(dice, self.covered)
 
-    def sound(self, dice, names):
-        """A script that has no fault where all of this is known."""
-        author = grammar.Author(dice, names, self.covered)
-        if dice.random() < 0.05:
-            author.required.add(grammar.UNKNOWN)
-        text = author.script()[0].encode()
+    def sound(self, dice, names, name=None):
+        """A script that has no fault where all of this is known, and that needs this name where one is given, if one comes soon."""
+        for _ in range(TRIES):
+            author = grammar.Author(dice, names)
+            author.required.update([grammar.UNKNOWN] * author.is_rare(0.05))
+            text = author.script()[0].encode()
+            if name is None or name in author.required:
+                break
+        self.covered.update(author.words)
         unknown = author.required - grammar.ALWAYS - set(self.names) - ({grammar.UNKNOWN} if "unused" in self.names else set())
         self.faults[text] = b"fault" if unknown else b"ok"
         return text
 
+    def beyond(self, dice):
+        """A script that needs a name which this bench isn't asked for."""
+        name = dice.choice([name for name in NAMES if name not in self.names])
+        return self.sound(dice, [*self.names, name], name)
+
     def wrong(self, dice, row, at_top=False):
         """A script with a line of the table of faults, and the number of that line."""
-        author = grammar.Author(dice, self.names, self.covered, grammar.BARRED.get(row["word"], ()))
+        author = grammar.Author(dice, self.names, grammar.BARRED.get(row["word"], ()))
         text, line = author.script(row, at_top)
         text = text.encode()
+        self.covered.update(author.words)
         is_known = set(filter(None, row["with"].split(","))) <= set(self.names)
         if not row["told"].startswith("script ") or row["word"] == "unknown-capability" and "unused" in self.names:
             self.faults[text] = b"ok" if is_known else b"fault"
@@ -77,22 +94,29 @@ class Bench(edits.Bench):
         self.scripts[key] = text
         return put(b"script %s %s" % (b"global" if key[0] else b"personal", quoted(key[1])), text), b"ok"
 
+    def put_main(self):
+        """The edit that makes the main script main."""
+        self.main = MAIN
+        return b"main " + MAIN + b"\n", b"ok"
+
     def scene(self, dice, row):
         """Edits by which the main script has a line of the table, with the scripts that it needs, and the error that every verdict has then."""
         made = [self.put_script((False, name.encode()), text.encode()) for name, text in (it.split(": ", 1) for it in row["scripts"].split(" & ") if it)]
         text, line = self.wrong(dice, row, at_top=True)
         made.append(self.put_script((False, b"main"), text))
-        self.main = b"personal main"
-        made.append((b"main personal main\n", b"ok"))
+        made.append(self.put_main())
         while not self.messages:
             made.append(self.edit_of_message(dice, "message", dice.choice(edits.IDS)))
         is_error = row["told"].startswith("error ") and self.faults[text] == b"ok"
         return made, re.sub('"main" line [0-9]+', f'"main" line {line}', row["told"]).encode() if is_error else None
 
+    def is_sound(self):
+        """Whether there is a main script, and it has no fault."""
+        return self.main == MAIN and self.faults.get(self.scripts.get((False, b"main"))) == b"ok"
+
     def again(self, dice):
         """Edits by which the main script is there and has no fault."""
-        self.main = b"personal main"
-        return [self.put_script((False, b"main"), self.sound(dice, self.names)), (b"main personal main\n", b"ok")]
+        return [self.put_script((False, b"main"), self.sound(dice, self.names)), self.put_main()]
 
     def start(self, dice):
         """Edits by which there are some scripts and mails."""
@@ -100,11 +124,11 @@ class Bench(edits.Bench):
         return scripts + self.again(dice) + [self.edit_of_message(dice, "message", at) for at in edits.IDS]
 
     def alone(self, at):
-        """What makes a bench anew that has this mail alone: files and words for `sievebench test`, or edits where its main script isn't
-        one of the files."""
-        main = self.main == b"personal " + quoted(b"main") or self.main == b"personal main"
+        """What makes a bench anew that has this mail alone: files and words for `sievebench test`, or no files and edits where the main
+        script isn't a personal one that is there."""
+        name = next((name for shared, name in self.scripts if not shared and b"personal " + quoted(name) == self.main), None)
         octets, _, own = self.messages[at]
-        if not main or (False, b"main") not in self.scripts:
+        if name is None:
             other = Bench(self.names, set())
             other.__dict__.update(self.__dict__, messages={at: (octets, None, own)})
             return {}, other.anew()
@@ -114,7 +138,7 @@ class Bench(edits.Bench):
         given += [b"--with", ",".join(self.names).encode()] if self.names else []
         given += [] if self.clock is None else [b"--clock", self.clock.replace(b" ", b"")]
         given += [b"--mailboxes", b"list"] if "mailbox" in self.names else []
-        return {**files, "mail": octets, "list": self.mailboxes}, [*given, b"personal/main.sieve", b"mail"]
+        return {**files, "mail": octets, "list": self.mailboxes}, [*given, b"personal/" + name + b".sieve", b"mail"]
 
 
 class Step:
@@ -140,14 +164,17 @@ class Walk(Reading):
         self.room, self.number, self.dice, self.covered = room, number, dice, covered
 
     def steps(self):
-        """The session, and a bench that is asked for all names has each line of the table of faults once."""
+        """The session. The bench that is asked for all names has each line of the table of faults once."""
         bench = Bench(self.names, self.covered)
         scenes = [row for row in TABLE if self.number == 1 or self.dice.random() < 0.1]
         self.covered.update(f"with {name}" for name in self.names)
-        yield Step(bench, self.dice, bench.start(self.dice), None)
+        error = None
+        yield Step(bench, self.dice, bench.start(self.dice), error)
         for row in self.dice.sample([*scenes, *[None] * REPORTS], len(scenes) + REPORTS):
-            made = bench.again(self.dice) if self.dice.random() < 0.5 else []
-            made += [bench.edit(self.dice) for _ in range(self.dice.choice([0, 1, 1, 1, 2, 3, 5]))]
+            # Mostly there is one edit alone, which must not be missed, and a main script without a fault that it may change.
+            is_idle = error or not bench.is_sound()
+            made = bench.again(self.dice) if self.dice.random() < (0.8 if is_idle else 0.1) else []
+            made += [bench.edit(self.dice) for _ in range(self.dice.choice([0, 1, 1, 1, 1, 1, 1, 2, 3, 5]))]
             scene, error = bench.scene(self.dice, row) if row else ([], None)
             self.covered.update(f"line {octets.split()[0].decode()}" for octets, _ in [*made, *scene])
             step = Step(bench, self.dice, made + scene, error)
@@ -157,28 +184,31 @@ class Walk(Reading):
     def found(self, path):
         """What is other than on benches that are made anew, or than it is written."""
         steps = list(self.steps())
-        session = b"".join(b"".join([*(octets for octets, _ in step.edits), *step.questions]) for step in steps)
-        got = REPLY.findall(served(path, session, self.names))
-        found = []
+        replies = served(path, b"".join(b"".join([*(octets for octets, _ in step.edits), *step.questions]) for step in steps), self.names)
+        got = REPLY.findall(replies)
         with concurrent.futures.ThreadPoolExecutor(os.cpu_count()) as pool:
             some = range(self.number % EVERY, len(steps), EVERY)
             anew = {at: pool.submit(fresh, path, steps[at].anew, b"".join(steps[at].questions), self.names) for at in some}
             alone = {at: pool.submit(self.verdict_alone, path, steps[at]) for at in some if steps[at].alone}
+        place = 0
         for at, step in enumerate(steps):
-            made, told, got = got[: len(step.edits)], got[len(step.edits) : len(step.edits) + len(step.questions)], got[len(step.edits) + len(step.questions) :]
-            found += self.of_step(step, made, told, anew.get(at), alone.get(at))
+            middle, end = place + len(step.edits), place + len(step.edits) + len(step.questions)
+            found = self.of_edits(step, got[place:middle]) + self.of_answers(step, got[middle:end], anew.get(at), alone.get(at))
             if found:
                 return [f"at report {at}: {line}" for line in found]
-        return [f"more after the last report: {got!r:.2000}"] if got else []
+            place = end
+        return [] if b"".join(got[:place]) == replies else [f"more after the last report: {got[place:]!r:.2000}"]
 
-    def of_step(self, step, made, told, anew, alone):
-        """What is other than it must be in the replies to a step's edits and in the answers to its questions."""
-        replies = [reply + b"\n" for _, reply in step.edits]
-        found = [] if made == replies else [f"edits: {wanted_and_got(replies, made)}"]
-        if anew:
-            found += [] if anew.result() == b"".join(told) else [wanted_and_got(anew.result(), b"".join(told))]
-        report = told[-1] if told else b""
+    def of_edits(self, step, got):
+        """What is other than it must be in the replies to a step's edits."""
+        wanted = [reply + b"\n" for _, reply in step.edits]
+        return [] if got == wanted else [f"edits: {wanted_and_got(wanted, got)}"]
+
+    def of_answers(self, step, got, anew, alone):
+        """What is other than it must be in the answers to a step's questions, of which the last is a report."""
+        report = got[-1] if got else b""
         verdicts = dict(re.findall(rb"^message (.*)\n((?:  .*\n)*)", report, re.M))
+        found = [wanted_and_got(anew.result(), b"".join(got))] if anew and anew.result() != b"".join(got) else []
         if alone:
             verdict = verdict_of(verdicts.get(quoted(step.at), b"none"))
             found += [] if alone.result() == verdict else [f"of {step.at!r} alone: {wanted_and_got(alone.result(), verdict)}"]
@@ -188,8 +218,15 @@ class Walk(Reading):
             found += [] if fault is None or is_so else [f"{line!r}: wanted {fault!r}, got {told}"]
         found += [f"without {step.error!r}: {verdict!r}" for verdict in verdicts.values() if step.error and step.error not in verdict]
         self.looked += 1 + bool(anew) + bool(alone) + len(step.faults)
-        self.covered.update(f"told {word.decode()}" for word in re.findall(rb"^  ([a-z]+)| line [0-9]+ ([a-z-]+)$", report, re.M) for word in word)
-        return found
+        self.covered.update(f"told {word.decode()}" for words in re.findall(rb"^  ([a-z]+)| line [0-9]+ ([a-z-]+)$", report, re.M) for word in words)
+        return found + self.of_names(report)
+
+    def of_names(self, report):
+        """What is other in a report than the names say."""
+        told, wanted = re.findall(rb"^with (.*)", report, re.M), [" ".join(self.names).encode()] if self.names else []
+        actions, lines = (len(re.findall(pattern, report, re.M)) for pattern in (ACTION, rb"^  at "))
+        found = [] if told == wanted else [f"with {told}"]
+        return found + ([] if lines == actions * ("lines" in self.names) else [f"{lines} lines of {actions} actions: {report!r:.2000}"])
 
     def verdict_alone(self, path, step):
         """The verdict of a mail alone."""
@@ -242,6 +279,8 @@ def wanted_words():
     for kind, names in [("ADDRESS_FIELDS", address), ("ENVELOPE_PARTS", part)]:
         yield from (f"{kind} {name}" for name in re.findall(r'b"(.*?)"', names))
     yield from (f"with {name}" for name in NAMES)
+    charsets = next(row[1] for row in rows(LANGUAGE, "\n## Extensions") if row[0] == "`charsets`")
+    yield from (f"charset {name}" for name in re.findall(r"`(.*?)`", charsets))
     yield from tags_in("\n## Commands")
     yield from tags_in("\n## Tests")
     yield from (f"line {row[0].strip('`').split()[0]}" for row in rows(FORMATS, "A line without words has no reply"))
