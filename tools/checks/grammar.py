@@ -271,6 +271,8 @@ class Author:
     def script(self, wrong=None, at_top=False):
         """A script, which has this line of the table of faults where one is given, and the number of that line."""
         commands = [self.shown() for _ in range(self.dice.randrange(1, 4) if self.can(["fileinto"]) else 0)]
+        if self.can(["include"]) and self.is_rare(0.35):
+            commands.append(f"{self.by_row(COMMAND_ROWS['include'])};")
         commands += [self.command() for _ in range(self.dice.randrange(1, 5))]
         # What is required after another command is another fault.
         place = 0 if wrong is None or at_top or wrong["wrong"].startswith("require ") else self.dice.randrange(len(commands) + 1)
