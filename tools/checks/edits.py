@@ -176,15 +176,6 @@ def fresh(path, edits, questions, names):
     return replies[len(told) :] if replies.startswith(told) else b"not all edits are made: " + replies
 
 
-def parted(got, wanted, what):
-    """What is other than wanted of some replies in turn: the first one that is."""
-    for number, reply in enumerate(wanted):
-        if not got.startswith(reply):
-            return [f"at {what} {number}: {wanted_and_got(reply, got[: len(reply)])}"]
-        got = got[len(reply) :]
-    return [f"more after the last {what}: {got!r:.2000}"] if got else []
-
-
 class Walk:
     """So many edits in turn."""
 
@@ -203,7 +194,12 @@ class Walk:
         with concurrent.futures.ThreadPoolExecutor(os.cpu_count()) as pool:
             reports = pool.map(lambda edits: fresh(path, edits, b"report\n", self.names), anew)
             wanted = [reply + report for reply, report in zip(made, reports)]
-        return parted(served(path, b"".join(session), self.names), wanted, "edit")
+        got = served(path, b"".join(session), self.names)
+        for step, reply in enumerate(wanted):
+            if not got.startswith(reply):
+                return [f"at edit {step}: {wanted_and_got(reply, got[: len(reply)])}"]
+            got = got[len(reply) :]
+        return [f"more after the last report: {got!r:.2000}"] if got else []
 
 
 def of_benches():

@@ -62,7 +62,7 @@ NEEDLESS, UNKNOWN = ["comparator-i;octet", "comparator-i;ascii-casemap"], "regex
 BARRED = {"not-required": {"fileinto"}, "bad-namespace": {"include"}}
 # Commands that end much are taken less often, and tests more often that ask for what edits change.
 RARE = ["stop", "return"]
-FREQUENT = {"fileinto": 5, "include": 3, "set": 2, "header": 3, "envelope": 2, "mailboxexists": 4, "currentdate": 3}
+FREQUENT = {"fileinto": 5, "include": 3, "set": 2, "address": 2, "header": 3, "envelope": 2, "mailboxexists": 4, "currentdate": 3}
 
 SCRIPTS = ["main", "a", "b", "c", 'd "e"']
 VARIABLES = ["a", "B", "box_1", "_x"]
@@ -167,7 +167,7 @@ class Author:
         if kind in SINGLES:
             return self.string(self.dice.choice(SINGLES[kind]), kind not in ("SCRIPT", "PLAIN"))
         if kind in NOTED:
-            names = self.dice.choices(NOTED[kind], k=1 if kind in ("DATE_PART", "RELATION") else self.dice.randrange(1, 3))
+            names = self.dice.choices(NOTED[kind], k=1 if kind in ("DATE_PART", "RELATION") else self.dice.randrange(1, 5))
             self.words.update(f"{kind} {name}" for name in names)
             strings = [self.string(name if kind == "RELATION" or self.is_rare(0.8) else name.title(), False) for name in names]
             return strings[0] if len(strings) == 1 else f"[{', '.join(strings)}]"
@@ -312,7 +312,7 @@ def mail(dice, words):
     """A mail: fields of which some come twice or not at all, and entities in one another or a line of text."""
     moment, zone = dates.moment_of(dice)
     subject = dice.choice(SUBJECTS)
-    subject = word_of(dice, subject, words) if dice.random() < 0.4 else subject
+    subject = word_of(dice, subject, words) if dice.random() < 0.7 else subject
     fields = [f"Subject: {subject}", f"From: {dice.choice(ADDRESSES)}", f"To: {', '.join(dice.choices(ADDRESSES, k=2))}"]
     fields += [
         f"Date: {dates.shaped(dice, moment, zone)}",
