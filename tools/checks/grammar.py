@@ -274,6 +274,10 @@ class Author:
         if self.can(["include"]) and self.is_rare(0.35):
             commands.append(f"{self.by_row(COMMAND_ROWS['include'])};")
         commands += [self.command() for _ in range(self.dice.randrange(1, 5))]
+        answers = [name for name in ("reject", "ereject", "vacation") if name in self.known]
+        if answers and self.is_rare(0.15):
+            # A rejection is alone, since a store goes with none.
+            commands = [f"{self.by_row(COMMAND_ROWS[self.dice.choice(answers)])}; {self.word('stop')};", *commands]
         # What is required after another command is another fault.
         place = 0 if wrong is None or at_top or wrong["wrong"].startswith("require ") else self.dice.randrange(len(commands) + 1)
         if wrong is not None:
