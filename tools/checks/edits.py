@@ -5,10 +5,11 @@ import os
 import random
 import subprocess
 
-from .runs import SECONDS, put
+from . import runs
+from .runs import put, wanted_and_got
 
 WALKS, STEPS = 12, 250
-PROFILE = "date,envelopes,lines,mailbox"
+PROFILE = ["date", "envelopes", "lines", "mailbox"]
 NAMES = [b"main", b"a", b"b", b"c", b'd "e"']
 IDS = [b"m1", b"m2", b"m3", b"m 4"]
 SUBJECTS = [b"one", b"two", b"one two", b""]
@@ -50,16 +51,29 @@ def text_of(dice, has_names):
 
 
 class Bench:
-    """What a bench holds, by the rules of its edits: of each message the octets, what is expected and its own addresses."""
+    """What a bench of some names holds, by the rules of its edits: of each message the octets, what is expected and its own addresses."""
 
-    def __init__(self, has_names):
-        self.has_names, self.scripts, self.messages = has_names, {}, {}
+    # How often the edits are made that only some names bring.
+    often = 1
+
+    def __init__(self, names):
+        self.names, self.scripts, self.messages = names, {}, {}
         self.main, self.envelope, self.mailbox, self.mailboxes, self.clock = None, (b"", b""), b"INBOX", b"", None
+
+    def text(self, dice):
+        """A script to put."""
+        return text_of(dice, bool(self.names))
+
+    def mail(self, dice):
+        """A message to put."""
+        return b"Subject: " + dice.choice(SUBJECTS) + b"\n\n"
 
     def edit(self, dice):
         """Makes an edit, and gives its octets and the reply that is due."""
         kinds = ["script"] * 6 + ["rename"] * 3 + ["message"] * 3 + ["drop-script", "drop-script", "drop-message", "main", "main", "no-main", "envelope", "mailbox", "expect", "expect", "no-expect"]
-        kind = dice.choice(kinds + (["mailboxes", "message-envelope", "message-envelope", "no-message-envelope", "clock", "no-clock"] if self.has_names else []))
+        kinds += ["mailboxes"] * self.often * ("mailbox" in self.names)
+        kinds += ["message-envelope", "message-envelope", "no-message-envelope"] * ("envelopes" in self.names)
+        kind = dice.choice(kinds + ["clock", "no-clock"] * self.often * ("date" in self.names))
         place, name = dice.choice([b"personal", b"personal", b"global"]), dice.choice(NAMES)
         words = place + b" " + quoted(name)
         key, at = (place != b"personal", name), dice.choice(IDS)
@@ -90,7 +104,7 @@ class Bench:
     def edit_of_message(self, dice, kind, at):
         """Makes an edit of a message, by its id."""
         if kind == "message":
-            octets = b"Subject: " + dice.choice(SUBJECTS) + b"\n\n"
+            octets = self.mail(dice)
             self.messages[at] = octets, *self.messages.get(at, (b"", None, None))[1:]
             return put(b"message " + quoted(at), octets), b"ok"
         if kind == "drop-message":
@@ -115,7 +129,7 @@ class Bench:
     def edit_of_script(self, dice, kind, key, words):
         """Makes an edit of a script, by its place and name, and by the words for these."""
         if kind == "script":
-            text = self.scripts.get(key, b"") if dice.random() < 0.1 else text_of(dice, self.has_names)
+            text = self.scripts.get(key, b"") if dice.random() < 0.1 else self.text(dice)
             self.scripts[key] = text
             return put(b"script " + words, text), b"ok"
         if kind == "drop-script":
@@ -132,16 +146,16 @@ class Bench:
         return line, b"ok"
 
     def anew(self):
-        """A session that makes a new bench of this, and reports."""
-        settings = [b"envelope %s %s\n" % tuple(quoted(it) for it in self.envelope), b"mailbox " + self.mailbox + b"\n"]
-        scripts = [put(b"script %s %s" % (b"global" if shared else b"personal", quoted(name)), text) for (shared, name), text in self.scripts.items()]
-        settings += [put(b"mailboxes", self.mailboxes)] if self.has_names else []
-        settings += [] if self.clock is None else [b"clock %s\n" % self.clock]
-        messages = [put(b"message " + quoted(at), octets) for at, (octets, _, _) in self.messages.items()]
-        messages += [put(b"expect " + quoted(at), text) for at, (_, text, _) in self.messages.items() if text is not None]
-        messages += [addressed(at, own) for at, (_, _, own) in self.messages.items() if own is not None]
-        main = [] if self.main is None else [b"main " + self.main + b"\n"]
-        return b"".join(settings + scripts + messages + main) + b"report\n"
+        """The edits that make a new bench of this."""
+        edits = [b"envelope %s %s\n" % tuple(quoted(it) for it in self.envelope), b"mailbox " + self.mailbox + b"\n"]
+        edits += [put(b"mailboxes", self.mailboxes)] * ("mailbox" in self.names)
+        edits += [] if self.clock is None else [b"clock %s\n" % self.clock]
+        edits += [put(b"script %s %s" % (b"global" if shared else b"personal", quoted(name)), text) for (shared, name), text in self.scripts.items()]
+        for at, (octets, text, own) in self.messages.items():
+            edits += [put(b"message " + quoted(at), octets)]
+            edits += [] if text is None else [put(b"expect " + quoted(at), text)]
+            edits += [] if own is None else [addressed(at, own)]
+        return edits + ([] if self.main is None else [b"main " + self.main + b"\n"])
 
 
 def addressed(at, own):
@@ -149,44 +163,46 @@ def addressed(at, own):
     return b"message-envelope %s %s %s\n" % tuple(quoted(it) for it in (at, *own))
 
 
-def served(path, octets, has_names):
+def served(path, octets, names):
     """What the program replies to a session."""
     env = {**os.environ, "PATH": path}
-    words = ["sievebench", "session", *([f"--with={PROFILE}"] if has_names else [])]
-    return subprocess.run(words, input=octets, env=env, capture_output=True, timeout=SECONDS, check=True).stdout
+    words = ["sievebench", "session", *([f"--with={','.join(names)}"] if names else [])]
+    return subprocess.run(words, input=octets, env=env, capture_output=True, timeout=runs.SECONDS, check=True).stdout
 
 
-def last_report(replies):
-    """The report at the end of some replies, after the lines that say that edits were made, or all of them where there is none."""
-    return replies[replies.rfind(b"main ", 0, replies.find(b"\nenvelope ")) :] if b"\nenvelope " in replies else replies
+def fresh(path, edits, questions, names):
+    """What a new bench replies to questions after these edits, of which none is refused."""
+    told, replies = b"ok\n" * len(edits), served(path, b"".join(edits) + questions, names)
+    return replies[len(told) :] if replies.startswith(told) else b"not all edits are made: " + replies
 
 
 class Walk:
     """So many edits in turn."""
 
-    def __init__(self, seed):
-        self.seed, self.has_names = seed, seed % 2 == 1
-        self.title, self.command = f"{STEPS} random edits, each with a report", f"seed {seed}"
+    def __init__(self, number):
+        self.number, self.names = number, PROFILE if number % 2 else []
+        self.title, self.command = f"{STEPS} random edits, each with a report", f"number {number}"
 
     def differences(self, path):
         """What is other than on a bench that is made anew."""
-        dice, bench, session, wanted, anew = random.Random(self.seed), Bench(self.has_names), [], [], []
+        dice, bench, session, made, anew = random.Random(self.number), Bench(self.names), [], [], []
         for _ in range(STEPS):
             octets, reply = bench.edit(dice)
             session.append(octets + b"report\n")
-            wanted.append(reply + b"\n")
+            made.append(reply + b"\n")
             anew.append(bench.anew())
         with concurrent.futures.ThreadPoolExecutor(os.cpu_count()) as pool:
-            fresh = list(pool.map(lambda octets: last_report(served(path, octets, self.has_names)), anew))
-        got = served(path, b"".join(session), self.has_names)
-        for step, (reply, report) in enumerate(zip(wanted, fresh)):
-            if not got.startswith(reply + report):
-                return [f"at edit {step}: wanted {reply + report!r:.2000}, got {got[: len(reply + report)]!r:.2000}"]
-            got = got[len(reply + report) :]
+            reports = pool.map(lambda edits: fresh(path, edits, b"report\n", self.names), anew)
+            wanted = [reply + report for reply, report in zip(made, reports)]
+        got = served(path, b"".join(session), self.names)
+        for step, reply in enumerate(wanted):
+            if not got.startswith(reply):
+                return [f"at edit {step}: {wanted_and_got(reply, got[: len(reply)])}"]
+            got = got[len(reply) :]
         return [f"more after the last report: {got!r:.2000}"] if got else []
 
 
 def of_benches():
     """All walks."""
-    for seed in range(WALKS):
-        yield Walk(seed)
+    for number in range(WALKS):
+        yield Walk(number)
