@@ -53,7 +53,7 @@ def text_of(dice, has_names):
 class Bench:
     """What a bench of some names holds, by the rules of its edits: of each message the octets, what is expected and its own addresses."""
 
-    # How often the edits are made that only some names bring.
+    # How often edits are made that few verdicts notice: renames, and those that only some names bring.
     often = 1
 
     def __init__(self, names):
@@ -71,7 +71,7 @@ class Bench:
     def edit(self, dice):
         """Makes an edit, and gives its octets and the reply that is due."""
         kinds = ["script"] * 6 + ["rename"] * 3 + ["message"] * 3 + ["drop-script", "drop-script", "drop-message", "main", "main", "no-main", "envelope", "mailbox", "expect", "expect", "no-expect"]
-        kinds += ["mailboxes"] * self.often * ("mailbox" in self.names)
+        kinds += ["rename"] * (2 * self.often - 2) + ["mailboxes"] * self.often * ("mailbox" in self.names)
         kinds += ["message-envelope", "message-envelope", "no-message-envelope"] * ("envelopes" in self.names)
         kind = dice.choice(kinds + ["clock", "no-clock"] * self.often * ("date" in self.names))
         place, name = dice.choice([b"personal", b"personal", b"global"]), dice.choice(NAMES)
