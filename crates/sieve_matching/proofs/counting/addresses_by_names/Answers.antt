@@ -14,6 +14,6 @@ loop-i-preserved c =
     let names = map (text_value c.args.values.now) c.args.names.now in
     let more = subst (λ (a : Arrival). c.in_ok-addresses_by_name.field-0 ≡ length (parts_named All (fields_of a.message) c.in_ok-name.name)) c.loop-i.invariant.0 c.in_ok-addresses_by_name.ensures.count in (
       c.addresses_by_name.ensures.arrival ∙ c.loop-i.invariant.0,
-      ap (λ n. n + length (flat_map named (drop (c.loop-i.i + 1) names))) (c.in_ok-count.ensures ∙ ap (λ n. c.loop-i.count + n) more)
+      ap (λ n. n + length (flat_map named (drop (c.loop-i.i + 1) names))) (c.in_ok-count.ensures.ok ∙ ap (λ n. c.loop-i.count + n) more)
           ∙ counted_at named names c.loop-i.i c.in_ok-name.name c.loop-i.count _ c.in_ok-name.ensures c.loop-i.invariant.1,
     )

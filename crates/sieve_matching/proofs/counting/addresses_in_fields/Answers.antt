@@ -24,6 +24,6 @@ loop-start-preserved c =
     let next = subst (λ (m : List ℕ). IsNextNamed (fields_of m) name c.loop-start.start c.in-Some.i) c.message-message.ensures c.in-Some.ensures.some in
     let at = subst (λ (a : Arrival). slice_get (map (λ listed. length listed) (address_lists_of a.message)) c.in-Some.i ≡ Some c.in_ok-addresses_at.field-0) c.loop-start.invariant.0 c.in_ok-addresses_at.ensures.count in (
       c.addresses_at.ensures.arrival ∙ c.loop-start.invariant.0,
-      ap (λ n. n + length (flat_map (parts_of_value All) (values_named (drop (c.in-Some.i + 1) (fields_of message)) name))) c.in_ok-count.ensures
+      ap (λ n. n + length (flat_map (parts_of_value All) (values_named (drop (c.in-Some.i + 1) (fields_of message)) name))) c.in_ok-count.ensures.ok
           ∙ addresses_more message name c.loop-start.start c.in-Some.i c.in_ok-addresses_at.field-0 c.loop-start.count _ next at c.loop-start.invariant.1,
     )
