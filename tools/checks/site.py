@@ -181,7 +181,7 @@ def of_refusals(room):
     write(room / "twice", site({"1.eml": b"", "1.eml.expect": b"[main]\ndiscard\n[main]\n"}, main=b""))
     yield run("a name again", room, "check twice", b"", told('"twice/mails/1.eml.expect", line 3: [main] stood there before'), 2)
     write(room / "words", site({"1.eml": b"", "1.eml.envelope": b"a b c\n"}, main=b""))
-    yield run("an envelope of three words", room, "check words", b"", told('"words/mails/1.eml.envelope" isn\'t two words, as in a session'), 2)
+    yield run("an envelope of three words", room, "check words", b"", told('"words/mails/1.eml.envelope" isn\'t two addresses, the sender\'s and the recipient\'s'), 2)
     write(room / "lone", {"personal/main.sieve": b"", "mains": b"main\n", "mails/x.txt": b""})
     yield run("no mails", room, "check lone", b"", told('no mails in "lone/mails": they are files whose names end by .eml'), 2)
     write(room / "unnamed", {"personal/main.sieve": b"", "mails/1.eml": b""})
@@ -230,7 +230,7 @@ def of_programs(room):
 def of_broken_files(room):
     """Files that can't be read as what they are."""
     write(room / "touch", site({"1.eml": b"", "1.eml.envelope": b'""ada@home.example\n'}, main=b""))
-    yield run("an envelope of words that touch", room, "check touch", b"", told('"touch/mails/1.eml.envelope" isn\'t two words, as in a session'), 2)
+    yield run("an envelope of words that touch", room, "check touch", b"", told('"touch/mails/1.eml.envelope" isn\'t two addresses, the sender\'s and the recipient\'s'), 2)
     write(room / "sender", site({"1.eml": b"", "1.eml.envelope": b'"" ' + b"a" * 1_020 + b"@b.example"}, main=b""))
     yield run("an envelope that is refused", room, "check sender", b"", told(f'"sender/mails/1.eml.envelope": the recipient "{"a" * 100}" is no address: it has more than 1,024 octets'), 2)
     write(room / "bare", {**site({"1.eml": b""}, main=b""), "mains": b"\n"})

@@ -47,11 +47,13 @@ def wrong_with(address: bytes) -> Optional[str]:
 
 
 def envelope_in(path: bytes) -> Envelope:
-    """The envelope of a file, which has two addresses."""
+    """The envelope of a file, which has two addresses. The empty sender of a bounce may be `<>` (RFC 5321, section 4.5.5)."""
     words = words_in(octets_of(path))
     if words is None or len(words) != 2:
-        refuse(f"{quoted(path)} isn't two words, as in a session")
+        refuse(f"{quoted(path)} isn't two addresses, the sender's and the recipient's")
     sender, recipient = (unquoted(word) for word in words)
+    if sender == b"<>":
+        sender = b""
     for what, address in (("sender", sender), ("recipient", recipient)):
         wrong = wrong_with(address)
         if wrong:

@@ -34,7 +34,9 @@ class Envelopes(unittest.TestCase):
             path = pathlib.Path(room, "x")
             path.write_bytes(b'# from\n""\r\n  "\\"c d\\"@e"  # to\n')
             self.assertEqual(envelope_in(bytes(path)), Envelope(b"", b'"c d"@e'))
-            for octets in (b"", b"a@b", b"a@b c@d e@f", b'""a@b', b"a@b c"):
+            path.write_bytes(b"<> a@b\n")
+            self.assertEqual(envelope_in(bytes(path)), Envelope(b"", b"a@b"))
+            for octets in (b"", b"a@b", b"a@b c@d e@f", b'""a@b', b"a@b c", b"a@b <>"):
                 path.write_bytes(octets)
                 with self.subTest(octets=octets), self.assertRaises(Refusal):
                     envelope_in(bytes(path))
