@@ -317,8 +317,8 @@ profile_kept content (clear_message_envelope id) new made = sym (ap (λ (c : Con
 profile_kept content (set_clock clock) new made = sym (ap (λ (c : Content). c.profile) (accepted None _ new made).1)
 profile_kept content clear_clock new made = sym (ap (λ (c : Content). c.profile) (accepted None _ new made).1)
 
-profile_kept : (content : Content) (edit : Edit) → (made_or_old content (after content edit)).profile ≡ content.profile
-profile_kept content edit = by (after content edit) refl
+profile_after : (content : Content) (edit : Edit) → (made_or_old content (after content edit)).profile ≡ content.profile
+profile_after content edit = by (after content edit) refl
   where
     by : (made : Result Content EditFault) → after content edit ≡ made → (made_or_old content made).profile ≡ content.profile
     by (Ok new) is = profile_kept content edit new is
@@ -327,7 +327,7 @@ profile_kept content edit = by (after content edit) refl
 pub profile_stays : (content : Content) (edits : List Edit) → (content_after content edits).profile ≡ content.profile
 unfolding content_after
 profile_stays content [] = refl
-profile_stays content (edit ∷ edits) = profile_stays (made_or_old content (after content edit)) edits ∙ profile_kept content edit
+profile_stays content (edit ∷ edits) = profile_stays (made_or_old content (after content edit)) edits ∙ profile_after content edit
 
 -- A NEW BENCH
 
