@@ -4,7 +4,7 @@ ghost use Rattle.std.specs.Prelude.{◌≤◌, IfOk, length};
 
 use devices::{Counted, Piece, WriteFault, write_pieces};
 use script_names::{Location, ScriptName};
-use sieve_run::{Outcome, write_action, write_error, write_implicit, write_read};
+use sieve_run::{Outcome, write_action, write_error, write_implicit, write_lookup};
 use std::alloc::AllocError;
 use std::borrow::CowSlice;
 use std::io;
@@ -95,7 +95,7 @@ pub(crate) fn tell_outcome(rt: &impl Print, outcome: &Outcome) -> io::Result<()>
         end_line(rt, write_error(error, &mut writer))?;
     }
     for (name, is_present) in outcome.lookups() {
-        end_line(rt, write_read(name, *is_present, &mut writer))?;
+        end_line(rt, write_lookup(name, *is_present, &mut writer))?;
     }
     Ok(())
 }
