@@ -225,7 +225,7 @@ def of_memory(room):
         ("keep", b"keep;\n" * 16_000, 70),
         ("set", b'require "variables";\n' + b'set "a" "b";\n' * 7_000, 46),
         ("set of two parts", b'require "variables";\n' + b'set"a""x${b}";' * 4_000, 66),
-        ("hasflag", b'require "imap4flags";\n' + b'if hasflag "a" {}\n' * 5_000, 55),
+        ("hasflag", b'require "imap4flags";\n' + b'if hasflag "a" {}\n' * 5_000, 51),
         ("addflag", b'require "imap4flags";\n' + b'addflag"a";' * 6_000, 66),
         ("exists", b'if exists"a"{}' * 4_500, 64),
     ]:
