@@ -33,7 +33,7 @@ pub record Pool : Type 0 where
 abbrev pub no_pool : Pool
 no_pool = record { strings = []; lists = no_lists; names = no_lists; targets = []; scripts = []; tests = []; settings = []; vacations = [] }
 
--- with more after each
+-- with more after each; further lists end at numbers of strings that are counted from the first of all
 abbrev pub plus : Pool → Pool → Pool
 plus pool more = record {
   strings = pool.strings ++ more.strings;
@@ -78,7 +78,7 @@ no_test = record { source = source.String 0; comparison = record { match_type = 
 abbrev pub test_in : Pool → ℕ → PackedTest
 test_in pool place = slice_index_or pool.tests place no_test
 
--- what a `fileinto` says beside its mailbox; a plain one says nothing
+-- what a `fileinto` says beside its mailbox; a plain one says nothing, and neither does one past the end
 abbrev pub plain_packed : Settings ℕ ℕ
 plain_packed = record { flags = None; copy = false; create = false; special_use = None }
 

@@ -1,4 +1,5 @@
--- What the program's types stand for in contracts. The other files of specs/ restate the subject.
+-- What the program's types stand for in contracts. Pool says where operations keep their strings. The other files of specs/ restate
+-- the subject.
 pub mod Branches
 pub mod Code
 pub mod Marked

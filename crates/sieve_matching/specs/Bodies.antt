@@ -1,5 +1,5 @@
--- What a `body` test finds in a message (RFC 5173, sections 4 and 5). A message without an empty line has the empty content, as an entity
--- without one has (RFC 5173, section 4, would have no test of it hold).
+-- What a `body` test finds in a message (RFC 5173, sections 4 and 5). A message without an empty line has no raw body. Under `:content` and
+-- `:text` it has the empty content, as an entity without such a line has (RFC 5173, section 4, would have no test of it hold).
 use Rattle.std.specs.Prelude.{ℕ, List, [], ◌∷◌, map, Option, None, Some, codes, option_to_list}
 use Rattle.mime_text.specs.Entities.{body_of, entities_of}
 use Rattle.mime_text.specs.Values.{texts_named}

@@ -1,5 +1,5 @@
--- What tests find in a delivery: fields, addresses and parts of the envelope by name, and whether a value matches a key (RFC 5228,
--- sections 2.7 and 5).
+-- What tests find in a delivery: the values of each test, how many it counts, whether one matches a key (RFC 5228, sections 2.7 and 5),
+-- and what a match gives to match variables (RFC 5229, section 3.2).
 use Rattle.std.specs.Prelude.{ℕ, Bool, true, false, ◌||◌, List, [], ◌∷◌, Option, None, Some, is_some, map, filter, length, slice_get, nat_eq, nat_lt, if◌then◌else◌, codes, decimal, option_to_list}
 use Rattle.std.specs.List.{filter_map, flat_map, list_any, list_all}
 use Rattle.std.specs.Option.{option_and_then, option_map, option_or}
@@ -93,8 +93,8 @@ parts_of_envelope part (Some text) = option_to_list (part_of_path part text)
 abbrev pub envelope_named : AddressPart → Envelope → List ℕ → List (List ℕ)
 envelope_named part envelope name = parts_of_envelope part (envelope_text envelope name)
 
--- The values of a test, by names, then by fields, then by addresses, and of a body by its entities, outer before inner ones; an absent field gives nothing. A test of dates has one value at
--- most. Strings stand for what they do when the test begins.
+-- The values of a test, by names, then by fields, then by addresses, and of a body by its entities, outer before inner ones; an absent
+-- field gives nothing. A test of dates has one value at most. Strings stand for what they do when the test begins.
 abbrev pub values_of : Delivery → RunState → ValueSource → List (List ℕ)
 values_of delivery state (header_values names) = flat_map (decoded_named delivery.arrival.profile (fields_of delivery.arrival.message)) (map (text_value state.values) names)
 values_of delivery state (address_values part names) = flat_map (parts_named part (fields_of delivery.arrival.message)) (map (text_value state.values) names)
@@ -110,8 +110,7 @@ values_of delivery state (body_values transform) = body_texts state.values deliv
 
 -- The values that `:count` counts (RFC 5231, section 4.2): each field of each name, each address, each address of the envelope that
 -- isn't empty, each string that isn't empty (RFC 5229, section 5), and each flag (RFC 5232, section 4). An address counts whatever part of
--- it the test names, and whether it has that part or not. A test of dates or of a body counts
--- its values.
+-- it the test names, and whether it has that part or not. A test of dates or of a body counts its values.
 abbrev pub counted_of : Delivery → RunState → ValueSource → List (List ℕ)
 counted_of delivery state (header_values names) = values_of delivery state (header_values names)
 counted_of delivery state (address_values part names) = values_of delivery state (address_values All names)
@@ -165,7 +164,7 @@ abbrev pub first_some : {X Y : Type 0} → (X → Option Y) → List X → Optio
 first_some f [] = None
 first_some f (x ∷ xs) = option_or (f x) (first_some f xs)
 
--- what the first pair that matches gives (RFC 5228, sections 2.7.2 and 5.7; RFC 5229, section 3.2)
+-- what the first pair that matches gives (RFC 5228, sections 2.7.1 and 5.7; RFC 5229, section 3.2)
 abbrev pub first_match : Comparison → List Pair → Option (List (List ℕ))
 first_match comparison pairs = first_some (λ pair. match_of comparison pair.value pair.key) pairs
 
@@ -173,10 +172,10 @@ first_match comparison pairs = first_some (λ pair. match_of comparison pair.val
 unfoldable pub match_found : Delivery → RunState → ValueSource → Comparison → List (List Part) → Option (List (List ℕ))
 match_found delivery state source comparison keys = first_match comparison (pairs_of (compared_of comparison.match_type delivery state source) (keys_of state source keys))
 
--- Whether what a test asks is so: header, address, envelope, string, hasflag, date, currentdate and body, where some pair matches (RFC 5228,
--- sections 5.7, 5.1 and 5.4; RFC 5229, section 5; RFC 5232, section 4; RFC 5260, sections 4 and 5; RFC 5173, section 4), exists (RFC 5228, section 5.5), size (section 5.9), where a message of exactly
--- the limit's octets is neither over nor under it, mailboxexists (RFC 5490, section 3.1), and duplicate (RFC 7352, section 3), which is false,
--- since no message was seen before.
+-- Whether what a test asks is so: header, address, envelope, string, hasflag, date, currentdate and body, where some pair matches
+-- (RFC 5228, sections 5.7, 5.1 and 5.4; RFC 5229, section 5; RFC 5232, section 4; RFC 5260, sections 4 and 5; RFC 5173, section 4),
+-- exists (RFC 5228, section 5.5), size (section 5.9), where a message of exactly the limit's octets is neither over nor under it,
+-- mailboxexists (RFC 5490, section 3.1), and duplicate (RFC 7352, section 3), which is false, since no message was seen before.
 unfoldable pub truth_of : Delivery → RunState → Ask → Bool
 truth_of delivery state (compares source comparison keys) = is_some (match_found delivery state source comparison keys)
 truth_of delivery state (exists_ask names) = list_all (has_field (fields_of delivery.arrival.message)) (map (text_value state.values) names)

@@ -33,7 +33,7 @@ no_lists = record { strings = []; ends = [] }
 abbrev pub lists_with : Lists → List (List Part) → Lists
 lists_with lists list = record { strings = lists.strings ++ list; ends = lists.ends ++ length (lists.strings ++ list) ∷ [] }
 
--- with other lists after them
+-- with more strings and more ends after them: the further ends count from the first string of all
 abbrev pub lists_plus : Lists → Lists → Lists
 lists_plus lists others = record { strings = lists.strings ++ others.strings; ends = lists.ends ++ others.ends }
 

@@ -1,3 +1,3 @@
--- What the program's types stand for in contracts. The other files of specs/ restate the subject.
+-- What the program's types stand for in contracts. Joined says how lists of strings are kept.
 pub mod FieldNames
 pub mod Ops

@@ -110,8 +110,8 @@ collation_or_casemap (Some collation) = collation
 abbrev pub collation_by : Option Argument → Collation
 collation_by argument = collation_or_casemap (collation_named (literal_in argument))
 
--- the relation, which is that of equality where none is named (RFC 5231, section 4), and where a word isn't known, which a script without a breach
--- doesn't have
+-- The relation. Without `:value` and `:count` (RFC 5231, section 4) none is named, and none is asked for; that equality stands there then,
+-- and where a word isn't known, which a script without a breach doesn't have, says nothing.
 abbrev pub relation_or_eq : Option Relation → Relation
 relation_or_eq None = Eq
 relation_or_eq (Some relation) = relation

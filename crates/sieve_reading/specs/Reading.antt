@@ -36,8 +36,8 @@ pub data ValueSource : Type 0 where
   clock_values : (zone : DateZone) (part : List Part) → ValueSource
   body_values : (transform : BodyTransform) → ValueSource
 
--- A test without tests in it (RFC 5228, section 5): it compares values with keys (section 2.7), looks at the message, or asks what the
--- server has: mailboxes (RFC 5490, section 3.1), or the message before (RFC 7352, section 3). By what it would know that one isn't read:
+-- A test without tests in it, other than `true` and `false` (RFC 5228, section 5): it compares values with keys (section 2.7), looks at the
+-- message, or asks what the server has: mailboxes (RFC 5490, section 3.1), or the message before (RFC 7352, section 3). By what it would know that one isn't read:
 -- a bench has seen none.
 pub data Ask : Type 0 where
   compares : (source : ValueSource) (comparison : Comparison) (keys : List (List Part)) → Ask
@@ -56,7 +56,7 @@ pub record Settings : Type 0 where
   pub create : Bool
   pub special_use : Option (List Part)
 
--- the settings of a `fileinto` that says nothing beside
+-- the settings of a `fileinto` that says nothing beside, and of a `keep` that names no flags
 abbrev pub plain_settings : Settings
 plain_settings = record { flags = None; copy = false; create = false; special_use = None }
 

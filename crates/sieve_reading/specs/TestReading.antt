@@ -1,4 +1,5 @@
--- How a test is read (RFC 5228, section 5; RFC 5229, section 5; RFC 5232, section 4; RFC 5490, section 3.1; RFC 7352, section 3; RFC 5260, sections 4 and 5; RFC 5173, section 4), by its arguments and their labels.
+-- How a test is read (RFC 5228, section 5; RFC 5229, section 5; RFC 5232, section 4; RFC 5490, section 3.1; RFC 7352, section 3; RFC 5260,
+-- sections 4 and 5; RFC 5173, section 4), by its arguments and their labels.
 use Rattle.std.specs.Prelude.{ℕ, List, Option, None, Some}
 use Rattle.std.specs.Option.{option_map}
 use Rattle.sieve_table.specs.Table.{test_named, test_row}

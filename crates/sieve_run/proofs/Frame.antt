@@ -8,7 +8,7 @@ use Rattle.match_text.specs.Flags.{flag_list}
 use Rattle.sieve_limits.specs.Limits.{include_depth, include_limit, name_limit}
 use Rattle.script_names.specs.declared.location.Location.{Location}
 use Rattle.script_names.specs.declared.location.Location.TheVariants.{Personal, Global}
-use Rattle.sieve_reading.specs.Reading.{Settings, plain_settings, Leaf, keep_leaf, fileinto_leaf, redirect_leaf, discard_leaf, set_leaf, flag_leaf, include_leaf, vacation_leaf, reject_leaf}
+use Rattle.sieve_reading.specs.Reading.{plain_settings, Leaf, keep_leaf, fileinto_leaf, redirect_leaf, discard_leaf, set_leaf, flag_leaf, include_leaf, vacation_leaf, reject_leaf}
 use Rattle.sieve_reading.specs.declared.reading.FlagChange.{FlagChange}
 use Rattle.sieve_reading.specs.Script.{Condition, Commands, no_commands, stops, returns, acts, chooses, script_of}
 use Rattle.sieve_reading.specs.Tree.{Node}

@@ -29,7 +29,8 @@ abbrev pub AreEntities : List ℕ → Option (Vec entity.Entity Global) → Type
 AreEntities message None = Unit {0}
 AreEntities message (Some kept) = map entity_as kept.items ≡ entities_of message
 
--- the field at the first place is the first that has its name, and none of that name stands between it and the next place
+-- The field at the first place is there, and the first that has its name; the next place is after it, and no field of that name stands
+-- between the two.
 pub record IsNamedPlace (message : List ℕ) (named : NamedPlace) : Type 0 where
   pub before : (name : List ℕ) → slice_get (map (is_field_named name) (fields_of message)) named.first ≡ Some true → (k : ℕ) → k < named.first → slice_get (map (is_field_named name) (fields_of message)) k ≡ Some false
   pub after : (name : List ℕ) → slice_get (map (is_field_named name) (fields_of message)) named.first ≡ Some true → (k : ℕ) → named.first < k → k < named.next → slice_get (map (is_field_named name) (fields_of message)) k ≡ Some false

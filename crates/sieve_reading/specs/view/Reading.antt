@@ -28,7 +28,7 @@ use Rattle.sieve_syntax.specs.declared.tree.Text.{Text}
 abbrev pub texts_as : List Text → List (List Part)
 texts_as texts = map (λ t. t.string) (map text_of texts)
 
--- a list of strings that is kept as they are read
+-- a list of strings as a reading keeps it
 abbrev pub list_as : Vec Text Global → List (List Part)
 list_as texts = texts_as texts.items
 
@@ -45,28 +45,29 @@ body_by list (transform.Content entries) = reading.content_transform (list entri
 body_by list transform.Text = reading.text_transform
 
 abbrev pub source_by : {N L S : Type 0} → (N → List (List Part)) → (L → List (List Part)) → (Option L → Option (List (List Part))) → (S → List Part) → ValueSource N L S → reading.ValueSource
-source_by names list given string (source.Header fields) = reading.header_values (names fields)
-source_by names list given string (source.Address part fields) = reading.address_values part (names fields)
-source_by names list given string (source.Envelope part parts) = reading.envelope_values part (list parts)
-source_by names list given string (source.String texts) = reading.string_values (list texts)
-source_by names list given string (source.Flags variables) = reading.flag_values (given variables)
-source_by names list given string (source.Date zone field part) = reading.date_values (date_zone_by string zone) (string field) (string part)
-source_by names list given string (source.CurrentDate zone part) = reading.clock_values (date_zone_by string zone) (string part)
-source_by names list given string (source.Body transform) = reading.body_values (body_by list transform)
+source_by names list given_list string (source.Header fields) = reading.header_values (names fields)
+source_by names list given_list string (source.Address part fields) = reading.address_values part (names fields)
+source_by names list given_list string (source.Envelope part parts) = reading.envelope_values part (list parts)
+source_by names list given_list string (source.String texts) = reading.string_values (list texts)
+source_by names list given_list string (source.Flags variables) = reading.flag_values (given_list variables)
+source_by names list given_list string (source.Date zone field part) = reading.date_values (date_zone_by string zone) (string field) (string part)
+source_by names list given_list string (source.CurrentDate zone part) = reading.clock_values (date_zone_by string zone) (string part)
+source_by names list given_list string (source.Body transform) = reading.body_values (body_by list transform)
 
--- what a `fileinto` says beside its mailbox, and what a `vacation` says, by what its string, and a list and a string that may be left out, are
+-- what a `fileinto` says beside its mailbox, and what a `vacation` says, by what a list and a string that may be left out are, and for a
+-- `vacation` by what its text is
 abbrev pub filed_by : {L S : Type 0} → (Option L → Option (List (List Part))) → (Option S → Option (List Part)) → settings.Settings L S → reading.Settings
-filed_by list string s = record { flags = list s.flags; copy = s.copy; create = s.create; special_use = string s.special_use }
+filed_by given_list given_string s = record { flags = given_list s.flags; copy = s.copy; create = s.create; special_use = given_string s.special_use }
 
 abbrev pub answered_by : {L S : Type 0} → (S → List Part) → (Option L → Option (List (List Part))) → (Option S → Option (List Part)) → vacations.Vacation L S → reading.Vacation
-answered_by reason list string v = record {
-  reason = reason v.reason;
+answered_by string given_list given_string v = record {
+  reason = string v.reason;
   days = v.days;
-  subject = string v.subject;
-  from = string v.from;
-  addresses = list v.addresses;
+  subject = given_string v.subject;
+  from = given_string v.from;
+  addresses = given_list v.addresses;
   mime = v.mime;
-  handle = string v.handle;
+  handle = given_string v.handle;
 }
 
 -- those of a script

@@ -297,7 +297,7 @@ fn status_without_memory(alloc: Global, written: &Written) -> u8 {
 }
 
 #[test]
-fn want_of_memory_is_told(rt: HostRuntime) -> Result<(), Fail> {
+fn refused_memory_is_reported(rt: HostRuntime) -> Result<(), Fail> {
     let at = ("no memory for the words", 0);
     let written = Written::new(rt.alloc());
     holds(&rt, at, status_without_memory(rt.alloc(), &written) == 4);
