@@ -194,7 +194,7 @@ use Rattle.high.specs.Use.{least, lost}
 
 abbrev pub wrong : ℕ → ℕ
 wrong a =
-    let b : ℕ = least in record { kept = b; unkept = elim a [ c ↦ c | d ↦ missing ] }
+    let b : ℕ = least in record { kept = b; unkept = elim a [ missing ↦ missing | d ↦ missing ] }
 
 abbrev pub other : ℕ
 other = lost
@@ -364,7 +364,7 @@ WRONG = """\
 crates/high/specs/Wrong.antt:4
 abbrev pub wrong : ℕ → ℕ
 wrong a =
-    let b : ℕ = least in record { kept = b; unkept = elim a [ c ↦ c | d ↦ missing ] }
+    let b : ℕ = least in record { kept = b; unkept = elim a [ missing ↦ missing | d ↦ missing ] }
 
 """
 NOTHING = """\

@@ -10,6 +10,7 @@
 import ast
 import pathlib
 import re
+from unittest import mock
 
 from .runs import Reading
 
@@ -201,6 +202,19 @@ class Limit(Reading):
         return found
 
 
+class Gone(Reading):
+    """Whether it is noticed where a limit is gone from a place."""
+
+    title, command = "limits that are gone from their places", SOURCES
+
+    def found(self, path):
+        """The limits of which it isn't."""
+        gone = {name: [(file, f"(?!){pattern}", *more) for file, pattern, *more in places] for name, places in PLACES.items()}
+        self.looked = sum(map(len, gone.values()))
+        with mock.patch.dict(PLACES, gone):
+            return [f"{name} is gone from a place, and nothing says so" for name in gone if len(Limit(name).found(path)) != len(gone[name])]
+
+
 class Limits(Reading):
     """Whether each limit of the sources has its places, and the lists of limits have no number beside them."""
 
@@ -313,6 +327,7 @@ def of_places():
     """All of them."""
     for name in PLACES:
         yield Limit(name)
+    yield Gone()
     yield Limits()
     yield from of_statuses()
     yield from of_lists()

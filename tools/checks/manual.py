@@ -128,7 +128,7 @@ def of_pages(room):
         yield LeftOut("the pages of the manual", "since lowdown isn't installed")
         return
     yield Run("the pages of the manual", room, f'{tool} man "$(command -v sievebench)" && ls man', lines(*sorted(name for name, *_ in PAGES)))
-    yield Run("the date of the pages", room, f"SOURCE_DATE_EPOCH=1783245600 {tool} dated \"$(command -v sievebench)\" && grep -ch '^\\.TH .* \"2026-07-05\"' dated/*", lines(1, 1, 1))
+    yield Run("the date of the pages", room, f"TZ=EAST-14 SOURCE_DATE_EPOCH=1783245600 {tool} dated \"$(command -v sievebench)\" && grep -ch '^\\.TH .* \"2026-07-05\"' dated/*", lines(1, 1, 1))
     yield Run("no pages of a program that isn't there", room, f"{tool} none ./none; echo $?; ls", lines(1, "dated", "kit", "man"), b"manual: cannot run ./none: No such file or directory\n")
     yield Run("no pages of a program that fails", room, f"{tool} none \"$(command -v false)\"; echo $?", lines(1), [b" ended with status 1\n"])
     yield Run("no pages in a file", room, f"{tool} man/sievebench.1 \"$(command -v sievebench)\"; echo $?", lines(1), [b"manual: man/sievebench.1: "])

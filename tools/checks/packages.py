@@ -119,7 +119,7 @@ def of_made(room):
     for words, wanted in [
         ("p/bin/sievebench d", ["dump"]),
         ("p/bin/sievebench dump --w", ["--with"]),
-        ("p/bin/sievebench test --with body,e", ["body,encoded-character", "body,envelopes", "body,ereject"]),
+        ("p/bin/sievebench test --with body,date,e", ["body,date,encoded-character", "body,date,envelopes", "body,date,ereject"]),
         ("p/bin/sievebench-site unt", ["untested"]),
         ("p/bin/sievebench-site check --format s", ["sarif"]),
     ]:
@@ -144,6 +144,7 @@ def of_refusals(room):
     differ = b"package: tracked files differ from the commit, or this is no repository of git: a package is made of a commit\n"
     for title, before, words, status, error in [
         ("files differ from the commit", "echo >> README.md", "", 1, differ),
+        ("changes are staged", "echo >> README.md; git add README.md", "", 1, differ),
         ("there is no repository", "rm -rf .git", "", 1, differ),
         ("proofs fail", "printf '#!/bin/sh\\nexit 7\\n' > kit/rt", "", 7, [b"package: tools/programs failed with status 7, so nothing is packed\n"]),
         ("an option is unknown", ":", "--deb", 1, [b"package: one word at most is wanted"]),

@@ -79,6 +79,19 @@ class Promises(Reading):
             return str(why)
 
 
+class Unread(Reading):
+    """Whether a row without counts is noticed, wherever it stands in its table."""
+
+    title, command = "promises without counts", PROVED.name
+
+    def found(self, path):
+        """The rows that aren't."""
+        row, other = "| It ends. | `it_ends` | 1 | 2 |", "| It begins. | it is said | 1 | 2 |"
+        tables = [["| Promise | Contract |", "|---|---|", *([row] * at), other, *([row] * (2 - at))] for at in range(3)]
+        self.looked = len(tables)
+        return [f"row {at} isn't" for at, lines in enumerate(tables) if promises.unread("\n".join([*lines, ""])) != [other]]
+
+
 class Named(Reading):
     """Whether what a part of a document names is there: some names at least."""
 
@@ -94,6 +107,7 @@ class Named(Reading):
 def of_promises():
     """The rows of what is proved, and all other names."""
     yield Promises()
+    yield Unread()
     folders = [TOP, *(TOP / it for it in ("docs", "examples/rows", "tools", "tools/checks", "crates"))]
     there = places(TOP / "crates") | places(TOP / "tools/checks") | {path.name for folder in folders for path in folder.iterdir()}
     yield Named("other names of promises", parts_of_names(promises.ROW.sub("", PROVED.read_text(encoding="utf-8"))), there)

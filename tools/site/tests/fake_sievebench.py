@@ -1,11 +1,12 @@
 #!/usr/bin/env python3
 """In place of the program: it speaks sessions, and knows of Sieve what the tests of this folder need. It is no model of the program."""
 
+import itertools
 import os
 import pathlib
 import sys
 import time
-from typing import Dict, List, NoReturn, Optional, Tuple
+from typing import Dict, Iterator, List, NoReturn, Optional, Tuple
 
 sys.path.insert(0, str(pathlib.Path(__file__).resolve().parent.parent))
 
@@ -31,12 +32,14 @@ class Run:
         self.implicit, self.error = True, ""
         self.reads: List[str] = []
 
-    def script(self, place: str, name: bytes) -> None:
-        """Runs a script."""
+    def script(self, place: str, name: bytes, optional: bool = False) -> None:
+        """Runs a script, which may be missing where it is optional."""
         self.place = f"{place} {quoted(name)}"
         text = self.bench.scripts.get((place, name))
         read = self.place + ("" if text is not None else " missing")
         self.reads += [] if read in self.reads else [read]
+        if text is None and optional:
+            return
         if text is None or self.bench.fault(text):
             self.fail(0, "missing-script" if text is None else "invalid-script")
         self.commands(text, list(tokens(text)))
@@ -97,7 +100,7 @@ class Run:
             time.sleep(float(strings[0]))
         elif name == b"include":
             here = self.place
-            self.script("global" if b":global" in tags else "personal", strings[-1])
+            self.script("global" if b":global" in tags else "personal", strings[-1], b":optional" in tags)
             self.place = here
         elif name in (b"keep", b"fileinto", b"redirect", b"discard"):
             self.act(name, line, tags, strings)
@@ -133,6 +136,16 @@ class Run:
 def store(what: str, box: bytes, flags: List[bytes]) -> str:
     """The line of a store."""
     return " ".join([what, quoted(box), *(quoted(flag) for flag in flags)])
+
+
+def includes(text: bytes) -> Iterator[str]:
+    """The operations of a dump that include scripts."""
+    words = list(tokens(text))
+    for at, word in enumerate(words):
+        if word.octets == b"include":
+            rest = list(itertools.takewhile(lambda it: it.octets != b";", words[at:]))
+            place = "global" if b":global" in [it.octets for it in rest] else "personal"
+            yield f"{at}: include {place} {quoted(string_meant(rest[-1].octets))} @1"
 
 
 class Bench:
@@ -173,7 +186,7 @@ class Bench:
             return ["no no-memory"] if refused and self.main else self.report()
         if command == b"dump":
             text = self.scripts.get((rest[0].decode(), rest[1]), b"kep;")
-            return ["no invalid-script"] if self.fault(text) else ["ok"]
+            return ["no invalid-script"] if self.fault(text) else [*includes(text), "ok"]
         if command == b"script":
             self.scripts[rest[0].decode(), rest[1]] = octets
         elif command == b"message":

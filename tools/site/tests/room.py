@@ -38,14 +38,14 @@ class Room(unittest.TestCase):
         """The fake program."""
         return Program(os.fsencode(FAKE), list(names))
 
-    def started(self, *words: str) -> "subprocess.Popen[bytes]":
-        """The tool with these words, in the folder."""
+    def started(self, *words: str, heeded: signal.Handlers = signal.SIG_DFL) -> "subprocess.Popen[bytes]":
+        """The tool with these words, in the folder, which heeds Ctrl-C or ignores it."""
         command, rest = words[:1], words[1:]
         program = ["--program", str(FAKE)] if command[0] != "import" else []
         whole = [sys.executable, "-B", str(HERE.parent), *command, *program, *rest]
         pipe = subprocess.PIPE
         # Where the tests run in the background, Ctrl-C may be ignored.
-        heeds = lambda: signal.signal(signal.SIGINT, signal.SIG_DFL)  # noqa: E731
+        heeds = lambda: signal.signal(signal.SIGINT, heeded)  # noqa: E731
         return subprocess.Popen(
             whole, cwd=self.room, stdin=subprocess.DEVNULL, stdout=pipe, stderr=pipe, preexec_fn=heeds
         )

@@ -102,6 +102,11 @@ class Chains(Room):
             with self.subTest(after=after):
                 one, other = (Verdict(tuple(Line(text) for text in texts), ()) for texts in (before, after))
                 self.assertEqual([line.text for line in joined(one, other).lines], wanted)
+        entered = (("personal", b"0"), 2)
+        one, other = Verdict((Line(b'store "A"', entered),), ()), Verdict(
+            (Line(b'store "A"', (("personal", b"1"), 1)),), ()
+        )
+        self.assertEqual(joined(one, other).lines[0].at, entered)
         first, second = b'store "A" "x" special-use "\\\\Junk"', b'store "A" create special-use "\\\\Trash"'
         self.assertEqual(stores_joined(first, second), b'store "A" "x" create special-use "\\\\Junk"')
 

@@ -2,6 +2,7 @@
 
 import json
 import os
+import signal
 import time
 import xml.etree.ElementTree as tree
 
@@ -78,6 +79,11 @@ class Checks(Room):
         self.assertEqual(
             told[:3], ["./mails/0.eml under a", "./mails/1.eml under a", "2 verdicts in all, of 2 mails under 1 main"]
         )
+
+    def test_an_include_that_fails(self) -> None:
+        self.write({"personal/a.sieve": 'require "include"; include :optional "x"; include "y";'})
+        told = self.ran("check", "--main=a", "--only=0.eml", ".")[1]
+        self.assertTrue(told[3].startswith("  + error ") and told[3].endswith(' missing-script  (personal "y")'), told)
 
     def test_lax_and_quiet(self) -> None:
         self.write({"mails/9.eml.expect": "", "mails/x.EML": "", "personal/c.sieve": 'require "z";'})
@@ -156,6 +162,11 @@ class Checks(Room):
         self.assertEqual(
             told[-1], "::notice file=./mails/x.EML,title=left-out::its name doesn't end by .eml, in small letters"
         )
+        self.write({"personal/z.sieve": 'require "z";'})
+        lacking = "file=./personal/z.sieve,line=1,title=not-judged::requires z"
+        self.assertIn(f"::notice {lacking}", self.ran("check", "--format", "github", ".")[1])
+        self.assertIn(f"::error {lacking}", self.ran("check", "--format", "github", "--main", "z", ".")[1])
+        (self.room / "personal/z.sieve").unlink()
         run = json.loads("".join(self.ran("check", "--format", "sarif", ".")[1]))["runs"][0]
         self.assertEqual(
             [it["ruleId"] for it in run["results"]],
@@ -190,6 +201,10 @@ class Records(Room):
         ]
         self.assertEqual((status, told), (1, [*wanted, "4 mails, 1 written, 1 left, 4 verdicts not judged"]))
         self.assertEqual((self.room / "mails/1.eml.expect").read_text(), hand)
+        self.assertEqual(
+            self.ran("record", "-q", ".")[:2],
+            (1, [wanted[0], wanted[2], "4 mails, 0 written, 1 left, 4 verdicts not judged"]),
+        )
         status, told, _ = self.ran("record", "--force", ".")
         self.assertEqual((status, told[1:3]), (0, ["./mails/1.eml.expect: changed", "./mails/2.eml.expect: changed"]))
         for number in range(4):
@@ -209,6 +224,15 @@ class Records(Room):
         self.write({"personal/a.sieve": ""})
         self.assertEqual(self.ran("record", ".")[0], 0)
         self.assertNotIn(".sievebench-site.lock", os.listdir(self.room))
+
+    def test_signals_that_are_ignored(self) -> None:
+        self.write({"personal/a.sieve": 'sleep "0.5";', "mains": "a\n", "envelope": '"" ""', "mails/1.eml": ""})
+        with self.started("record", ".", heeded=signal.SIG_IGN) as child:
+            while not (self.room / "asleep").exists():
+                time.sleep(0.01)
+            child.send_signal(signal.SIGINT)
+            child.communicate(timeout=60)
+        self.assertEqual(child.returncode, 0)
 
     def test_a_file_that_changed_meanwhile(self) -> None:
         self.write({"personal/a.sieve": "", "mains": "a\n", "mails/1.eml": "", "mails/2.eml": ""})
@@ -238,11 +262,15 @@ class Lints(Room):
         fault = "unknown-command: There is no such command or test."
         wanted = [f"./global/g.sieve:1: {fault}", *(f"./users/{name}/personal/m.sieve:2: {fault}" for name in "ab")]
         self.assertEqual((status, told), (1, [*wanted, "./global/v.sieve:1: not judged: requires z"]))
+        self.write({"mails/1.eml": "", "envelope": '"" ""'})
+        self.assertEqual(sorted(line for line in self.ran("check", ".")[1] if line.endswith(fault)), sorted(wanted))
         for name in "ab":
             self.write({f"users/{name}/personal/m.sieve": ""})
         told = self.ran("lint", ".")[1]
         places = ["users/a/personal/x.sieve", "global/g.sieve", "global/v.sieve"]
         self.assertEqual(told[2:], [f"./{place}:0: unreached: No main script comes to it." for place in places])
+        self.write({"users/a/personal/m.sieve": 'require "include"; include :global "g";', "global/g.sieve": ""})
+        self.assertNotIn("global/g.sieve", "".join(self.ran("lint", ".")[1]))
 
     def test_forms(self) -> None:
         self.write(
@@ -301,6 +329,12 @@ class Imports(Room):
         self.assertEqual((self.room / "site/mails/0004.eml").read_text(), "Delivered-To: c@d\n\nx\n")
         self.assertEqual((self.room / "site/mails/0001.eml").read_text(), "there")
         self.assertEqual(sorted(os.listdir(self.room / "site")), ["mails"])
+
+    def test_a_mail_that_begins_as_a_mailbox(self) -> None:
+        self.write({"one": "From: a@b\n\nx\n", "site/mails/z": ""})
+        told = self.ran("import", "one", "site")
+        self.assertEqual(told, (0, ["1 mail, 1 written, 0 left out, 1 without an envelope"], ""))
+        self.assertEqual((self.room / "site/mails/0001.eml").read_text(), "From: a@b\n\nx\n")
 
     def test_refusals(self) -> None:
         self.write({"x": "", "d/y": "", "site/mails/z": ""})

@@ -181,6 +181,14 @@ class Revisions(Room):
         with mock.patch.dict(os.environ, GIT_DIR="/nowhere", GIT_INDEX_FILE="/nowhere/index"):
             self.assertEqual(self.ran("diff", "--git", "main", site)[0], 0)
 
+    def test_links_that_lead_out(self) -> None:
+        site = "a/s \u00fc"
+        self.write({"shared.sieve": "keep;"})
+        (self.room / site / "personal/out.sieve").symlink_to(self.room / "shared.sieve")
+        self.git("add", "-A")
+        self.git("commit", "-qm", "three")
+        self.assertEqual(self.ran("diff", "--git", "HEAD", site), (0, ["0 of 2 verdicts changed"], ""))
+
     def test_refusals(self) -> None:
         site = "a/s \u00fc"
         shown = '"a/s \\xc3\\xbc"'

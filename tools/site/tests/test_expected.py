@@ -24,6 +24,18 @@ class Expected(unittest.TestCase):
         self.assertEqual(blocks[(b"ada",)], Block(4, (b'store "B\\xc3\\xbcro" "\\\\Seen"',)))
         self.assertEqual(blocks[b"a b", b"main"], Block(11, (b'store "\\xc3\\xbc"', b'implicit "INBOX"')))
 
+    def test_lines_of_verdicts(self) -> None:
+        lines = [
+            b'store "A" "x" create',
+            b'redirect "a@b"',
+            b"discard",
+            b'vacation "x" days 7',
+            b'reject "x"',
+            b'ereject "x"',
+        ]
+        lines += [b'implicit "A"', b'error personal "a" line 1 bad-mailbox']
+        self.assertEqual(blocks_of(b"x", b"\n".join([b"[a]", *lines]))[(b"a",)].lines, tuple(lines))
+
     def test_refusals(self) -> None:
         self.assertEqual(
             self.refused(b"# a\n\ndiscard\n"), '"x", line 3: before it stands no name of a main script in brackets'

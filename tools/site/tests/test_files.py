@@ -68,6 +68,10 @@ class Files(Room):
             self.assertIn(f"process {os.getpid()} of ", caught.exception.sentence)
             self.assertEqual(os.listdir(self.room), [".sievebench-site.lock"])
         self.assertEqual(os.listdir(self.room), [])
+        # Another run ends between the two looks at its file.
+        gone = mock.patch("fcntl.flock", side_effect=lambda *_: os.unlink(self.room / ".sievebench-site.lock"))
+        with gone, self.assertRaisesRegex(Refusal, "was being written until now: try again"), files.locked(folder):
+            self.fail("the file isn't there")
         # One that is left of a run that was killed holds nothing.
         self.write({".sievebench-site.lock": "process 1 of nobody on nowhere"})
         with files.locked(folder):

@@ -1,5 +1,6 @@
 """Sites: users, main scripts and mails."""
 
+import os
 from typing import Tuple
 
 from sievebench_site.ends import Refusal
@@ -60,6 +61,8 @@ class Folder(Room):
         self.assertEqual([user.name for user in self.site(users=(b"bob",)).users], [b"bob"])
         ada, bob = self.site(mains=(b'"two words" main',)).users
         self.assertEqual((ada.mains, [main.key for main in bob.mains]), ([], [(b"bob/two words", b"main")]))
+        ada, bob = self.site(mains=(b"personal/main",)).users
+        self.assertEqual([user.mains[0].scripts for user in (ada, bob)], [(("personal", b"main"),)] * 2)
         self.assertEqual([user.mails == [] for user in self.site(mails=(b"9.eml",)).users], [True, False])
         self.assertIn('no user "eve"', self.refused(users=(b"eve",)))
         self.assertIn('no main script "x": there is no "users/ada/personal/x.sieve"', self.refused(b"x"))
@@ -69,6 +72,10 @@ class Folder(Room):
         self.assertIn('"mails/1.eml.users" names no users', self.refused())
         self.write({"personal/x.sieve": "", "mails/1.eml.users": "bob"})
         self.assertEqual([path for path, _ in self.site().left_out], [bytes(self.room / "personal")])
+        self.write({"users/bob/mails/x.EML": "", "users/bob/mails/8.eml.expect": ""})
+        site = self.site(users=(b"bob",))
+        self.assertEqual([os.path.basename(path) for path, _ in site.left_out], [b"personal", b"x.EML"])
+        self.assertEqual([os.path.basename(path) for path in site.lost], [b"8.eml.expect"])
 
     def test_mains(self) -> None:
         self.write(
@@ -121,6 +128,7 @@ class Folder(Room):
         self.write({"personal/a.sieve": "", "mains": "a", **{f"mails/{name}": "" for name in names}})
         self.write({"mails/6.eml.expect": "", "mails/6.eml.users": "", "mails/7.eml": b"x" * 16_777_217})
         (self.room / "mails/8.eml").symlink_to("nowhere")
+        (self.room / "mails/sub/mails").symlink_to("..")
         site = self.site()
         self.assertEqual([mail.name for mail in site.users[0].mails], [b"1.eml"])
         left = {path[len(bytes(self.room)) + 7 :].decode(): why for path, why in site.left_out}

@@ -95,7 +95,12 @@ class Verdicts(Room):
         self.assertEqual(found, [("1.eml", "own"), ("2.eml", "field"), ("3.eml", "site"), ("4.eml", "both")])
         self.assertEqual(judged.bare, [])
         (self.room / "envelope").unlink()
-        self.assertEqual([mail.name for mail in self.judged().bare], [b"3.eml", b"4.eml"])
+        self.write(
+            {"personal/from.sieve": 'require "envelope"; if envelope "from" "c@x" { discard; }', "mains": "from"}
+        )
+        judged = self.judged()
+        self.assertEqual([mail.name for mail in judged.bare], [b"3.eml", b"4.eml"])
+        self.assertEqual([mail for mail, _, lines in self.told(judged) if lines == ["discard"]], ["2.eml", "4.eml"])
 
     def test_unjudged(self) -> None:
         self.write(

@@ -26,7 +26,7 @@ class Shown(unittest.TestCase):
         rows = [
             (b"a b", "a b", "a b"),
             (b"B\xc3\xbc\\", "B\\xc3\\xbc\\\\", "B\xfc\\\\"),
-            (b"\xff\n\x1b", "\\xff\\x0a\\x1b", "\\xff\\x0a\\x1b"),
+            (b"\xff\n\x1b\x7f", "\\xff\\x0a\\x1b\\x7f", "\\xff\\x0a\\x1b\\x7f"),
             # It would turn the text around.
             ("a\u202eb".encode(), "a\\xe2\\x80\\xaeb", "a\\xe2\\x80\\xaeb"),
         ]

@@ -212,6 +212,13 @@ class Looks(Room):
         self.write({"site/personal/other": "stop;"})
         self.assertEqual(self.look()[-1], "2 of 2 verdicts changed, 1 not as expected")
 
+    def test_users(self) -> None:
+        shutil.rmtree(self.room / "site/personal")
+        self.write({"site/users/ada/personal/main.sieve": "keep;", "site/users/ada/mails/3.eml": ""})
+        self.look()
+        self.assertEqual(self.saved({"users/ada/personal/main.sieve": "discard;"})[-1], "3 of 3 verdicts changed")
+        self.assertEqual(self.saved({"users/ada/mails/4.eml": ""})[-1], "0 of 4 verdicts changed, 1 new")
+
     def test_files_that_settle(self) -> None:
         self.look()
         place = self.room / "site/personal/part.sieve"
