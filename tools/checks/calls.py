@@ -156,6 +156,8 @@ def session_of():
 CALLS = {
     # Texts, flags and mails.
     "contains_in": Told(lines("true")),
+    # After a search that is out of memory the next one makes the copies of the value.
+    "SearchedValue::contains": Told(lines("true"), lines("true"), [lines("true"), REFUSED]),
     "matches": Told(each(VALUE, b"quick brown", b"s", b" the lazy dog, and then over the lazy ", b"wice.")),
     "replaced": Told(each("é, € and ${hex:4".encode())),
     "flags_of": Told(each(*FLAGS)),
@@ -185,6 +187,7 @@ CALLS = {
     "parts_of_text": Told(lines('"to be put beside "', "local a_name_of_more_octets_than_sixteen", '", "', "global b", "match 1")),
     "Values::set": Told(lines("ok"), each(b"its value"), [each(b"")]),
     "Values::expanded_string": Told(each(b"to be put beside its value, ")),
+    "Values::join": Told(each(b"to be put beside its value, ")),
     "Shelf::add": Told(lines("ok"), lines("4 operations"), [lines("invalid")]),
     "run/tests": run_of(r'store "\xc3\xa9, at ten"', 'read personal "main"'),
     "run/body": run_of('store "Box"', 'read personal "main"'),
@@ -214,6 +217,7 @@ UNREFUSED = {
     "replaced/plain": Told(each(b"${hex:400}")),
     "contains": Told(lines("true")),
     "contains_in/short": Told(lines("true")),
+    "SearchedValue::contains/short": Told(lines("true"), lines("true"), after=[REFUSED]),
     "Captures": Told(lines("4", '"quick brown"')),
     "FlagList::add/held": Told(lines("ok"), each(*FLAGS)),
     "FlagList::add_text/held": Told(lines("ok"), each(*FLAGS)),

@@ -1,11 +1,12 @@
 //! Comparators, and what they say of two texts.
-ghost use Rattle.std.specs.Prelude.{◌≡◌, ◌==◌, ◌↔◌, ◌≤◌, ℕ, IfOk, IsOk, IsTrue, length, map};
+ghost use Rattle.std.specs.Prelude.{◌≡◌, ◌==◌, ◌↔◌, ◌≤◌, ℕ, IfOk, IsOk, IsTrue, length, map, true};
 ghost use Rattle.std.proofs.Common.{rules};
 ghost use Rattle.memchr.specs.Find.{IsFirstByte};
-ghost use Rattle.match_text.specs.Comparator.{IsPart, Same, ascii_casemap, collation_named, is_part, octet, same};
+ghost use Rattle.match_text.specs.Comparator.{IsPart, Same, ascii_casemap, collation_named, is_in_place, is_part, octet, same};
 
 use memchr::{memchr2, memmem};
 use std::alloc::{AllocError, Global};
+use std::marker::Model;
 
 /// Which octets are equal.
 ///
@@ -162,22 +163,36 @@ pub fn contains<C: Comparator>(value: &[u8], key: &[u8]) -> bool
     C::contains(value, key)
 }
 
-/// The longest key that [`contains_in`] looks for without copies.
-const MAX_SHORT_KEY: usize = 64;
+/// The longest key, and the most that a value may be longer than its key, that are looked for without copies.
+const SHORT: usize = 64;
+
+/// Whether the key is looked for without copies: it is short, or there are few places where it can begin.
+fn is_in_place(value: &[u8], key: &[u8]) -> bool
+    ensures { result ≡ is_in_place (length value.now) (length key.now) }
+{
+    key.len() <= SHORT || value.len().saturating_sub(key.len()) <= SHORT
+}
+
+/// Folds octets where they stand.
+fn fold_all<C: Comparator>(octets: &mut Vec<u8>)
+    ensures { octets.new.items ≡ map C.folded octets.old.items }
+{
+    for octet in octets.iter_mut() {
+        *octet = C::fold(*octet);
+    }
+}
 
 /// The folds of the octets.
 pub(crate) fn folded<C: Comparator>(alloc: Global, octets: &[u8]) -> Result<Vec<u8>, AllocError>
     ensures { IfOk result (λ copy. copy.items ≡ map C.folded octets.now) }
 {
     let mut copy = Vec::from_slice(alloc, octets)?;
-    for octet in copy.iter_mut() {
-        *octet = C::fold(*octet);
-    }
+    fold_all::<C>(&mut copy);
     Ok(copy)
 }
 
-/// As [`contains`], in time linear in the octets of `value` and `key`: a key of more than 64 octets is looked for in folded
-/// copies, for which memory may be refused. One of at most 64 takes no memory.
+/// As [`contains`], in time linear in the octets of `value` and `key`. A key of more than 64 octets is looked for in folded copies,
+/// for which memory may be refused. One of at most 64, or to which the value has at most 64 more, takes no memory.
 #[tactic(auto, using(crate::proofs::Folding::folded_part))]
 pub fn contains_in<C: Comparator>(
     alloc: Global,
@@ -185,12 +200,77 @@ pub fn contains_in<C: Comparator>(
     key: &[u8],
 ) -> Result<bool, AllocError>
     ensures exact { IfOk result (λ found. found ≡ is_part C.folded value.now key.now) }
-    ensures short { length key.now ≤ 64 → IsOk result }
+    ensures in_place { is_in_place (length value.now) (length key.now) ≡ true → IsOk result }
 {
-    if key.len() <= MAX_SHORT_KEY {
+    if is_in_place(value, key) {
         return Ok(contains::<C>(value, key));
     }
     let value = folded::<C>(alloc, value)?;
     let key = folded::<C>(alloc, key)?;
     Ok(contains::<Octet>(&value, &key))
+}
+
+/// A value in which keys are looked for, one after another, under `i;ascii-casemap`. It is folded once, where the first of them needs it.
+#[derive(Drop)]
+pub struct SearchedValue<'a> {
+    octets: &'a [u8],
+    folded: Option<Vec<u8>>,
+}
+
+impl<'a> Model for SearchedValue<'a> {
+    ghost use Rattle.std.specs.Prelude.{◌≡◌, IfSome, List, map, ℕ};
+    ghost use Rattle.match_text.specs.Comparator.{ascii_casemap};
+
+    ghost Value = { List ℕ };
+
+    ghost view = { λ s. s.octets.now };
+
+    ghost invariant = { λ s. IfSome s.folded (λ copy. copy.items ≡ map ascii_casemap s.octets.now) };
+}
+
+impl<'a> SearchedValue<'a> {
+    /// The value of these octets, in which nothing was looked for yet. Takes no memory.
+    pub fn new(octets: &'a [u8]) -> SearchedValue<'a>
+        ensures { result ≡ octets.now }
+    {
+        SearchedValue {
+            octets,
+            folded: None,
+        }
+    }
+
+    /// The octets of the value. Takes no memory.
+    pub fn octets(&self) -> &'a [u8]
+        ensures { result.now ≡ self.now }
+    {
+        self.octets
+    }
+
+    /// The folds of the octets, taken out where they were made before.
+    fn take_folded(&mut self, alloc: Global) -> Result<Vec<u8>, AllocError>
+        ensures folds { IfOk result (λ copy. copy.items ≡ map ascii_casemap self.old) }
+        ensures kept { self.new ≡ self.old }
+    {
+        match self.folded.take() {
+            Some(copy) => Ok(copy),
+            None => folded::<AsciiCasemap>(alloc, self.octets),
+        }
+    }
+
+    /// Whether some slice of the value is `key`, as [`contains_in`] answers. The key may be folded where it stands, and so needs no copy.
+    #[tactic(auto, using(crate::proofs::Folding::folded_part))]
+    pub fn contains(&mut self, alloc: Global, key: &mut Vec<u8>) -> Result<bool, AllocError>
+        ensures exact { IfOk result (λ found. found ≡ is_part ascii_casemap self.old key.old.items) }
+        ensures kept { self.new ≡ self.old }
+        ensures in_place { is_in_place (length self.old) (length key.old.items) ≡ true → IsOk result }
+    {
+        if is_in_place(self.octets, key) {
+            return Ok(contains::<AsciiCasemap>(self.octets, key));
+        }
+        fold_all::<AsciiCasemap>(key);
+        let value = self.take_folded(alloc)?;
+        let found = contains::<Octet>(&value, key);
+        self.folded = Some(value);
+        Ok(found)
+    }
 }

@@ -20,7 +20,8 @@ mod sought_flags;
 mod wildcards;
 
 pub use crate::comparators::{
-    AsciiCasemap, Collation, Comparator, Octet, collation_named, contains, contains_in, is,
+    AsciiCasemap, Collation, Comparator, Octet, SearchedValue, collation_named, contains,
+    contains_in, is,
 };
 pub use crate::flag_spelling::{is_keyword, next_flag};
 pub use crate::flags::{FlagList, flag_text, flags_of, flags_of_texts, union, without};

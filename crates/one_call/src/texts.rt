@@ -3,15 +3,21 @@
 use crate::telling::{Host, mark, tell_octets, tell_refused};
 use encoded_characters::replaced;
 use match_text::{
-    AsciiCasemap, Captures, Collation, Relation, contains, contains_in, equals, is, matches,
-    relation_named, stands,
+    AsciiCasemap, Captures, Collation, Relation, SearchedValue, contains, contains_in, equals, is,
+    matches, relation_named, stands,
 };
+use std::alloc::AllocError;
 use std::io;
 
 const VALUE: &[u8] =
     b"The quick brown fox jumps over the lazy dog, and then over the lazy cat, twice.";
 
-/// A part of the value in other letters, which is too long to be looked for without copies.
+/// A value in which a long key has many places to begin.
+const LONG_VALUE: &[u8] =
+    b"Once more: the quick brown fox jumps over the lazy dog, and then over the lazy cat, \
+    and when it has jumped over both of them it sleeps in the grass beside the two.";
+
+/// A part of both values in other letters, which is too long to be looked for in the second without copies.
 pub(crate) const KEY: &[u8] =
     b"QUICK BROWN FOX JUMPS OVER THE LAZY DOG, AND THEN OVER THE LAZY CAT";
 
@@ -63,12 +69,28 @@ pub(crate) fn search(rt: &impl Host) -> io::Result<()> {
 
 pub(crate) fn search_in(rt: &impl Host, key: &[u8]) -> io::Result<()> {
     mark(rt);
-    let answer = contains_in::<AsciiCasemap>(rt.alloc(), VALUE, key);
+    let answer = contains_in::<AsciiCasemap>(rt.alloc(), LONG_VALUE, key);
     mark(rt);
+    tell_found(rt, answer)
+}
+
+fn tell_found(rt: &impl Print, answer: Result<bool, AllocError>) -> io::Result<()> {
     match answer {
         Ok(found) => println!(rt; "{found}"),
         Err(_) => tell_refused(rt),
     }
+}
+
+/// Looks for a key, after it for another one, which needs no copy of the value any more.
+pub(crate) fn search_twice(rt: &impl Host, key: &[u8]) -> io::Result<()> {
+    let mut value = SearchedValue::new(LONG_VALUE);
+    let mut first = Vec::from_slice(rt.alloc(), key)?;
+    let mut second = Vec::from_slice(rt.alloc(), KEY)?;
+    mark(rt);
+    let answer = value.contains(rt.alloc(), &mut first);
+    mark(rt);
+    tell_found(rt, answer)?;
+    tell_found(rt, value.contains(rt.alloc(), &mut second))
 }
 
 pub(crate) fn match_pattern(rt: &impl Host) -> io::Result<()> {

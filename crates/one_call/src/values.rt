@@ -75,6 +75,20 @@ pub(crate) fn expand(rt: &impl Host) -> io::Result<()> {
     }
 }
 
+/// The same, put into a buffer.
+pub(crate) fn join(rt: &impl Host) -> io::Result<()> {
+    let values = values_of(rt)?;
+    let string = parts_of_text(rt.alloc(), TEXT)?;
+    let mut buffer = Vec::from_slice(rt.alloc(), b"before")?;
+    mark(rt);
+    let answer = values.join(string.as_slice(), &mut buffer);
+    mark(rt);
+    match answer {
+        Ok(()) => tell_octets(rt, &buffer),
+        Err(_) => tell_refused(rt),
+    }
+}
+
 /// Whether the variable can be set, and what it holds.
 pub(crate) fn ask(rt: &impl Host) -> io::Result<()> {
     let values = values_of(rt)?;

@@ -5,14 +5,14 @@ use crate::{dates, edits, entities, flags, mails, reports, runs, scripts, texts,
 use std::io;
 
 const WORDS: &str =
-    "is stands contains contains_in contains_in/short matches Captures replaced replaced/plain \
+    "is stands contains contains_in contains_in/short SearchedValue::contains SearchedValue::contains/short matches Captures replaced replaced/plain \
     flags_of union without FlagList::add FlagList::add/held \
     FlagList::add_text FlagList::add_text/held FlagList \
     Message::new Message::new/bare Message::value Message::decoded decoded_value decoded_value/unknown addresses \
     entities_of TransferEncoding::octets_of Entity::text Entity \
     Message Message::value/unfolded Message::decoded/plain Address date clock \
     tokens parse parse/faulty check judge judge/faulty compile dump_text Checked Code write_quoted \
-    parts_of_text Values::set Values::expanded_string Values \
+    parts_of_text Values::set Values::expanded_string Values::join Values \
     Shelf::add run/tests run/body run/variables run/flags run/includes run/error Shelf Outcome \
     put_script put_script/new put_message put_message/new rename_script \
     set_main set_envelope set_mailbox set_mailboxes set_message_envelope set_expected \
@@ -44,6 +44,8 @@ fn call_texts(rt: &impl Host, word: &str) -> Option<io::Result<()>> {
         "contains" => texts::search(rt),
         "contains_in" => texts::search_in(rt, texts::KEY),
         "contains_in/short" => texts::search_in(rt, texts::SHORT_KEY),
+        "SearchedValue::contains" => texts::search_twice(rt, texts::KEY),
+        "SearchedValue::contains/short" => texts::search_twice(rt, texts::SHORT_KEY),
         "matches" => texts::match_pattern(rt),
         "Captures" => texts::ask_captures(rt),
         "replaced" => texts::replace(rt, texts::SEQUENCES),
@@ -94,6 +96,7 @@ fn call_scripts(rt: &impl Host, word: &str) -> Option<io::Result<()>> {
         "parts_of_text" => values::cut(rt),
         "Values::set" => values::set(rt),
         "Values::expanded_string" => values::expand(rt),
+        "Values::join" => values::join(rt),
         "Values" => values::ask(rt),
         "Shelf::add" => runs::add(rt),
         "run/tests" => runs::run_texts(rt, runs::TESTS, runs::LIB),

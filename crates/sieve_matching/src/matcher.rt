@@ -1,5 +1,6 @@
 //! How a test compares a value with keys (RFC 5228, section 2.7.1).
-ghost use Rattle.std.specs.Prelude.{◌≡◌, ◌<◌, ℕ, List, [], IfOk, IfSome, None, Some, false, is_some, length, map, slice_get, if◌then◌else◌};
+ghost use Rattle.std.specs.Prelude.{◌≡◌, ◌<◌, ℕ, List, [], IfOk, IfSome, None, Some, false, is_some, length, map, slice_get, true, if◌then◌else◌};
+ghost use Rattle.match_text.specs.Comparator.{ascii_casemap, is_part};
 ghost use Rattle.match_text.specs.Flags.{flag_keys};
 ghost use Rattle.match_text.specs.Order.{order_of};
 ghost use Rattle.match_text.specs.Relation.{stands_in};
@@ -13,8 +14,8 @@ ghost use Rattle.sieve_variables.specs.Value.{text_value};
 
 use match_text::laws::keys_need_octets;
 use match_text::{
-    AsciiCasemap, Captures, Collation, Comparator, KeyKind, Octet, Relation, Room, contains,
-    contains_in, equals, matches, next_key, stands,
+    AsciiCasemap, Captures, Collation, Comparator, KeyKind, Octet, Relation, Room, SearchedValue,
+    contains, contains_in, equals, matches, next_key, stands,
 };
 use octets::Octets;
 use sieve_actions::State;
@@ -214,24 +215,45 @@ impl Matcher<'_> {
         }
     }
 
+    /// Whether keys are looked for in values by [`SearchedValue::contains`].
+    fn is_search(&self) -> bool
+        ensures { result ≡ true → (value key : List ℕ) → match_of self.now.comparison value key
+            ≡ if is_part ascii_casemap value key then Some [] else None }
+    {
+        match (self.comparison.match_type, self.comparison.collation) {
+            (MatchType::Contains, Collation::Casemap) => true,
+            (MatchType::Contains, Collation::Octet) => false,
+            (MatchType::Contains, Collation::Numeric) => false,
+            (MatchType::Is, _) => false,
+            (MatchType::Matches, _) => false,
+            (MatchType::Value(_), _) => false,
+            (MatchType::Count(_), _) => false,
+        }
+    }
+
     /// What a value gives that matches the key of string `i`, which isn't cut. It is made only where the value can match it.
     fn match_whole(
         &self,
         alloc: Global,
-        value: &[u8],
+        value: &mut SearchedValue<'_>,
         i: usize,
         buffer: &mut Vec<u8>,
     ) -> Result<Option<MatchValues>, AllocError>
         requires { i < length self.now.keys.now }
-        ensures { IfOk result (λ found. slice_get (map (λ key. match_of self.now.comparison
-            value.now (text_value self.now.values.now key)) self.now.keys.now) i ≡ Some found) }
+        ensures found { IfOk result (λ found. slice_get (map (λ key. match_of self.now.comparison
+            value.old (text_value self.now.values.now key)) self.now.keys.now) i ≡ Some found) }
+        ensures kept { value.new ≡ value.old }
     {
         let parts = self.keys.get(i);
-        if !self.can_match(value, parts) {
+        if !self.can_match(value.octets(), parts) {
             return Ok(None);
         }
+        if parts.len() > 1 && self.is_search() {
+            self.values.join(parts, buffer)?;
+            return Ok(plain_match(alloc, value.contains(alloc, buffer)?));
+        }
         let key = self.values.expanded_in(parts, buffer)?;
-        self.match_of(alloc, value, key)
+        self.match_of(alloc, value.octets(), key)
     }
 
     /// What a value gives that matches a piece of a key.
@@ -261,19 +283,20 @@ impl Matcher<'_> {
     fn match_at(
         &self,
         alloc: Global,
-        value: &[u8],
+        value: &mut SearchedValue<'_>,
         i: usize,
         buffer: &mut Vec<u8>,
     ) -> Result<Option<MatchValues>, AllocError>
         requires { i < length self.now.keys.now }
-        ensures { IfOk result (λ found. slice_get
-            (map (key_found self.now value.now) self.now.keys.now) i ≡ Some found) }
+        ensures found { IfOk result (λ found. slice_get
+            (map (key_found self.now value.old) self.now.keys.now) i ≡ Some found) }
+        ensures kept { value.new ≡ value.old }
     {
         if !self.are_cut {
             return self.match_whole(alloc, value, i, buffer);
         }
         let key = self.values.expanded_in(self.keys.get(i), buffer)?;
-        self.match_pieces(alloc, value, key)
+        self.match_pieces(alloc, value.octets(), key)
     }
 
     /// The only key, where there is one that is one literal and isn't cut. Takes no memory.
@@ -294,9 +317,10 @@ impl Matcher<'_> {
     fn first_of_keys(&self, alloc: Global, value: &[u8]) -> Result<Option<MatchValues>, AllocError>
         ensures { IfOk result (λ found. found ≡ found_with self.now value.now) }
     {
+        let mut searched = SearchedValue::new(value);
         let mut buffer = Vec::new(alloc);
         for i in 0..self.keys.len() {
-            if let Some(found) = self.match_at(alloc, value, i, &mut buffer)? {
+            if let Some(found) = self.match_at(alloc, &mut searched, i, &mut buffer)? {
                 return Ok(Some(found));
             }
         }

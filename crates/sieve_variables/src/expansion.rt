@@ -28,8 +28,8 @@ impl Values {
     }
 
     /// Puts the octets that the parts of a string stand for into a buffer, in place of what it holds. Room for all of them is asked for
-    /// before the first.
-    fn join(&self, parts: &[Part], buffer: &mut Vec<u8>) -> Result<(), AllocError>
+    /// before the first, where the buffer has too little.
+    pub fn join(&self, parts: &[Part], buffer: &mut Vec<u8>) -> Result<(), AllocError>
         ensures { OnOk result (buffer.new.items ≡ text_value self.now parts.now) }
     {
         let len = self.joined_len(parts)?;

@@ -1,6 +1,8 @@
 //! Rows of both comparators, and both ways of searching.
 use super::{holds, same_of};
-use match_text::{AsciiCasemap, Collation, Comparator, Octet, contains, contains_in, is};
+use match_text::{
+    AsciiCasemap, Collation, Comparator, Octet, SearchedValue, contains, contains_in, is,
+};
 use std::alloc::AllocError;
 use std::process::Abort;
 
@@ -124,5 +126,30 @@ fn searches_in_linear_time(rt: HostRuntime) -> Result<(), AllocError> {
     check_linear::<Octet>(&rt, b"end", false)?;
     check_linear::<AsciiCasemap>(&rt, b"end", true)?;
     holds(&rt, b"collations", Collation::Octet != Collation::Casemap);
+    Ok(())
+}
+
+/// 70 small letters, a dot, and 70 more of the same: long enough for a key that is looked for in copies.
+const LONG_VALUE: &[u8] = b"abababababababababababababababababababababababababababababababababab.\
+    cdcdcdcdcdcdcdcdcdcdcdcdcdcdcdcdcdcdcdcdcdcdcdcdcdcdcdcdcdcdcdcdcdcdcd";
+
+/// Keys that are looked for in one value, one after another: 66 octets and more, and 2.
+const KEYS: &[(&[u8], bool)] = &[
+    (b"ABABABABABABABABABABABABABABABABABABABABABABABABABABABABABABABABAB.C", true),
+    (b"ABABABABABABABABABABABABABABABABABABABABABABABABABABABABABABABABABAC", false),
+    (b"b.", true),
+    (b"B.CDCDCDCDCDCDCDCDCDCDCDCDCDCDCDCDCDCDCDCDCDCDCDCDCDCDCDCDCDCDCDCDCD", true),
+    (b"d.", false),
+];
+
+#[test]
+fn searches_a_value_for_one_key_after_another(rt: HostRuntime) -> Result<(), AllocError> {
+    let mut value = SearchedValue::new(LONG_VALUE);
+    for (key, wanted) in KEYS {
+        let mut buffer = Vec::from_slice(rt.alloc(), *key)?;
+        let found = value.contains(rt.alloc(), &mut buffer)?;
+        holds(&rt, *key, found == *wanted);
+    }
+    holds(&rt, value.octets(), value.octets() == LONG_VALUE);
     Ok(())
 }

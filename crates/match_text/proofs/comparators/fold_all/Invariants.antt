@@ -1,5 +1,5 @@
 use Rattle.std.proofs.Common.{◌≡◌, ◌++◌, drop, map, take}
-use Rattle.match_text.proofs.comparators.folded.Given as goal
+use Rattle.match_text.proofs.comparators.fold_all.Given as goal
 
 -- the octets so far are folded, and those that are left as they were
 abbrev pub invariant-loop-octet : goal.invariant-loop-octet
