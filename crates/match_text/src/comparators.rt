@@ -260,9 +260,11 @@ impl<'a> SearchedValue<'a> {
     /// Whether some slice of the value is `key`, as [`contains_in`] answers. The key may be folded where it stands, and so needs no copy.
     #[tactic(auto, using(crate::proofs::Folding::folded_part))]
     pub fn contains(&mut self, alloc: Global, key: &mut Vec<u8>) -> Result<bool, AllocError>
-        ensures exact { IfOk result (λ found. found ≡ is_part ascii_casemap self.old key.old.items) }
+        ensures exact { IfOk result
+            (λ found. found ≡ is_part ascii_casemap self.old key.old.items) }
         ensures kept { self.new ≡ self.old }
-        ensures in_place { is_in_place (length self.old) (length key.old.items) ≡ true → IsOk result }
+        ensures in_place { is_in_place (length self.old) (length key.old.items) ≡ true
+            → IsOk result }
     {
         if is_in_place(self.octets, key) {
             return Ok(contains::<AsciiCasemap>(self.octets, key));

@@ -13,7 +13,8 @@ pub(crate) fn note_lookup(
     name: &ScriptName,
     is_there: bool,
 ) -> Result<(), AllocError>
-    ensures { OnOk result (lookups.new.entries ≡ with_lookup name.now is_there lookups.old.entries) }
+    ensures { OnOk result
+        (lookups.new.entries ≡ with_lookup name.now is_there lookups.old.entries) }
 {
     if !lookups.contains_key(name) {
         lookups.insert(name.copy(alloc)?, is_there)?;

@@ -138,8 +138,9 @@ fn rename_script(
     new_location: Location,
     new_name: &Word<'_>,
 ) -> Result<(), EditFault>
-    ensures { IsTried (Some (demand_of (line.rename location name.now new_location new_name.now))) result
-        bench.old bench.new }
+    ensures { IsTried
+        (Some (demand_of (line.rename location name.now new_location new_name.now)))
+        result bench.old bench.new }
 {
     let from = copied_name(bench.allocator(), location, name)?;
     let to = copied_name(bench.allocator(), new_location, new_name)?;
