@@ -156,7 +156,7 @@ def session_of():
 CALLS = {
     # Texts, flags and mails.
     "contains_in": Told(lines("true")),
-    # After a search that is out of memory the next one makes the copies of the value.
+    # After a search that is out of memory the next one makes the copy of the value.
     "SearchedValue::contains": Told(lines("true"), lines("true"), [lines("true"), REFUSED]),
     "matches": Told(each(VALUE, b"quick brown", b"s", b" the lazy dog, and then over the lazy ", b"wice.")),
     "replaced": Told(each("é, € and ${hex:4".encode())),

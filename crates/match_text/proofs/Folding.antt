@@ -1,7 +1,7 @@
 -- Folded texts compared octet by octet.
-use Rattle.std.proofs.Common.{◌≡◌, ℕ, ◌&&◌, ◌||◌, ◌==◌, List, [], ◌∷◌, map, length, take, refl, ap, ◌∙◌}
+use Rattle.std.proofs.Common.{◌≡◌, ℕ, ◌&&◌, ◌||◌, ◌==◌, List, [], ◌∷◌, map, length, take, refl, ap, ◌∙◌, rules}
 use Rattle.std.proofs.lemmas.List.{length-map, take-map}
-use Rattle.match_text.specs.Comparator.{is_part, octet, same}
+use Rattle.match_text.specs.Comparator.{ascii_casemap, is_part, octet, same}
 
 module _ (fold : ℕ → ℕ) where
   -- texts are equal under a fold exactly where the folded texts are equal octet for octet
@@ -23,3 +23,11 @@ module _ (fold : ℕ → ℕ) where
   folded_part (x ∷ rest) key =
       ap (λ b. b || is_part octet (map fold rest) (map fold key)) (front_same (x ∷ rest) key)
       ∙ ap (λ b. same fold (take (length key) (x ∷ rest)) key || b) (folded_part rest key)
+
+settles : (b : ℕ) → ascii_casemap (ascii_casemap b) ≡ ascii_casemap b
+settles b = search rules
+
+-- octets that are folded stay as they are when they are folded again
+pub folded_twice : (xs : List ℕ) → map ascii_casemap (map ascii_casemap xs) ≡ map ascii_casemap xs
+folded_twice [] = refl
+folded_twice (x ∷ xs) = ap (λ y. y ∷ map ascii_casemap (map ascii_casemap xs)) (settles x) ∙ ap (λ rest. ascii_casemap x ∷ rest) (folded_twice xs)

@@ -1,7 +1,7 @@
 -- What it means that two octet strings are equal under a comparator, and that one contains the other (RFC 4790, RFC 5228
 -- section 2.7). i;octet and i;ascii-casemap are known by their folds: two octets are equal where their folds are equal. What all
 -- comparators say of whole texts is in Order.
-use Rattle.std.specs.Prelude.{◌≡◌, ℕ, Bool, ◌+◌, ◌-◌, ◌<◌, ◌≤◌, ◌||◌, ◌==◌, if◌then◌else◌, List, [], ◌∷◌, length, take, slice_index, slice_range, Option, Some, None, nat_eq, nat_le, codes}
+use Rattle.std.specs.Prelude.{◌≡◌, ℕ, Bool, ◌-◌, ◌<◌, ◌≤◌, ◌||◌, ◌==◌, if◌then◌else◌, List, [], ◌∷◌, length, take, slice_index, slice_range, Option, Some, None, nat_eq, codes}
 use lib.Pointwise.{pointwise}
 use Rattle.match_text.specs.declared.comparators.Collation.{Collation}
 use Rattle.match_text.specs.declared.comparators.Collation.TheVariants.{Octet, Casemap, Numeric}
@@ -43,7 +43,3 @@ same fold a b = pointwise (λ x y. fold x == fold y) a b
 abbrev pub is_part : (ℕ → ℕ) → List ℕ → List ℕ → Bool
 is_part fold [] key = same fold [] key
 is_part fold (x ∷ rest) key = same fold (take (length key) (x ∷ rest)) key || is_part fold rest key
-
--- whether a key is looked for in a value without a copy of either, by how many octets they have: the key has at most 64, or the value has at most 64 more
-abbrev pub is_in_place : (value key : ℕ) → Bool
-is_in_place value key = nat_le key 64 || nat_le value (key + 64)

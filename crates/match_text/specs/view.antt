@@ -3,4 +3,5 @@ pub mod Digits
 pub mod Hashing
 pub mod Pieces
 pub mod Room
+pub mod Search
 pub mod Segment

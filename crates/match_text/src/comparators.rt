@@ -2,7 +2,8 @@
 ghost use Rattle.std.specs.Prelude.{◌≡◌, ◌==◌, ◌↔◌, ◌≤◌, ℕ, IfOk, IsOk, IsTrue, length, map, true};
 ghost use Rattle.std.proofs.Common.{rules};
 ghost use Rattle.memchr.specs.Find.{IsFirstByte};
-ghost use Rattle.match_text.specs.Comparator.{IsPart, Same, ascii_casemap, collation_named, is_in_place, is_part, octet, same};
+ghost use Rattle.match_text.specs.Comparator.{IsPart, Same, ascii_casemap, collation_named, is_part, octet, same};
+ghost use Rattle.match_text.specs.view.Search.{is_in_place};
 
 use memchr::{memchr2, memmem};
 use std::alloc::{AllocError, Global};
@@ -163,17 +164,17 @@ pub fn contains<C: Comparator>(value: &[u8], key: &[u8]) -> bool
     C::contains(value, key)
 }
 
-/// The longest key, and the most that a value may be longer than its key, that are looked for without copies.
+/// The longest key that is looked for without copies wherever it may begin.
 const SHORT: usize = 64;
 
-/// Whether the key is looked for without copies: it is short, or there are few places where it can begin.
+/// Whether the key is looked for without copies: it is short, or it can begin nowhere but where the value does.
 fn is_in_place(value: &[u8], key: &[u8]) -> bool
     ensures { result ≡ is_in_place (length value.now) (length key.now) }
 {
-    key.len() <= SHORT || value.len().saturating_sub(key.len()) <= SHORT
+    key.len() <= SHORT || value.len() <= key.len()
 }
 
-/// Folds octets where they stand.
+/// Folds octets in place.
 fn fold_all<C: Comparator>(octets: &mut Vec<u8>)
     ensures { octets.new.items ≡ map C.folded octets.old.items }
 {
@@ -191,8 +192,8 @@ pub(crate) fn folded<C: Comparator>(alloc: Global, octets: &[u8]) -> Result<Vec<
     Ok(copy)
 }
 
-/// As [`contains`], in time linear in the octets of `value` and `key`. A key of more than 64 octets is looked for in folded copies,
-/// for which memory may be refused. One of at most 64, or to which the value has at most 64 more, takes no memory.
+/// As [`contains`], in time linear in the octets of `value` and `key`. A key of at most 64 octets takes no memory, nor does one that
+/// isn't shorter than the value. Any other is looked for in folded copies, for which memory may be refused.
 #[tactic(auto, using(crate::proofs::Folding::folded_part))]
 pub fn contains_in<C: Comparator>(
     alloc: Global,
@@ -210,7 +211,7 @@ pub fn contains_in<C: Comparator>(
     Ok(contains::<Octet>(&value, &key))
 }
 
-/// A value in which keys are looked for, one after another, under `i;ascii-casemap`. It is folded once, where the first of them needs it.
+/// A value in which keys are looked for, one after another, under `i;ascii-casemap`. It is folded once, for the first key that needs it.
 #[derive(Drop)]
 pub struct SearchedValue<'a> {
     octets: &'a [u8],
@@ -257,12 +258,14 @@ impl<'a> SearchedValue<'a> {
         }
     }
 
-    /// Whether some slice of the value is `key`, as [`contains_in`] answers. The key may be folded where it stands, and so needs no copy.
-    #[tactic(auto, using(crate::proofs::Folding::folded_part))]
+    /// Whether some slice of the value is `key`, as [`contains_in`] answers. The key may be folded in place, and so needs no copy; the
+    /// first that is takes memory for one of the value.
+    #[tactic(auto, using(crate::proofs::Folding::folded_part, crate::proofs::Folding::folded_twice))]
     pub fn contains(&mut self, alloc: Global, key: &mut Vec<u8>) -> Result<bool, AllocError>
         ensures exact { IfOk result
             (λ found. found ≡ is_part ascii_casemap self.old key.old.items) }
         ensures kept { self.new ≡ self.old }
+        ensures key { map ascii_casemap key.new.items ≡ map ascii_casemap key.old.items }
         ensures in_place { is_in_place (length self.old) (length key.old.items) ≡ true
             → IsOk result }
     {

@@ -10,11 +10,11 @@ use std::alloc::AllocError;
 use std::io;
 
 const MAIL: &[u8] =
-    b"From: ann@a.example\nSubject: =?utf-8?q?caf=C3=A9?= at ten\nTo: b@c.example\nX-Folded: one\n two\n\n";
+    b"From: ann@a.example\nSubject: =?utf-8?q?caf=C3=A9?= at ten\nTo: b@c.example\nX-Folded: one\n two\nX-Long: a value of more octets than either of the keys that are looked for in it, so that it is copied for each of them\n\n";
 
 pub(crate) const TESTS: &[u8] =
     b"require [\"envelope\", \"fileinto\", \"variables\", \"imap4flags\"];
-if anyof (header :contains [\"X-Folded\", \"Subject\"] \"a key of more octets than are looked for without copies of it and of the value\", header :matches \"Subject\" \"NO*\", hasflag \"a b\", string \"${1}\" \"x\") { discard; }
+if anyof (header :contains [\"X-Folded\", \"X-Long\"] [\"a key of more octets than are looked for without copies of it and of the value\", \"${1}a key of several parts and of more octets than are looked for without copies\"], header :matches \"Subject\" \"NO*\", hasflag \"a b\", string \"${1}\" \"x\") { discard; }
 if allof (exists \"X-Folded\", address :domain :is \"From\" \"a.example\", address :localpart :matches \"To\" \"?\", envelope \"from\" \"s@x.example\", header \"x-folded\" \"one two\", header :matches \"Subject\" \"caf* *\") { fileinto \"${1}, ${2}\"; }
 ";
 

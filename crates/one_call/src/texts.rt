@@ -21,7 +21,7 @@ const LONG_VALUE: &[u8] =
 pub(crate) const KEY: &[u8] =
     b"QUICK BROWN FOX JUMPS OVER THE LAZY DOG, AND THEN OVER THE LAZY CAT";
 
-/// The longest front of that which isn't.
+/// The longest front of that which is short enough.
 pub(crate) const SHORT_KEY: &[u8] =
     b"QUICK BROWN FOX JUMPS OVER THE LAZY DOG, AND THEN OVER THE LAZY ";
 
@@ -81,7 +81,7 @@ fn tell_found(rt: &impl Print, answer: Result<bool, AllocError>) -> io::Result<(
     }
 }
 
-/// Looks for a key, after it for another one, which needs no copy of the value any more.
+/// Looks for a key, and then for one that needs a copy of the value, if none is made yet.
 pub(crate) fn search_twice(rt: &impl Host, key: &[u8]) -> io::Result<()> {
     let mut value = SearchedValue::new(LONG_VALUE);
     let mut first = Vec::from_slice(rt.alloc(), key)?;

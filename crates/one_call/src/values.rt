@@ -75,7 +75,7 @@ pub(crate) fn expand(rt: &impl Host) -> io::Result<()> {
     }
 }
 
-/// The same, put into a buffer.
+/// Puts what a string stands for into a buffer.
 pub(crate) fn join(rt: &impl Host) -> io::Result<()> {
     let values = values_of(rt)?;
     let string = parts_of_text(rt.alloc(), TEXT)?;

@@ -215,7 +215,7 @@ impl Matcher<'_> {
         }
     }
 
-    /// Whether keys are looked for in values by [`SearchedValue::contains`].
+    /// Whether keys of several parts are looked for by [`SearchedValue::contains`]. They lie in a buffer, and so can be folded in place.
     fn is_search(&self) -> bool
         ensures { result ≡ true → (value key : List ℕ) → match_of self.now.comparison value key
             ≡ if is_part ascii_casemap value key then Some [] else None }

@@ -27,8 +27,8 @@ impl Values {
         Ok(len)
     }
 
-    /// Puts the octets that the parts of a string stand for into a buffer, in place of what it holds. Room for all of them is asked for
-    /// before the first, where the buffer has too little.
+    /// Puts the octets that the parts of a string stand for into a buffer, in place of what it holds. Room for all of them is asked for at
+    /// once, where the buffer has too little. A refusal may leave any octets in it.
     pub fn join(&self, parts: &[Part], buffer: &mut Vec<u8>) -> Result<(), AllocError>
         ensures { OnOk result (buffer.new.items ≡ text_value self.now parts.now) }
     {

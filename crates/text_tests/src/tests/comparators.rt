@@ -1,4 +1,4 @@
-//! Rows of both comparators, and both ways of searching.
+//! Rows of both comparators, and each way of searching.
 use super::{holds, same_of};
 use match_text::{
     AsciiCasemap, Collation, Comparator, Octet, SearchedValue, contains, contains_in, is,
@@ -109,7 +109,7 @@ fn compares_and_searches(rt: HostRuntime) {
     );
 }
 
-/// The other way of searching, once under each comparator.
+/// The way of searching that may copy, once under each comparator.
 fn check_linear<C: Comparator>(
     rt: &(impl AllocGlobal + Abort),
     key: &[u8],
@@ -129,17 +129,31 @@ fn searches_in_linear_time(rt: HostRuntime) -> Result<(), AllocError> {
     Ok(())
 }
 
-/// 70 small letters, a dot, and 70 more of the same: long enough for a key that is looked for in copies.
+/// 68 small letters, a dot, and 70 more.
 const LONG_VALUE: &[u8] = b"abababababababababababababababababababababababababababababababababab.\
     cdcdcdcdcdcdcdcdcdcdcdcdcdcdcdcdcdcdcdcdcdcdcdcdcdcdcdcdcdcdcdcdcdcdcd";
 
-/// Keys that are looked for in one value, one after another: 66 octets and more, and 2.
+/// Keys that are looked for in one value, one after another: three of 68 octets, two of 2, and the value itself in other letters.
 const KEYS: &[(&[u8], bool)] = &[
-    (b"ABABABABABABABABABABABABABABABABABABABABABABABABABABABABABABABABAB.C", true),
-    (b"ABABABABABABABABABABABABABABABABABABABABABABABABABABABABABABABABABAC", false),
+    (
+        b"ABABABABABABABABABABABABABABABABABABABABABABABABABABABABABABABABAB.C",
+        true,
+    ),
+    (
+        b"ABABABABABABABABABABABABABABABABABABABABABABABABABABABABABABABABABAC",
+        false,
+    ),
     (b"b.", true),
-    (b"B.CDCDCDCDCDCDCDCDCDCDCDCDCDCDCDCDCDCDCDCDCDCDCDCDCDCDCDCDCDCDCDCDCD", true),
+    (
+        b"B.CDCDCDCDCDCDCDCDCDCDCDCDCDCDCDCDCDCDCDCDCDCDCDCDCDCDCDCDCDCDCDCDCD",
+        true,
+    ),
     (b"d.", false),
+    (
+        b"ABABABABABABABABABABABABABABABABABABABABABABABABABABABABABABABABABAB.\
+        CDCDCDCDCDCDCDCDCDCDCDCDCDCDCDCDCDCDCDCDCDCDCDCDCDCDCDCDCDCDCDCDCDCDCD",
+        true,
+    ),
 ];
 
 #[test]
@@ -149,6 +163,7 @@ fn searches_a_value_for_one_key_after_another(rt: HostRuntime) -> Result<(), All
         let mut buffer = Vec::from_slice(rt.alloc(), *key)?;
         let found = value.contains(rt.alloc(), &mut buffer)?;
         holds(&rt, *key, found == *wanted);
+        holds(&rt, *key, is::<AsciiCasemap>(&buffer, *key));
     }
     holds(&rt, value.octets(), value.octets() == LONG_VALUE);
     Ok(())
