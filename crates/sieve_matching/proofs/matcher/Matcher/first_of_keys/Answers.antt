@@ -1,4 +1,4 @@
-use Rattle.std.proofs.Common.{◌∙◌, List, ℕ, Some, ap, map, refl, subst, sym}
+use Rattle.std.proofs.Common.{◌∙◌, Some, ap, map, sym}
 use Rattle.std.specs.List.{slice_get}
 use Rattle.sieve_variables.specs.Value.{text_value}
 use Rattle.sieve_matching.specs.view.FieldTests.{cut_key, key_found}
@@ -9,12 +9,16 @@ use Rattle.sieve_matching.proofs.matcher.Matcher.first_of_keys.Goals as goal
 pub loop-i-init : goal.loop-i-init
 loop-i-init c =
     let matcher = c.args.self.now in
-    (c.SearchedValue_new.ensures, sym (first_of_keys matcher.comparison c.args.value.now (cut_key matcher.are_cut) (text_value matcher.values.now) matcher.keys.now))
+    (c.new-searched.ensures, sym (first_of_keys matcher.comparison c.args.value.now (cut_key matcher.are_cut) (text_value matcher.values.now) matcher.keys.now))
 
 pub returns-in-Some : goal.returns-in-Some
 returns-in-Some c =
-    first_at (key_found c.args.self.now c.args.value.now) c.args.self.now.keys.now c.loop-i.i _ _ c.loop-i.invariant.1 (c.in_ok-found.ensures ∙ ap Some c.in-Some.is)
+    let matcher = c.args.self.now in
+    let at = ap (λ value. slice_get (map (key_found matcher value) matcher.keys.now) c.loop-i.i) (sym c.loop-i.invariant.0) ∙ c.in_ok-found.ensures.found ∙ ap Some c.in-Some.is in
+    first_at (key_found matcher c.args.value.now) matcher.keys.now c.loop-i.i _ _ c.loop-i.invariant.1 at
 
 pub loop-i-preserved : goal.loop-i-preserved
 loop-i-preserved c =
-    (c.match_at.ensures.kept ∙ c.loop-i.invariant.0, first_after (key_found c.args.self.now c.args.value.now) c.args.self.now.keys.now c.loop-i.i _ c.loop-i.invariant.1 (c.in_ok-found.ensures ∙ ap Some c.in_default.is))
+    let matcher = c.args.self.now in
+    let at = ap (λ value. slice_get (map (key_found matcher value) matcher.keys.now) c.loop-i.i) (sym c.loop-i.invariant.0) ∙ c.in_ok-found.ensures.found ∙ ap Some c.in_default.is in
+    (c.in_ok-found.ensures.kept ∙ c.loop-i.invariant.0, first_after (key_found matcher c.args.value.now) matcher.keys.now c.loop-i.i _ c.loop-i.invariant.1 at)
