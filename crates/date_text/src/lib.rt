@@ -13,8 +13,6 @@ mod part;
 mod part_text;
 mod reading;
 mod spot;
-#[cfg(test)]
-mod tests;
 mod words;
 mod zone;
 mod zone_words;

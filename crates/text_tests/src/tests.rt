@@ -4,6 +4,7 @@
 
 mod addresses_of_values;
 mod comparators;
+mod dates;
 mod decoded_values;
 mod flags;
 mod limits;

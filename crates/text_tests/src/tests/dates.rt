@@ -3,7 +3,7 @@
 mod reading;
 mod showing;
 
-use crate::{DatePart, Moment, Zone, shown};
+use date_text::{DatePart, Moment, Zone, shown};
 use std::alloc::AllocError;
 
 /// The text of a part of a moment in a zone, or an empty one.

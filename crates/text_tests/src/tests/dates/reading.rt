@@ -1,6 +1,6 @@
 //! Dates that are read, and texts that are none.
 use super::part_of;
-use crate::{DatePart, date_in};
+use date_text::{DatePart, date_in};
 use std::alloc::AllocError;
 use std::process::Abort;
 

@@ -1,6 +1,6 @@
 //! Parts of dates that are shown.
 use super::part_of;
-use crate::{Clock, DATE_PARTS, DatePart, Zone, date_in, zone_named};
+use date_text::{Clock, DATE_PARTS, DatePart, Zone, date_in, zone_named};
 use std::alloc::AllocError;
 use std::process::Abort;
 
