@@ -3,21 +3,15 @@
 //! What octets alone tell, as sessions with their replies and scripts with their verdicts, stands in `examples/rows` and is made in
 //! `tools/checks`.
 
-mod clocks;
-mod edits;
 mod failing_reads;
 mod failing_writes;
 mod faults;
 mod kept;
 mod limits;
-mod mailboxes;
 mod memory;
-mod message_envelopes;
 mod meters;
-mod origins;
 mod readers;
 mod test_jobs;
-mod texts;
 mod usage;
 
 use sievebench::{Bench, Counted, Location, Meter, Octets, ScriptName};
@@ -65,22 +59,6 @@ fn check_report(
     Ok(())
 }
 
-/// Reports, and compares how many runs that makes, and the text.
-fn check_runs(
-    rt: &(impl AllocGlobal + Abort),
-    bench: &mut Bench,
-    runs: u64,
-    text: &[u8],
-) -> Result<(), Fail> {
-    let mut meter = Meter::new();
-    let mut writer = Counted::new(Vec::new(rt.alloc()));
-    bench.report(&mut meter, &mut writer)?;
-    let at = ("a report of so many runs", runs, meter.runs());
-    holds(rt, at, meter.runs() == runs);
-    same(rt, at, &writer.into_inner(), text);
-    Ok(())
-}
-
 /// A personal script's name.
 fn personal(alloc: Global, name: &[u8]) -> Result<ScriptName, AllocError> {
     Ok(ScriptName::new(Location::Personal, Vec::from_slice(alloc, name)?))
@@ -91,15 +69,10 @@ fn put_script(alloc: Global, bench: &mut Bench, name: &[u8], text: &[u8]) -> Res
     Ok(bench.put_script(personal(alloc, name)?, Octets::copied(alloc, text)?)?)
 }
 
-/// Puts a personal script, which is main then.
-fn put_main(alloc: Global, bench: &mut Bench, text: &[u8]) -> Result<(), Fail> {
-    put_script(alloc, bench, b"main", text)?;
-    Ok(bench.set_main(personal(alloc, b"main")?)?)
-}
-
-/// Sets the envelope's addresses.
-fn set_envelope(alloc: Global, bench: &mut Bench, from: &[u8], to: &[u8]) -> Result<(), Fail> {
-    Ok(bench.set_envelope(Octets::copied(alloc, from)?, Octets::copied(alloc, to)?)?)
+/// Puts a message of no octets.
+fn put_message(alloc: Global, bench: &mut Bench, id: &[u8]) -> Result<(), Fail> {
+    let id = Octets::copied(alloc, id)?;
+    Ok(bench.put_message(id, Octets::from_vec(Vec::new(alloc)))?)
 }
 
 /// The letter n, `count` times.

@@ -1,8 +1,9 @@
 //! Reports that run what edits have touched, and the verdicts that are kept.
 
-use super::meters::put_message;
-use super::{TURNS, holds, same};
-use sievebench::{Action, Bench, Counted, Meter, Octets, ReportFault, SessionEnd, session};
+use super::{TURNS, holds, put_message, same};
+use sievebench::{
+    Action, Bench, Counted, Extension, Meter, Octets, Profile, ReportFault, SessionEnd, session,
+};
 use std::io;
 use std::io::{ErrorKind, Write};
 use std::process::Abort;
@@ -165,6 +166,82 @@ fn each_edit_reruns_what_it_touches(rt: HostRuntime) -> Result<(), Fail> {
     begin(&rt, &mut bench)?;
     check_puts(&rt, &mut bench)?;
     check_removals(&rt, &mut bench)
+}
+
+/// Each of them touches its messages also where nothing changes.
+#[test]
+fn each_setting_reruns_what_it_touches(rt: HostRuntime) -> Result<(), Fail> {
+    let profile = Profile::new()
+        .with(Extension::Date)
+        .with(Extension::Envelopes)
+        .with(Extension::Mailbox);
+    let mut bench = Bench::with_profile(rt.alloc(), profile)?;
+    check_steps(
+        &rt,
+        &mut bench,
+        &[
+            (
+                b"message m 0\nmessage n 0\n",
+                2,
+                b"main none\nenvelope \"\" \"\" mailbox \"INBOX\"\nwith date envelopes mailbox\nclock none\nmailboxes 0\nmessage \"m\"\n  implicit \"INBOX\"\nmessage \"n\"\n  implicit \"INBOX\"\ntotal 2 messages 0 errors\n",
+            ),
+            (
+                b"clock 0 -0000\n",
+                2,
+                b"main none\nenvelope \"\" \"\" mailbox \"INBOX\"\nwith date envelopes mailbox\nclock 0 -0000\nmailboxes 0\nmessage \"m\"\n  implicit \"INBOX\"\nmessage \"n\"\n  implicit \"INBOX\"\ntotal 2 messages 0 errors\n",
+            ),
+            (
+                b"clock 0 -0000\n",
+                2,
+                b"main none\nenvelope \"\" \"\" mailbox \"INBOX\"\nwith date envelopes mailbox\nclock 0 -0000\nmailboxes 0\nmessage \"m\"\n  implicit \"INBOX\"\nmessage \"n\"\n  implicit \"INBOX\"\ntotal 2 messages 0 errors\n",
+            ),
+            (
+                b"no-clock\n",
+                2,
+                b"main none\nenvelope \"\" \"\" mailbox \"INBOX\"\nwith date envelopes mailbox\nclock none\nmailboxes 0\nmessage \"m\"\n  implicit \"INBOX\"\nmessage \"n\"\n  implicit \"INBOX\"\ntotal 2 messages 0 errors\n",
+            ),
+            (
+                b"no-clock\n",
+                2,
+                b"main none\nenvelope \"\" \"\" mailbox \"INBOX\"\nwith date envelopes mailbox\nclock none\nmailboxes 0\nmessage \"m\"\n  implicit \"INBOX\"\nmessage \"n\"\n  implicit \"INBOX\"\ntotal 2 messages 0 errors\n",
+            ),
+            (
+                b"mailboxes 3\na\nb",
+                2,
+                b"main none\nenvelope \"\" \"\" mailbox \"INBOX\"\nwith date envelopes mailbox\nclock none\nmailboxes 2\nmessage \"m\"\n  implicit \"INBOX\"\nmessage \"n\"\n  implicit \"INBOX\"\ntotal 2 messages 0 errors\n",
+            ),
+            (
+                b"mailboxes 3\na\nb",
+                2,
+                b"main none\nenvelope \"\" \"\" mailbox \"INBOX\"\nwith date envelopes mailbox\nclock none\nmailboxes 2\nmessage \"m\"\n  implicit \"INBOX\"\nmessage \"n\"\n  implicit \"INBOX\"\ntotal 2 messages 0 errors\n",
+            ),
+            (
+                b"message-envelope m a@b.example c\n",
+                1,
+                b"main none\nenvelope \"\" \"\" mailbox \"INBOX\"\nwith date envelopes mailbox\nclock none\nmailboxes 2\nmessage \"m\"\n  envelope \"a@b.example\" \"c\"\n  implicit \"INBOX\"\nmessage \"n\"\n  implicit \"INBOX\"\ntotal 2 messages 0 errors\n",
+            ),
+            (
+                b"message-envelope m a@b.example c\n",
+                1,
+                b"main none\nenvelope \"\" \"\" mailbox \"INBOX\"\nwith date envelopes mailbox\nclock none\nmailboxes 2\nmessage \"m\"\n  envelope \"a@b.example\" \"c\"\n  implicit \"INBOX\"\nmessage \"n\"\n  implicit \"INBOX\"\ntotal 2 messages 0 errors\n",
+            ),
+            (
+                b"no-message-envelope m\n",
+                1,
+                b"main none\nenvelope \"\" \"\" mailbox \"INBOX\"\nwith date envelopes mailbox\nclock none\nmailboxes 2\nmessage \"m\"\n  implicit \"INBOX\"\nmessage \"n\"\n  implicit \"INBOX\"\ntotal 2 messages 0 errors\n",
+            ),
+            (
+                b"no-message-envelope m\n",
+                1,
+                b"main none\nenvelope \"\" \"\" mailbox \"INBOX\"\nwith date envelopes mailbox\nclock none\nmailboxes 2\nmessage \"m\"\n  implicit \"INBOX\"\nmessage \"n\"\n  implicit \"INBOX\"\ntotal 2 messages 0 errors\n",
+            ),
+            (
+                b"",
+                0,
+                b"main none\nenvelope \"\" \"\" mailbox \"INBOX\"\nwith date envelopes mailbox\nclock none\nmailboxes 2\nmessage \"m\"\n  implicit \"INBOX\"\nmessage \"n\"\n  implicit \"INBOX\"\ntotal 2 messages 0 errors\n",
+            ),
+        ],
+    )
 }
 
 #[test]

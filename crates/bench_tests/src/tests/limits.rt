@@ -115,3 +115,34 @@ fn names_texts_and_messages_have_their_limits(rt: HostRuntime) -> Result<(), All
     let large = Err(EditFault::TooLarge);
     check_sizes(&rt, (1_025, 1_048_577, 16_777_217), &large)
 }
+
+/// Gives a message that is there addresses of so many octets, and lists mailboxes in so many, and compares what each answers.
+fn check_settings(
+    rt: &(impl AllocGlobal + Abort),
+    bench: &mut Bench,
+    (address, list): (usize, usize),
+    wanted: &Result<(), EditFault>,
+) -> Result<(), AllocError> {
+    let at = ("settings", address as u64, list as u64);
+    let from = many(rt.alloc(), address)?;
+    let to = many(rt.alloc(), address)?;
+    let mailboxes = many(rt.alloc(), list)?;
+    let given = bench.set_message_envelope(b"n", from, to);
+    holds(rt, at, given == *wanted);
+    holds(rt, at, bench.set_mailboxes(mailboxes) == *wanted);
+    Ok(())
+}
+
+/// Sets them at their limits and past them, on a new bench.
+fn check_setting_sizes(rt: &(impl AllocGlobal + Abort)) -> Result<(), AllocError> {
+    let mut bench = Bench::new(rt.alloc())?;
+    check_message(rt, &mut bench, 0, &Ok(()))?;
+    check_settings(rt, &mut bench, (1_024, 1_048_576), &Ok(()))?;
+    let large = Err(EditFault::TooLarge);
+    check_settings(rt, &mut bench, (1_025, 1_048_577), &large)
+}
+
+#[test]
+fn addresses_and_lists_of_mailboxes_have_their_limits(rt: HostRuntime) -> Result<(), AllocError> {
+    check_setting_sizes(&rt)
+}

@@ -1,7 +1,6 @@
 //! Calls that no clause keeps from saying that memory is refused: here there is enough.
 
-use super::meters::put_message;
-use super::{check_report, put_script};
+use super::{check_report, put_message, put_script};
 use sievebench::Bench;
 use std::process::Abort;
 use std::test::Fail;

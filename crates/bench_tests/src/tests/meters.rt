@@ -1,44 +1,9 @@
-//! How many runs reports and sessions make.
+//! How many runs sessions make.
 
 use super::{TURNS, holds};
-use sievebench::{Bench, Counted, Meter, Octets, SessionEnd, session};
-use std::alloc::{AllocError, Global};
+use sievebench::{Bench, Counted, Meter, SessionEnd, session};
+use std::alloc::AllocError;
 use std::process::Abort;
-use std::test::Fail;
-
-/// Reports, and compares how many runs there have been then.
-fn check_runs(
-    rt: &(impl AllocGlobal + Abort),
-    bench: &mut Bench,
-    meter: &mut Meter,
-    runs: u64,
-) -> Result<(), Fail> {
-    let mut writer = Counted::new(Vec::new(rt.alloc()));
-    bench.report(meter, &mut writer)?;
-    holds(rt, ("a report", runs, meter.runs()), meter.runs() == runs);
-    Ok(())
-}
-
-/// Puts a message of no octets.
-pub(super) fn put_message(alloc: Global, bench: &mut Bench, id: &[u8]) -> Result<(), Fail> {
-    let id = Octets::copied(alloc, id)?;
-    Ok(bench.put_message(id, Octets::from_vec(Vec::new(alloc)))?)
-}
-
-/// Reports twice on a bench of two messages, which no edit touches in between, and compares.
-fn check_two_reports(rt: &(impl AllocGlobal + Abort), bench: &mut Bench) -> Result<(), Fail> {
-    let mut meter = Meter::new();
-    put_message(rt.alloc(), bench, b"a")?;
-    put_message(rt.alloc(), bench, b"b")?;
-    check_runs(rt, bench, &mut meter, 2)?;
-    check_runs(rt, bench, &mut meter, 2)
-}
-
-#[test]
-fn a_report_counts_its_runs(rt: HostRuntime) -> Result<(), Fail> {
-    let mut bench = Bench::new(rt.alloc())?;
-    check_two_reports(&rt, &mut bench)
-}
 
 /// Serves a session on a bench, and compares how many runs it makes.
 fn check_served(rt: &impl Abort, bench: &mut Bench, writer: Vec<u8>, input: &[u8], runs: u64) {

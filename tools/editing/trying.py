@@ -1,0 +1,96 @@
+"""Tries edits in a copy of the checkout, where `rt ci` begins with the libraries that an earlier run on this machine proved.
+
+(`rt must-fail` would prove all libraries below once more, since it takes nothing from `rt ci`.)
+"""
+import os
+import pathlib
+import re
+import shutil
+import subprocess
+import sys
+import tempfile
+
+from .files import at, changed, end_of
+
+TOLD = re.compile(r"must-fail (\w+)/(\S+\.edit): (.*)")
+REFUSED = re.compile(r"refused, as it must be: (?:note: )?(?:\./)?(src|proofs)/(\S+?):(\d+):\d+: ")
+
+
+def copied(top, room, edits):
+    """Copies what `rt` reads to a folder, with these edits where it looks for them."""
+    shutil.copytree(top / "crates", room / "crates", ignore=shutil.ignore_patterns("out", "must-fail"))
+    for name in ("crates.txt", "HANDLES"):
+        shutil.copy(top / name, room / name)
+    # It is the top of a repository.
+    (room / ".git").mkdir()
+    for edit in edits:
+        folder = room / "crates" / edit.crate / "must-fail"
+        folder.mkdir(exist_ok=True)
+        (folder / edit.name).write_text(edit.text(), encoding="utf-8")
+
+
+def tried(index, top, edits):
+    """Tries edits, and gives what is wrong with each crate's, by crate: sentences, none where all its edits are refused at their own goals."""
+    with tempfile.TemporaryDirectory(prefix="sievebench-edits-") as room:
+        copied(top, pathlib.Path(room), edits)
+        told, whole = run(room, sorted({it.crate for it in edits}))
+    found = {edit.crate: [] for edit in edits}
+    for edit in edits:
+        why = fault(index, edit, told.get((edit.crate, edit.name)))
+        found[edit.crate] += [f"{edit.place()}: {why}"] if why else []
+    if not whole:
+        found = {crate: why or [f"edits/{crate}: rt ci failed"] for crate, why in found.items()}
+    return found
+
+
+def run(room, crates):
+    """Runs `rt ci` over crates in a folder, shows what it says of its own, and gives what it says of each edit, and whether it passed."""
+    env = {name: value for name, value in os.environ.items() if name != "CI"}
+    told = {}
+    with subprocess.Popen(
+        ["rt", "ci", *crates], cwd=room, env=env, stdin=subprocess.DEVNULL, stdout=subprocess.PIPE, stderr=subprocess.STDOUT, text=True, errors="replace"
+    ) as ran:
+        for line in ran.stdout:
+            it = TOLD.search(line)
+            if it:
+                told[it[1], it[2]] = it[3]
+            if line.startswith("rt: "):
+                print(line.rstrip("\n"), flush=True)
+    if ran.returncode:
+        print(f"tools/edits: rt ci ended with status {ran.returncode}", file=sys.stderr)
+    return told, not ran.returncode
+
+
+def fault(index, edit, told):
+    """What is wrong with how a try of an edit ended, if anything."""
+    if told is None:
+        return "it wasn't tried"
+    it = REFUSED.match(told)
+    if not it:
+        return f"change one value and keep the names: {told}" if told.startswith("refused") else told
+    part, file, line = it[1], it[2], int(it[3])
+    goals = proved_by(index, edit.crate, file) if part == "proofs" else there(index, edit.crate, file, line)
+    return None if is_own(changed(index, edit), goals) else f"it is refused at a goal of something else: {told}"
+
+
+def there(index, crate, file, line):
+    """The item of the code that stands at a line of a file, if there is one."""
+    for source in index.sources.values():
+        if source.file == f"crates/{crate}/src/{file}":
+            lines = source.text.split("\n")[:line]
+            item = at(source, len("\n".join(lines)) - len(lines[-1].lstrip()))
+            return [item] if item else []
+    return []
+
+
+def proved_by(index, crate, file):
+    """The functions for which a file of proofs has answers: its folders are their module, their type and their name."""
+    *around, name, _ = file.split("/")
+    sources = [it for it in index.sources.values() if it.crate == crate and tuple(around[: len(it.module)]) == it.module]
+    return [it for source in sources for it in source.functions if it.name == name]
+
+
+def is_own(items, goals):
+    """Whether one of these items with goals is one that an edit changes, or names one of these."""
+    names = re.compile("|".join(rf"\b{re.escape(it.name)}\b" for it in items))
+    return any(it in items or names.search(it.source.text[it.start : end_of(it)]) for it in goals)
