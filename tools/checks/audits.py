@@ -391,7 +391,8 @@ def made(room):
         path.parent.mkdir(parents=True, exist_ok=True)
         path.write_text(text, encoding="utf-8")
     (room / "tools").mkdir()
-    shutil.copy(TOP / "tools/audit", room / "tools/audit")
+    for tool in ("audit", "command.py"):
+        shutil.copy(TOP / "tools" / tool, room / "tools" / tool)
     shutil.copytree(TOP / "tools/auditing", room / "tools/auditing", ignore=shutil.ignore_patterns("__pycache__"))
 
 
@@ -425,7 +426,6 @@ def of_listings(room):
     yield run("least", "", SEVERAL, 2)
     yield run("Size.lost", "", "Size.lost: no definition, type or contract has this name\n", 2)
     yield run("Counter::count.none", "", CLAUSES, 2)
-    yield run("", "", "tools/audit [--count] NAME..\n", 2)
 
 
 @functools.cache
