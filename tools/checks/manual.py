@@ -107,7 +107,7 @@ class Planted(Reading):
             return [f"the tool has {self.looked} times {self.old!r}"]
         (self.room / "tools").mkdir()
         (self.room / "docs").symlink_to(TOP / "docs")
-        for name in ("sievebench-site", "site"):
+        for name in ("sievebench-site", "site", "command.py"):
             (self.room / "tools" / name).symlink_to(TOP / "tools" / name)
         tool = self.room / "tools/manual"
         tool.write_text(text.replace(self.old, self.new), encoding="utf-8")
