@@ -218,7 +218,7 @@ PLANTED = [
     ("room less", SOURCE, "Vec::with_capacity(self.alloc, count)?", "Vec::new(self.alloc)", ["low, Bag::fill: Vec::with_capacity: 0 found, 1 in room.tsv: take out the row of what is gone, of parts"]),
     ("another call refuses", SOURCE, "self.put(", "self.put_all(", ["low, Bag::fill: it has no `put`, which no_memory.tsv has as the word of Fault::NoMemory: say in the row what stands there now"]),
     (
-        "another type has it",
+        "another type has the function",
         SOURCE,
         "impl Bag {",
         "impl Sack {",
@@ -229,7 +229,7 @@ PLANTED = [
             "low, Sack::fill: Vec::with_capacity: 1 found, 0 in room.tsv: add a row with its reason for what is new, of crates/low/src/lib.rt:21",
         ],
     ),
-    ("no function has it", SOURCE, "//! Bags.\n", "//! Bags.\nconst OUT: Fault = Fault::NoMemory;\n", ["low, no function: Fault::NoMemory: 1 found, 0 in no_memory.tsv: add a row with its reason for what is new, of crates/low/src/lib.rt:2"]),
+    ("a place in no function", SOURCE, "//! Bags.\n", "//! Bags.\nconst OUT: Fault = Fault::NoMemory;\n", ["low, no function: Fault::NoMemory: 1 found, 0 in no_memory.tsv: add a row with its reason for what is new, of crates/low/src/lib.rt:2"]),
     ("a row has no reason", "room.tsv", "one for each", "", ["room.tsv, line 2: a cell is empty, or there aren't 5"]),
     (
         "a row stands twice",
@@ -249,7 +249,7 @@ class Planted(Reading):
     """What is said of a change in a small crate, or in its tables."""
 
     def __init__(self, room, title, file, old, new, wanted):
-        self.title, self.command, self.room = f"places where {title}", file, room
+        self.title, self.command, self.room = f"places: {title}", file, room
         self.file, self.old, self.new, self.wanted = file, old, new, wanted
 
     def found(self, path):
