@@ -1,12 +1,13 @@
 """How each tool takes its words: `--help` prints its text, and words that it doesn't take end it before it does anything, with a line on standard
 error and status 2. Beside it nothing is in the path but what prints its text, so that whatever else it began would fail."""
+import os
 import pathlib
 import shlex
 import shutil
 import sys
 
 from .files import write
-from .runs import Run, lines
+from .runs import Reading, Run, lines
 
 TOOLS = pathlib.Path(__file__).resolve().parent.parent
 COMMANDS = ["bash", "dirname", "sed"]
@@ -72,8 +73,22 @@ REFUSED = {
 }
 
 
+class Listed(Reading):
+    """Whether each tool that can be run stands above. That for sites has its own help and its own checks."""
+
+    title, command = "tools whose words are checked", "tools"
+
+    def found(self, path):
+        """Those that don't, and those that aren't there."""
+        files = [it for folder in (TOOLS, TOOLS / "site") for it in folder.iterdir() if it.is_file() and os.access(it, os.X_OK)]
+        tools = {str(it.relative_to(TOOLS)) for it in files} - {"sievebench-site"}
+        self.looked = len(tools)
+        return [f"tools/{it}: it stands in one of TEXTS and the folder alone" for it in sorted(tools ^ set(TEXTS))]
+
+
 def of_tools(room):
     """The text of each, and what it refuses."""
+    yield Listed()
     (room / "kit").mkdir()
     (room / "kit/python3").symlink_to(sys.executable)
     for command in COMMANDS:

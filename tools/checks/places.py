@@ -42,7 +42,7 @@ ASKS_NOTHING = re.compile(r"^ *(?:pub(?:\(\w+\))? )?(?:ghost|use) [^;]*;", re.M)
 KINDS = {"no_memory.tsv": (OUT_OF_MEMORY, SAYS_NOTHING), "room.tsv": (ROOM, ASKS_NOTHING)}
 
 Row = collections.namedtuple("Row", COLUMNS)
-# Its crate, its function, and what stands there; its file and line, and the text of the function without its contract.
+# Its crate, its function, and what stands there; its file and line, and the text of the function after its name, without its contract.
 Place = collections.namedtuple("Place", "crate function says where text")
 
 
@@ -68,9 +68,9 @@ def places_of(file, pattern, apart):
 
 
 def in_function(file, function):
-    """The name of a function of a file, after its type where it has one, and its text without the contract."""
-    start, end = function.signature
-    return "::".join(function.path()[1:]), file.plain[start:end] + file.plain[function.end : file.close(function.end)]
+    """The name of a function of a file, after its type where it has one, and what comes after it, without the contract."""
+    head = file.plain[slice(*function.signature)].partition(function.name)[2]
+    return "::".join(function.path()[1:]), head + file.plain[function.end : file.close(function.end)]
 
 
 def read(table):
@@ -176,7 +176,7 @@ impl From<AllocError> for Fault {
 
 impl Bag {
     /// Fills it, or answers `NoMemory`.
-    pub fn fill(&mut self, parts: &[u8]) -> Result<u64, Fault>
+    pub fn put(&mut self, parts: &[u8]) -> Result<u64, Fault>
         ensures err { IfErr result (λ why. why ≡ NoMemory) }
     {
         let count = parts.len();
@@ -191,11 +191,11 @@ impl Bag {
     "no_memory.tsv": """\
 crate	function	place	word	reason
 low	Fault::from	Fault::NoMemory	`AllocError`	`?` puts it there
-low	Bag::fill	Fault::NoMemory	`put`	`put` has no other refusal
+low	Bag::put	Fault::NoMemory	`put`	`put` has no other refusal
 """,
     "room.tsv": """\
 crate	function	place	word	reason
-low	Bag::fill	Vec::with_capacity	parts	one for each
+low	Bag::put	Vec::with_capacity	parts	one for each
 """,
 }
 # What is changed in a file, what stands in its place, and what must be said of both tables.
@@ -211,22 +211,22 @@ PLANTED = [
         SOURCE,
         "Ok(()) => Ok(count),",
         "Ok(()) if count > 9 => Err(Fault::NoMemory),\n            Ok(()) => Ok(count),",
-        ["low, Bag::fill: Fault::NoMemory: 2 found, 1 in no_memory.tsv: add a row with its reason for what is new, of crates/low/src/lib.rt:23, crates/low/src/lib.rt:25"],
+        ["low, Bag::put: Fault::NoMemory: 2 found, 1 in no_memory.tsv: add a row with its reason for what is new, of crates/low/src/lib.rt:23, crates/low/src/lib.rt:25"],
     ),
-    ("a place less", SOURCE, "Err(Fault::NoMemory)", "Err(Fault::Full)", ["low, Bag::fill: Fault::NoMemory: 0 found, 1 in no_memory.tsv: take out the row of what is gone, of `put`"]),
-    ("room more", SOURCE, "let count", "self.names.reserve(1)?;\n        let count", ["low, Bag::fill: reserve: 1 found, 0 in room.tsv: add a row with its reason for what is new, of crates/low/src/lib.rt:20"]),
-    ("room less", SOURCE, "Vec::with_capacity(self.alloc, count)?", "Vec::new(self.alloc)", ["low, Bag::fill: Vec::with_capacity: 0 found, 1 in room.tsv: take out the row of what is gone, of parts"]),
-    ("another call refuses", SOURCE, "self.put(", "self.put_all(", ["low, Bag::fill: it has no `put`, which no_memory.tsv has as the word of Fault::NoMemory: say in the row what stands there now"]),
+    ("a place less", SOURCE, "Err(Fault::NoMemory)", "Err(Fault::Full)", ["low, Bag::put: Fault::NoMemory: 0 found, 1 in no_memory.tsv: take out the row of what is gone, of `put`"]),
+    ("room more", SOURCE, "let count", "self.names.reserve(1)?;\n        let count", ["low, Bag::put: reserve: 1 found, 0 in room.tsv: add a row with its reason for what is new, of crates/low/src/lib.rt:20"]),
+    ("room less", SOURCE, "Vec::with_capacity(self.alloc, count)?", "Vec::new(self.alloc)", ["low, Bag::put: Vec::with_capacity: 0 found, 1 in room.tsv: take out the row of what is gone, of parts"]),
+    ("another call refuses", SOURCE, "self.put(", "self.put_all(", ["low, Bag::put: it has no `put`, which no_memory.tsv has as the word of Fault::NoMemory: say in the row what stands there now"]),
     (
         "another type has the function",
         SOURCE,
         "impl Bag {",
         "impl Sack {",
         [
-            "low, Bag::fill: Fault::NoMemory: 0 found, 1 in no_memory.tsv: take out the row of what is gone, of `put`",
-            "low, Sack::fill: Fault::NoMemory: 1 found, 0 in no_memory.tsv: add a row with its reason for what is new, of crates/low/src/lib.rt:24",
-            "low, Bag::fill: Vec::with_capacity: 0 found, 1 in room.tsv: take out the row of what is gone, of parts",
-            "low, Sack::fill: Vec::with_capacity: 1 found, 0 in room.tsv: add a row with its reason for what is new, of crates/low/src/lib.rt:21",
+            "low, Bag::put: Fault::NoMemory: 0 found, 1 in no_memory.tsv: take out the row of what is gone, of `put`",
+            "low, Sack::put: Fault::NoMemory: 1 found, 0 in no_memory.tsv: add a row with its reason for what is new, of crates/low/src/lib.rt:24",
+            "low, Bag::put: Vec::with_capacity: 0 found, 1 in room.tsv: take out the row of what is gone, of parts",
+            "low, Sack::put: Vec::with_capacity: 1 found, 0 in room.tsv: add a row with its reason for what is new, of crates/low/src/lib.rt:21",
         ],
     ),
     ("a place in no function", SOURCE, "//! Bags.\n", "//! Bags.\nconst OUT: Fault = Fault::NoMemory;\n", ["low, no function: Fault::NoMemory: 1 found, 0 in no_memory.tsv: add a row with its reason for what is new, of crates/low/src/lib.rt:2"]),
@@ -234,11 +234,11 @@ PLANTED = [
     (
         "a row stands twice",
         "room.tsv",
-        "low\tBag::fill\tVec::with_capacity\tparts\tone for each\n",
-        "low\tBag::fill\tVec::with_capacity\tparts\tone for each\n" * 2,
+        "low\tBag::put\tVec::with_capacity\tparts\tone for each\n",
+        "low\tBag::put\tVec::with_capacity\tparts\tone for each\n" * 2,
         [
-            "low, Bag::fill: Vec::with_capacity: 1 found, 2 in room.tsv: take out the row of what is gone, of parts, parts",
-            "low, Bag::fill: 2 rows of room.tsv for Vec::with_capacity have the word parts: give each its own",
+            "low, Bag::put: Vec::with_capacity: 1 found, 2 in room.tsv: take out the row of what is gone, of parts, parts",
+            "low, Bag::put: 2 rows of room.tsv for Vec::with_capacity have the word parts: give each its own",
         ],
     ),
     ("a table has other columns", "room.tsv", "reason", "why", ["room.tsv: its columns are crate, function, place, word, why, and crate, function, place, word, reason are wanted"]),
