@@ -13,7 +13,7 @@ import collections
 import pathlib
 import re
 
-from auditing.code import File
+from auditing.code import File, blank
 from auditing.index import Index
 
 from . import audits
@@ -44,11 +44,6 @@ KINDS = {"no_memory.tsv": (OUT_OF_MEMORY, SAYS_NOTHING), "room.tsv": (ROOM, ASKS
 Row = collections.namedtuple("Row", COLUMNS)
 # Its crate, its function, and what stands there; its file and line, and the text of the function after its name, without its contract.
 Place = collections.namedtuple("Place", "crate function says where text")
-
-
-def blank(found):
-    """As many spaces, and the ends of lines."""
-    return re.sub(r"[^\n]", " ", found[0])
 
 
 def files_of(index):
