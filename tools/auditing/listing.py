@@ -1,4 +1,11 @@
 """What is asked for by name, and what it stands on, in an order in which nothing is used before it is printed."""
+import difflib
+import re
+
+# What stands between the parts of a path.
+PART = r"::|\."
+# How much of a name that isn't known those near it have.
+NEAR = 0.75
 
 
 class Unknown(Exception):
@@ -10,14 +17,21 @@ def ends_with(path, words):
     return path[len(path) - len(words) :] == words and bool(words)
 
 
+def units_of(index):
+    """The units of all definitions and types, with each path of theirs."""
+    for it in [unit for specs in index.specs.values() for unit in specs.units] + types(index):
+        yield from ((path, it) for path in it.paths)
+
+
+def functions_of(index):
+    """The functions of the code."""
+    return [it for source in index.sources.values() for it in source.functions]
+
+
 def definitions(index, name):
     """The units of the definitions and types of a name, with the path of each."""
     crate, _, rest = name.rpartition("/")
-    words = rest.split(".")
-    for it in [unit for specs in index.specs.values() for unit in specs.units] + types(index):
-        for path in it.paths:
-            if ends_with(path.split("."), words) and crate in ("", it.crate):
-                yield path, it
+    return [(path, it) for path, it in units_of(index) if ends_with(path.split("."), rest.split(".")) and crate in ("", it.crate)]
 
 
 def types(index):
@@ -41,11 +55,11 @@ def named_in_code(index, name):
 
 def asked(index, name):
     """The unit of a name. Raises `Unknown` where there is none, or more than one."""
-    found = list(definitions(index, name)) if "::" not in name else []
+    found = definitions(index, name) if "::" not in name else []
     found = found or list(named_in_code(index, name.replace("/", "::")))
     units = {it.place(): (path, it) for path, it in reversed(found)}
     if not units:
-        raise Unknown(f"{name}: no definition, type or contract has this name{clauses(index, name)}")
+        raise Unknown(f"{name}: no definition, type or contract has this name{clauses(index, name) or near(index, name)}")
     if len(units) > 1:
         lines = "".join(f"\n  {path}  {it.place()}" for path, it in sorted(units.values(), key=lambda it: it[0]))
         raise Unknown(f"{name}: several have this name; ask for one by a longer path:{lines}")
@@ -55,9 +69,27 @@ def asked(index, name):
 def clauses(index, name):
     """The names of a function's clauses, where it is only the name of the clause that isn't known."""
     path, _, clause = name.partition(".")
-    found = [it for source in index.sources.values() for it in source.functions if clause and ends_with(it.path(), path.split("::"))]
+    found = [it for it in functions_of(index) if clause and ends_with(it.path(), path.split("::"))]
     names = sorted({it[1] for function in found for it in function.clauses if it[0] == "ensures" and it[1]})
     return f"; clauses of {path}: {', '.join(names) or 'none has a name'}" if found else ""
+
+
+def full_paths(index):
+    """The full paths of all definitions, types and functions, and of clauses after their function; with the crate of each."""
+    yield from ((path, it.crate) for path, it in units_of(index))
+    for it in functions_of(index):
+        path = "::".join(it.path())
+        yield path, it.source.crate
+        yield from ((f"{path}.{clause[1]}", it.source.crate) for clause in it.clauses if clause[0] == "ensures" and clause[1])
+
+
+def near(index, name):
+    """The names that are almost this one, which isn't known: the ends of full paths that have as many parts."""
+    front, mark, name = name.rpartition("/")
+    size = 2 * len(re.split(PART, name)) - 1
+    known = {"".join(re.split(f"({PART})", path)[-size:]) for path, crate in full_paths(index) if front in ("", crate)}
+    found = difflib.get_close_matches(name, sorted(known), cutoff=NEAR)
+    return f"; names near it: {', '.join(front + mark + it for it in found)}" if found else ""
 
 
 def groups(units):

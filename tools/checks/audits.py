@@ -381,6 +381,17 @@ least: several have this name; ask for one by a longer path:
   Rattle.high.specs.Use.least  crates/high/specs/Use.antt:4
   Rattle.low.specs.Size.least  crates/low/specs/Size.antt:7
 """
+# What is said of names that aren't known: those that differ in a letter or two, and have as many parts.
+NEAR = {
+    "Size.lost": "; names near it: Size.least",
+    "laest": "; names near it: least",
+    "low/twise": "; names near it: low/twice",
+    "high/twise": "",
+    "Countr::count": "; names near it: Counter::count",
+    "Counter::cuont.exact": "; names near it: Counter::count.exact",
+    "low::kept::Kep": "; names near it: low::kept::Kept",
+    "nothing_like_it": "",
+}
 CLAUSES = "Counter::count.none: no definition, type or contract has this name; clauses of Counter::count: exact, wrong\n"
 
 
@@ -391,7 +402,8 @@ def made(room):
         path.parent.mkdir(parents=True, exist_ok=True)
         path.write_text(text, encoding="utf-8")
     (room / "tools").mkdir()
-    shutil.copy(TOP / "tools/audit", room / "tools/audit")
+    for tool in ("audit", "command.py"):
+        shutil.copy(TOP / "tools" / tool, room / "tools" / tool)
     shutil.copytree(TOP / "tools/auditing", room / "tools/auditing", ignore=shutil.ignore_patterns("__pycache__"))
 
 
@@ -423,9 +435,9 @@ def of_listings(room):
     yield run("wrong", LEAST + HIGHER_LEAST + WRONG + toolchain("ℕ"), NOTHING, 1)
     yield run("--count high/least is_even", COUNTED)
     yield run("least", "", SEVERAL, 2)
-    yield run("Size.lost", "", "Size.lost: no definition, type or contract has this name\n", 2)
+    for name, near in NEAR.items():
+        yield run(name, "", f"{name}: no definition, type or contract has this name{near}\n", 2)
     yield run("Counter::count.none", "", CLAUSES, 2)
-    yield run("", "", "tools/audit [--count] NAME..\n", 2)
 
 
 @functools.cache

@@ -21,7 +21,8 @@ OLD = {"p/bin/sievebench": b"#!/bin/sh\necho old\n"}
 # The tool for sites, with what makes one file of it, and what stands for the maker of the manual, and for lowdown, which it needs.
 PACK = "tools/site/pack.py"
 SCRIPTS = ["tools/install", "tools/programs", PACK]
-SITE = {**{it: (TOOLS.parent / it).read_bytes() for it in SCRIPTS}, "tools/completion.bash": b"completion\n", "tools/site/__main__.py": b"import sievebench_site\n", "tools/site/sievebench_site/__init__.py": b'print("site")\n', "tools/site/other.py": b""}
+COMMAND = ["tools/command.sh", "tools/command.py"]
+SITE = {**{it: (TOOLS.parent / it).read_bytes() for it in SCRIPTS + COMMAND}, "tools/completion.bash": b"completion\n", "tools/site/__main__.py": b"import sievebench_site\n", "tools/site/sievebench_site/__init__.py": b'print("site")\n', "tools/site/other.py": b""}
 PAGES = ["sievebench.1", "sievebench-site.1", "sievebench-session.5"]
 MAKER = b'#!/bin/sh\nmkdir "$1"\nfor page in %s; do "$2" "$page" > "$1/$page"; done\n' % " ".join(PAGES).encode()
 MANUAL = {"tools/manual": MAKER, "kit/lowdown": b"#!/bin/sh\n"}
@@ -98,8 +99,8 @@ def of_failures(room):
         ("there is no rt", None, OLD, f"p; echo $?; {used}", b"1\n" + old, [b"install: there is no rt in the path"]),
         ("a folder is a file", calls, OLD, f"p/bin/sievebench; echo $?; {used}", b"1\n" + old, [b"install: cannot write to ", b"/p/bin/sievebench\n"]),
         ("the program's place is a folder", calls, {"p/bin/sievebench/x": b""}, "p; echo $?; find p -type f", b"1\np/bin/sievebench/x\n", [b"/p/bin/sievebench is a folder\n"]),
-        ("an option is unknown", calls, {}, "--prefix=p; echo $?; find . -path ./kit -prune -o -name '*p' -print", b"1\n", [b"install: --prefix=p is no option"]),
-        ("two words are given", calls, {}, "p q; echo $?; find . -name p -o -name q", b"1\n", [b"install: one word at most is wanted"]),
+        ("an option is unknown", calls, {}, "--prefix=p; echo $?; find . -path ./kit -prune -o -name '*p' -print", b"2\n", b"install: there is no option --prefix=p; see tools/install --help\n"),
+        ("two words are given", calls, {}, "p q; echo $?; find . -name p -o -name q", b"2\n", b"install: too many words: it takes [PREFIX]; see tools/install --help\n"),
     ]:
         yield Run(f"no install where {title}", copy(room, rt, files), f"{INSTALL} {words}", output, error)
     # It is seen before anything is proved, so that `rt` isn't called.

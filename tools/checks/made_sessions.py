@@ -12,11 +12,12 @@ from .runs import SETTINGS, Run, lines, some
 
 TOOLS = pathlib.Path(__file__).resolve().parent.parent
 MAKE = shlex.quote(str(TOOLS / "make-session"))
+TOO_FEW, TOO_MANY = (f"too {amount} words: it takes SCRIPTS MAILS; see tools/make-session --help\n" for amount in ("few", "many"))
 # The octets of a file that takes no room, and the memory of a run that reads some.
 ENDLESS, KILOBYTES = 1 << 40, 2_000_000
 # The tool with another limit of mails.
 FEW = f"""import runpy, sys
-sys.path.insert(0, {str(TOOLS / "site")!r})
+sys.path[:0] = [{str(TOOLS)!r}, {str(TOOLS / "site")!r}]
 from sievebench_site import words
 words.MAIL_LIMIT = 2
 runpy.run_path({str(TOOLS / "make-session")!r}, run_name="__main__")
@@ -146,9 +147,9 @@ def of_settings(room):
         ("an octet that isn't UTF-8", "--mailbox \"$(printf 'a\\377\\033')\" one m", one + mail + b'main personal "only"\nmailbox "a\\xff\\x1b"\n'),
     ]:
         yield Run(f"a session, {title}", room, f"{MAKE} {words}", octets + b"report\n")
-    options = [b"--main NAME ", b"--global DIR ", b"--envelope FROM TO ", b"--mailbox BOX "]
+    options = [b"\n--main NAME ", b"\n--global DIR ", b"\n--envelope FROM TO ", b"\n--mailbox BOX "]
     for word in ("-h", "--help"):
-        yield Run(f"the help by {word}", room, f"{MAKE} {word}", [b"tools/make-session [OPTIONS] SCRIPTS MAILS", *options])
+        yield Run(f"the help by {word}", room, f"{MAKE} {word}", [b"    tools/make-session [--main NAME] [--global DIR] [--envelope FROM TO] [--mailbox BOX] SCRIPTS MAILS | sievebench session\n", *options])
     settings = f"{MAKE} --envelope '\u00fc' c@d --mailbox 'B \"x\"' one m | sievebench session"
     told = ['main personal "only"', 'envelope "\\xc3\\xbc" "c@d" mailbox "B \\"x\\""', 'script personal "only" ok', 'message "1"', '  implicit "B \\"x\\""']
     yield Run("settings in the report", room, settings, lines(*["ok"] * 5, *told, '  read personal "only"', "total 1 messages 0 errors"))
@@ -230,16 +231,16 @@ def of_refusals(room):
         ("a long recipient", f"--envelope b {address} s m", f'more than 1024 octets in "{address}"\n'),
         ("a long mailbox", f"--mailbox {mailbox} s m", f'more than 255 octets in "{mailbox}"\n'),
         ("many scripts", "--global full s m", 'more than 4096 scripts in "s" and "full"\n'),
-        ("one folder", "s", "two folders are wanted, of scripts and of mails"),
-        ("three folders", "s m m", "two folders are wanted, of scripts and of mails"),
-        ("three folders after --", "-- s m m", "two folders are wanted, of scripts and of mails"),
-        ("a third folder after --", "s m -- m", "two folders are wanted, of scripts and of mails"),
-        ("a word like an option after --", "s m -- --main", "two folders are wanted, of scripts and of mails"),
-        ("two folders after -- and one before", "s -- m m", "two folders are wanted, of scripts and of mails"),
-        ("one folder after --", "-- s", "two folders are wanted, of scripts and of mails"),
-        ("an unknown option", "--m\u00e4in a s m", '"--m\\xc3\\xa4in" is no option, stands twice, or wants a value'),
-        ("an option again", "--global s s m --global s", '"--global" is no option, stands twice, or wants a value'),
-        ("an option without its values", "s m --envelope a", '"--envelope" is no option, stands twice, or wants a value'),
+        ("one folder", "s", TOO_FEW),
+        ("three folders", "s m m", TOO_MANY),
+        ("three folders after --", "-- s m m", TOO_MANY),
+        ("a third folder after --", "s m -- m", TOO_MANY),
+        ("a word like an option after --", "s m -- --main", TOO_MANY),
+        ("two folders after -- and one before", "s -- m m", TOO_MANY),
+        ("one folder after --", "-- s", TOO_FEW),
+        ("an unknown option", "--m\u00e4in a s m", "there is no option --m\\xc3\\xa4in; see tools/make-session --help\n"),
+        ("an option again", "--global s s m --global s", "--global stands twice; see tools/make-session --help\n"),
+        ("an option without its values", "s m --envelope a", "too few words after --envelope; see tools/make-session --help\n"),
         ("an output that is full", "s m > /dev/full", "cannot write: "),
     ]:
         limit = f"ulimit -v {KILOBYTES}; timeout 20 " if " without an end" in title else ""

@@ -147,8 +147,8 @@ def of_refusals(room):
         ("changes are staged", "echo >> README.md; git add README.md", "", 1, differ),
         ("there is no repository", "rm -rf .git", "", 1, differ),
         ("proofs fail", "printf '#!/bin/sh\\nexit 7\\n' > kit/rt", "", 7, [b"package: tools/programs failed with status 7, so nothing is packed\n"]),
-        ("an option is unknown", ":", "--deb", 1, [b"package: one word at most is wanted"]),
-        ("two words are given", ":", "a b", 1, [b"package: one word at most is wanted"]),
+        ("an option is unknown", ":", "--deb", 2, b"package: there is no option --deb; see tools/package --help\n"),
+        ("two words are given", ":", "a b", 2, b"package: too many words: it takes [OUT]; see tools/package --help\n"),
     ]:
         yield Run(f"no package where {title}", copy(room, HANDS_ON), f"{before}; {made.format(words)}", lines(status), error)
     top = copy(room, HANDS_ON)

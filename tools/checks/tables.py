@@ -134,7 +134,7 @@ def of_tables(room):
         (room / name).parent.mkdir(parents=True, exist_ok=True)
         (room / name).write_text(text, encoding="utf-8")
     (room / "tools").mkdir()
-    for name in ("tables", "tabling", "auditing"):
+    for name in ("tables", "command.py", "tabling", "auditing"):
         copy = shutil.copytree if (TOP / "tools" / name).is_dir() else shutil.copy
         copy(TOP / "tools" / name, room / "tools" / name)
     changed = "docs/CLAUSES.md has changed\ndocs/RULES.md has changed\ndocs/PROVED.md has changed\n"

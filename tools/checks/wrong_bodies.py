@@ -278,7 +278,8 @@ class Drawn(Reading):
 def tool(top):
     """A small repository with a copy of the tool, and a program in the place of `rt`."""
     (made(top) / "tools").mkdir()
-    shutil.copy(TOP / "tools/edits", top / "tools")
+    for name in ("edits", "command.py"):
+        shutil.copy(TOP / "tools" / name, top / "tools")
     for name in ("editing", "auditing", "tabling"):
         shutil.copytree(TOP / "tools" / name, top / "tools" / name)
     (top / "bin").mkdir()

@@ -57,7 +57,7 @@ def run(room, crates):
             if line.startswith("rt: "):
                 print(line.rstrip("\n"), flush=True)
     if ran.returncode:
-        print(f"tools/edits: rt ci ended with status {ran.returncode}", file=sys.stderr)
+        print(f"edits: rt ci ended with status {ran.returncode}", file=sys.stderr)
     return told, not ran.returncode
 
 

@@ -1,5 +1,8 @@
 #!/usr/bin/env python3
-"""Makes one executable file of the tool for sites: tools/site/pack.py FILE. Equal sources give equal octets."""
+"""Makes one executable file of the tool for sites. Equal sources give equal octets.
+
+    tools/site/pack.py FILE
+"""
 
 from __future__ import annotations
 
@@ -10,6 +13,11 @@ import zipfile
 from typing import List
 
 HERE = pathlib.Path(__file__).resolve().parent
+sys.dont_write_bytecode = True
+sys.path.insert(0, str(HERE.parent))
+
+from command import given
+
 BEGIN = b"#!/usr/bin/env python3\n"
 # The first time that an archive of this form can name.
 TIME = (1980, 1, 1, 0, 0, 0)
@@ -32,8 +40,6 @@ def packed() -> bytes:
 
 
 if __name__ == "__main__":
-    if len(sys.argv) != 2:
-        sys.exit("pack.py: one word is wanted, the file that is made")
-    target = pathlib.Path(sys.argv[1])
+    target = pathlib.Path(*given(__doc__).words)
     target.write_bytes(BEGIN + packed())
     target.chmod(0o755)
