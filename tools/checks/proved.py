@@ -34,9 +34,12 @@ class Made(Reading):
         self.title, self.command, self.path, self.made = "what tools/tables makes", path.name, path, made
 
     def found(self, path):
-        """The first line that is otherwise."""
+        """The first line that is otherwise, or why nothing is made."""
         got = self.path.read_text(encoding="utf-8").split("\n") if self.path.is_file() else []
-        wanted = self.made(audits.crates()).split("\n")
+        try:
+            wanted = self.made(audits.crates()).split("\n")
+        except rules.Unnamed as why:
+            return [str(why)]
         self.looked = sum(bool(re.match(r"\| [`\w]", line)) for line in wanted)
         return differences(got, wanted)[:1]
 
