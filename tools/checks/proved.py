@@ -134,7 +134,8 @@ def of_additions():
     """The lists of each crate: its definitions; its code; its proofs. Each name is declared there. And all other names."""
     crates = {path.name: path for path in (TOP / "crates").iterdir() if path.is_dir()}
     pages = (path.name for folder in ("docs", "examples/rows") for path in (TOP / folder).iterdir())
-    anywhere = set().union(*map(places, crates.values()), places(TOP / "tools/checks"), places(TOP / "tools/site"), ("docs", "tools", "checks", "tsv"), pages)
+    tools = (places(TOP / "tools" / it) for it in ("checks", "editing", "site"))
+    anywhere = set().union(*map(places, crates.values()), *tools, ("docs", "tools", "checks", "tsv"), pages)
     lists, others = {}, []
     for line in ADDING.read_text(encoding="utf-8").splitlines():
         listed = re.match(rf"- `({NAME})`[^`]*?: (.*)", line)
