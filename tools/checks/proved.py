@@ -34,9 +34,12 @@ class Made(Reading):
         self.title, self.command, self.path, self.made = "what tools/tables makes", path.name, path, made
 
     def found(self, path):
-        """The first line that is otherwise."""
+        """The first line that is otherwise, or why nothing is made."""
         got = self.path.read_text(encoding="utf-8").split("\n") if self.path.is_file() else []
-        wanted = self.made(audits.crates()).split("\n")
+        try:
+            wanted = self.made(audits.crates()).split("\n")
+        except rules.Unnamed as why:
+            return [str(why)]
         self.looked = sum(bool(re.match(r"\| [`\w]", line)) for line in wanted)
         return differences(got, wanted)[:1]
 
@@ -131,7 +134,8 @@ def of_additions():
     """The lists of each crate: its definitions; its code; its proofs. Each name is declared there. And all other names."""
     crates = {path.name: path for path in (TOP / "crates").iterdir() if path.is_dir()}
     pages = (path.name for folder in ("docs", "examples/rows") for path in (TOP / folder).iterdir())
-    anywhere = set().union(*map(places, crates.values()), places(TOP / "tools/checks"), places(TOP / "tools/site"), ("docs", "tools", "checks", "tsv"), pages)
+    tools = (places(TOP / "tools" / it) for it in ("checks", "editing", "site"))
+    anywhere = set().union(*map(places, crates.values()), *tools, ("docs", "tools", "checks", "tsv"), pages)
     lists, others = {}, []
     for line in ADDING.read_text(encoding="utf-8").splitlines():
         listed = re.match(rf"- `({NAME})`[^`]*?: (.*)", line)

@@ -71,6 +71,20 @@ def some(title, runs):
         yield Nothing(title)
 
 
+def path_to(program, folder):
+    """The path in which a program is called `sievebench`: a link in a new folder within this one comes before all else."""
+    (folder / "bin").mkdir()
+    (folder / "bin/sievebench").symlink_to(program)
+    return f"{folder / 'bin'}{os.pathsep}{os.environ['PATH']}"
+
+
+def tell(run, found):
+    """Prints what is wrong with a run. Whether anything is."""
+    for line in found:
+        print(f"{run.title}: {run.command:.300}\n  {line}")
+    return bool(found)
+
+
 def name_of(part):
     """The module and the name of a part, which is a generator."""
     return f"{pathlib.Path(part.gi_code.co_filename).stem}.{part.__name__}"

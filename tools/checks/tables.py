@@ -128,8 +128,40 @@ All rows together stand on 4 definitions of 12 lines.
 }
 
 
+# Changes of the small crate, one after another, each with what is printed and said then: with sections of the RFC that an earlier comment of the
+# same thing names, and without.
+EARLIER = [
+    ("of an earlier comment's RFC", "printf '\\n== section 3: a row\\n' >> examples/rows/some.rows", "docs/RULES.md has changed\n", ""),
+    ("of no RFC", "printf '# By section 4.\\n' > examples/rows/other.rows", "", "examples/rows/other.rows:1: name the RFC of section 4 before it in this comment\n"),
+    ("of an RFC after it", "printf '== section 4 of RFC 1001\\n' > examples/rows/other.rows", "", "examples/rows/other.rows:1: name the RFC of section 4 before it in this comment\n"),
+    ("of its comment's RFC", "printf '== RFC 1001, section 4\\n' > examples/rows/other.rows", "docs/RULES.md has changed\n", ""),
+]
+OWN = [
+    (
+        "of an earlier comment's RFC",
+        "sed -i 's/^EACH_COMMENT_NAMES = .*/EACH_COMMENT_NAMES = True/' tools/tabling/rules.py; sed -i 's/-- the least (RFC/-- the least (section 7, RFC/' crates/ending/specs/Least.antt",
+        "",
+        "crates/ending/specs/Least.antt:4: name the RFC of section 7 before it in this comment\n"
+        "crates/ending/src/lib.rt:6: name the RFC of section 6 before it in this comment\n"
+        "examples/rows/some.rows:4: name the RFC of section 3 before it in this comment\n",
+    ),
+    (
+        "of its comment's RFC",
+        "sed -i 's/section 7, RFC/RFC/' crates/ending/specs/Least.antt; sed -i 's/(section 6)/(RFC 1002, section 6)/' crates/ending/src/lib.rt; sed -i 's/== section 3/== RFC 1002, section 3/' examples/rows/some.rows",
+        "docs/CLAUSES.md has changed\n",
+        "",
+    ),
+]
+
+
+def of_sections(room, each, cases):
+    """Sections whose RFC is named, and refusals of those without. Where each comment names its own, `each` says so."""
+    for title, change, printed, said in cases:
+        yield Run(f"a section {title}{each}", room, f"{change}; tools/tables", printed.encode(), said.encode(), 1 if said else 0)
+
+
 def of_tables(room):
-    """The pages, without what they say at the top, and that nothing changes the second time."""
+    """The pages, without what they say at the top, that nothing changes the second time, and sections without an RFC."""
     for name, text in FILES.items():
         (room / name).parent.mkdir(parents=True, exist_ok=True)
         (room / name).write_text(text, encoding="utf-8")
@@ -142,3 +174,5 @@ def of_tables(room):
     for page, text in PAGES.items():
         yield Run(f"tables of a small crate: {page}", room, f"sed -n '/^## /,$p' docs/{page}", text.encode())
     yield Run("tables that are made already", room, "tools/tables", b"")
+    yield from of_sections(room, "", EARLIER)
+    yield from of_sections(room, ", where each comment names its own", OWN)

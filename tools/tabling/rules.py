@@ -18,6 +18,8 @@ the file. Code is in `src/`: a function, a type or a variant, or `file.rt` if th
 files of `examples/rows`. The row "whole" is for comments that name an RFC and no section. `tools/audit NAME` prints a definition with all that it
 stands on. `LANGUAGE.md` lists the differences from the standards.
 """
+# Whether a section is only of an RFC that its own comment names before it. If not, it may be of the last that any comment of that thing names.
+EACH_COMMENT_NAMES = False
 NUMBER = r"(?:[A-Z]\.)?\d+(?:\.\d+)*"
 LIST = rf"{NUMBER}(?:(?:, and |, | and | or | to ){NUMBER})*"
 CITED = re.compile(
@@ -30,28 +32,33 @@ SENTENCES = re.compile(r"(?<=[.])\s+(?=[A-Z`])")
 BESIDE = re.compile(r"\s*\([^()]*\b(?:RFC|sections?|appendix)\b[^()]*\)")
 
 
-class Comment:
-    """The text of a comment, and the number of its first line."""
+class Unnamed(Exception):
+    """Sections of no RFC: a sentence for each, with its place."""
 
-    def __init__(self, line, words):
-        self.line, self.text = line, " ".join(" ".join(words).split())
+
+class Comment:
+    """The text of a comment, its file and the number of its first line."""
+
+    def __init__(self, path, line, words):
+        self.path, self.line, self.text = path, line, " ".join(" ".join(words).split())
 
 
 class Cited:
-    """A section that something names: the RFC, the section or nothing, what kind of thing names it, its crate or nothing, its name, and the
-    sentence with the number of sections in it."""
+    """A section that something names: the RFC or nothing, the section or nothing, the comment, what kind of thing names it, its crate or
+    nothing, its name, and the sentence with the number of sections in it."""
 
-    def __init__(self, rfc, section, kind, crate, name, words, beside):
-        self.rfc, self.section, self.kind, self.crate, self.name, self.words, self.beside = rfc, section, kind, crate, name, words, beside
+    def __init__(self, rfc, section, comment, kind, crate, name, words, beside):
+        self.rfc, self.section, self.comment = rfc, section, comment
+        self.kind, self.crate, self.name, self.words, self.beside = kind, crate, name, words, beside
 
 
-def comments(lines, marked):
+def comments(path, lines, marked):
     """The comments of a file: lines of one mark, one after another."""
     found, mark, words = 0, None, []
     for number, line in enumerate([*lines, ""], 1):
         it = marked.match(line)
         if words and (not it or it[1] != mark):
-            yield Comment(found, words)
+            yield Comment(path, found, words)
             words = []
         if it:
             found, mark, words = (number, it[1], [line[it.end() :]]) if not words else (found, mark, [*words, line[it.end() :]])
@@ -83,25 +90,25 @@ def spread(text):
 
 
 def cited(found, places, kind, crate, file):
-    """What the comments of a file name, each by the thing at which it stands. A section alone is of the RFC named before it at that thing."""
+    """What the comments of a file name, each by the thing at which it stands. A section alone is of the RFC named before it: in its comment, or
+    at that thing."""
     starts, last = [it[0] for it in places], {}
     for it in found:
         at = bisect.bisect_right(starts, it.line) - 1
         name, whose = places[at][1:] if at >= 0 else (file, None)
+        rfc = None if EACH_COMMENT_NAMES else last.get(whose)
         for sentence in SENTENCES.split(it.text):
-            named = list(sections(sentence, last.get(whose)))
+            named = list(sections(sentence, rfc))
             for rfc, section in named:
-                if rfc is None:
-                    raise SystemExit(f"{crate}/{file}:{it.line}: a section of no RFC")
                 last[whose] = rfc
-                yield Cited(rfc, section, kind, crate, name, BESIDE.sub("", sentence).rstrip(".;:"), len(named))
+                yield Cited(rfc, section, it, kind, crate, name, BESIDE.sub("", sentence).rstrip(".;:"), len(named))
 
 
 def of_definitions(specs):
     """What the comments of a file of definitions name."""
     module = specs.module.split(".specs.")[1]
     places = [(line, f"{module}.{name}", name) for line, name in defined(specs.lines, 1, 0)]
-    return cited(comments(specs.lines, MARKED[".antt"]), places, "definition", specs.crate, module)
+    return cited(comments(specs.file, specs.lines, MARKED[".antt"]), places, "definition", specs.crate, module)
 
 
 def defined(lines, first, depth):
@@ -119,7 +126,7 @@ def defined(lines, first, depth):
 def of_code(source, kind):
     """What the comments of a file of code name."""
     lines, file = source.text.split("\n"), pathlib.Path(source.file).relative_to(f"crates/{source.crate}/src").as_posix()
-    found = list(comments(lines, MARKED[".rt"]))
+    found = list(comments(source.file, lines, MARKED[".rt"]))
     inner = [it for it in found if lines[it.line - 1].strip().startswith("//!")]
     places = sorted(((line, *names) for line, *names in in_code(source)), key=lambda it: it[0])
     yield from cited(inner, [], kind, source.crate, file)
@@ -147,7 +154,8 @@ def of_rows(top):
     """What the comments and titles of rows name."""
     for path in sorted((top / "examples/rows").iterdir()):
         if path.suffix != ".words":
-            yield from cited(comments(path.read_text(encoding="utf-8").split("\n"), ROWS), [], "test", None, path.name)
+            lines = path.read_text(encoding="utf-8").split("\n")
+            yield from cited(comments(path.relative_to(top), lines, ROWS), [], "test", None, path.name)
 
 
 def all_cited(index):
@@ -160,10 +168,19 @@ def all_cited(index):
     yield from of_rows(index.top)
 
 
+def all_named(index):
+    """All that comments name. Raises `Unnamed` where a section is of no RFC."""
+    found = list(all_cited(index))
+    wrong = [f"{it.comment.path}:{it.comment.line}: name the RFC of section {it.section} before it in this comment" for it in found if it.rfc is None]
+    if wrong:
+        raise Unnamed("\n".join(wrong))
+    return found
+
+
 def page(index):
     """The text of the page."""
     rows = {}
-    for it in all_cited(index):
+    for it in all_named(index):
         rows.setdefault(it.rfc, {}).setdefault(it.section, []).append(it)
     parts = [HEAD]
     for rfc in sorted(rows):
