@@ -105,7 +105,10 @@ class Lock(Reading):
     def found(self, path):
         """The lines that are wrong."""
         self.looked = len(lock.read(TOP))
-        return list(lock.faults(TOP, subprocess.run(["rt", "version"], capture_output=True, text=True, check=True).stdout.strip()).values())
+        # What is put before Python's own modules for the program isn't for `rt`.
+        env = {name: value for name, value in os.environ.items() if name != "PYTHONPATH"}
+        kit = subprocess.run(["rt", "version"], env=env, capture_output=True, text=True, check=True).stdout.strip()
+        return list(lock.faults(TOP, kit).values())
 
 
 NAMES = ["high", "low", "middle", "other"]
