@@ -128,9 +128,13 @@ def of_chains(room):
     yield run("why it ends", room, "why chained b.eml | sed -n '/branches/,$p'", lines("  branches that are taken:", '    chained/before/10.sieve:3: if header "subject" "b"'))
     shutil.copytree(room / "chained", room / "rechained")
     write(room / "rechained", {"before/10.sieve": files["before/10.sieve"].replace(b'"b"', b'"c"')})
-    wanted = ["rechained/mails/b.eml under before/10 main", "  - discard", '  + implicit "INBOX"', "rechained/mails/c.eml under before/10 main", '  - implicit "INBOX"', "  + discard  (rechained/before/10.sieve:3)", "2 of 3 verdicts changed"]
+    wanted = ["rechained/mails/b.eml under main", "  - discard", '  + implicit "INBOX"', "rechained/mails/c.eml under main", '  - implicit "INBOX"', "  + discard  (rechained/before/10.sieve:3)", "2 of 3 verdicts changed"]
     wanted[2] = '  + store "INBOX"  (rechained/personal/main.sieve:3)'
     yield run("what an edit changes of a chain", room, "diff chained rechained", lines(*wanted), status=1)
+    shutil.copytree(room / "chained", room / "longer")
+    write(room / "longer", {"before/05.sieve": b'if header "subject" "c" {\n  redirect "x@y.example";\n}\n', "mains": b"before/05 before/10 main\n"})
+    wanted = ["longer/mails/c.eml under main", '  - implicit "INBOX"', '  + redirect "x@y.example"  (longer/before/05.sieve:2)', "1 of 3 verdicts changed"]
+    yield run("what a script changes that is new before others", room, "diff chained longer", lines(*wanted), status=1)
 
 
 def of_diffs(room):

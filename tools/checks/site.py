@@ -300,6 +300,7 @@ def of_objects(room):
     yield run("an object, with names as they are and verdicts as they are expected", room, "check --lax --json mark", lines(f'{{"passed": true, "counts": {{{counts}}}, "cases": [{cases}], {empty}}}'))
 
 
+STALE = "stale: --prune takes them out"
 LEFT = "left, since it isn't as this tool writes it: --force writes it anew, without its comments"
 
 
@@ -314,7 +315,7 @@ def of_records(room):
     write(room / "errors", site({"1.eml": b""}, main=b'redirect "x";'))
     yield run("an error is written", room, "record errors", lines("errors/mails/1.eml.expect: new, with an error", "1 mails, 1 written, 0 left"))
     write(room / "blocks", site({"1.eml": b"", "1.eml.expect": b'[old]\nstore "A"'}, main=b"discard;"))
-    yield run("a block more", room, "record blocks", lines(f"blocks/mails/1.eml.expect: {LEFT}", "1 mails, 0 written, 1 left"), status=1)
+    yield run("a block more", room, "record blocks", lines("blocks/mails/1.eml.expect: stale: no main script is called old", f"blocks/mails/1.eml.expect: {LEFT}", f"1 mails, 0 written, 1 left, 1 {STALE}"), status=1)
     # Names go in the order of their octets, and what is expected under a main script that isn't run stays, be it right or wrong.
     write(room / "two", {**site({"1.eml": b"", "2.eml": b""}, a=b"discard;", b=b"keep;"), "mains": b"b\na\n"})
     yield run("two main scripts", room, "record two", lines("two/mails/1.eml.expect: new", "two/mails/2.eml.expect: new", "2 mails, 2 written, 0 left"))
@@ -325,6 +326,8 @@ def of_records(room):
     write(room / "quote", site({"1.eml": b""}, **{'a"[\\]': b"discard;"}))
     yield run("a name that wants quotes", room, "record quote", lines("quote/mails/1.eml.expect: new", "1 mails, 1 written, 0 left"))
     yield Run("sievebench-site: its quotes", room, "cat quote/mails/1.eml.expect", lines('["a\\"[\\\\]"]', "discard"))
+    write(room / "quote", {"mails/2.eml.expect": b"[main]\ndiscard\n"})
+    yield run("what is stale is taken out", room, "record --prune quote; ls quote/mails", lines("quote/mails/2.eml.expect: taken out: its mail isn't there", "1 mails, 0 written, 0 left, 1 taken out", "1.eml", "1.eml.expect"))
     yield run("what is recorded agrees", room, "check --strict quote", lines(counted(1, 1, 1, 1, 0, 0, 0, 0)))
     write(room / "modes", site({"1.eml": b"", "2.eml": b"", "2.eml.expect": b"", "3.eml": b"", "4.eml": b"", "link": b""}, main=b"discard;"))
     (room / "modes/mails/2.eml.expect").chmod(0o604)

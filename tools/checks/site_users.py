@@ -1,6 +1,6 @@
 """Sites as servers have them: users, scripts that run one after another, envelopes, and what can't be judged."""
 from .runs import lines, some
-from .site import LEFT, NOBODY, counted, run, site, told, write
+from .site import LEFT, NOBODY, STALE, counted, run, site, told, write
 
 DISCARDS = b"[main]\ndiscard\n"
 
@@ -39,6 +39,15 @@ def of_chains(room):
     yield run("a chain disagrees", room, "check chain", lines(*wrong, counted(3, 2, 6, 5, 1, 0, 0, 0)), status=1)
     yield run("one chain by an option", room, "check --lax --main 'before/10 main' chain", lines(counted(3, 1, 3, 0, 0, 3, 0, 0)))
     yield run("a chain has no such script", room, "check --main 'before/20 main' chain", b"", told('no main script "before/20": there is no "chain/before/20.sieve"'), 2)
+    files = {"before/10.sieve": b"", "before/15.sieve": b'if header "subject" "x" { discard; }', "personal/main.sieve": b"", "mails/1.eml": b"", "mails/2.eml": b"Subject: x\n\n", "envelope": NOBODY}
+    kept = {f"mails/{number}.eml.expect": b'[before/10 main]\nimplicit "INBOX"\n' for number in (1, 2)}
+    write(room / "kept", {**files, **kept, "mains": b"before/10 before/15 main\n"})
+    wrong = ["kept/mails/2.eml under main", '  - implicit "INBOX"', "  + discard  (kept/before/15.sieve:1)"]
+    yield run("what is expected stays where a script comes before others", room, "check kept", lines(*wrong, counted(2, 1, 2, 1, 1, 0, 0, 0)), status=1)
+    yield run("it is written under the main script", room, "record kept; cat kept/mails/*.expect", lines(*(f"kept/mails/{number}.eml.expect: changed" for number in (1, 2)), "2 mails, 2 written, 0 left", "[main]", 'implicit "INBOX"', "[main]", "discard"))
+    write(room / "kept", {"mains": b"all: before/10 before/15 main\nfew: before/10 main\n"})
+    yield run("lines that name themselves", room, "record --prune kept; cat kept/mails/2.eml.expect", lines(*(f"kept/mails/{number}.eml.expect: changed" for number in (1, 2)), "2 mails, 2 written, 0 left", "[all]", "discard", "[few]", 'implicit "INBOX"'))
+    yield run("one of them", room, "check --main few kept", lines(counted(2, 1, 2, 2, 0, 0, 0, 0)))
     write(room / "chain", {"before/30.sieve": b"\nkep;", "before/40.sieve": b'redirect "x";'})
     faults = ["before/30.sieve:2: unknown-command: There is no such command or test.", "before/40.sieve:1: bad-address: This isn't one address."]
     yield run("faults of scripts that others follow", room, "lint chain", lines(*(f"chain/{it}" for it in faults), *(f"chain/before/{it}.sieve:0: unreached: No main script comes to it." for it in (30, 40))), status=1)
@@ -116,11 +125,12 @@ def of_expectations(room):
     yield it
     write(room / "kind", site({"1.eml": b"", "1.eml.expect": b"[main]\n\n# so\nkeep\n"}, main=b""))
     yield run("a kind of line that there isn't", room, "check kind", b"", told('"kind/mails/1.eml.expect", line 4: no line of a verdict begins with "keep"'), 2)
+    gone = "kind/mails/1.eml.expect: stale: no main script is called gone"
     write(room / "kind", {"mails/1.eml.expect": b'[main]\nimplicit "INBOX"\n # keep it\n[gone]\ndiscard'})
-    yield run("a file that isn't as it is written, and agrees", room, "record kind", lines("1 mails, 0 written, 0 left"))
+    yield run("a file that isn't as it is written, and agrees", room, "record kind", lines(gone, f"1 mails, 0 written, 0 left, 1 {STALE}"))
     write(room / "kind", {"personal/main.sieve": b"keep;"})
-    yield run("it is left", room, "record kind", lines(f"kind/mails/1.eml.expect: {LEFT}", "1 mails, 0 written, 1 left"), status=1)
-    yield run("it is written anew", room, "record --force kind; cat kind/mails/1.eml.expect", lines("kind/mails/1.eml.expect: changed", "1 mails, 1 written, 0 left", "[gone]", "discard", "[main]", 'store "INBOX"'))
+    yield run("it is left", room, "record kind", lines(gone, f"kind/mails/1.eml.expect: {LEFT}", f"1 mails, 0 written, 1 left, 1 {STALE}"), status=1)
+    yield run("it is written anew", room, "record --force kind; cat kind/mails/1.eml.expect", lines(gone, "kind/mails/1.eml.expect: changed", f"1 mails, 1 written, 0 left, 1 {STALE}", "[gone]", "discard", "[main]", 'store "INBOX"'))
 
 
 def of_groups(room):

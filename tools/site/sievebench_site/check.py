@@ -45,14 +45,14 @@ def heads(group: Group, look: Look, end: str) -> List[str]:
     return told if sizes is None else [*told, sizes + end]
 
 
-def left_out(found: List[LeftOut], look: Look, each: bool) -> List[str]:
-    """What is left out, the first ones of each reason, and how many there are."""
+def left_out(found: List[LeftOut], look: Look, each: bool, what: str = "left out") -> List[str]:
+    """What is left out, or other files with a reason: the first ones of each reason, and how many there are."""
     reasons: Dict[str, List[bytes]] = {}
     for path, why in found:
         reasons.setdefault(why, []).append(path)
     told = []
     for why, paths in reasons.items():
-        told += [f"{look.name(path)}: left out: {why}" for path in (paths if each else paths[:FIRST])]
+        told += [f"{look.name(path)}: {what}: {why}" for path in (paths if each else paths[:FIRST])]
         if len(paths) > FIRST and not each:
             told.append(f"and {len(paths) - FIRST} more: {why}")
     return told
@@ -66,9 +66,10 @@ def findings_of(checked: Checked) -> Iterator[Finding]:
     for script, line, why in checked.lacking:
         yield Finding(script.path, line, "not-judged", why, level)
     for group in checked.groups(checked.wrong):
-        case, block = group.cases[0], group.cases[0].block()
+        block = group.cases[0].block
         text = "\n".join([*heads(group, PLAIN, ""), *difference(group, PLAIN)])
-        yield Finding(case.mail.expect_path(), block.number if block else 0, "disagrees", text)
+        if block:
+            yield Finding(block.path, block.number, "disagrees", text)
     for group in checked.groups(checked.unjudged):
         yield Finding(
             group.cases[0].mail.path, 0, "not-judged", "\n".join(heads(group, PLAIN, f": {group.cases[0].unjudged}"))
@@ -130,7 +131,7 @@ def object_of(checked: Checked) -> Dict[str, object]:
 
 def case_object(case: Case) -> Dict[str, object]:
     """A case as an object."""
-    block = case.block()
+    block = case.block
     told: Dict[str, object] = {
         "mail": PLAIN.name(case.mail.name),
         "main": PLAIN.name(case.main.label()),

@@ -8,6 +8,7 @@ from .expected import Key
 from .folder import Site
 from .groups import Group, changes, grouped
 from .judge import Case, Judged
+from .mails import Mail
 from .mains import Script
 from .program import Fault
 from .shown import Look
@@ -16,15 +17,15 @@ EXPECTS_NOTHING = "nothing is expected"
 
 
 class Stale(NamedTuple):
-    """An expectation of nothing that there is: its file and line, and what is wrong with it."""
+    """An expectation of nothing that there is: its file, its line and its heading, or of a mail that isn't there the file alone."""
 
     path: bytes
     line: int
-    name: bytes
+    key: Key
 
     def why(self, look: Look) -> str:
         """What is wrong."""
-        return f"no main script is called {look.name(self.name)}" if self.line else "its mail isn't there"
+        return f"no main script is called {look.name(b' '.join(self.key))}" if self.line else "its mail isn't there"
 
 
 class Checked:
@@ -66,7 +67,7 @@ class Checked:
 
     def groups(self, cases: List[Case]) -> List[Group]:
         """Cases in groups, by their differences and why they aren't judged."""
-        return grouped(cases, lambda case: case.unjudged or (changes(case) if case.block() else None), self.each)
+        return grouped(cases, lambda case: case.unjudged or (changes(case) if case.block else None), self.each)
 
 
 def broken_in(site: Site, judged: Judged) -> List[Tuple[Script, Fault]]:
@@ -83,14 +84,14 @@ def lacking_in(site: Site, judged: Judged) -> List[Tuple[Script, int, str]]:
 
 def stale_in(site: Site) -> List[Stale]:
     """What is expected under main scripts that there aren't, where all are looked at, and files of mails that aren't there."""
-    lost = [Stale(path, 0, b"") for path in site.lost]
+    lost = [Stale(path, 0, ()) for path in site.lost]
     if site.wanted.mains or site.wanted.users:
         return lost
-    keys: Dict[bytes, Set[Key]] = {}
-    blocks = {}
+    used: Dict[bytes, Set[Key]] = {}
+    mails: Dict[bytes, Mail] = {}
     for user in site.users:
         for mail in user.mails:
-            keys.setdefault(mail.expect_path(), set()).update(main.key for main in user.mains)
-            blocks[mail.expect_path()] = mail.blocks
-    named = [(path, key, block) for path, found in blocks.items() for key, block in found.items()]
-    return [Stale(path, block.number, b" ".join(key)) for path, key, block in named if key not in keys[path]] + lost
+            mails[mail.path] = mail
+            used.setdefault(mail.path, set()).update(mail.expected.headings(user.mains))
+    named = [(path, key, block) for path, mail in mails.items() for key, block in mail.expected.blocks.items()]
+    return [Stale(block.path, block.number, key) for path, key, block in named if key not in used[path]] + lost

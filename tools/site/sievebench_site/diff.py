@@ -8,7 +8,7 @@ import re
 import subprocess
 import tarfile
 import tempfile
-from typing import Dict, Iterator, List, NamedTuple, Optional
+from typing import Dict, Iterator, List, NamedTuple, Optional, Tuple
 
 from .chains import NOTHING, chained
 from .check import heads
@@ -40,9 +40,13 @@ class Former(NamedTuple):
         """The texts of the scripts."""
         return {script.at(): script.text for script in self.user.scripts}
 
-    def has(self, main: Main) -> bool:
-        """Whether all scripts of a line are there."""
-        return all(place in self.scripts() for place in main.scripts)
+    def main_of(self, main: Main, asked: bool) -> Optional[Main]:
+        """What ran in the place of a line: the line that was called so, or the same scripts if they were there. These come first where they
+        are asked for."""
+        scripts = self.scripts()
+        same = [main] if all(place in scripts for place in main.scripts) else []
+        lines = [it for it in self.user.mains if it.is_also(main)]
+        return next(iter([*same, *lines] if asked else [*lines, *same]), None)
 
 
 class Diff:
@@ -66,23 +70,29 @@ class Diff:
         survey = self.judge.surveys[batch.number]
         with self.judge.held(batch) as held:
             now = dict(held.bench.scripts)
-            for main in filter(former.has, batch.user.mains):
+            for main, earlier in self.compared(batch.user):
                 held.bench.become(former.scripts())
-                before = chained(held.bench, main.scripts, held.mails)
+                before = chained(held.bench, earlier.scripts, held.mails)
                 held.bench.become(now)
                 after = chained(held.bench, main.scripts, held.mails)
                 for name, mail in held.mails.items():
                     was = why_unjudged(before[name], former.survey, former.user)
                     why = f"before, {was}" if was else why_unjudged(after[name], survey, batch.user)
-                    blocks = {main.key: Block(0, before[name].texts())}
-                    cases.append(Case(batch.user, main, mail._replace(blocks=blocks), after[name], why, 0.0))
+                    block = Block(b"", 0, before[name].texts())
+                    cases.append(Case(batch.user, main, mail, after[name], why, 0.0, block))
         return cases
+
+    def compared(self, user: User) -> List[Tuple[Main, Main]]:
+        """The lines of a user that can be compared, each with what ran in its place before."""
+        former = self.former.get(user.name)
+        asked = bool(self.new.wanted.mains)
+        found = [(main, former.main_of(main, asked)) for main in user.mains] if former else []
+        return [(main, earlier) for main, earlier in found if earlier]
 
     def refused(self, batch: Batch) -> List[Case]:
         """The cases of mails for which memory is refused, before or now."""
-        former = self.former.get(batch.user.name)
-        mains = [main for main in batch.user.mains if former and former.has(main)]
-        return [Case(batch.user, main, mail, NOTHING, NO_MEMORY, 0.0) for main in mains for mail in batch.mails]
+        mains = [main for main, _ in self.compared(batch.user)]
+        return [Case(batch.user, main, mail, NOTHING, NO_MEMORY, 0.0, None) for main in mains for mail in batch.mails]
 
     def groups(self, each: bool) -> List[Group]:
         """The changed verdicts in groups, by their differences."""
@@ -91,9 +101,9 @@ class Diff:
     def notes(self, look: Look) -> Iterator[str]:
         """What can't be compared, and where what isn't a script differs too."""
         for user in self.new.users:
-            former = self.former.get(user.name)
+            compared = [main for main, _ in self.compared(user)]
             for main in user.mains:
-                if former is None or not former.has(main):
+                if main not in compared:
                     yield f"{look.name(main.label())}: not compared: its scripts weren't all there before"
         old, new = self.old.wanted.folder, self.new.wanted.folder
         for name in (b"with", b"mailboxes", b"clock"):

@@ -109,6 +109,14 @@ def write_file(path: bytes, octets: bytes) -> None:
         refuse(f"cannot write {quoted(path)}: {error.strerror}")
 
 
+def remove_file(path: bytes) -> None:
+    """Takes out a file."""
+    try:
+        os.unlink(path)
+    except OSError as error:
+        refuse(f"cannot write {quoted(path)}: {error.strerror}")
+
+
 def write_new(path: bytes, octets: bytes) -> bool:
     """Writes a file where there is none of its name, and says whether it did."""
     try:

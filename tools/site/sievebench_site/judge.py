@@ -28,7 +28,7 @@ Result = TypeVar("Result")
 
 
 class Case(NamedTuple):
-    """A mail under a main script: the verdict, what is expected if anything, and why it isn't judged, if it isn't."""
+    """A mail under a main script: the verdict, why it isn't judged if it isn't, how long that took, and what is expected, if anything."""
 
     user: User
     main: Main
@@ -36,10 +36,7 @@ class Case(NamedTuple):
     verdict: Verdict
     unjudged: Optional[str]
     seconds: float
-
-    def block(self) -> Optional[Block]:
-        """What is expected."""
-        return self.mail.blocks.get(self.main.key)
+    block: Optional[Block]
 
     def lines(self) -> Tuple[bytes, ...]:
         """The lines of the verdict."""
@@ -47,8 +44,12 @@ class Case(NamedTuple):
 
     def agrees(self) -> Optional[bool]:
         """Whether the verdict is as expected; nothing where nothing is expected, or it isn't judged."""
-        block = self.block()
-        return None if block is None or self.unjudged else block.lines == self.lines()
+        return None if self.block is None or self.unjudged else self.block.lines == self.lines()
+
+
+def case_of(user: User, main: Main, mail: Mail, verdict: Verdict, unjudged: Optional[str], seconds: float) -> Case:
+    """A case, with what the mail's file expects."""
+    return Case(user, main, mail, verdict, unjudged, seconds, mail.expected.block(main))
 
 
 class Judged(NamedTuple):
@@ -128,7 +129,7 @@ class Judge:
                 told = chained(held.bench, main.scripts, held.mails)
                 seconds = (time.monotonic() - began) / len(held.mails)
                 for name, mail in held.mails.items():
-                    cases.append(Case(user, main, mail, told[name], why_unjudged(told[name], found, user), seconds))
+                    cases.append(case_of(user, main, mail, told[name], why_unjudged(told[name], found, user), seconds))
         self.progress.add(len(batch.mails))
         return cases, held.bare
 
@@ -136,7 +137,7 @@ class Judge:
         """The cases of mails for which memory is refused."""
         self.progress.add(len(batch.mails))
         mains = batch.user.mains
-        return [Case(batch.user, main, mail, NOTHING, NO_MEMORY, 0.0) for main in mains for mail in batch.mails], []
+        return [case_of(batch.user, main, mail, NOTHING, NO_MEMORY, 0.0) for main in mains for mail in batch.mails], []
 
     @contextlib.contextmanager
     def held(self, batch: Batch) -> Iterator[Held]:

@@ -8,8 +8,8 @@ from typing import FrozenSet, List, NamedTuple, Optional, Tuple
 
 from .ends import refuse
 from .envelopes import Envelope, envelope_if_any
-from .expected import Blocks, blocks_of
 from .files import files_in, is_plain, names_in, octets_of, size_of
+from .headings import Expected
 from .words import MESSAGE_LIMIT, quoted, unquoted, words_in
 
 # What may stand beside a mail.
@@ -26,8 +26,7 @@ class Mail(NamedTuple):
     size: int
     envelope: Envelope
     users: Optional[FrozenSet[bytes]]
-    expected: Optional[bytes]
-    blocks: Blocks
+    expected: Expected
 
     def expect_path(self) -> bytes:
         """The file of what is expected of it."""
@@ -39,14 +38,13 @@ def mail_names(folder: bytes) -> List[bytes]:
     return [name for name in files_in(folder, b".eml") if not name.startswith(b".")]
 
 
-def mail_at(folder: bytes, name: bytes, user: bytes) -> Mail:
+def mail_at(folder: bytes, name: bytes, user: bytes, has_users: bool) -> Mail:
     """A mail, with what stands beside it. One of a user's own has the user's name before its own."""
     path = os.path.join(folder, name)
     expect = path + b".expect"
-    expected = octets_of(expect) if os.path.lexists(expect) else None
-    blocks = blocks_of(expect, expected) if expected is not None else {}
+    expected = Expected({expect: octets_of(expect)} if os.path.lexists(expect) else {}, has_users)
     envelope = envelope_if_any(path + b".envelope")
-    return Mail(path, user + b"/" + name if user else name, size_of(path), envelope, users_of(path), expected, blocks)
+    return Mail(path, user + b"/" + name if user else name, size_of(path), envelope, users_of(path), expected)
 
 
 def users_of(path: bytes) -> Optional[FrozenSet[bytes]]:

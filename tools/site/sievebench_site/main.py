@@ -57,10 +57,12 @@ def run_check(options: argparse.Namespace) -> int:
 
 def run_record(options: argparse.Namespace) -> int:
     """The command record."""
+    if options.prune and (options.user or options.main or options.only):
+        refuse("--prune looks at the whole site: without --user, --main and --only")
     with locked(site_folder(options.folders)):
         site = site_with_mails(options)
         judged = Judge(site, program_of(options, site), options.jobs).all()
-        told, whole = record(site, judged, look_of(options.utf8), options.force)
+        told, whole = record(site, judged, look_of(options.utf8), options.force, options.prune)
     if not (options.quiet and whole):
         sys.stdout.write("".join(f"{line}\n" for line in told))
     return int(not whole)

@@ -38,7 +38,8 @@ Files of a site:
   global/NAME.sieve        scripts for include :global; may be missing
   mains                    the main scripts, one a line. Several in a line run one after another, as
                            before/10-spam main after/90-lists: FOLDER/NAME is FOLDER/NAME.sieve of
-                           the site. A name with blanks stands between quotes
+                           the site. A name with blanks stands between quotes. Where several lines
+                           are for one script, each has a name: sales: before/10-spam main
   with                     names for --with of sievebench, one a line; may be missing
   mailboxes                if with has mailbox: the mailboxes that exist, one a line; may be missing
   clock                    if with has date: the current time, one line of seconds since 1970-01-01
@@ -54,12 +55,13 @@ Files of a site:
   mails/MAIL.eml.envelope  the same of this mail. Without it, the sender is the first Return-Path
                            that is an address or <>, and the recipient the first Delivered-To that
                            is an address, or else X-Original-To, or else Envelope-To
-  mails/MAIL.eml.expect    what is expected of the mail: for each line of mains its names in
-                           brackets, and then the lines of the verdict
+  mails/MAIL.eml.expect    what is expected of the mail: for each line of mains the name of the
+                           user's own script in brackets, as [main], or the line's own name, and
+                           then the lines of the verdict
   mails/MAIL.eml.users     the users for whom the mail is judged; without it, all
   users/NAME/              a user, if there are several: personal, and maybe mains and mails. The
                            folders global and mails and the file mains at the top are everybody's.
-                           Expectations stand in blocks [NAME/MAIN]
+                           Expectations stand in blocks [NAME/main]
 """
 STATUS = """\
 Exit status:
@@ -129,8 +131,7 @@ and why.""",
 Writes today's verdicts as what is expected.
 
 What is expected of mails and under scripts that aren't run stays, and so does what is expected of
-a mail that can't be judged. Remove by hand what stands under scripts that mains no longer names.
-A file that isn't as this tool writes it, for example with comments, CR LF or another order, is
+a mail that can't be judged. What is stale stays and is reported, unless --prune takes it out. A file that isn't as this tool writes it, for example with comments, CR LF or another order, is
 left and reported, and so is one that changes meanwhile. If a script has a fault, nothing is
 written. Only one record or import may write to a site at a time.""",
     "lint": """\
@@ -173,10 +174,11 @@ reached; faults; not judged; not looked up.""",
 Reports which verdicts on the mails of SITE change if its scripts replace those of OLD, or of a
 revision in git.
 
-Only the scripts are those of OLD. Mails, main scripts, envelopes and the files with, mailboxes and
-clock are those of SITE; if one of these three was another, that is said. Main scripts that weren't
-there before are \"not compared\". New faults are reported too. A verdict that can't be judged,
-before or now, is reported and not counted as changed.""",
+A line of mains is compared with the line that was called so, whatever scripts ran in it. Mails,
+envelopes and the files with, mailboxes and clock are those of SITE; if one of these three was
+another, that is said. Lines that weren't there, and whose scripts weren't all there, are \"not
+compared\". New faults are reported too. A verdict that can't be judged, before or now, is reported
+and not counted as changed.""",
     "why": """\
 Says of one mail's verdict which script and line entered each action, which scripts were looked up,
 and which branches the run took, in order.
@@ -231,7 +233,7 @@ def add_running(parser: Parser) -> None:
         action="append",
         default=[],
         metavar="NAME",
-        help="takes this line of main scripts and not those of mains, for all users who have them; may be given again",
+        help="takes this line of mains alone, by its name or its scripts, or one that isn't there, for all users who have its scripts; may be given again",
     )
     parser.add_argument(
         "--clock", metavar="TIME", help="the current time, in place of the file clock, as 1783245600+0200"
@@ -297,6 +299,8 @@ def add_record(parser: Parser) -> None:
     add_judging(parser)
     writes = "also rewrites files that aren't as this tool writes them, without their comments"
     parser.add_argument("--force", action="store_true", help=writes)
+    takes = "also takes out what is stale: files of mails that aren't there, and blocks that no line of mains has"
+    parser.add_argument("--prune", action="store_true", help=takes)
 
 
 def add_lint(parser: Parser) -> None:

@@ -15,7 +15,7 @@ from .expected import Block, Key
 from .faults import sentence_of
 from .folder import Site, User, Wanted, refuse_no_mains, site_of, take_mails
 from .groups import FIRST, changes, counted, difference, grouped
-from .judge import Case, Judge, put_settings, why_unjudged
+from .judge import Case, Judge, case_of, put_settings, why_unjudged
 from .mails import Mail
 from .mains import SCRIPT_END, Main
 from .program import Place, Program, Session, Verdict
@@ -195,7 +195,7 @@ class Watch:
             lacking = {at: it for at, it in judge.surveys[number].lacking.items() if (user.name, at) not in self.whole}
             found = judge.surveys[number]._replace(lacking=lacking)
             return [
-                Case(user, main, mail, told[mail.path], why_unjudged(told[mail.path], found, user), 0.0)
+                case_of(user, main, mail, told[mail.path], why_unjudged(told[mail.path], found, user), 0.0)
                 for mail in user.mails
             ]
 
@@ -284,8 +284,7 @@ def changed_cases(before: Seen, now: Seen) -> List[Tuple[Case, str]]:
         if was and was.verdict is not case.verdict and was.lines() != case.lines():
             mark = ": no longer as expected" if was.agrees() and case.agrees() is False else ""
             mark = ": now as expected" if case.agrees() and was.agrees() is False else mark
-            blocks = {case.main.key: Block(0, was.lines())}
-            found.append((case._replace(mail=case.mail._replace(blocks=blocks)), mark))
+            found.append((case._replace(block=Block(b"", 0, was.lines())), mark))
     return found
 
 
@@ -294,7 +293,7 @@ def is_news(was: Optional[Case], case: Case) -> bool:
     if was is None or was.agrees() is None:
         return True
     same = was.lines() == case.lines()
-    return (was.agrees() is True and same) or (was.agrees() is False and (not same or was.block() != case.block()))
+    return (was.agrees() is True and same) or (was.agrees() is False and (not same or was.block != case.block))
 
 
 def watch(looking: Watch) -> None:

@@ -242,7 +242,7 @@ class Records(Room):
         judged = Judge(site, self.program(), 1).all()
         for number in (1, 2):
             self.write({f"mails/{number}.eml.expect": "[b]\ndiscard\n"})
-        told, whole = record(site, judged, Look(False), False)
+        told, whole = record(site, judged, Look(False), False, False)
         self.assertEqual(
             (whole, [line[-36:] for line in told[:2]]), (False, ["left, since it was changed meanwhile"] * 2)
         )

@@ -86,6 +86,30 @@ class Folders(Room):
         self.assertEqual(told[0], "new: not compared: its scripts weren't all there before")
         self.assertEqual(told[-1], "2 of 2 verdicts changed")
 
+    def test_chains(self) -> None:
+        self.site("old", main="keep;")
+        self.site("new", main="keep;")
+        self.write({f"{name}/before/10.sieve": "" for name in ("old", "new")})
+        self.write({"new/before/15.sieve": 'if header "subject" "k2" { discard; }', "old/mains": "before/10 main"})
+        wanted = [
+            "new/mails/2.eml under main",
+            '  - store "INBOX"',
+            "  + discard  (new/before/15.sieve:1)",
+            "1 of 2 verdicts changed",
+        ]
+        for line in ("before/10 before/15 main", "sales: before/15 main"):
+            with self.subTest(line):
+                self.write({"new/mains": line})
+                heads = [wanted[0].replace("main", line.partition(":")[0] if ":" in line else "main"), *wanted[1:]]
+                self.assertEqual(self.ran("diff", "old", "new"), (1, heads, ""))
+        self.write({"new/mains": "before/15 main\nplain: before/10 main"})
+        told = self.ran("diff", "old", "new")[1]
+        self.assertEqual(told[-1], "1 of 4 verdicts changed")
+        # What is asked for is compared with the same scripts.
+        self.write({"old/personal/main.sieve": "discard;"})
+        told = self.ran("diff", "--main", "before/10 main", "old", "new")[1]
+        self.assertEqual(told[-1], "2 of 2 verdicts changed")
+
     def test_what_is_not_judged(self) -> None:
         self.site("old", main='require "z"; discard;', other="kep;")
         self.site("new", main="discard;", other="kep;")

@@ -1,0 +1,47 @@
+"""Which block of a mail's file says what is expected of it under a line of main scripts."""
+
+from __future__ import annotations
+
+from typing import Dict, Iterable, List, Optional, Set
+
+from .expected import Block, Blocks, Key, blocks_of
+from .mains import Line, Main, of_user
+
+
+class Expected:
+    """What is expected of a mail: the files that say it, as they were read, and their blocks by their headings."""
+
+    def __init__(self, files: Dict[bytes, bytes], users: bool) -> None:
+        self.files = files
+        self.blocks: Blocks = {}
+        for path, octets in files.items():
+            self.blocks.update(blocks_of(path, octets))
+        # The headings that name several scripts, by the main one of these.
+        self.chains: Dict[Key, List[Key]] = {}
+        for key in self.blocks:
+            if len(key) > 1:
+                self.chains.setdefault(main_script(key, users), []).append(key)
+
+    def heading(self, main: Main) -> Optional[Key]:
+        """The heading under which a line stands: what it is called, or the names of all its scripts. The only line for its main script also
+        has the heading of this one, or one of several scripts of which it is the main one."""
+        keys = [main.key, main.names, *([main.script] if main.alone else [])]
+        chains = self.chains.get(main.script, []) if main.alone else []
+        keys += chains if len(chains) == 1 else []
+        return next((key for key in keys if key in self.blocks), None)
+
+    def headings(self, mains: Iterable[Main]) -> Set[Key]:
+        """The headings under which some line stands."""
+        found = map(self.heading, mains)
+        return {key for key in found if key}
+
+    def block(self, main: Main) -> Optional[Block]:
+        """What is expected under a line."""
+        key = self.heading(main)
+        return self.blocks[key] if key else None
+
+
+def main_script(key: Key, users: bool) -> Key:
+    """The main script of a heading that names several: where there are users, that of one of theirs."""
+    user, _, first = key[0].partition(b"/") if users else (b"", b"", key[0])
+    return of_user(user, (Line("", b"", (first, *key[1:])).script(),))
