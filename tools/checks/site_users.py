@@ -83,16 +83,24 @@ def of_envelopes(room):
 def of_unjudged(room):
     """Scripts that require what isn't there."""
     main = b'require "include"; if header "subject" "x" { include "old"; } discard;'
-    write(room / "old", {**site({"1.eml": b"", "1.eml.expect": DISCARDS}, main=main), "personal/old.sieve": b'# old\nrequire ["fileinto", "regex", "x\\"y"];', "personal/older.sieve": b'require "vacation";'})
-    notes = ['old/personal/old.sieve:2: not judged: requires regex, x\\"y', "old/personal/older.sieve:1: not judged: requires vacation"]
-    yield run("no verdict comes to a script that can't be judged", room, "check old", lines(*notes, counted(1, 1, 1, 1, 0, 0, 0, 0)))
-    yield run("it is no fault", room, "lint old", lines(*notes))
+    write(room / "old", {**site({"1.eml": b"", "1.eml.expect": DISCARDS}, main=main), "personal/old.sieve": b'# old\nrequire ["fileinto", "regex"];', "personal/older.sieve": b'require "vacation";'})
+    notes = ["old/personal/old.sieve:2: not judged: requires regex: it isn't supported yet; list the script in unjudged: personal/old.sieve requires regex", "old/personal/older.sieve:1: not judged: requires vacation: add it to the file with"]
+    yield run("no verdict comes to a script that can't be judged", room, "check old", lines(*notes, counted(1, 1, 1, 1, 0, 0, 0, 0)), status=1)
+    yield run("it fails lint too", room, "lint old", lines(*notes), status=1)
+    write(room / "old", {"unjudged": b"personal/old.sieve requires regex\npersonal/older.sieve not asked for\n"})
+    skipped = ["old/personal/old.sieve:2: skipped: requires regex", "old/personal/older.sieve:1: skipped: not asked for"]
+    yield run("scripts that are listed", room, "check old", lines(*skipped, counted(1, 1, 1, 1, 0, 0, 0, 0)))
+    yield run("they pass lint too", room, "lint old", lines(*skipped))
     write(room / "old", {"mails/2.eml": b"Subject: x\n\n"})
-    why = 'not judged: personal "old" requires regex, x\\"y'
+    yield run("a verdict comes to one", room, "check old", lines(*skipped, counted(2, 1, 2, 1, 0, 0, 0, 0, further=["1 skipped"])))
+    (room / "old/unjudged").unlink()
+    why = 'not judged: personal "old" requires regex'
     yield run("a verdict comes to it", room, "check --lax old", lines(*notes, f"old/mails/2.eml under main: {why}", counted(2, 1, 2, 1, 0, 0, 0, 0, further=["1 not judged"])), status=1)
     yield run("the others are recorded", room, "record old", lines(*notes, "2 mails, 0 written, 0 left, 1 verdicts not judged"))
-    write(room / "old", {"with": b"vacation\n", "personal/old.sieve": b"discard;"})
-    yield run("it is asked for", room, "check --lax old", lines(counted(2, 1, 2, 1, 0, 1, 0, 0)))
+    write(room / "old", {"with": b"vacation\n", "personal/old.sieve": b"discard;", "unjudged": b"personal/old.sieve once\n"})
+    yield run("it is asked for", room, "check --lax old", lines(counted(2, 1, 2, 1, 0, 1, 1, 0)))
+    stale = "old/unjudged: personal/old.sieve can be judged"
+    yield run("what can be judged is listed", room, "check --only 1.eml old", lines(stale, counted(1, 1, 1, 1, 0, 0, 1, 0)), status=1)
     write(room / "huge", {**site({"1.eml": b"", "1.eml.expect": DISCARDS, "2.eml": b"x" * 16_777_217, "3.eml": b"x" * 16_777_216, "3.eml.expect": DISCARDS}, main=b"discard;")})
     left = "huge/mails/2.eml: left out: it has 16,777,217 octets, and a mail has at most 16,777,216"
     yield run("a mail past the limit, and one at it", room, "check huge", lines(left, counted(2, 1, 2, 2, 0, 0, 0, 0, further=["1 left out"])))
@@ -104,6 +112,32 @@ def of_unjudged(room):
     wanted += ["names5/mails/1795931695.M1P2.host:2,S: left out: it has the name of a Maildir's file: `import` takes it"]
     wanted += ["names5/mails/cur/1795931695.M1P2.host:2,S: left out: it is in a folder inside of mails"]
     yield run("names that are reported", room, "check names5", lines(*wanted, counted(1, 1, 1, 1, 0, 0, 0, 0, further=["7 left out"])))
+
+
+def of_capabilities(room):
+    """Names of capabilities that aren't known."""
+    told_of = {
+        "unjudged: personal/main.sieve requires regex": 'require "regex"; keep;',
+        "main.sieve:1: not judged: requires duplicate, body: add them to the file with": 'require ["duplicate", "body"]; keep;',
+        "main.sieve:2: unknown-capability: imap4flag: no such extension; did you mean imap4flags?": 'require "copy";\nrequire "imap4flag"; keep;',
+        "main.sieve:1: unknown-command: There is no such command or test. vacation needs vacation, which the script doesn't require.": 'vacation "x";',
+        ":regex needs regex, which the script doesn't require.": 'if header :regex "subject" "x" { keep; }',
+    }
+    for number, (sentence, script) in enumerate(told_of.items()):
+        write(room / f"asks{number}", site({"1.eml": b""}, main=script.encode()))
+        for command in ("lint", "check"):
+            yield run(f"a name that isn't known: {script}, {command}", room, f"{command} asks{number}", [f"{sentence}\n".encode()], status=1)
+    write(room / "unused", {**site({"1.eml": b""}, main=b'require ["regex", "index", "copy"]; keep;'), "with": b"unused\n"})
+    yield run("capabilities that aren't used", room, "lint unused")
+    write(room / "unused", {"personal/main.sieve": b'require ["regex", "copies"]; keep;'})
+    wrong = "unused/personal/main.sieve:1: unknown-capability: copies: no such extension; did you mean copy?"
+    for command in ("lint", "record"):
+        yield run(f"a capability that isn't used and isn't one, {command}", room, f"{command} unused", lines(wrong), status=1)
+    write(room / "unused", {"personal/main.sieve": b'require ["regex", "editheader"];\nif header :is "x" "y" { keep; }\naddheader "a" "b";'})
+    wrong = "unused/personal/main.sieve:3: not judged: addheader needs editheader: it isn't supported yet; list the script in unjudged: personal/main.sieve requires editheader"
+    yield run("one that is used", room, "lint unused", lines(wrong), status=1)
+    write(room / "unused", {"unjudged": b"personal/main.sieve requires editheader\n"})
+    yield run("it is listed", room, "check --lax unused", lines("unused/personal/main.sieve:3: skipped: requires editheader", counted(1, 1, 1, 0, 0, 0, 0, 0, further=["1 skipped"])))
 
 
 def of_expectations(room):
@@ -156,5 +190,5 @@ def of_sites(room):
     """All of them."""
     room = room / "users of sites"
     room.mkdir()
-    for part in (of_users, of_chains, of_envelopes, of_unjudged, of_expectations, of_groups):
+    for part in (of_users, of_chains, of_envelopes, of_unjudged, of_capabilities, of_expectations, of_groups):
         yield from some(part.__name__, part(room))

@@ -14,7 +14,7 @@ from .chains import NOTHING, chained
 from .check import heads
 from .ends import fail, refuse
 from .expected import Block
-from .faults import Survey, sentence_of
+from .faults import sentence_of
 from .files import octets_if_any
 from .findings import PLAIN
 from .folder import Site, User, Wanted, site_of
@@ -23,6 +23,7 @@ from .judge import Batch, Case, Judge, surveys, why_unjudged
 from .mains import Main
 from .program import NO_MEMORY, Place, Program
 from .shown import Look
+from .survey import Survey
 from .words import quoted
 
 Scripts = Dict[Place, bytes]
@@ -76,8 +77,8 @@ class Diff:
                 held.bench.become(now)
                 after = chained(held.bench, main.scripts, held.mails)
                 for name, mail in held.mails.items():
-                    was = why_unjudged(before[name], former.survey, former.user)
-                    why = f"before, {was}" if was else why_unjudged(after[name], survey, batch.user)
+                    was = why_unjudged(before[name], former.survey)
+                    why = f"before, {was}" if was else why_unjudged(after[name], survey)
                     block = Block(b"", 0, before[name].texts())
                     cases.append(Case(batch.user, main, mail, after[name], why, 0.0, block))
         return cases

@@ -1,14 +1,15 @@
-"""The faults of scripts: what each means, and what a script requires that isn't there."""
+"""The faults of scripts: what each means."""
 
 from __future__ import annotations
 
 import codecs
-from typing import Dict, Iterable, List, NamedTuple, Optional, Tuple
+import difflib
+from typing import List, Optional
 
-from .folder import User
+from .capabilities import NEEDS, REGISTERED
 from .mains import Script
-from .program import Fault, Place, Session
-from .sieve_text import required
+from .program import Fault
+from .sieve_text import line_at, line_requiring, required, tokens
 from .words import quoted
 
 # What each fault of a script means, and each error of a run that `lint` looks for.
@@ -43,69 +44,36 @@ SENTENCES = {
 LACKING = "unknown-capability"
 
 
-class Survey(NamedTuple):
-    """Of each script its fault, if any, and of each that requires what isn't there, what that is."""
-
-    faults: Dict[Place, Optional[Fault]]
-    lacking: Dict[Place, List[bytes]]
-
-    def broken(self, user: User) -> List[Tuple[Script, Fault]]:
-        """The scripts that have a fault, but for those that can't be judged."""
-        return [
-            (it, fault)
-            for it in user.scripts
-            for fault in [self.faults.get(it.at())]
-            if fault and it.at() not in self.lacking
-        ]
-
-    def unjudged(self, user: User) -> List[Tuple[Script, int, str]]:
-        """The scripts that can't be judged, each with a line and why."""
-        return [
-            (it, (self.faults[it.at()] or (0, ""))[0], requires(self.lacking[it.at()]))
-            for it in user.scripts
-            if it.at() in self.lacking
-        ]
-
-
-def requires(names: Iterable[bytes]) -> str:
-    """What a script requires, as it is reported."""
-    return "requires " + ", ".join(quoted(name)[1:-1] for name in names)
-
-
-def survey(session: Session, scripts: List[Script]) -> Survey:
-    """Puts the scripts, and asks for their faults."""
-    put_scripts(session, scripts)
-    faults = session.report().faults
-    unknown = {
-        script: required(script.text)[1] for script in scripts if (faults.get(script.at()) or (0, ""))[1] == LACKING
-    }
-    missing = set(unknown_of(session, sorted({name for names in unknown.values() for name in names})))
-    lacking = {
-        script.at(): [name for name in dict.fromkeys(names) if name in missing] for script, names in unknown.items()
-    }
-    return Survey(faults, {place: names for place, names in lacking.items() if names})
-
-
-def put_scripts(session: Session, scripts: Iterable[Script]) -> None:
-    """Puts the scripts of a user."""
-    for script in scripts:
-        session.script(script.at(), script.text, f"the script {quoted(script.path)}")
-
-
-def unknown_of(session: Session, names: List[bytes]) -> List[bytes]:
-    """Those of these capabilities that aren't there: a script that requires one alone has a fault."""
-    unknown = []
-    for name in names:
-        place = "personal", b"\x01requires"
-        spelled = name.replace(b"\\", b"\\\\").replace(b'"', b'\\"')
-        session.script(place, b'require "' + spelled + b'";', "a script of one capability")
-        if session.report().faults[place]:
-            unknown.append(name)
-    return unknown
-
-
 def sentence_of(script: Script, line: int, word: str) -> str:
     """What a fault of a script means."""
     if (line, word) == (1, "syntax") and script.text.startswith(codecs.BOM_UTF8):
         return "The file begins with a byte order mark, the octets EF BB BF: save it without one."
+    if word == LACKING:
+        strange = [it for it in strangers(script.text) if line_requiring(script.text, it) == line]
+        if strange:
+            return "; ".join(map(no_such, strange))
+    used = word_at(script.text, (line, word))
+    if used and NEEDS[used] not in required(script.text)[1]:
+        return f"{SENTENCES[word]} {used.decode()} needs {NEEDS[used].decode()}, which the script doesn't require."
     return SENTENCES.get(word, "a fault")
+
+
+def strangers(text: bytes) -> List[bytes]:
+    """What a script requires that isn't registered."""
+    return [name for name in dict.fromkeys(required(text)[1]) if name not in REGISTERED]
+
+
+def no_such(name: bytes) -> str:
+    """What is said of a capability that there isn't, and which may be meant."""
+    near = difflib.get_close_matches(name.decode("latin-1").lower(), [it.decode() for it in sorted(REGISTERED)], 1)
+    meant = f"; did you mean {near[0]}?" if near else ""
+    return f"{quoted(name)[1:-1]}: no such extension{meant}"
+
+
+def word_at(text: bytes, fault: Fault) -> Optional[bytes]:
+    """The command, the test or the tag at which a fault is, if one capability alone gives it."""
+    if fault[1] not in ("bad-tag", "unknown-command"):
+        return None
+    kind = "tag" if fault[1] == "bad-tag" else "word"
+    found = [it for it in tokens(text) if it.kind == kind and it.octets in NEEDS]
+    return next((it.octets for it in found if line_at(text, it.start) == fault[0]), None)

@@ -9,9 +9,9 @@ from typing import Dict, Iterable, List, NamedTuple, Optional
 
 from .shown import Look
 
-# A finding that fails the run, one that is only reported, and how SARIF and GitHub call them.
-ERROR, NOTE = "error", "note"
-GITHUB = {ERROR: "error", NOTE: "notice"}
+# A finding that fails the run, one that is only reported, and one of what is known and passes; how GitHub calls them.
+ERROR, NOTE, SKIPPED = "error", "note", "skipped"
+GITHUB = {ERROR: "error", NOTE: "notice", SKIPPED: "notice"}
 SARIF = "https://json.schemastore.org/sarif-2.1.0.json"
 # What is shown in files that a program reads.
 PLAIN = Look(True)
@@ -58,14 +58,18 @@ def sarif(findings: Iterable[Finding], version: str) -> str:
     found = list(findings)
     rules = [{"id": kind} for kind in dict.fromkeys(it.kind for it in found)]
     driver = {"name": "sievebench-site", "version": version, "rules": rules}
-    results = [
-        {"ruleId": it.kind, "level": it.level, "message": {"text": it.text}, "locations": [location(it)]}
-        for it in found
-    ]
+    results = [result(it) for it in found]
     return (
         json.dumps({"$schema": SARIF, "version": "2.1.0", "runs": [{"tool": {"driver": driver}, "results": results}]})
         + "\n"
     )
+
+
+def result(it: Finding) -> Dict[str, object]:
+    """A finding as SARIF has it. What is known and passes is suppressed."""
+    told = {"ruleId": it.kind, "level": NOTE if it.level == SKIPPED else it.level, "message": {"text": it.text}}
+    passes = {"suppressions": [{"kind": "external", "justification": it.text}]} if it.level == SKIPPED else {}
+    return {**told, "locations": [location(it)], **passes}
 
 
 def location(it: Finding) -> Dict[str, object]:
@@ -96,7 +100,7 @@ def junit(tests: List[Test], seconds: float) -> bytes:
         if it.failure is not None:
             tree.SubElement(case, "failure", message=it.failure).text = it.text or it.failure
         elif it.skipped:
-            tree.SubElement(case, "skipped")
+            tree.SubElement(case, "skipped", {"message": it.text} if it.text else {})
         case.tail = "\n"
     suite.text = suite.tail = "\n"
     text: str = tree.tostring(suite, "unicode")

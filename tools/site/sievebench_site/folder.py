@@ -8,6 +8,7 @@ from typing import List, NamedTuple, Optional, Set
 from .clock import clock_in
 from .ends import Refusal, refuse
 from .files import names_in, octets_if_any
+from .listed import Listed
 from .mails import LeftOut, Mail, lost_in, mail_at, mail_names, passed_over, too_large
 from .mains import Called, Main, Script, Shelf, called, chosen, scripts_in
 from .program import Place
@@ -40,7 +41,8 @@ class User(NamedTuple):
 
 
 class Site(NamedTuple):
-    """What the folder has, as far as it is wanted: what left out is and why, and the files beside mails that aren't there."""
+    """What the folder has, as far as it is wanted: what is left out and why, the files beside mails that aren't there, and the scripts that
+    are listed since they can't be judged."""
 
     wanted: Wanted
     names: List[bytes]
@@ -49,6 +51,7 @@ class Site(NamedTuple):
     users: List[User]
     left_out: List[LeftOut]
     lost: List[bytes]
+    listed: Listed
 
     def mailboxes_path(self) -> bytes:
         """The file of the mailboxes that there are."""
@@ -60,7 +63,9 @@ def site_of(wanted: Wanted) -> Site:
     folder = wanted.folder
     names = [line for line in lines_of(octets_if_any(os.path.join(folder, b"with"))) if line]
     users = users_of(wanted)
-    site = Site(wanted, names, boxes_in(folder, names), clock_in(folder, names, wanted.clock), users, [], [])
+    site = Site(
+        wanted, names, boxes_in(folder, names), clock_in(folder, names, wanted.clock), users, [], [], Listed(folder)
+    )
     unread = os.path.join(folder, b"personal")
     if users[0].name and os.path.lexists(unread):
         site.left_out.append((unread, "each user of the site has scripts of his or her own"))

@@ -41,6 +41,9 @@ Files of a site:
                            the site. A name with blanks stands between quotes. Where several lines
                            are for one script, each has a name: sales: before/10-spam main
   with                     names for --with of sievebench, one a line; may be missing
+  unjudged                 the scripts that can't be judged yet, one a line: the path of a script,
+                           as personal/old.sieve, or a user's name, and then why. They are skipped.
+                           May be missing
   mailboxes                if with has mailbox: the mailboxes that exist, one a line; may be missing
   clock                    if with has date: the current time, one line of seconds since 1970-01-01
                            UTC and a zone, as 1783245600 +0200. The zone is also that of dates
@@ -120,13 +123,14 @@ judged, mails without expectations, stale expectations, files that are left out,
 counts. An expectation is stale if its mail isn't there, which isn't looked at with --only, or if
 mains doesn't name its scripts, which isn't looked at with --user or --main.
 
-A script that requires what the file with doesn't name can't be judged. That fails a check only if
-a mail's run comes to it.
+A script that requires what isn't there can't be judged. That fails the check, unless the file
+unjudged lists the script: then it is skipped, and so is each mail whose run comes to it. A line of
+this file is stale if its script can be judged.
 
 The object of --json has passed; counts; cases, each with mail, main, agrees (null if nothing is
-expected or it isn't judged), expected, verdict and the lines of scripts that entered it (null if
-none did); faults, each with script, line and word; not judged; stale and left out, each with file
-and why.""",
+expected or it isn't judged), skipped, expected, verdict and the lines of scripts that entered it
+(null if none did); faults, each with script, line and word; not judged and skipped, each with
+script, line and why; stale and left out, each with file and why.""",
     "record": """\
 Writes today's verdicts as what is expected.
 
@@ -139,11 +143,12 @@ Reports the first fault of each script, and what must fail: includes of scripts 
 have a fault, or that lead back; redirects to what isn't one address, responses from what isn't one,
 and stores into what no mailbox can be, if they have no variable.
 
-Also says which scripts can't be judged, which ones no main script comes to, and where scripts ask
-for the current date if the site has no clock. These are no faults.
+A script that can't be judged, since it requires what isn't there, fails the run unless the file
+unjudged lists it. Also says which scripts no main script comes to, and where scripts ask for the
+current date if the site has no clock. These are no faults.
 
---sievec skips scripts that come to one that can't be judged. What sievec complains of and compiles
-all the same isn't reported.""",
+Of a script that can't be judged, or comes to one, sievec alone says something. What it complains of
+and compiles all the same isn't reported.""",
     "import": """\
 Takes mails into a site's folder mails, as 0001.eml and on: those of Maildirs, mbox files, and files
 of one mail each.

@@ -72,7 +72,7 @@ def counts(mails: int, changes: List[Change], stale: List[Stale], judged: Judged
     further = {
         "taken out": sum(it.text is None and not it.left for it in changes),
         "stale: --prune takes them out": len(stale),
-        "verdicts not judged": sum(bool(case.unjudged) for case in judged.cases),
+        "verdicts not judged": sum(bool(case.unjudged) and not case.skipped for case in judged.cases),
         "mails without an envelope": len(judged.bare),
     }
     written = sum(it.text is not None and not it.left for it in changes)

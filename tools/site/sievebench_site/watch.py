@@ -15,7 +15,7 @@ from .expected import Block, Key
 from .faults import sentence_of
 from .folder import Site, User, Wanted, refuse_no_mains, site_of, take_mails
 from .groups import FIRST, changes, counted, difference, grouped
-from .judge import Case, Judge, case_of, put_settings, why_unjudged
+from .judge import Case, Judge, case_of, put_settings
 from .mails import Mail
 from .mains import SCRIPT_END, Main
 from .program import Place, Program, Session, Verdict
@@ -24,7 +24,7 @@ from .shown import Look
 # How long it waits between two looks, and how long it lets files settle that change.
 PAUSE, SETTLING, SETTLES = 0.5, 0.05, 20
 # The files that a site has, and in how deep folders they are.
-NAMES = (b"mains", b"with", b"mailboxes", b"clock", b"envelope")
+NAMES = (b"mains", b"with", b"unjudged", b"mailboxes", b"clock", b"envelope")
 MAIL_ENDS = (b".eml", b".eml.envelope", b".eml.expect", b".eml.users")
 ENDS = (SCRIPT_END, *MAIL_ENDS)
 DEPTH = 4
@@ -194,10 +194,7 @@ class Watch:
             # Of a script whose last text stands it doesn't matter what it requires now.
             lacking = {at: it for at, it in judge.surveys[number].lacking.items() if (user.name, at) not in self.whole}
             found = judge.surveys[number]._replace(lacking=lacking)
-            return [
-                case_of(user, main, mail, told[mail.path], why_unjudged(told[mail.path], found, user), 0.0)
-                for mail in user.mails
-            ]
+            return [case_of(user, main, mail, told[mail.path], found, 0.0) for mail in user.mails]
 
         found = [it for part in judge.each(work, cases) for it in part] if work else []
         told = {(it.user.name, it.main.key, it.mail.path): it for it in found}
@@ -262,7 +259,7 @@ def summary(before: Seen, now: Seen, changed: int) -> str:
         "new": 0 if first else len(set(now.cases) - set(before.cases)),
         "gone": len(set(before.cases) - set(now.cases)),
         "not as expected": len(now.wrong),
-        "not judged": sum(bool(case.unjudged) for case in now.cases.values()),
+        "not judged": sum(bool(case.unjudged) and not case.skipped for case in now.cases.values()),
     }
     told = [number if first else f"{changed} of {number} changed"]
     return ", ".join([*told, *(f"{count} {what}" for what, count in further.items() if count)])

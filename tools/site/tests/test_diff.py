@@ -111,7 +111,7 @@ class Folders(Room):
         self.assertEqual(told[-1], "2 of 2 verdicts changed")
 
     def test_what_is_not_judged(self) -> None:
-        self.site("old", main='require "z"; discard;', other="kep;")
+        self.site("old", main='require "regex"; discard;', other="kep;")
         self.site("new", main="discard;", other="kep;")
         told = self.ran("diff", "old", "new")
         self.assertEqual(
@@ -119,17 +119,17 @@ class Folders(Room):
             (
                 0,
                 [
-                    'new/mails/1.eml under main: not judged: before, personal "main" requires z',
-                    'new/mails/2.eml under main: not judged: before, personal "main" requires z',
+                    'new/mails/1.eml under main: not judged: before, personal "main" requires regex',
+                    'new/mails/2.eml under main: not judged: before, personal "main" requires regex',
                     "0 of 0 verdicts changed, 2 not judged",
                 ],
             ),
         )
         told = self.ran("diff", "new", "old")
-        self.assertIn('old/mails/1.eml under main: not judged: personal "main" requires z', told[1])
-        self.site("old", main='require "include"; include "part";', part='require "z";')
+        self.assertIn('old/mails/1.eml under main: not judged: personal "main" requires regex', told[1])
+        self.site("old", main='require "include"; include "part";', part='require "regex";')
         told = self.ran("diff", "old", "new")
-        self.assertIn('new/mails/1.eml under main: not judged: before, personal "part" requires z', told[1])
+        self.assertIn('new/mails/1.eml under main: not judged: before, personal "part" requires regex', told[1])
         self.assertEqual(told[1][-1], "0 of 0 verdicts changed, 2 not judged")
 
     def test_memory(self) -> None:

@@ -107,16 +107,19 @@ class Verdicts(Room):
         self.write(
             {
                 "personal/a.sieve": 'require "include"; if header "subject" "x" { include "b"; }',
-                "personal/b.sieve": 'require ["fileinto", "y", "x"];',
-                "personal/c.sieve": 'require "z";',
+                "personal/b.sieve": 'require ["fileinto", "index", "ihave"];',
+                "personal/c.sieve": 'require "regex";',
             }
         )
         self.write({"mains": "a\n", "mails/1.eml": "x", "mails/2.eml": "", "mails/1.eml.expect": "[a]\ndiscard\n"})
         judged = self.judged()
         self.assertEqual(
-            [(it.unjudged, it.agrees()) for it in judged.cases], [('personal "b" requires y, x', None), (None, None)]
+            [(it.unjudged, it.agrees()) for it in judged.cases],
+            [('personal "b" requires index, ihave', None), (None, None)],
         )
-        self.assertEqual(judged.surveys[0].lacking, {("personal", b"b"): [b"y", b"x"], ("personal", b"c"): [b"z"]})
+        self.assertEqual(
+            judged.surveys[0].lacking, {("personal", b"b"): [b"index", b"ihave"], ("personal", b"c"): [b"regex"]}
+        )
 
     def test_memory(self) -> None:
         refused = {1: "no memory to put", 4: "no memory to run", 9: "no memory to run"}
