@@ -176,7 +176,12 @@ def of_revisions(room):
     yield run("since a revision", where, "diff --utf8 --git HEAD s\u00fc", wanted, status=1)
     yield run("in a folder inside, as a hook has it", folder, "diff --utf8 --git HEAD .", [b"1 of 1 verdict changed"], status=1)
     yield Run("sievebench-site: under the environment of a hook", where, f"GIT_DIR=.git GIT_INDEX_FILE=.git/index python3 {shlex.quote(str(TOOL))} diff --git HEAD s\u00fc", [b"1 of 1 verdict changed"], status=1)
-    yield run("a revision that lacks the site", where, "diff --git HEAD~1 s\u00fc", b"", told('the revision "HEAD~1" has no folder "s\\xc3\\xbc"'), 2)
+    (folder / "with").write_text("vacation\n")
+    told_of = "s\u00fc/with: it was another, and is taken for both\n".encode()
+    yield run("settings that changed since a revision", where, "diff --utf8 --git HEAD s\u00fc", [told_of], status=1)
+    yield Run("a commit of them", where, f"{commit} three")
+    yield run("settings that didn't", where, "diff --utf8 --git HEAD s\u00fc", lines("0 of 1 verdict changed"))
+    yield run("a revision that lacks the site", where, "diff --git HEAD~2 s\u00fc", b"", told('the revision "HEAD~2" has no folder "s\\xc3\\xbc"'), 2)
     yield run("a revision that there isn't", where, "diff --git=-x s\u00fc", b"", told('no revision "-x" in the repository of "s\\xc3\\xbc"'), 2)
     write(room / "outside", site({"1.eml": b""}, main=b""))
     outside = f"GIT_CEILING_DIRECTORIES={shlex.quote(str(room))} python3 {shlex.quote(str(TOOL))} diff --git HEAD outside"

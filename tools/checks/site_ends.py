@@ -181,6 +181,10 @@ def of_servers(room):
     yield Run("examples for servers: its hook before a commit", room, f"{found} {hook} && git commit -qm two; echo $?; git add site && git commit -q --allow-empty -m two; echo $?", lines("1", "0"), [line.encode() for line in wrong])
     server = f"{found} git init -q --bare ../server && install -m 755 pre-receive ../server/hooks/pre-receive && git push -q ../server HEAD:main && printf 'keep;' > site/personal/main.sieve && git commit -qnam three && git push -q ../server HEAD:main; echo $?; git -C ../server log --format=%s main"
     yield Run("examples for servers: its hook of a server", room, server, lines("1", "two", "one"), [line[-12:].encode() for line in wrong])
+    lint = f"{found} printf 'discard;' > site/personal/main.sieve && printf 'redirect \"x\";' > site/personal/other.sieve && git add site && git commit -qnm four && git push -q ../server HEAD:main; echo $?"
+    yield Run("examples for servers: its hook finds faults that no mail comes to", room, lint, lines("1"), [b"site/personal/other.sieve:1: bad-address: This isn't one address."])
+    bare = f"{found} git rm -qr site && git commit -qnm five && git push -q ../server HEAD:pages; echo $?; git -C ../server log --format=%s -n 1 pages"
+    yield Run("examples for servers: its hook passes a branch without a site", room, bare, lines("0", "five"), [b"refs/heads/pages has no folder site: no filters are checked"])
 
 
 def of_sites(room):

@@ -27,6 +27,8 @@ from .survey import Survey
 from .words import quoted
 
 Scripts = Dict[Place, bytes]
+# The files beside scripts that change verdicts too.
+SETTINGS = (b"with", b"mailboxes", b"clock")
 # What an environment may say of another repository than that of the site, as git does in hooks.
 ELSEWHERE = ("GIT_DIR", "GIT_WORK_TREE", "GIT_INDEX_FILE", "GIT_PREFIX")
 
@@ -55,6 +57,8 @@ class Diff:
 
     def __init__(self, old: Site, new: Site, program: Program, jobs: int) -> None:
         self.old, self.new, self.judge = old, new, Judge(new, program, jobs)
+        # The other site may be gone when this is told.
+        self.settings = [name for name in SETTINGS if setting(old, name) != setting(new, name)]
         found = zip(old.users, surveys(old, program))
         self.former = {user.name: Former(user, survey) for user, survey in found}
         cases = [it for part in self.judge.batches(self.batch, self.refused) for it in part]
@@ -106,10 +110,8 @@ class Diff:
             for main in user.mains:
                 if main not in compared:
                     yield f"{look.name(main.label())}: not compared: its scripts weren't all there before"
-        old, new = self.old.wanted.folder, self.new.wanted.folder
-        for name in (b"with", b"mailboxes", b"clock"):
-            if octets_if_any(os.path.join(old, name)) != octets_if_any(os.path.join(new, name)):
-                yield f"{look.name(os.path.join(new, name))}: it was another, and is taken for both"
+        for name in self.settings:
+            yield f"{look.name(os.path.join(self.new.wanted.folder, name))}: it was another, and is taken for both"
 
     def faults(self, look: Look) -> Iterator[str]:
         """The faults that there are now and weren't before."""
@@ -126,6 +128,11 @@ class Diff:
         told = len(self.cases) - len(self.unjudged)
         more = f", {len(self.unjudged)} not judged" if self.unjudged else ""
         return f"{len(self.changed)} of {counted(told, 'verdict')} changed{more}"
+
+
+def setting(site: Site, name: bytes) -> bytes:
+    """A file of a site's settings, or nothing where there is none."""
+    return octets_if_any(os.path.join(site.wanted.folder, name))
 
 
 def other_site(folder: bytes, new: Site) -> Site:

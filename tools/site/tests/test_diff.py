@@ -194,6 +194,18 @@ class Revisions(Room):
         self.git("commit", "-qm", "two")
         self.write({"a/s \u00fc/personal/link.sieve": "discard;"})
 
+    def settings(self, site: str) -> None:
+        """Settings are said to have changed where they did."""
+        self.write({f"{site}/with": "mailbox\n", f"{site}/mailboxes": "A\n"})
+        self.git("add", "-A")
+        self.git("commit", "-qm", "four")
+        self.assertEqual(self.ran("diff", "--git", "HEAD", site)[1], ["0 of 2 verdicts changed"])
+        self.write({f"{site}/mailboxes": "B\n"})
+        shown = site.replace("\u00fc", "\\xc3\\xbc")
+        wanted = [f"{shown}/mailboxes: it was another, and is taken for both", "0 of 2 verdicts changed"]
+        self.assertEqual(self.ran("diff", "--git", "HEAD", site)[1], wanted)
+        self.git("checkout", "-q", "--", ".")
+
     def test_revision(self) -> None:
         site = "a/s \u00fc"
         told = self.ran("diff", "--git", "HEAD", site)
@@ -202,6 +214,7 @@ class Revisions(Room):
         self.git("commit", "-qam", "three")
         self.assertEqual(self.ran("diff", "--git", "main", site)[1], ["0 of 2 verdicts changed"])
         self.assertEqual(self.ran("diff", "--git", "main~1", site)[0], 1)
+        self.settings(site)
         with mock.patch.dict(os.environ, GIT_DIR="/nowhere", GIT_INDEX_FILE="/nowhere/index"):
             self.assertEqual(self.ran("diff", "--git", "main", site)[0], 0)
 
