@@ -22,6 +22,10 @@ def of_users(room):
     yield run("an unknown user", room, "check --user c users", b"", told('no user "c": there is no "users/users/c"'), 2)
     write(room / "users", {"mails/2.eml.users": b"b c"})
     yield run("a mail of an unknown user", room, "check users", b"", told('"users/mails/2.eml.users" names "c", and the site has no such user'), 2)
+    many = [f"user{number:02}" for number in range(21)]
+    write(room / "crowd", {"mains": b"main\n", "envelope": NOBODY, "mails/1.eml": b"", **{f"users/{name}/personal/main.sieve": b"discard;" for name in many}})
+    yield run("a file of each of many users", room, "record crowd; ls crowd/mails/1.eml.expect | wc -l; cat crowd/mails/1.eml.expect/user20", lines("crowd/mails/1.eml.expect: new, a folder of 21 files", "1 mails, 1 written, 0 left", "21", "[user20/main]", "discard"))
+    yield run("they agree", room, "check crowd", lines(counted(1, 21, 21, 21, 0, 0, 0, 0)))
     write(room / "single", {**site({"1.eml": b"", "1.eml.users": b"a"}, main=b""), "personal/main.sieve": b""})
     yield run("users of a site that has none", room, "check single", b"", told('"single/mails/1.eml.users" names "a", and the site has no such user'), 2)
 

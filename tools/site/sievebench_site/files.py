@@ -10,7 +10,7 @@ import socket
 import stat
 import sys
 import tempfile
-from typing import Iterator, List
+from typing import Dict, Iterator, List
 
 from .ends import refuse
 from .words import quoted
@@ -109,12 +109,55 @@ def write_file(path: bytes, octets: bytes) -> None:
         refuse(f"cannot write {quoted(path)}: {error.strerror}")
 
 
+def write_folder(path: bytes, files: Dict[bytes, bytes]) -> None:
+    """Puts a folder of files in the place of a file, or where there is none. It is written beside its place first, so that one of the two
+    is there whole."""
+    place = os.path.realpath(path)
+    try:
+        with tempfile.TemporaryDirectory(prefix=b".", suffix=b".new", dir=os.path.dirname(place) or b".") as room:
+            old, new = os.path.join(room, b"old"), os.path.join(room, b"new")
+            os.mkdir(new)
+            for name, octets in files.items():
+                write_file(os.path.join(new, name), octets)
+            if os.path.lexists(place):
+                os.rename(place, old)
+            with putting_back(old, place):
+                os.rename(new, place)
+    except OSError as error:
+        refuse(f"cannot write {quoted(path)}: {error.strerror}")
+
+
+@contextlib.contextmanager
+def putting_back(old: bytes, place: bytes) -> Iterator[None]:
+    """Renames a file to its place again if the block fails."""
+    try:
+        yield
+    except OSError:
+        if os.path.lexists(old):
+            os.rename(old, place)
+        raise
+
+
+def make_folder(path: bytes) -> None:
+    """Makes a folder where there is none."""
+    try:
+        os.makedirs(path, exist_ok=True)
+    except OSError as error:
+        refuse(f"cannot write {quoted(path)}: {error.strerror}")
+
+
 def remove_file(path: bytes) -> None:
     """Takes out a file."""
     try:
         os.unlink(path)
     except OSError as error:
         refuse(f"cannot write {quoted(path)}: {error.strerror}")
+
+
+def remove_empty(folder: bytes) -> None:
+    """Takes out a folder, if nothing is in it."""
+    with contextlib.suppress(OSError):
+        os.rmdir(folder)
 
 
 def write_new(path: bytes, octets: bytes) -> bool:

@@ -2,20 +2,29 @@
 
 from __future__ import annotations
 
+import os
 from typing import Dict, Iterable, List, Optional, Set
 
-from .expected import Block, Blocks, Key, blocks_of
+from .ends import refuse
+from .expected import Block, Blocks, Key, blocks_of, shown_key
+from .files import names_in, octets_of
 from .mains import Line, Main, of_user
+from .words import quoted
 
 
 class Expected:
-    """What is expected of a mail: the files that say it, as they were read, and their blocks by their headings."""
+    """What is expected of a mail: the files that say it, as they were read, whether there is a folder of them, one for each user, and their
+    blocks by their headings."""
 
-    def __init__(self, files: Dict[bytes, bytes], users: bool) -> None:
-        self.files = files
+    def __init__(self, files: Dict[bytes, bytes], users: bool, folder: bool = False) -> None:
+        self.files, self.folder = files, folder
         self.blocks: Blocks = {}
         for path, octets in files.items():
-            self.blocks.update(blocks_of(path, octets))
+            for key, block in blocks_of(path, octets).items():
+                if key in self.blocks:
+                    before = quoted(self.blocks[key].path)
+                    refuse(f"{quoted(path)}, line {block.number}: {shown_key(key)} stood in {before} before")
+                self.blocks[key] = block
         # The headings that name several scripts, by the main one of these.
         self.chains: Dict[Key, List[Key]] = {}
         for key in self.blocks:
@@ -39,6 +48,18 @@ class Expected:
         """What is expected under a line."""
         key = self.heading(main)
         return self.blocks[key] if key else None
+
+
+def expected_at(place: bytes, users: bool) -> Expected:
+    """What a file expects, or a folder of files; nothing where there is none."""
+    if not os.path.lexists(place):
+        return Expected({}, users)
+    if not os.path.isdir(place):
+        return Expected({place: octets_of(place)}, users)
+    if not users:
+        refuse(f"{quoted(place)} is a folder, which has files of users, and the site has no users: make it one file")
+    names = [name for name in names_in(place) if not name.startswith(b".")]
+    return Expected({path: octets_of(path) for path in (os.path.join(place, name) for name in names)}, users, True)
 
 
 def main_script(key: Key, users: bool) -> Key:

@@ -60,7 +60,8 @@ Files of a site:
                            is an address, or else X-Original-To, or else Envelope-To
   mails/MAIL.eml.expect    what is expected of the mail: for each line of mains the name of the
                            user's own script in brackets, as [main], or the line's own name, and
-                           then the lines of the verdict
+                           then the lines of the verdict. It may be a folder with a file of each
+                           user, by the user's name: record makes one for more than 20 users
   mails/MAIL.eml.users     the users for whom the mail is judged; without it, all
   users/NAME/              a user, if there are several: personal, and maybe mains and mails. The
                            folders global and mails and the file mains at the top are everybody's.

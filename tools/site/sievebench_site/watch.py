@@ -25,7 +25,8 @@ from .shown import Look
 PAUSE, SETTLING, SETTLES = 0.5, 0.05, 20
 # The files that a site has, and in how deep folders they are.
 NAMES = (b"mains", b"with", b"unjudged", b"mailboxes", b"clock", b"envelope")
-MAIL_ENDS = (b".eml", b".eml.envelope", b".eml.expect", b".eml.users")
+EXPECTS = b".eml.expect"
+MAIL_ENDS = (b".eml", b".eml.envelope", EXPECTS, b".eml.users")
 ENDS = (SCRIPT_END, *MAIL_ENDS)
 DEPTH = 4
 # When a file was changed, how large it is, and which one.
@@ -45,12 +46,17 @@ def stamps_in(folder: bytes, depth: int = DEPTH) -> Stamps:
     with contextlib.suppress(OSError), os.scandir(folder) as entries:
         for entry in entries:
             with contextlib.suppress(OSError):
-                if entry.name in NAMES or entry.name.endswith(ENDS):
+                if entry.is_dir():
+                    found.update(stamps_in(entry.path, depth - 1) if depth > 1 else {})
+                elif entry.name in NAMES or entry.name.endswith(ENDS) or folder.endswith(EXPECTS):
                     status = entry.stat()
                     found[entry.path] = status.st_mtime_ns, status.st_size, status.st_ino
-                elif depth > 1 and entry.is_dir():
-                    found.update(stamps_in(entry.path, depth - 1))
     return found
+
+
+def is_of_mail(path: bytes) -> bool:
+    """Whether a file is a mail, or stands beside one."""
+    return path.endswith(MAIL_ENDS) or os.path.dirname(path).endswith(EXPECTS)
 
 
 class Desk:
@@ -165,7 +171,7 @@ class Watch:
         site = site_of(self.wanted)
         refuse_no_mains(site)
         mails = {user.name: user.mails for user in self.seen.users} if self.seen and not self.refused else {}
-        if set(mails) == {user.name for user in site.users} and not any(it.endswith(MAIL_ENDS) for it in changed):
+        if set(mails) == {user.name for user in site.users} and not any(map(is_of_mail, changed)):
             for user in site.users:
                 user.mails.extend(mails[user.name])
         else:

@@ -219,6 +219,10 @@ class Looks(Room):
         self.look()
         self.assertEqual(self.saved({"users/ada/personal/main.sieve": "discard;"})[-1], "3 of 3 verdicts changed")
         self.assertEqual(self.saved({"users/ada/mails/4.eml": ""})[-1], "0 of 4 verdicts changed, 1 new")
+        (self.room / "site/mails/2.eml.expect").unlink(missing_ok=True)
+        told = self.saved({"mails/2.eml.expect/ada": '[ada/main]\nstore "A"\n'})
+        self.assertIn("mails/2.eml under ada/main: not as expected", told)
+        self.assertIn('  - store "B"', self.saved({"mails/2.eml.expect/ada": '[ada/main]\nstore "B"\n'}))
 
     def test_files_that_settle(self) -> None:
         self.look()
