@@ -155,6 +155,32 @@ def of_imports(room):
     yield Run("sievebench-site: the octets are the same", room / "taken", "cmp md/cur/* site/mails/0001.eml && cmp md/new/* site/mails/0002.eml && cat site/mails/0004.eml", lines("Subject: four", "", "four"))
 
 
+COMPLETION = TOOL.parent / "completion.bash"
+COMPLETES = """bash -c 'source "$0"; COMP_WORDS=("$@"); COMP_CWORD=$(($# - 1)); _sievebench "$1" "${@: -1}" "${@: -2:1}"; printf "%s\\n" "${COMPREPLY[@]}"' """
+
+
+def of_completion(room):
+    """What bash completes."""
+    chain = {"mains": b"sales: before/10 main\nbefore/10 \"a b\"\n", "before/10.sieve": b"", "mails/1.eml": b"", "mails/2 a.eml": b""}
+    users = {f"users/{name}/personal/{script}.sieve": b"" for name in ("ada", "eva") for script in ("main", "a b")}
+    write(room / "offers", {**chain, **users, "users/eva/mails/3.eml": b""})
+    for words, wanted in [
+        ("check offers --user ''", ["ada", "eva"]),
+        ("check offers --main ''", ["sales", "a b"]),
+        ("check offers --main s", ["sales"]),
+        ("record offers --only ''", ["1.eml", "2 a.eml", "3.eml"]),
+        ("why offers 2", ["2 a.eml"]),
+        ("why of", ["offers"]),
+        ("check offers --ut", ["--utf8"]),
+        ("check offers --no", ["--no-utf8"]),
+        ("check offers --me", ["--memory"]),
+        ("import offers --me", []),
+        ("record offers --", ["--help", "--utf8", "--no-utf8", "--user", "--main", "--clock", "--program", "--memory", "--quiet", "--only", "--jobs", "--force", "--prune"]),
+        ("check nowhere --user ''", []),
+    ]:
+        yield Run(f"completion of sievebench-site {words}", room, f"{COMPLETES} {shlex.quote(str(COMPLETION))} {shlex.quote(str(TOOL))} {words}", lines(*(wanted or [""])))
+
+
 def of_servers(room):
     """What is there for servers."""
     room = room / "repository"
@@ -191,5 +217,5 @@ def of_sites(room):
     """All of them."""
     room = room / "ends of sites"
     room.mkdir()
-    for part in (of_ends, of_colours, of_sizes, of_imports, of_servers):
+    for part in (of_ends, of_colours, of_sizes, of_imports, of_completion, of_servers):
         yield from some(part.__name__, part(room))

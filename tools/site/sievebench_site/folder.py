@@ -117,7 +117,7 @@ def mains_of(shelf: Shelf, user: User, wanted: Wanted) -> List[Main]:
     own = shelf.lines_in(path, user.home) if path else []
     if not wanted.mains:
         return [shelf.main_of(it, user.name, user.home) for it in called(own)]
-    asked = chosen(own, [shelf.line_of(line, "", user.home) for line in wanted.mains])
+    asked = chosen(own, wanted.mains, lambda text: shelf.line_of(text, "", user.home))
     return [main for main in (main_if_any(shelf, user, it) for it in asked) if main]
 
 

@@ -5,7 +5,7 @@ from __future__ import annotations
 import collections
 import os
 import re
-from typing import Dict, Iterable, Iterator, List, NamedTuple, Optional, Set, Tuple
+from typing import Callable, Dict, Iterable, Iterator, List, NamedTuple, Optional, Set, Tuple
 
 from .ends import refuse
 from .expected import Key
@@ -165,11 +165,13 @@ def called(lines: Iterable[Line]) -> List[Called]:
     return found
 
 
-def chosen(own: List[Line], asked: List[Line]) -> List[Called]:
+def chosen(own: List[Line], texts: List[bytes], line_of: Callable[[bytes], Line]) -> List[Called]:
     """Of lines that are asked for those of a user's file that are called so or have these scripts, and where there is none, they."""
     there, found = called(own), []
-    for line in asked:
-        same = [it for it in there if not line.name and line.names in (it.key, it.line.names)]
+    for text in texts:
+        same = [it for it in there if it.key == (text,)]
+        line = same[0].line if same else line_of(text)
+        same += [it for it in there if not line.name and line.names in (it.key, it.line.names)]
         found.append(same[0] if same else called([*own, line])[-1])
     return list(dict.fromkeys(found))
 

@@ -73,6 +73,7 @@ class Headings(Room):
             with self.subTest(asked):
                 found = self.mains("sales: before/10 main\nbefore/10 other after/90", *asked)
                 self.assertEqual([it.label().decode() for it in found], wanted)
+        self.assertEqual([it.label() for it in self.mains('"my sales": other', "my sales")], [b"my sales"])
         (chain,) = self.mains("sales: before/10 main\nbefore/10 other after/90", "other")
         self.assertEqual(len(chain.scripts), 3)
 
