@@ -204,7 +204,7 @@ def of_refusals(room):
     for words in ("", "good none", "''"):
         yield run(f"one folder is wanted: {words}", room, f"check {words}", b"", told("one folder is wanted, the site; see --help"), 2)
     yield run("an option of another command", room, "lint --strict unnamed", b"", told("unrecognized arguments: --strict; see --help"), 2)
-    yield run("an output that is full", room, "check good > /dev/full", b"", told("cannot write: No space left on device"), 2)
+    yield run("an output that is full", room, "check good > /dev/full", b"", told("cannot write standard output: No space left on device"), 2)
 
 
 def of_programs(room):
@@ -292,8 +292,10 @@ def of_objects(room):
     cases = '{"mail": "1.eml", "main": "main", "agrees": true, "skipped": false, "expected": ["discard"], "verdict": ["discard"], "lines": ["both/personal/main.sieve:1"]}, '
     cases += '{"mail": "1.eml", "main": "other", "agrees": false, "skipped": false, "expected": ["discard"], "verdict": ["store \\"INBOX\\""], "lines": ["both/personal/other.sieve:1"]}'
     empty = '"faults": [], "not judged": [], "skipped": [], "stale": [], "left out": []'
-    for words in ("--json", "--format json", "--format=text --json"):
+    for words in ("--json", "--format json"):
         yield run(f"an object by {words}", room, f"check {words} both", lines(f'{{"passed": false, "counts": {{{counts}}}, "cases": [{cases}], {empty}}}'), status=1)
+    for words in ("--format junit --json", "--json --format=junit"):
+        yield run(f"two forms: {words}", room, f"check {words} both", b"", [b"not allowed with argument --"], 2)
     write(room / "mark", site({"\u00fc.eml": b""}, **{"\u00f6": 'require "fileinto"; fileinto "\u00e4";'.encode()}))
     counts = ", ".join(f'"{what}": {number}' for what, number in zip(COUNTS + MORE, (1, 1, 1, 0, 0, 1, 0, 0, 0, 0, 0, 0)))
     cases = '{"mail": "\\u00fc.eml", "main": "\\u00f6", "agrees": null, "skipped": false, "expected": null, "verdict": ["store \\"\\\\xc3\\\\xa4\\""], "lines": ["mark/personal/\\u00f6.sieve:1"]}'

@@ -8,7 +8,7 @@ from typing import Dict, Iterator, List, Optional
 from . import findings
 from .checked import EXPECTS_NOTHING, Checked
 from .faults import sentence_of
-from .findings import NOTE, PLAIN, SKIPPED, Finding, Test
+from .findings import ANNOTATED, NOTE, PLAIN, SKIPPED, Finding, Test
 from .groups import FIRST, Group, difference, name_of
 from .judge import Case
 from .mails import LeftOut
@@ -68,25 +68,28 @@ def findings_of(checked: Checked) -> Iterator[Finding]:
     for script, line, why in checked.lacking:
         yield Finding(script.path, line, "not-judged", why)
     for script, line, why in checked.passed_over:
-        yield Finding(script.path, line, "skipped", PLAIN.line(why.encode()), SKIPPED)
+        yield Finding(script.path, line, "skipped", ANNOTATED.line(why.encode()), SKIPPED)
     for group in checked.groups(checked.wrong):
         block = group.cases[0].block
-        text = "\n".join([*heads(group, PLAIN, ""), *difference(group, PLAIN)])
+        text = "\n".join([*heads(group, ANNOTATED, ""), *difference(group, ANNOTATED)])
         if block:
             yield Finding(block.path, block.number, "disagrees", text)
     for group in checked.groups(checked.unjudged):
-        text = "\n".join(heads(group, PLAIN, f": {group.cases[0].unjudged}"))
+        text = "\n".join(heads(group, ANNOTATED, f": {group.cases[0].unjudged}"))
         yield Finding(group.cases[0].mail.path, 0, "not-judged", text)
     for group in checked.groups(checked.skipped):
-        text = "\n".join(heads(group, PLAIN, f": {group.cases[0].unjudged}"))
+        text = "\n".join(heads(group, ANNOTATED, f": {group.cases[0].unjudged}"))
         yield Finding(group.cases[0].mail.path, 0, "skipped", text, SKIPPED)
     if not checked.lax:
         for group in checked.groups(checked.unexpected):
             yield Finding(
-                group.cases[0].mail.path, 0, "nothing-expected", "\n".join(heads(group, PLAIN, f": {EXPECTS_NOTHING}"))
+                group.cases[0].mail.path,
+                0,
+                "nothing-expected",
+                "\n".join(heads(group, ANNOTATED, f": {EXPECTS_NOTHING}")),
             )
         for it in checked.stale:
-            yield Finding(it.path, it.line, "stale", it.why(PLAIN))
+            yield Finding(it.path, it.line, "stale", it.why(ANNOTATED))
     for path, why in checked.site.left_out:
         yield Finding(path, 0, "left-out", why, NOTE)
 

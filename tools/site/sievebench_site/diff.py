@@ -7,7 +7,6 @@ import os
 import re
 import subprocess
 import tarfile
-import tempfile
 from typing import Dict, Iterator, List, NamedTuple, Optional, Tuple
 
 from .chains import NOTHING, chained
@@ -15,7 +14,7 @@ from .check import heads
 from .ends import fail, refuse
 from .expected import Block
 from .faults import sentence_of
-from .files import octets_if_any
+from .files import octets_if_any, temporary_folder
 from .findings import PLAIN
 from .folder import Site, User, Wanted, site_of
 from .groups import Group, changes, counted, difference, grouped
@@ -202,7 +201,7 @@ def revision(name: str, folder: bytes) -> Iterator[bytes]:
     packed = git(top[:-1] if top.endswith(b"\n") else top, ["archive", "--format=tar", tree])
     if packed is None:
         fail(f"git can't pack {quoted(prefix)} of the revision {quoted(os.fsencode(name))}")
-    with tempfile.TemporaryDirectory() as room:
+    with temporary_folder() as room:
         with tarfile.open(fileobj=io.BytesIO(packed)) as box:
             # Newer versions of Python ask what of an archive is trusted: this one is the repository's own.
             setattr(box, "extraction_filter", getattr(tarfile, "fully_trusted_filter", None))

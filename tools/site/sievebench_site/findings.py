@@ -7,7 +7,7 @@ import urllib.parse
 import xml.etree.ElementTree as tree
 from typing import Dict, Iterable, List, NamedTuple, Optional
 
-from .shown import Look
+from .shown import HERE, Look
 
 # A finding that fails the run, one that is only reported, and one of what is known and passes; how GitHub calls them.
 ERROR, NOTE, SKIPPED = "error", "note", "skipped"
@@ -15,6 +15,8 @@ GITHUB = {ERROR: "error", NOTE: "notice", SKIPPED: "notice"}
 SARIF = "https://json.schemastore.org/sarif-2.1.0.json"
 # What is shown in files that a program reads.
 PLAIN = Look(True)
+# The same in annotations of lines, whose paths are those of a repository.
+ANNOTATED = Look(True, bare=True)
 
 
 class Finding(NamedTuple):
@@ -42,7 +44,7 @@ def github(findings: Iterable[Finding]) -> str:
     """Annotations of GitHub's."""
     lines = []
     for it in findings:
-        at = {"file": PLAIN.name(it.path), **({"line": str(it.line)} if it.line else {}), "title": it.kind}
+        at = {"file": ANNOTATED.name(it.path), **({"line": str(it.line)} if it.line else {}), "title": it.kind}
         values = ",".join(f"{name}={percent(value, ':,')}" for name, value in at.items())
         lines.append(f"::{GITHUB[it.level]} {values}::{percent(it.text, '')}\n")
     return "".join(lines)
@@ -74,7 +76,7 @@ def result(it: Finding) -> Dict[str, object]:
 
 def location(it: Finding) -> Dict[str, object]:
     """Where a finding is."""
-    place: Dict[str, object] = {"artifactLocation": {"uri": urllib.parse.quote(it.path)}}
+    place: Dict[str, object] = {"artifactLocation": {"uri": urllib.parse.quote(HERE.sub(b"", it.path))}}
     if it.line:
         place["region"] = {"startLine": it.line}
     return {"physicalLocation": place}

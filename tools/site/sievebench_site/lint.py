@@ -5,13 +5,13 @@ from __future__ import annotations
 import os
 import re
 import subprocess
-import tempfile
 from typing import Dict, Iterator, List, Optional, Set
 
 from . import findings
 from .code import Code
 from .ends import fail
 from .faults import SENTENCES, sentence_of
+from .files import temporary_folder
 from .findings import ERROR, NOTE, PLAIN, SKIPPED, Finding, Test
 from .folder import Site, User
 from .program import Place, Program, Session
@@ -132,7 +132,7 @@ def sievec_differences(site: Site, linted: Linted) -> Iterator[Finding]:
     options = [
         word for name, path in settings for word in (b"-o", b"plugin/" + name + b"=file:" + os.path.abspath(path))
     ]
-    with tempfile.TemporaryDirectory() as room:
+    with temporary_folder() as room:
         for script in linted.user.scripts:
             reached = linted.code.reached([script.at()])
             lacks = bool(reached & set(linted.survey.lacking))

@@ -292,9 +292,8 @@ def add_check(parser: Parser) -> None:
     parser.add_argument("--strict", action="store_true", help="fails them; the default")
     tells = "prints each difference by itself, and each file that is left out"
     parser.add_argument("--all", action="store_true", help=tells)
-    add_format(parser)
     same = "the same as --format json"
-    parser.add_argument("--json", action="store_const", const="json", dest="format", help=same)
+    add_format(parser).add_argument("--json", action="store_const", const="json", dest="format", help=same)
     parser.add_argument("--junit", metavar="FILE", help="also writes the results to a file as JUnit has them")
 
 
@@ -325,10 +324,12 @@ def add_import(parser: Parser) -> None:
     parser.add_argument("--user", metavar="NAME", help="the user who gets the mails")
 
 
-def add_format(parser: Parser) -> None:
-    """Adds the form of what is printed."""
+def add_format(parser: Parser) -> "argparse._MutuallyExclusiveGroup":
+    """Adds the form of what is printed, and gives what excludes it."""
     how = "prints the results as text, one object of JSON, JUnit's XML, annotations of GitHub, or SARIF 2.1.0"
-    parser.add_argument("--format", choices=FORMS, default="text", help=how)
+    group = parser.add_mutually_exclusive_group()
+    group.add_argument("--format", choices=FORMS, default="text", help=how)
+    return group
 
 
 def add_untested(parser: Parser) -> None:

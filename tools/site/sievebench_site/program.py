@@ -7,10 +7,10 @@ import os
 import re
 import subprocess
 import sys
-import tempfile
 from typing import IO, Dict, FrozenSet, Iterator, List, NamedTuple, NoReturn, Optional, Set, Tuple
 
 from .ends import CHILDREN, Refusal, fail, refuse
+from .files import temporary
 from .words import ADDRESS_LIMIT, MAIL_LIMIT, MESSAGE_LIMIT, SCRIPT_LIMIT, TEXT_LIMIT, line, quoted, unquoted
 
 # Replies wait in a pipe until they are read: so many edits fill none.
@@ -110,7 +110,7 @@ class Program:
     @contextlib.contextmanager
     def session(self) -> Iterator["Session"]:
         """A new session, which ends with the block and mustn't have failed by then."""
-        with tempfile.TemporaryFile() as errors:
+        with temporary() as errors:
             with CHILDREN.held(lambda: self.started(errors)) as child:
                 limit_memory(child.pid, self.memory)
                 session = Session(self, child, errors)

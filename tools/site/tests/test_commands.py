@@ -161,18 +161,18 @@ class Checks(Room):
         self.assertEqual(failure.attrib, {"message": "the verdict isn't as expected"})
         told = self.ran("check", "--format", "github", ".")[1]
         self.assertEqual(
-            told[0], "::error file=./personal/c.sieve,line=3,title=unknown-command::There is no such command or test."
+            told[0], "::error file=personal/c.sieve,line=3,title=unknown-command::There is no such command or test."
         )
         self.assertTrue(
             told[1].startswith(
-                "::error file=./mails/0.eml.expect,line=1,title=disagrees::./mails/0.eml under a%0A./mails/0.eml under b%0A"
+                "::error file=mails/0.eml.expect,line=1,title=disagrees::mails/0.eml under a%0Amails/0.eml under b%0A"
             )
         )
         self.assertEqual(
-            told[-1], "::notice file=./mails/x.EML,title=left-out::its name doesn't end by .eml, in small letters"
+            told[-1], "::notice file=mails/x.EML,title=left-out::its name doesn't end by .eml, in small letters"
         )
         self.write({"personal/z.sieve": 'require "regex";'})
-        lacking = "file=./personal/z.sieve,line=1,title=not-judged::requires regex"
+        lacking = "file=personal/z.sieve,line=1,title=not-judged::requires regex"
         told = self.ran("check", "--format", "github", ".")[1]
         self.assertEqual([line for line in told if lacking in line][0].split(": it")[0], f"::error {lacking}")
         (self.room / "personal/z.sieve").unlink()
@@ -182,7 +182,7 @@ class Checks(Room):
             ["unknown-command", "disagrees", "nothing-expected", "stale", "left-out"],
         )
         place = run["results"][0]["locations"][0]["physicalLocation"]
-        self.assertEqual(place, {"artifactLocation": {"uri": "./personal/c.sieve"}, "region": {"startLine": 3}})
+        self.assertEqual(place, {"artifactLocation": {"uri": "personal/c.sieve"}, "region": {"startLine": 3}})
 
 
 class Records(Room):
@@ -303,7 +303,7 @@ class Lints(Room):
         self.assertEqual([suite.get(name) for name in ("tests", "failures")], ["3", "2"])
         self.assertEqual(
             self.ran("lint", "--format", "github", ".")[1][0],
-            "::error file=./personal/a.sieve,line=2,title=unknown-command::There is no such command or test.",
+            "::error file=personal/a.sieve,line=2,title=unknown-command::There is no such command or test.",
         )
         self.assertEqual(
             self.ran("lint", "-q", ".")[1],
@@ -381,6 +381,7 @@ class Words(Room):
             (("check", "--jobs", "0", "x"), "argument --jobs: '0' isn't a number from 1 to 9999"),
             (("check", "--memory", "1T", "x"), "argument --memory: '1T' isn't a number of octets, as 512M or 4G"),
             (("check", "--format", "xml", "x"), "argument --format: invalid choice: 'xml'"),
+            (("check", "--json", "--format", "junit", "x"), "argument --format: not allowed with argument --json"),
             (("check", "--utf8", "--no-utf8", "x"), "argument --no-utf8: not allowed with argument --utf8"),
             (("lint", "--lax", "x"), "unrecognized arguments: --lax; see --help"),
             (("check", "--li", "x"), "unrecognized arguments: --li; see --help"),
