@@ -82,7 +82,7 @@ CYRUS = (
     b"x-cyrus-snooze",
 )
 REGISTERED = frozenset((*IANA, *PIGEONHOLE, *CYRUS))
-# The commands, tests and tags that a script has from one capability alone.
+# The commands, tests, tags and namespaces of variables that a script has from a capability alone; some words are those of two.
 WORDS: Dict[bytes, Tuple[bytes, ...]] = {
     b"body": (b"body",),
     b"convert": (b"convert",),
@@ -105,7 +105,7 @@ WORDS: Dict[bytes, Tuple[bytes, ...]] = {
     b"mailboxid": (b"mailboxidexists", b":mailboxid"),
     b"mboxmetadata": (b"metadata", b"metadataexists"),
     b"mime": (b":anychild", b":contenttype", b":mime", b":param", b":subtype", b":type"),
-    b"notify": (b"denotify",),
+    b"notify": (b"denotify", b"notify"),
     b"processcalendar": (b"processcalendar",),
     b"redirect-deliverby": (b":bymode", b":bytimeabsolute", b":bytimerelative", b":bytrace"),
     b"redirect-dsn": (b":notify", b":ret"),
@@ -125,10 +125,15 @@ WORDS: Dict[bytes, Tuple[bytes, ...]] = {
     b"vnd.cyrus.jmapquery": (b"jmapquery",),
     b"vnd.cyrus.log": (b"log",),
     b"vnd.dovecot.debug": (b"debug_log",),
+    b"vnd.dovecot.environment": (b"${env.",),
     b"vnd.dovecot.execute": (b"execute",),
     b"vnd.dovecot.filter": (b"filter",),
     b"vnd.dovecot.pipe": (b"pipe",),
     b"vnd.dovecot.report": (b"report",),
 }
-# The capability that a word needs.
-NEEDS = {word: name for name, words in WORDS.items() for word in words}
+# The capabilities of which a word needs one. A comparator is a word in quotes.
+NEEDS: Dict[bytes, Tuple[bytes, ...]] = {
+    word: tuple(name for name, others in WORDS.items() if word in others) for words in WORDS.values() for word in words
+}
+COMPARATOR = b"comparator-"
+NEEDS.update({b'"' + it[len(COMPARATOR) :] + b'"': (it,) for it in IANA if it.startswith(COMPARATOR)})

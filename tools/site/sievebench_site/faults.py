@@ -4,7 +4,7 @@ from __future__ import annotations
 
 import codecs
 import difflib
-from typing import List, Optional
+from typing import List, NamedTuple, Optional
 
 from .capabilities import NEEDS, REGISTERED
 from .mains import Script
@@ -42,6 +42,20 @@ SENTENCES = {
     "bad-mailbox": "A mailbox can't have this name.",
 }
 LACKING = "unknown-capability"
+# The faults of what is used of a capability that isn't there, and the kind of token that each is at.
+USED = {"bad-tag": "tag", "unknown-command": "word", "unknown-comparator": "string", "bad-namespace": "string"}
+NAMESPACE = b"${env."
+
+
+class Use(NamedTuple):
+    """A word of a script, and the capability that it needs."""
+
+    word: bytes
+    name: bytes
+
+    def told(self) -> str:
+        """It in words."""
+        return f"{self.word.decode()} needs {self.name.decode()}"
 
 
 def sentence_of(script: Script, line: int, word: str) -> str:
@@ -52,9 +66,9 @@ def sentence_of(script: Script, line: int, word: str) -> str:
         strange = [it for it in strangers(script.text) if line_requiring(script.text, it) == line]
         if strange:
             return "; ".join(map(no_such, strange))
-    used = word_at(script.text, (line, word))
-    if used and NEEDS[used] not in required(script.text)[1]:
-        return f"{SENTENCES[word]} {used.decode()} needs {NEEDS[used].decode()}, which the script doesn't require."
+    used = use_at(script.text, (line, word))
+    if used and used.name not in required(script.text)[1]:
+        return f"{SENTENCES[word]} {used.told()}, which the script doesn't require."
     return SENTENCES.get(word, "a fault")
 
 
@@ -70,10 +84,11 @@ def no_such(name: bytes) -> str:
     return f"{quoted(name)[1:-1]}: no such extension{meant}"
 
 
-def word_at(text: bytes, fault: Fault) -> Optional[bytes]:
-    """The command, the test or the tag at which a fault is, if one capability alone gives it."""
-    if fault[1] not in ("bad-tag", "unknown-command"):
-        return None
-    kind = "tag" if fault[1] == "bad-tag" else "word"
-    found = [it for it in tokens(text) if it.kind == kind and it.octets in NEEDS]
-    return next((it.octets for it in found if line_at(text, it.start) == fault[0]), None)
+def use_at(text: bytes, fault: Fault) -> Optional[Use]:
+    """What is used at a fault of what a capability gives: one that the script requires, or else the first that gives it."""
+    names = required(text)[1]
+    for token in tokens(text):
+        word = NAMESPACE if NAMESPACE in token.octets.lower() else token.octets
+        if line_at(text, token.start) == fault[0] and USED.get(fault[1]) == token.kind and word in NEEDS:
+            return Use(word, next((it for it in NEEDS[word] if it in names), NEEDS[word][0]))
+    return None

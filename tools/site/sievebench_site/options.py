@@ -38,12 +38,11 @@ Files of a site:
   global/NAME.sieve        scripts for include :global; may be missing
   mains                    the main scripts, one a line. Several in a line run one after another, as
                            before/10-spam main after/90-lists: FOLDER/NAME is FOLDER/NAME.sieve of
-                           the site. A name with blanks stands between quotes. Where several lines
-                           are for one script, each has a name: sales: before/10-spam main
+                           the site. A name with blanks stands between quotes. A line may name
+                           itself, as sales: before/10-spam main
   with                     names for --with of sievebench, one a line; may be missing
-  unjudged                 the scripts that can't be judged yet, one a line: the path of a script,
-                           as personal/old.sieve, or a user's name, and then why. They are skipped.
-                           May be missing
+  unjudged                 scripts that can't be judged yet and are skipped, one a line: a path, as
+                           personal/old.sieve, or a user's name, and then why; may be missing
   mailboxes                if with has mailbox: the mailboxes that exist, one a line; may be missing
   clock                    if with has date: the current time, one line of seconds since 1970-01-01
                            UTC and a zone, as 1783245600 +0200. The zone is also that of dates
@@ -58,10 +57,9 @@ Files of a site:
   mails/MAIL.eml.envelope  the same of this mail. Without it, the sender is the first Return-Path
                            that is an address or <>, and the recipient the first Delivered-To that
                            is an address, or else X-Original-To, or else Envelope-To
-  mails/MAIL.eml.expect    what is expected of the mail: for each line of mains the name of the
-                           user's own script in brackets, as [main], or the line's own name, and
-                           then the lines of the verdict. It may be a folder with a file of each
-                           user, by the user's name: record makes one for more than 20 users
+  mails/MAIL.eml.expect    what is expected of the mail: for each line of mains its main script in
+                           brackets, as [main], or its name, and the lines of the verdict. It may
+                           be a folder with a file NAME of each user, as for more than 20 users
   mails/MAIL.eml.users     the users for whom the mail is judged; without it, all
   users/NAME/              a user, if there are several: personal, and maybe mains and mails. The
                            folders global and mails and the file mains at the top are everybody's.
@@ -70,9 +68,10 @@ Files of a site:
 STATUS = """\
 Exit status:
   0    check: all verdicts agree; lint: no fault; diff: no verdict changed; untested, why: done
-  1    check: a verdict disagrees or can't be judged, a script has a fault, or without --lax
-       something isn't expected or is stale; lint: a fault; record: it left a file; diff: a verdict
-       that changed; untested: fewer changes are noticed than --fail-under asks for
+  1    check: a verdict disagrees, a script has a fault, a verdict or a script can't be judged and
+       isn't listed in unjudged, or without --lax something isn't expected or is stale; lint: a
+       fault, or such a script; record: it left a file; diff: a verdict that changed; untested: fewer
+       changes are noticed than --fail-under asks for
   2    misuse: no mails, no such main script or mail, a file that can't be read or written, a
        refused edit
   3    the program, or sievec, can't be run

@@ -4,8 +4,7 @@ from __future__ import annotations
 
 from typing import Dict, FrozenSet, Iterable, List, NamedTuple, Optional, Tuple
 
-from .capabilities import NEEDS
-from .faults import LACKING, strangers, word_at
+from .faults import LACKING, strangers, use_at
 from .folder import Site, User
 from .listed import Entry
 from .mains import Script
@@ -81,8 +80,8 @@ def lacked(program: Program, script: Script, fault: Fault) -> List[bytes]:
     """What a script requires that isn't there, if that is its fault: a `require` is refused, or what is used of it."""
     names = list(dict.fromkeys(required(script.text)[1]))
     if fault[1] != LACKING:
-        word = word_at(script.text, fault)
-        names = [name for name in names if word and NEEDS[word] == name]
+        used = use_at(script.text, fault)
+        names = [name for name in names if used and used.name == name]
     missing = program.missing(names)
     return [name for name in names if name in missing]
 
@@ -95,16 +94,18 @@ def put_scripts(session: Session, scripts: Iterable[Script]) -> None:
 
 def answer_of(site: Site, script: Script, fault: Fault, names: List[bytes], known: FrozenSet[bytes]) -> str:
     """Why a script can't be judged, and what to do."""
-    word = word_at(script.text, fault)
-
-    def lead(some: List[bytes]) -> str:
-        return f"{word.decode()} needs {some[0].decode()}" if word else requires(some)
-
+    used = use_at(script.text, fault)
     asked = [name for name in names if name in known]
     others = [name for name in names if name not in known]
-    told = [f"{lead(asked)}: add {'them' if len(asked) > 1 else 'it'} to the file with"] if asked else []
+    told = (
+        [f"{used.told() if used else requires(asked)}: add {'them' if len(asked) > 1 else 'it'} to the file with"]
+        if asked
+        else []
+    )
     if others:
         what = "they aren't" if len(others) > 1 else "it isn't"
         line = site.listed.line_for(script, requires(others))
-        told.append(f"{lead(others)}: {what} supported yet; list the script in unjudged: {line}")
+        told.append(
+            f"{used.told() if used else requires(others)}: {what} supported yet; list the script in unjudged: {line}"
+        )
     return "; ".join(told)

@@ -175,7 +175,9 @@ class Checks(Room):
         lacking = "file=personal/z.sieve,line=1,title=not-judged::requires regex"
         told = self.ran("check", "--format", "github", ".")[1]
         self.assertEqual([line for line in told if lacking in line][0].split(": it")[0], f"::error {lacking}")
-        (self.room / "personal/z.sieve").unlink()
+
+    def test_sarif(self) -> None:
+        self.write({"personal/c.sieve": "\n\nkep;", "mails/x.EML": "", "mails/9.eml.expect": ""})
         run = json.loads("".join(self.ran("check", "--format", "sarif", ".")[1]))["runs"][0]
         self.assertEqual(
             [it["ruleId"] for it in run["results"]],

@@ -5,7 +5,7 @@ import xml.etree.ElementTree as tree
 from typing import Dict, List, Tuple
 
 from sievebench_site.capabilities import NEEDS, REGISTERED, WORDS
-from sievebench_site.faults import sentence_of, strangers, word_at
+from sievebench_site.faults import Use, sentence_of, strangers, use_at
 from sievebench_site.mains import Script
 
 from .room import Files, Room
@@ -87,12 +87,29 @@ class Names(Room):
         for (text, line, word), end in rows.items():
             with self.subTest(text):
                 self.assertTrue(sentence_of(Script("personal", b"x", b"x", text), line, word).endswith(end))
-        self.assertEqual(word_at(b"reject", (1, "syntax")), None)
+        self.assertEqual(use_at(b"reject", (1, "syntax")), None)
         self.assertEqual(strangers(b'require ["a", "copy", "b"]; require "a";'), [b"a", b"b"])
+
+    def test_uses(self) -> None:
+        rows: Dict[Tuple[bytes, str], Use] = {
+            (b'require "notify"; notify;', "unknown-command"): Use(b"notify", b"notify"),
+            (b"notify;", "unknown-command"): Use(b"notify", b"enotify"),
+            (b'if string "${ENV.x}" "" {}', "bad-namespace"): Use(b"${env.", b"vnd.dovecot.environment"),
+            (b'if header :comparator "i;unicode-casemap" "a" "b" {}', "unknown-comparator"): Use(
+                b'"i;unicode-casemap"', b"comparator-i;unicode-casemap"
+            ),
+        }
+        for (text, kind), wanted in rows.items():
+            with self.subTest(text):
+                self.assertEqual(use_at(text, (1, kind)), wanted)
+                self.assertEqual(use_at(text, (2, kind)), None)
 
     def test_tables(self) -> None:
         self.assertTrue(set(WORDS) <= REGISTERED)
-        self.assertEqual(len(NEEDS), sum(map(len, WORDS.values())))
+        words = {word for words in WORDS.values() for word in words}
+        comparators = {b'"i;ascii-casemap"', b'"i;ascii-numeric"', b'"i;octet"', b'"i;unicode-casemap"'}
+        self.assertEqual(set(NEEDS), words | comparators)
+        self.assertEqual({name for names in NEEDS.values() for name in names} - REGISTERED, set())
         self.assertEqual([it for it in REGISTERED if it != it.lower()], [])
 
 

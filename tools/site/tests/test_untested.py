@@ -96,6 +96,7 @@ class Commands(Room):
 
     def test_json(self) -> None:
         self.write({"personal/wrong.sieve": "\nkep;", "personal/lacking.sieve": 'require "regex";'})
+        self.write({"personal/late.sieve": 'require "index"; keep;', "unjudged": "personal/late.sieve so"})
         status, told, _ = self.ran("untested", "--json", "--fail-under=50", ".")
         found = json.loads("".join(told))
         self.assertEqual(
@@ -109,11 +110,12 @@ class Commands(Room):
             found["unnoticed"],
         )
         self.assertEqual(
-            set(found["not looked up"]), {f"./personal/{name}.sieve" for name in ("wrong", "lacking", "lost")}
+            set(found["not looked up"]), {f"./personal/{name}.sieve" for name in ("wrong", "lacking", "late", "lost")}
         )
         lines = self.ran("untested", ".")[1]
         self.assertEqual(lines[0], "./personal/wrong.sieve:2: unknown-command: There is no such command or test.")
         self.assertEqual(lines[1], f"./personal/lacking.sieve:1: not judged: {LACKS}")
+        self.assertIn("./personal/late.sieve:1: skipped: so", lines)
 
     def test_what_a_verdict_is(self) -> None:
         self.write({"personal/main.sieve": 'require "fileinto"; fileinto "A";\nfileinto "A";'})
