@@ -98,7 +98,7 @@ def skipped_in(site: Site, judged: Judged) -> List[Found]:
 
 def stale_list(site: Site, judged: Judged) -> List[Stale]:
     """The lines that list what can be judged or isn't there, where all is looked at."""
-    if site.wanted.users or site.wanted.mains:
+    if site.wanted.users or site.wanted.mains or not site.listed.entries:
         return []
     used = {entry.line for survey in judged.surveys for entry in survey.listed.values()}
     there = {site.listed.word_of(script) for user in site.users for script in user.scripts}

@@ -42,13 +42,14 @@ class Former(NamedTuple):
         """The texts of the scripts."""
         return {script.at(): script.text for script in self.user.scripts}
 
-    def main_of(self, main: Main, asked: bool) -> Optional[Main]:
-        """What ran in the place of a line: the line that was called so, or the same scripts if they were there. These come first where they
-        are asked for."""
+    def main_of(self, main: Main, mains: List[Main], asked: bool) -> Optional[Main]:
+        """What ran in the place of one of a user's lines: the line that was called so, or the only one where there is one now, or the same
+        scripts if they were there. These come first where they are asked for."""
         scripts = self.scripts()
         same = [main] if all(place in scripts for place in main.scripts) else []
         lines = [it for it in self.user.mains if it.is_also(main)]
-        return next(iter([*same, *lines] if asked else [*lines, *same]), None)
+        only = self.user.mains if len(self.user.mains) == len(mains) == 1 else []
+        return next(iter([*same, *lines] if asked else [*lines, *only, *same]), None)
 
 
 class Diff:
@@ -90,7 +91,7 @@ class Diff:
         """The lines of a user that can be compared, each with what ran in its place before."""
         former = self.former.get(user.name)
         asked = bool(self.new.wanted.mains)
-        found = [(main, former.main_of(main, asked)) for main in user.mains] if former else []
+        found = [(main, former.main_of(main, user.mains, asked)) for main in user.mains] if former else []
         return [(main, earlier) for main, earlier in found if earlier]
 
     def refused(self, batch: Batch) -> List[Case]:
@@ -105,10 +106,13 @@ class Diff:
     def notes(self, look: Look) -> Iterator[str]:
         """What can't be compared, and where what isn't a script differs too."""
         for user in self.new.users:
-            compared = [main for main, _ in self.compared(user)]
+            compared = dict(self.compared(user))
             for main in user.mains:
-                if main not in compared:
+                earlier = compared.get(main)
+                if earlier is None:
                     yield f"{look.name(main.label())}: not compared: its scripts weren't all there before"
+                elif earlier.key != main.key:
+                    yield f"{look.name(main.label())}: compared with {look.name(earlier.label())}, as it was called before"
         for name in self.settings:
             yield f"{look.name(os.path.join(self.new.wanted.folder, name))}: it was another, and is taken for both"
 

@@ -4,7 +4,8 @@ from __future__ import annotations
 
 import codecs
 import difflib
-from typing import List, NamedTuple, Optional
+import functools
+from typing import NamedTuple, Optional, Tuple
 
 from .capabilities import NEEDS, REGISTERED
 from .mains import Script
@@ -72,9 +73,11 @@ def sentence_of(script: Script, line: int, word: str) -> str:
     return SENTENCES.get(word, "a fault")
 
 
-def strangers(text: bytes) -> List[bytes]:
+# Many users have the same script.
+@functools.lru_cache(maxsize=1024)
+def strangers(text: bytes) -> Tuple[bytes, ...]:
     """What a script requires that isn't registered."""
-    return [name for name in dict.fromkeys(required(text)[1]) if name not in REGISTERED]
+    return tuple(name for name in dict.fromkeys(required(text)[1]) if name not in REGISTERED)
 
 
 def no_such(name: bytes) -> str:

@@ -161,12 +161,6 @@ def putting_back(old: bytes, place: bytes) -> Iterator[None]:
         raise
 
 
-def make_folder(path: bytes) -> None:
-    """Makes a folder where there is none."""
-    with writing(path):
-        os.makedirs(path, exist_ok=True)
-
-
 def remove_file(path: bytes) -> None:
     """Takes out a file."""
     with writing(path):

@@ -32,11 +32,10 @@ class Expected:
                 self.chains.setdefault(main_script(key, users), []).append(key)
 
     def heading(self, main: Main) -> Optional[Key]:
-        """The heading under which a line stands: what it is called, or the names of all its scripts. The only line for its main script also
-        has the heading of this one, or one of several scripts of which it is the main one."""
-        keys = [main.key, main.names, *([main.script] if main.alone else [])]
-        chains = self.chains.get(main.script, []) if main.alone else []
-        keys += chains if len(chains) == 1 else []
+        """The heading under which a line stands: what it is called, or what stands for it too. The only line for its main script also has
+        the heading of several scripts of which this is the main one, if there is one such."""
+        chains = self.chains.get(main.script, []) if main.script else []
+        keys = [main.key, *main.also, *(chains if len(chains) == 1 else [])]
         return next((key for key in keys if key in self.blocks), None)
 
     def headings(self, mains: Iterable[Main]) -> Set[Key]:

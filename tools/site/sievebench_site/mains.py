@@ -54,21 +54,21 @@ class Line(NamedTuple):
 
 
 class Called(NamedTuple):
-    """A line, the words that it is called by, and whether no other line is for its main script."""
+    """A line, the words that it is called by, others that stand for it too, and whether no other line is for its main script."""
 
     line: Line
     key: Key
+    also: Tuple[Key, ...]
     alone: bool
 
 
 class Main(NamedTuple):
-    """A line of main scripts of a user, which run one after another: the words between brackets, those of its main script and of all its
-    scripts, whether it is the only one for its main script, and where its scripts stand in a session."""
+    """A line of main scripts of a user, which run one after another: the words between brackets, others that stand for it too, its main
+    script if no other line is for that, and where its scripts stand in a session."""
 
     key: Key
-    script: Key
-    names: Key
-    alone: bool
+    also: Tuple[Key, ...]
+    script: Optional[Key]
     scripts: Tuple[Place, ...]
 
     def label(self) -> bytes:
@@ -77,7 +77,7 @@ class Main(NamedTuple):
 
     def is_also(self, other: "Main") -> bool:
         """Whether it is called as another one, or both are the only ones for one script."""
-        return self.key == other.key or (self.alone and other.alone and self.script == other.script)
+        return self.key == other.key or (self.script is not None and self.script == other.script)
 
 
 class Shelf:
@@ -118,8 +118,9 @@ class Shelf:
             if place is None:
                 missing = f"no main script {quoted(name)}: there is no {quoted(self.path_of(name, home))}"
                 refuse(called.line.where() + missing)
-        key, script, words = (of_user(user, it) for it in (called.key, (called.line.script(),), names))
-        return Main(key, script, words, called.alone, tuple(place for place in places if place))
+        script = of_user(user, (called.line.script(),)) if called.alone else None
+        also = tuple(of_user(user, key) for key in called.also)
+        return Main(of_user(user, called.key), also, script, tuple(place for place in places if place))
 
     def line_of(self, text: bytes, place: str, home: bytes) -> Line:
         """A line as it is written. It is one name where there is a script of the user's that is called so."""
@@ -146,22 +147,23 @@ def of_user(user: bytes, key: Key) -> Key:
 
 def called(lines: Iterable[Line]) -> List[Called]:
     """What lines are called, each once: by their names, or else by their main scripts. Where several without names are for one script,
-    they are called by all their scripts."""
+    they are called by all their scripts. What another line isn't called stands for a line too: all its scripts, as headings once were, and
+    its main script, if no other line is for that."""
     once = list({(line.name, line.names): line for line in lines}.values())
     scripts = collections.Counter(line.script() for line in once)
     bare = collections.Counter(line.script() for line in once if not line.name)
-    names = collections.Counter(line.name for line in once)
-    seen: Set[Key] = set()
-    found = []
+    keys: Dict[Key, Line] = {}
     for line in once:
-        script = line.script()
-        key = (line.name,) if line.name else (script,) if bare[script] == 1 else line.names
-        if key in seen:
+        key = (line.name,) if line.name else (line.script(),) if bare[line.script()] == 1 else line.names
+        if key in keys:
             shown = quoted(b" ".join(key))
             refuse(f"{line.where()}another line is called {shown} too: another name before a colon, as other: main")
-        seen.add(key)
-        alone = scripts[script] == 1 and names[script] == (line.name == script)
-        found.append(Called(line, key, alone))
+        keys[key] = line
+    found = []
+    for key, line in keys.items():
+        alone = scripts[line.script()] == 1 and keys.get((line.script(),), line) is line
+        also = (line.names, *([(line.script(),)] if alone else []))
+        found.append(Called(line, key, tuple(it for it in also if it not in keys), alone))
     return found
 
 

@@ -10,7 +10,7 @@ from .check import left_out
 from .checked import Stale, broken_in, lacking_in, stale_in
 from .expected import Key, text_of
 from .faults import sentence_of
-from .files import make_folder, octets_of, remove_empty, remove_file, write_file, write_folder
+from .files import octets_of, remove_empty, remove_file, write_file, write_folder
 from .folder import Site, user_names
 from .headings import Expected, expected_at
 from .judge import Case, Judged
@@ -49,8 +49,6 @@ class Change(NamedTuple):
         if self.files is not None:
             write_folder(self.path, self.files)
         elif self.text is not None:
-            if by_user:
-                make_folder(folder)
             write_file(self.path, self.text)
         else:
             remove_file(self.path)
@@ -106,12 +104,13 @@ def changes_of(cases: List[Case], gone: Set[Tuple[bytes, Key]], force: bool, use
     expected, by_user = mail.expected, has_files_of_users(mail, users)
     before = texts_of(expected)
     after = {path: {key: it for key, it in texts.items() if (path, key) not in gone} for path, texts in before.items()}
+    headings = {key: key for key in expected.blocks}
     failing = set()
     for case in cases:
         path = os.path.join(mail.expect_path(), case.user.name) if by_user else mail.expect_path()
-        lines = case.lines()
-        old = expected.heading(case.main)
+        lines, old = case.lines(), expected.heading(case.main)
         if old:
+            headings[old] = case.main.key
             after[expected.blocks[old].path].pop(old, None)
             lines = expected.blocks[old].lines if case.unjudged else lines
         if old or not case.unjudged:
@@ -122,11 +121,12 @@ def changes_of(cases: List[Case], gone: Set[Tuple[bytes, Key]], force: bool, use
         yield parted(mail, before, after, force, bool(failing))
         return
     for path, texts in after.items():
+        # By hand the heading of before may stay.
+        same = {headings[key]: lines for key, lines in before.get(path, {}).items()} == texts
         change = change_of(path, expected.files.get(path), before.get(path, {}), texts, force)
-        if change:
-            yield change._replace(
-                told=change.told + ", with an error"
-            ) if path in failing and not change.left else change
+        if change and not (change.left and same):
+            error = ", with an error" if path in failing and not change.left else ""
+            yield change._replace(told=change.told + error)
 
 
 def has_files_of_users(mail: Mail, users: int) -> bool:

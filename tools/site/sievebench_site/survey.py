@@ -94,18 +94,15 @@ def put_scripts(session: Session, scripts: Iterable[Script]) -> None:
 
 def answer_of(site: Site, script: Script, fault: Fault, names: List[bytes], known: FrozenSet[bytes]) -> str:
     """Why a script can't be judged, and what to do."""
-    used = use_at(script.text, fault)
+    used, told = use_at(script.text, fault), []
     asked = [name for name in names if name in known]
     others = [name for name in names if name not in known]
-    told = (
-        [f"{used.told() if used else requires(asked)}: add {'them' if len(asked) > 1 else 'it'} to the file with"]
-        if asked
-        else []
-    )
+    if asked:
+        what = "them" if len(asked) > 1 else "it"
+        told.append(f"{used.told() if used else requires(asked)}: add {what} to the file with")
     if others:
         what = "they aren't" if len(others) > 1 else "it isn't"
         line = site.listed.line_for(script, requires(others))
-        told.append(
-            f"{used.told() if used else requires(others)}: {what} supported yet; list the script in unjudged: {line}"
-        )
+        why = used.told() if used else requires(others)
+        told.append(f"{why}: {what} supported yet; list the script in unjudged: {line}")
     return "; ".join(told)

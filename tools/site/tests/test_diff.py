@@ -100,11 +100,17 @@ class Folders(Room):
         for line in ("before/10 before/15 main", "sales: before/15 main"):
             with self.subTest(line):
                 self.write({"new/mains": line})
-                heads = [wanted[0].replace("main", line.partition(":")[0] if ":" in line else "main"), *wanted[1:]]
-                self.assertEqual(self.ran("diff", "old", "new"), (1, heads, ""))
+                named = line.startswith("sales")
+                told = ["sales: compared with main, as it was called before"] if named else []
+                told += [wanted[0].replace("main", "sales") if named else wanted[0], *wanted[1:]]
+                self.assertEqual(self.ran("diff", "old", "new"), (1, told, ""))
         self.write({"new/mains": "before/15 main\nplain: before/10 main"})
         told = self.ran("diff", "old", "new")[1]
         self.assertEqual(told[-1], "1 of 4 verdicts changed")
+        # The only line is compared with the only one.
+        self.write({"new/mains": "before/15 other", "new/personal/other.sieve": "keep;"})
+        told = self.ran("diff", "old", "new")[1]
+        self.assertEqual((told[0], told[-1]), ("other: compared with main, as it was called before", wanted[-1]))
         # What is asked for is compared with the same scripts.
         self.write({"old/personal/main.sieve": "discard;"})
         told = self.ran("diff", "--main", "before/10 main", "old", "new")[1]

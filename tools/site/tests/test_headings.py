@@ -100,6 +100,11 @@ class Headings(Room):
         chain, plain = self.mains("before/10 main\nmain")
         expected = self.expected(["before/10 main"])
         self.assertEqual((expected.heading(chain), expected.heading(plain)), ((b"before/10", b"main"), None))
+        # What another line is called isn't taken for all scripts of this one.
+        named, plain = self.mains("main: before/10 main\nplain: main")
+        expected = self.expected(["main"])
+        self.assertEqual((expected.heading(named), expected.heading(plain)), ((b"main",), None))
+        expected = self.expected(["before/10 main"])
         named, plain = self.mains("sales: before/10 before/15 main\nmain")
         self.assertEqual((expected.heading(named), expected.heading(plain)), (None, None))
 

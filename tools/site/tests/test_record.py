@@ -37,6 +37,13 @@ class Headings(Room):
             with self.subTest(expected):
                 self.assertEqual(self.recorded(expected), wanted)
 
+    def test_comments(self) -> None:
+        commented = "# mine\n[before/10 main]\ndiscard\n"
+        self.assertEqual(self.recorded(commented), commented)
+        self.assertEqual(self.recorded(commented, "--force"), "[main]\ndiscard\n")
+        self.write({"mails/1.eml.expect": commented.replace("discard", 'store "A"')})
+        self.assertEqual(self.ran("record", ".")[0], 1)
+
     def test_checked_before_it_is_recorded(self) -> None:
         self.write({**SITE, "mails/1.eml.expect": "[before/10 main]\ndiscard\n"})
         self.assertEqual(self.ran("check", "-q", "."), (0, [], ""))

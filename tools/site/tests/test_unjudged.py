@@ -88,7 +88,7 @@ class Names(Room):
             with self.subTest(text):
                 self.assertTrue(sentence_of(Script("personal", b"x", b"x", text), line, word).endswith(end))
         self.assertEqual(use_at(b"reject", (1, "syntax")), None)
-        self.assertEqual(strangers(b'require ["a", "copy", "b"]; require "a";'), [b"a", b"b"])
+        self.assertEqual(strangers(b'require ["a", "copy", "b"]; require "a";'), (b"a", b"b"))
 
     def test_uses(self) -> None:
         rows: Dict[Tuple[bytes, str], Use] = {
