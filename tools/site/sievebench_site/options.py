@@ -70,8 +70,8 @@ Exit status:
   0    check: all verdicts agree; lint: no fault; diff: no verdict changed; untested, why: done
   1    check: a verdict disagrees, a script has a fault, a verdict or a script can't be judged and
        isn't listed in unjudged, or without --lax something isn't expected or is stale; lint: a
-       fault, or such a script; record: it left a file; diff: a verdict that changed; untested: fewer
-       changes are noticed than --fail-under asks for
+       fault, or such a script; record: it left a file; diff: a verdict that changed; untested:
+       fewer changes are noticed than --fail-under asks for
   2    misuse: no mails, no such main script or mail, a file that can't be read or written, a
        refused edit
   3    the program, or sievec, can't be run
@@ -120,8 +120,8 @@ Compares the verdict on each mail, under each main script, with what is expected
 
 Prints each difference with the mails that have it, the scripts that have a fault or can't be
 judged, mails without expectations, stale expectations, files that are left out, and a line of
-counts. An expectation is stale if its mail isn't there, which isn't looked at with --only, or if
-mains doesn't name its scripts, which isn't looked at with --user or --main.
+counts. An expectation is stale if its mail isn't there, which isn't looked at with --only, or if no
+line of mains is called so, which isn't looked at with --user or --main.
 
 A script that requires what isn't there can't be judged. That fails the check, unless the file
 unjudged lists the script: then it is skipped, and so is each mail whose run comes to it. A line of
@@ -134,10 +134,11 @@ script, line and why; stale and left out, each with file and why.""",
     "record": """\
 Writes today's verdicts as what is expected.
 
-What is expected of mails and under scripts that aren't run stays, and so does what is expected of
-a mail that can't be judged. What is stale stays and is reported, unless --prune takes it out. A file that isn't as this tool writes it, for example with comments, CR LF or another order, is
-left and reported, and so is one that changes meanwhile. If a script has a fault, nothing is
-written. Only one record or import may write to a site at a time.""",
+What is expected of mails and under scripts that aren't run stays, and so does what is expected of a
+mail that can't be judged. What is stale stays and is reported, unless --prune takes it out. A file
+that isn't as this tool writes it, for example with comments, CR LF or another order, is left and
+reported, and so is one that changes meanwhile. If a script has a fault, nothing is written. Only
+one record or import may write to a site at a time.""",
     "lint": """\
 Reports the first fault of each script, and what must fail: includes of scripts that are missing or
 have a fault, or that lead back; redirects to what isn't one address, responses from what isn't one,
@@ -179,11 +180,11 @@ reached; faults; not judged; not looked up.""",
 Reports which verdicts on the mails of SITE change if its scripts replace those of OLD, or of a
 revision in git.
 
-A line of mains is compared with the line that was called so, whatever scripts ran in it. Mails,
-envelopes and the files with, mailboxes and clock are those of SITE; if one of these three was
-another, that is said. Lines that weren't there, and whose scripts weren't all there, are \"not
-compared\". New faults are reported too. A verdict that can't be judged, before or now, is reported
-and not counted as changed.""",
+A line of mains is compared with the line that was called so, whatever scripts ran in it, and a
+user's only line with the only one before. Mails, envelopes and the files with, mailboxes and clock
+are those of SITE; if one of these three was another, that is said. Lines that weren't there, and
+whose scripts weren't all there, are \"not compared\". New faults are reported too. A verdict that
+can't be judged, before or now, is reported and not counted as changed.""",
     "why": """\
 Says of one mail's verdict which script and line entered each action, which scripts were looked up,
 and which branches the run took, in order.
@@ -238,7 +239,7 @@ def add_running(parser: Parser) -> None:
         action="append",
         default=[],
         metavar="NAME",
-        help="takes this line of mains alone, by its name or its scripts, or one that isn't there, for all users who have its scripts; may be given again",
+        help="takes this line of mains alone, by its name or its scripts, or one that isn't in mains; may be given again",
     )
     parser.add_argument(
         "--clock", metavar="TIME", help="the current time, in place of the file clock, as 1783245600+0200"
