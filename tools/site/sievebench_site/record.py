@@ -90,9 +90,9 @@ def counts(mails: int, changes: List[Change], stale: List[Stale], judged: Judged
     left, written = sum(it.left for it in changes), sum(it.written() for it in changes)
     further = {
         "taken out": len(changes) - left - written,
-        "stale: --prune takes them out": len(stale),
         "verdicts not judged": sum(bool(case.unjudged) and not case.skipped for case in judged.cases),
         "mails without an envelope": len(judged.bare),
+        "stale: --prune takes them out": len(stale),
     }
     told = [f"{mails} mails, {written} written, {left} left"]
     return ", ".join([*told, *(f"{count} {what}" for what, count in further.items() if count)])
