@@ -1,4 +1,24 @@
-# Completion in bash for sievebench and sievebench-site. All words come from the help of what is completed, so they are those that it knows.
+# Completion in bash for sievebench and sievebench-site. All words come from the help of what is completed, so they are those that it knows, or
+# from the site that stands in the line: its users, main scripts and mails.
+
+# The site: the last folder in the line, or the folder site of this one, or this one.
+_sievebench_site() {
+    local word found=""
+    for word in "${COMP_WORDS[@]:2:COMP_CWORD-2}" "${COMP_WORDS[@]:COMP_CWORD+1}"; do
+        [ ! -d "$word" ] || found=$word
+    done
+    [ -n "$found" ] || { [ -d site ] && found=site || found=.; }
+    printf '%s\n' "$found"
+}
+
+# Those of a site's users, main scripts or mails that begin so.
+_sievebench_names() {
+    local name
+    COMPREPLY=()
+    while IFS= read -r name; do
+        [[ $name != "$3"* ]] || COMPREPLY+=("$name")
+    done < <("$1" --complete "$2" "$(_sievebench_site)" 2> /dev/null)
+}
 
 _sievebench() {
     local program=${COMP_WORDS[0]} command=${COMP_WORDS[1]} current=$2 before=$3 first="" words
@@ -22,6 +42,11 @@ _sievebench() {
         mapfile -t COMPREPLY < <(compgen -W "${words//,/ }" -- "$current")
         return
         ;;
+    --user | --main | --only)
+        words=${before#--}s
+        _sievebench_names "$program" "${words/onlys/mails}" "$current"
+        return
+        ;;
     --personal | --global)
         mapfile -t COMPREPLY < <(compgen -d -- "$current")
         return
@@ -29,10 +54,18 @@ _sievebench() {
     esac
     case $current in
     -*)
-        words=$("$program" "$command" --help 2> /dev/null | sed -nE 's/^ +(-[A-Za-z], )?(--?[A-Za-z][a-z-]*).*/\1 \2/p')
+        # An option stands at the begin of a line, after a few blanks: what is told of others is further to the right.
+        words=$("$program" "$command" --help 2> /dev/null | sed -nE 's/^ {2,6}(-[A-Za-z], )?(--?[A-Za-z][a-z0-9-]*).*/\1 \2/p')
         mapfile -t COMPREPLY < <(compgen -W "${words//,/ }" -- "$current")
         ;;
-    *) mapfile -t COMPREPLY < <(compgen -f -- "$current") ;;
+    *)
+        # After the site `why` takes a mail.
+        if [ "$command" = why ] && [ "$(_sievebench_site)" = "$before" ]; then
+            _sievebench_names "$program" mails "$current"
+        else
+            mapfile -t COMPREPLY < <(compgen -f -- "$current")
+        fi
+        ;;
     esac
 }
 complete -o filenames -F _sievebench sievebench sievebench-site

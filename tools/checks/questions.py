@@ -128,9 +128,13 @@ def of_chains(room):
     yield run("why it ends", room, "why chained b.eml | sed -n '/branches/,$p'", lines("  branches that are taken:", '    chained/before/10.sieve:3: if header "subject" "b"'))
     shutil.copytree(room / "chained", room / "rechained")
     write(room / "rechained", {"before/10.sieve": files["before/10.sieve"].replace(b'"b"', b'"c"')})
-    wanted = ["rechained/mails/b.eml under before/10 main", "  - discard", '  + implicit "INBOX"', "rechained/mails/c.eml under before/10 main", '  - implicit "INBOX"', "  + discard  (rechained/before/10.sieve:3)", "2 of 3 verdicts changed"]
+    wanted = ["rechained/mails/b.eml under main", "  - discard", '  + implicit "INBOX"', "rechained/mails/c.eml under main", '  - implicit "INBOX"', "  + discard  (rechained/before/10.sieve:3)", "2 of 3 verdicts changed"]
     wanted[2] = '  + store "INBOX"  (rechained/personal/main.sieve:3)'
     yield run("what an edit changes of a chain", room, "diff chained rechained", lines(*wanted), status=1)
+    shutil.copytree(room / "chained", room / "longer")
+    write(room / "longer", {"before/05.sieve": b'if header "subject" "c" {\n  redirect "x@y.example";\n}\n', "mains": b"before/05 before/10 main\n"})
+    wanted = ["longer/mails/c.eml under main", '  - implicit "INBOX"', '  + redirect "x@y.example"  (longer/before/05.sieve:2)', "1 of 3 verdicts changed"]
+    yield run("what a script changes that is new before others", room, "diff chained longer", lines(*wanted), status=1)
 
 
 def of_diffs(room):
@@ -172,7 +176,12 @@ def of_revisions(room):
     yield run("since a revision", where, "diff --utf8 --git HEAD s\u00fc", wanted, status=1)
     yield run("in a folder inside, as a hook has it", folder, "diff --utf8 --git HEAD .", [b"1 of 1 verdict changed"], status=1)
     yield Run("sievebench-site: under the environment of a hook", where, f"GIT_DIR=.git GIT_INDEX_FILE=.git/index python3 {shlex.quote(str(TOOL))} diff --git HEAD s\u00fc", [b"1 of 1 verdict changed"], status=1)
-    yield run("a revision that lacks the site", where, "diff --git HEAD~1 s\u00fc", b"", told('the revision "HEAD~1" has no folder "s\\xc3\\xbc"'), 2)
+    (folder / "with").write_text("vacation\n")
+    told_of = "s\u00fc/with: it was another, and is taken for both\n".encode()
+    yield run("settings that changed since a revision", where, "diff --utf8 --git HEAD s\u00fc", [told_of], status=1)
+    yield Run("a commit of them", where, f"{commit} three")
+    yield run("settings that didn't", where, "diff --utf8 --git HEAD s\u00fc", lines("0 of 1 verdict changed"))
+    yield run("a revision that lacks the site", where, "diff --git HEAD~2 s\u00fc", b"", told('the revision "HEAD~2" has no folder "s\\xc3\\xbc"'), 2)
     yield run("a revision that there isn't", where, "diff --git=-x s\u00fc", b"", told('no revision "-x" in the repository of "s\\xc3\\xbc"'), 2)
     write(room / "outside", site({"1.eml": b""}, main=b""))
     outside = f"GIT_CEILING_DIRECTORIES={shlex.quote(str(room))} python3 {shlex.quote(str(TOOL))} diff --git HEAD outside"

@@ -104,7 +104,7 @@ def of_names(room):
     write(room / "asked", {**files, "with": b"subaddress\r\n\nunused"})
     yield run("names of a site", room, "check --strict asked", lines(counted(1, 1, 1, 1, 0, 0, 0, 0)))
     write(room / "unasked", files)
-    yield run("no names of a site", room, "check unasked", [b"unasked/personal/main.sieve:1: not judged: requires subaddress, vacation\n"], status=1)
+    yield run("no names of a site", room, "check unasked", [b"unasked/personal/main.sieve:1: not judged: requires subaddress, vacation: add them to the file with\n"], status=1)
     script = b'require ["mailbox", "fileinto", "envelope"]; if mailboxexists "Work" { fileinto :create "Work"; } if envelope "to" "c@d.example" { discard; }'
     files = {**site({"1.eml": b"", "1.eml.envelope": b"a@b.example c@d.example", "2.eml": b""}, main=script), "with": b"lines\nmailbox\n", "mailboxes": b"Home\r\nWork"}
     files.update({"mails/1.eml.expect": b'[main]\nstore "Work" create\ndiscard\n', "mails/2.eml.expect": b'[main]\nstore "Work" create\n'})
@@ -204,7 +204,7 @@ def of_refusals(room):
     for words in ("", "good none", "''"):
         yield run(f"one folder is wanted: {words}", room, f"check {words}", b"", told("one folder is wanted, the site; see --help"), 2)
     yield run("an option of another command", room, "lint --strict unnamed", b"", told("unrecognized arguments: --strict; see --help"), 2)
-    yield run("an output that is full", room, "check good > /dev/full", b"", told("cannot write: No space left on device"), 2)
+    yield run("an output that is full", room, "check good > /dev/full", b"", told("cannot write standard output: No space left on device"), 2)
 
 
 def of_programs(room):
@@ -283,23 +283,26 @@ def of_junit(room):
     yield run("a folder of results", room, "check --junit marks both", b"", told('cannot write "marks": Is a directory'), 2)
 
 
-MORE = ("not judged", "mails without an envelope", "left out")
+MORE = ("not judged", "skipped", "mails without an envelope", "left out")
 
 
 def of_objects(room):
     """Objects."""
-    counts = ", ".join(f'"{what}": {number}' for what, number in zip(COUNTS + MORE, (1, 2, 2, 1, 1, 0, 0, 0, 0, 0, 0)))
-    cases = '{"mail": "1.eml", "main": "main", "agrees": true, "expected": ["discard"], "verdict": ["discard"], "lines": ["both/personal/main.sieve:1"]}, '
-    cases += '{"mail": "1.eml", "main": "other", "agrees": false, "expected": ["discard"], "verdict": ["store \\"INBOX\\""], "lines": ["both/personal/other.sieve:1"]}'
-    empty = '"faults": [], "not judged": [], "stale": [], "left out": []'
-    for words in ("--json", "--format json", "--format=text --json"):
+    counts = ", ".join(f'"{what}": {number}' for what, number in zip(COUNTS + MORE, (1, 2, 2, 1, 1, 0, 0, 0, 0, 0, 0, 0)))
+    cases = '{"mail": "1.eml", "main": "main", "agrees": true, "skipped": false, "expected": ["discard"], "verdict": ["discard"], "lines": ["both/personal/main.sieve:1"]}, '
+    cases += '{"mail": "1.eml", "main": "other", "agrees": false, "skipped": false, "expected": ["discard"], "verdict": ["store \\"INBOX\\""], "lines": ["both/personal/other.sieve:1"]}'
+    empty = '"faults": [], "not judged": [], "skipped": [], "stale": [], "left out": []'
+    for words in ("--json", "--format json"):
         yield run(f"an object by {words}", room, f"check {words} both", lines(f'{{"passed": false, "counts": {{{counts}}}, "cases": [{cases}], {empty}}}'), status=1)
+    for words in ("--format junit --json", "--json --format=junit"):
+        yield run(f"two forms: {words}", room, f"check {words} both", b"", [b"not allowed with argument --"], 2)
     write(room / "mark", site({"\u00fc.eml": b""}, **{"\u00f6": 'require "fileinto"; fileinto "\u00e4";'.encode()}))
-    counts = ", ".join(f'"{what}": {number}' for what, number in zip(COUNTS + MORE, (1, 1, 1, 0, 0, 1, 0, 0, 0, 0, 0)))
-    cases = '{"mail": "\\u00fc.eml", "main": "\\u00f6", "agrees": null, "expected": null, "verdict": ["store \\"\\\\xc3\\\\xa4\\""], "lines": ["mark/personal/\\u00f6.sieve:1"]}'
+    counts = ", ".join(f'"{what}": {number}' for what, number in zip(COUNTS + MORE, (1, 1, 1, 0, 0, 1, 0, 0, 0, 0, 0, 0)))
+    cases = '{"mail": "\\u00fc.eml", "main": "\\u00f6", "agrees": null, "skipped": false, "expected": null, "verdict": ["store \\"\\\\xc3\\\\xa4\\""], "lines": ["mark/personal/\\u00f6.sieve:1"]}'
     yield run("an object, with names as they are and verdicts as they are expected", room, "check --lax --json mark", lines(f'{{"passed": true, "counts": {{{counts}}}, "cases": [{cases}], {empty}}}'))
 
 
+STALE = "stale: --prune takes them out"
 LEFT = "left, since it isn't as this tool writes it: --force writes it anew, without its comments"
 
 
@@ -314,7 +317,7 @@ def of_records(room):
     write(room / "errors", site({"1.eml": b""}, main=b'redirect "x";'))
     yield run("an error is written", room, "record errors", lines("errors/mails/1.eml.expect: new, with an error", "1 mails, 1 written, 0 left"))
     write(room / "blocks", site({"1.eml": b"", "1.eml.expect": b'[old]\nstore "A"'}, main=b"discard;"))
-    yield run("a block more", room, "record blocks", lines(f"blocks/mails/1.eml.expect: {LEFT}", "1 mails, 0 written, 1 left"), status=1)
+    yield run("a block more", room, "record blocks", lines("blocks/mails/1.eml.expect: stale: no main script is called old", f"blocks/mails/1.eml.expect: {LEFT}", f"1 mails, 0 written, 1 left, 1 {STALE}"), status=1)
     # Names go in the order of their octets, and what is expected under a main script that isn't run stays, be it right or wrong.
     write(room / "two", {**site({"1.eml": b"", "2.eml": b""}, a=b"discard;", b=b"keep;"), "mains": b"b\na\n"})
     yield run("two main scripts", room, "record two", lines("two/mails/1.eml.expect: new", "two/mails/2.eml.expect: new", "2 mails, 2 written, 0 left"))
@@ -325,6 +328,8 @@ def of_records(room):
     write(room / "quote", site({"1.eml": b""}, **{'a"[\\]': b"discard;"}))
     yield run("a name that wants quotes", room, "record quote", lines("quote/mails/1.eml.expect: new", "1 mails, 1 written, 0 left"))
     yield Run("sievebench-site: its quotes", room, "cat quote/mails/1.eml.expect", lines('["a\\"[\\\\]"]', "discard"))
+    write(room / "quote", {"mails/2.eml.expect": b"[main]\ndiscard\n"})
+    yield run("what is stale is taken out", room, "record --prune quote; ls quote/mails", lines("quote/mails/2.eml.expect: taken out: its mail isn't there", "1 mails, 0 written, 0 left, 1 taken out", "1.eml", "1.eml.expect"))
     yield run("what is recorded agrees", room, "check --strict quote", lines(counted(1, 1, 1, 1, 0, 0, 0, 0)))
     write(room / "modes", site({"1.eml": b"", "2.eml": b"", "2.eml.expect": b"", "3.eml": b"", "4.eml": b"", "link": b""}, main=b"discard;"))
     (room / "modes/mails/2.eml.expect").chmod(0o604)
@@ -384,8 +389,11 @@ def of_sievec(room):
     fake = '#!/bin/sh\n[ "$2 $4" = "plugin/sieve=file:$PWD/peer/personal plugin/sieve_global=file:$PWD/peer/global" ] || exit 9\n! grep -n reject "$5" > /dev/null || { echo "x: line 2: error: there is a reject" >&2; exit 89; }\n'
     write(room / "peer", {"bin/sievec": fake.encode(), "personal/main.sieve": b'require "include"; include "a";\ninclude "gone";', "personal/a.sieve": b"\nkep;", "personal/b.sieve": b"# reject", "personal/both.sieve": b"keep;", "personal/c.sieve": b"reject;", "mains": b"main\n"})
     (room / "peer/bin/sievec").chmod(0o755)
-    wanted = ["a.sieve:2: unknown-command: There is no such command or test.", "c.sieve:1: unknown-command: There is no such command or test.", 'main.sieve:1: invalid-script: The script personal "a" has a fault.', 'main.sieve:2: missing-script: There is no script personal "gone".', "a.sieve:2: sievec: It compiles this.", "b.sieve:2: sievec: there is a reject", "main.sieve:1: sievec: It compiles this."]
+    wanted = ["a.sieve:2: unknown-command: There is no such command or test.", "c.sieve:1: unknown-command: There is no such command or test. reject needs reject, which the script doesn't require.", 'main.sieve:1: invalid-script: The script personal "a" has a fault.', 'main.sieve:2: missing-script: There is no script personal "gone".', "a.sieve:2: sievec: It compiles this.", "b.sieve:2: sievec: there is a reject", "main.sieve:1: sievec: It compiles this."]
     yield Run("sievebench-site: where sievec says otherwise", room, f'PATH="$PWD/peer/bin:$PATH" python3 {shlex.quote(str(TOOL))} lint --sievec peer', lines(*(f"peer/personal/{line}" for line in wanted)), status=1)
+    write(room / "peer", {"personal/c.sieve": b"", "personal/d.sieve": b'require "regex"; # reject', "personal/e.sieve": b'require ["regex", "include"]; include "d";', "personal/f.sieve": b'require "regex";', "personal/main.sieve": b"", "personal/a.sieve": b"", "personal/b.sieve": b"", "unjudged": b"personal/d.sieve it waits\npersonal/e.sieve it waits\npersonal/f.sieve it waits\n"})
+    notes = [f"{name}.sieve:1: skipped: it waits" for name in "def"] + [f"{name}.sieve:0: unreached: No main script comes to it." for name in ("a", "b", "both", "c", "d", "e", "f")]
+    yield Run("sievebench-site: what sievec says of scripts that are listed", room, f'PATH="$PWD/peer/bin:$PATH" python3 {shlex.quote(str(TOOL))} lint --sievec peer', lines(*(f"peer/personal/{line}" for line in ("d.sieve:2: sievec: there is a reject", *notes))), status=1)
     write(room / "alien", {"bin/sievec": b"#!/bin/sh\nexit 1\n", "personal/a.sieve": b"keep;"})
     (room / "alien/bin/sievec").chmod(0o755)
     yield Run("sievebench-site: where sievec alone says something", room, f'PATH="$PWD/alien/bin:$PATH" python3 {shlex.quote(str(TOOL))} lint --sievec alien', lines("alien/personal/a.sieve:0: sievec: It can't compile this."), status=1)

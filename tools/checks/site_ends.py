@@ -155,6 +155,32 @@ def of_imports(room):
     yield Run("sievebench-site: the octets are the same", room / "taken", "cmp md/cur/* site/mails/0001.eml && cmp md/new/* site/mails/0002.eml && cat site/mails/0004.eml", lines("Subject: four", "", "four"))
 
 
+COMPLETION = TOOL.parent / "completion.bash"
+COMPLETES = """bash -c 'source "$0"; COMP_WORDS=("$@"); COMP_CWORD=$(($# - 1)); _sievebench "$1" "${@: -1}" "${@: -2:1}"; printf "%s\\n" "${COMPREPLY[@]}"' """
+
+
+def of_completion(room):
+    """What bash completes."""
+    chain = {"mains": b"sales: before/10 main\nbefore/10 \"a b\"\n", "before/10.sieve": b"", "mails/1.eml": b"", "mails/2 a.eml": b""}
+    users = {f"users/{name}/personal/{script}.sieve": b"" for name in ("ada", "eva") for script in ("main", "a b")}
+    write(room / "offers", {**chain, **users, "users/eva/mails/3.eml": b""})
+    for words, wanted in [
+        ("check offers --user ''", ["ada", "eva"]),
+        ("check offers --main ''", ["sales", "a b"]),
+        ("check offers --main s", ["sales"]),
+        ("record offers --only ''", ["1.eml", "2 a.eml", "3.eml"]),
+        ("why offers 2", ["2 a.eml"]),
+        ("why of", ["offers"]),
+        ("check offers --ut", ["--utf8"]),
+        ("check offers --no", ["--no-utf8"]),
+        ("check offers --me", ["--memory"]),
+        ("import offers --me", []),
+        ("record offers --", ["--help", "--utf8", "--no-utf8", "--user", "--main", "--clock", "--program", "--memory", "--quiet", "--only", "--jobs", "--force", "--prune"]),
+        ("check nowhere --user ''", []),
+    ]:
+        yield Run(f"completion of sievebench-site {words}", room, f"{COMPLETES} {shlex.quote(str(COMPLETION))} {shlex.quote(str(TOOL))} {words}", lines(*(wanted or [""])))
+
+
 def of_servers(room):
     """What is there for servers."""
     room = room / "repository"
@@ -181,11 +207,15 @@ def of_servers(room):
     yield Run("examples for servers: its hook before a commit", room, f"{found} {hook} && git commit -qm two; echo $?; git add site && git commit -q --allow-empty -m two; echo $?", lines("1", "0"), [line.encode() for line in wrong])
     server = f"{found} git init -q --bare ../server && install -m 755 pre-receive ../server/hooks/pre-receive && git push -q ../server HEAD:main && printf 'keep;' > site/personal/main.sieve && git commit -qnam three && git push -q ../server HEAD:main; echo $?; git -C ../server log --format=%s main"
     yield Run("examples for servers: its hook of a server", room, server, lines("1", "two", "one"), [line[-12:].encode() for line in wrong])
+    lint = f"{found} printf 'discard;' > site/personal/main.sieve && printf 'redirect \"x\";' > site/personal/other.sieve && git add site && git commit -qnm four && git push -q ../server HEAD:main; echo $?"
+    yield Run("examples for servers: its hook finds faults that no mail comes to", room, lint, lines("1"), [b"site/personal/other.sieve:1: bad-address: This isn't one address."])
+    bare = f"{found} git rm -qr site && git commit -qnm five && git push -q ../server HEAD:pages; echo $?; git -C ../server log --format=%s -n 1 pages"
+    yield Run("examples for servers: its hook passes a branch without a site", room, bare, lines("0", "five"), [b"refs/heads/pages has no folder site: no filters are checked"])
 
 
 def of_sites(room):
     """All of them."""
     room = room / "ends of sites"
     room.mkdir()
-    for part in (of_ends, of_colours, of_sizes, of_imports, of_servers):
+    for part in (of_ends, of_colours, of_sizes, of_imports, of_completion, of_servers):
         yield from some(part.__name__, part(room))

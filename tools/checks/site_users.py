@@ -1,6 +1,6 @@
 """Sites as servers have them: users, scripts that run one after another, envelopes, and what can't be judged."""
 from .runs import lines, some
-from .site import LEFT, NOBODY, counted, run, site, told, write
+from .site import LEFT, NOBODY, STALE, counted, run, site, told, write
 
 DISCARDS = b"[main]\ndiscard\n"
 
@@ -22,6 +22,10 @@ def of_users(room):
     yield run("an unknown user", room, "check --user c users", b"", told('no user "c": there is no "users/users/c"'), 2)
     write(room / "users", {"mails/2.eml.users": b"b c"})
     yield run("a mail of an unknown user", room, "check users", b"", told('"users/mails/2.eml.users" names "c", and the site has no such user'), 2)
+    many = [f"user{number:02}" for number in range(21)]
+    write(room / "crowd", {"mains": b"main\n", "envelope": NOBODY, "mails/1.eml": b"", **{f"users/{name}/personal/main.sieve": b"discard;" for name in many}})
+    yield run("a file of each of many users", room, "record crowd; ls crowd/mails/1.eml.expect | wc -l; cat crowd/mails/1.eml.expect/user20", lines("crowd/mails/1.eml.expect: new, a folder of 21 files", "1 mails, 1 written, 0 left", "21", "[user20/main]", "discard"))
+    yield run("they agree", room, "check crowd", lines(counted(1, 21, 21, 21, 0, 0, 0, 0)))
     write(room / "single", {**site({"1.eml": b"", "1.eml.users": b"a"}, main=b""), "personal/main.sieve": b""})
     yield run("users of a site that has none", room, "check single", b"", told('"single/mails/1.eml.users" names "a", and the site has no such user'), 2)
 
@@ -39,6 +43,15 @@ def of_chains(room):
     yield run("a chain disagrees", room, "check chain", lines(*wrong, counted(3, 2, 6, 5, 1, 0, 0, 0)), status=1)
     yield run("one chain by an option", room, "check --lax --main 'before/10 main' chain", lines(counted(3, 1, 3, 0, 0, 3, 0, 0)))
     yield run("a chain has no such script", room, "check --main 'before/20 main' chain", b"", told('no main script "before/20": there is no "chain/before/20.sieve"'), 2)
+    files = {"before/10.sieve": b"", "before/15.sieve": b'if header "subject" "x" { discard; }', "personal/main.sieve": b"", "mails/1.eml": b"", "mails/2.eml": b"Subject: x\n\n", "envelope": NOBODY}
+    kept = {f"mails/{number}.eml.expect": b'[before/10 main]\nimplicit "INBOX"\n' for number in (1, 2)}
+    write(room / "kept", {**files, **kept, "mains": b"before/10 before/15 main\n"})
+    wrong = ["kept/mails/2.eml under main", '  - implicit "INBOX"', "  + discard  (kept/before/15.sieve:1)"]
+    yield run("what is expected stays where a script comes before others", room, "check kept", lines(*wrong, counted(2, 1, 2, 1, 1, 0, 0, 0)), status=1)
+    yield run("it is written under the main script", room, "record kept; cat kept/mails/*.expect", lines(*(f"kept/mails/{number}.eml.expect: changed" for number in (1, 2)), "2 mails, 2 written, 0 left", "[main]", 'implicit "INBOX"', "[main]", "discard"))
+    write(room / "kept", {"mains": b"all: before/10 before/15 main\nfew: before/10 main\n"})
+    yield run("lines that name themselves", room, "record --prune kept; cat kept/mails/2.eml.expect", lines(*(f"kept/mails/{number}.eml.expect: changed" for number in (1, 2)), "2 mails, 2 written, 0 left", "[all]", "discard", "[few]", 'implicit "INBOX"'))
+    yield run("one of them", room, "check --main few kept", lines(counted(2, 1, 2, 2, 0, 0, 0, 0)))
     write(room / "chain", {"before/30.sieve": b"\nkep;", "before/40.sieve": b'redirect "x";'})
     faults = ["before/30.sieve:2: unknown-command: There is no such command or test.", "before/40.sieve:1: bad-address: This isn't one address."]
     yield run("faults of scripts that others follow", room, "lint chain", lines(*(f"chain/{it}" for it in faults), *(f"chain/before/{it}.sieve:0: unreached: No main script comes to it." for it in (30, 40))), status=1)
@@ -74,16 +87,24 @@ def of_envelopes(room):
 def of_unjudged(room):
     """Scripts that require what isn't there."""
     main = b'require "include"; if header "subject" "x" { include "old"; } discard;'
-    write(room / "old", {**site({"1.eml": b"", "1.eml.expect": DISCARDS}, main=main), "personal/old.sieve": b'# old\nrequire ["fileinto", "regex", "x\\"y"];', "personal/older.sieve": b'require "vacation";'})
-    notes = ['old/personal/old.sieve:2: not judged: requires regex, x\\"y', "old/personal/older.sieve:1: not judged: requires vacation"]
-    yield run("no verdict comes to a script that can't be judged", room, "check old", lines(*notes, counted(1, 1, 1, 1, 0, 0, 0, 0)))
-    yield run("it is no fault", room, "lint old", lines(*notes))
+    write(room / "old", {**site({"1.eml": b"", "1.eml.expect": DISCARDS}, main=main), "personal/old.sieve": b'# old\nrequire ["fileinto", "regex"];', "personal/older.sieve": b'require "vacation";'})
+    notes = ["old/personal/old.sieve:2: not judged: requires regex: it isn't supported yet; list the script in unjudged: personal/old.sieve requires regex", "old/personal/older.sieve:1: not judged: requires vacation: add it to the file with"]
+    yield run("no verdict comes to a script that can't be judged", room, "check old", lines(*notes, counted(1, 1, 1, 1, 0, 0, 0, 0)), status=1)
+    yield run("it fails lint too", room, "lint old", lines(*notes), status=1)
+    write(room / "old", {"unjudged": b"personal/old.sieve requires regex\npersonal/older.sieve not asked for\n"})
+    skipped = ["old/personal/old.sieve:2: skipped: requires regex", "old/personal/older.sieve:1: skipped: not asked for"]
+    yield run("scripts that are listed", room, "check old", lines(*skipped, counted(1, 1, 1, 1, 0, 0, 0, 0)))
+    yield run("they pass lint too", room, "lint old", lines(*skipped))
     write(room / "old", {"mails/2.eml": b"Subject: x\n\n"})
-    why = 'not judged: personal "old" requires regex, x\\"y'
+    yield run("a verdict comes to one", room, "check old", lines(*skipped, counted(2, 1, 2, 1, 0, 0, 0, 0, further=["1 skipped"])))
+    (room / "old/unjudged").unlink()
+    why = 'not judged: personal "old" requires regex'
     yield run("a verdict comes to it", room, "check --lax old", lines(*notes, f"old/mails/2.eml under main: {why}", counted(2, 1, 2, 1, 0, 0, 0, 0, further=["1 not judged"])), status=1)
     yield run("the others are recorded", room, "record old", lines(*notes, "2 mails, 0 written, 0 left, 1 verdicts not judged"))
-    write(room / "old", {"with": b"vacation\n", "personal/old.sieve": b"discard;"})
-    yield run("it is asked for", room, "check --lax old", lines(counted(2, 1, 2, 1, 0, 1, 0, 0)))
+    write(room / "old", {"with": b"vacation\n", "personal/old.sieve": b"discard;", "unjudged": b"personal/old.sieve once\n"})
+    yield run("it is asked for", room, "check --lax old", lines(counted(2, 1, 2, 1, 0, 1, 1, 0)))
+    stale = "old/unjudged: personal/old.sieve can be judged"
+    yield run("what can be judged is listed", room, "check --only 1.eml old", lines(stale, counted(1, 1, 1, 1, 0, 0, 1, 0)), status=1)
     write(room / "huge", {**site({"1.eml": b"", "1.eml.expect": DISCARDS, "2.eml": b"x" * 16_777_217, "3.eml": b"x" * 16_777_216, "3.eml.expect": DISCARDS}, main=b"discard;")})
     left = "huge/mails/2.eml: left out: it has 16,777,217 octets, and a mail has at most 16,777,216"
     yield run("a mail past the limit, and one at it", room, "check huge", lines(left, counted(2, 1, 2, 2, 0, 0, 0, 0, further=["1 left out"])))
@@ -95,6 +116,32 @@ def of_unjudged(room):
     wanted += ["names5/mails/1795931695.M1P2.host:2,S: left out: it has the name of a Maildir's file: `import` takes it"]
     wanted += ["names5/mails/cur/1795931695.M1P2.host:2,S: left out: it is in a folder inside of mails"]
     yield run("names that are reported", room, "check names5", lines(*wanted, counted(1, 1, 1, 1, 0, 0, 0, 0, further=["7 left out"])))
+
+
+def of_capabilities(room):
+    """Names of capabilities that aren't known."""
+    told_of = {
+        "unjudged: personal/main.sieve requires regex": 'require "regex"; keep;',
+        "main.sieve:1: not judged: requires duplicate, body: add them to the file with": 'require ["duplicate", "body"]; keep;',
+        "main.sieve:2: unknown-capability: imap4flag: no such extension; did you mean imap4flags?": 'require "copy";\nrequire "imap4flag"; keep;',
+        "main.sieve:1: unknown-command: There is no such command or test. vacation needs vacation, which the script doesn't require.": 'vacation "x";',
+        ":regex needs regex, which the script doesn't require.": 'if header :regex "subject" "x" { keep; }',
+    }
+    for number, (sentence, script) in enumerate(told_of.items()):
+        write(room / f"asks{number}", site({"1.eml": b""}, main=script.encode()))
+        for command in ("lint", "check"):
+            yield run(f"a name that isn't known: {script}, {command}", room, f"{command} asks{number}", [f"{sentence}\n".encode()], status=1)
+    write(room / "unused", {**site({"1.eml": b""}, main=b'require ["regex", "index", "copy"]; keep;'), "with": b"unused\n"})
+    yield run("capabilities that aren't used", room, "lint unused")
+    write(room / "unused", {"personal/main.sieve": b'require ["regex", "copies"]; keep;'})
+    wrong = "unused/personal/main.sieve:1: unknown-capability: copies: no such extension; did you mean copy?"
+    for command in ("lint", "record"):
+        yield run(f"a capability that isn't used and isn't one, {command}", room, f"{command} unused", lines(wrong), status=1)
+    write(room / "unused", {"personal/main.sieve": b'require ["regex", "editheader"];\nif header :is "x" "y" { keep; }\naddheader "a" "b";'})
+    wrong = "unused/personal/main.sieve:3: not judged: addheader needs editheader: it isn't supported yet; list the script in unjudged: personal/main.sieve requires editheader"
+    yield run("one that is used", room, "lint unused", lines(wrong), status=1)
+    write(room / "unused", {"unjudged": b"personal/main.sieve requires editheader\n"})
+    yield run("it is listed", room, "check --lax unused", lines("unused/personal/main.sieve:3: skipped: requires editheader", counted(1, 1, 1, 0, 0, 0, 0, 0, further=["1 skipped"])))
 
 
 def of_expectations(room):
@@ -116,11 +163,12 @@ def of_expectations(room):
     yield it
     write(room / "kind", site({"1.eml": b"", "1.eml.expect": b"[main]\n\n# so\nkeep\n"}, main=b""))
     yield run("a kind of line that there isn't", room, "check kind", b"", told('"kind/mails/1.eml.expect", line 4: no line of a verdict begins with "keep"'), 2)
+    gone = "kind/mails/1.eml.expect: stale: no main script is called gone"
     write(room / "kind", {"mails/1.eml.expect": b'[main]\nimplicit "INBOX"\n # keep it\n[gone]\ndiscard'})
-    yield run("a file that isn't as it is written, and agrees", room, "record kind", lines("1 mails, 0 written, 0 left"))
+    yield run("a file that isn't as it is written, and agrees", room, "record kind", lines(gone, f"1 mails, 0 written, 0 left, 1 {STALE}"))
     write(room / "kind", {"personal/main.sieve": b"keep;"})
-    yield run("it is left", room, "record kind", lines(f"kind/mails/1.eml.expect: {LEFT}", "1 mails, 0 written, 1 left"), status=1)
-    yield run("it is written anew", room, "record --force kind; cat kind/mails/1.eml.expect", lines("kind/mails/1.eml.expect: changed", "1 mails, 1 written, 0 left", "[gone]", "discard", "[main]", 'store "INBOX"'))
+    yield run("it is left", room, "record kind", lines(gone, f"kind/mails/1.eml.expect: {LEFT}", f"1 mails, 0 written, 1 left, 1 {STALE}"), status=1)
+    yield run("it is written anew", room, "record --force kind; cat kind/mails/1.eml.expect", lines(gone, "kind/mails/1.eml.expect: changed", f"1 mails, 1 written, 0 left, 1 {STALE}", "[gone]", "discard", "[main]", 'store "INBOX"'))
 
 
 def of_groups(room):
@@ -146,5 +194,5 @@ def of_sites(room):
     """All of them."""
     room = room / "users of sites"
     room.mkdir()
-    for part in (of_users, of_chains, of_envelopes, of_unjudged, of_expectations, of_groups):
+    for part in (of_users, of_chains, of_envelopes, of_unjudged, of_capabilities, of_expectations, of_groups):
         yield from some(part.__name__, part(room))

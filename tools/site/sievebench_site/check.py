@@ -8,7 +8,7 @@ from typing import Dict, Iterator, List, Optional
 from . import findings
 from .checked import EXPECTS_NOTHING, Checked
 from .faults import sentence_of
-from .findings import ERROR, NOTE, PLAIN, Finding, Test
+from .findings import ANNOTATED, NOTE, PLAIN, SKIPPED, Finding, Test
 from .groups import FIRST, Group, difference, name_of
 from .judge import Case
 from .mails import LeftOut
@@ -21,8 +21,11 @@ def text_of(checked: Checked, look: Look, quiet: bool) -> str:
         f"{look.name(script.path)}:{line}: {word}: {sentence_of(script, line, word)}"
         for script, (line, word) in checked.broken
     ]
-    if not quiet or checked.unjudged:
-        told += [f"{look.name(script.path)}:{line}: not judged: {why}" for script, line, why in checked.lacking]
+    told += [f"{look.name(script.path)}:{line}: not judged: {why}" for script, line, why in checked.lacking]
+    if not quiet:
+        told += [
+            f"{look.name(it.path)}:{line}: skipped: {look.line(why.encode())}" for it, line, why in checked.passed_over
+        ]
     for group in checked.groups(checked.wrong):
         told += heads(group, look, "") + [f"  {line}" for line in difference(group, look)]
     for group in checked.groups(checked.unjudged):
@@ -45,14 +48,14 @@ def heads(group: Group, look: Look, end: str) -> List[str]:
     return told if sizes is None else [*told, sizes + end]
 
 
-def left_out(found: List[LeftOut], look: Look, each: bool) -> List[str]:
-    """What is left out, the first ones of each reason, and how many there are."""
+def left_out(found: List[LeftOut], look: Look, each: bool, what: str = "left out") -> List[str]:
+    """What is left out, or other files with a reason: the first ones of each reason, and how many there are."""
     reasons: Dict[str, List[bytes]] = {}
     for path, why in found:
         reasons.setdefault(why, []).append(path)
     told = []
     for why, paths in reasons.items():
-        told += [f"{look.name(path)}: left out: {why}" for path in (paths if each else paths[:FIRST])]
+        told += [f"{look.name(path)}: {what}: {why}" for path in (paths if each else paths[:FIRST])]
         if len(paths) > FIRST and not each:
             told.append(f"and {len(paths) - FIRST} more: {why}")
     return told
@@ -62,24 +65,31 @@ def findings_of(checked: Checked) -> Iterator[Finding]:
     """The results, each with a file and a line."""
     for script, (line, word) in checked.broken:
         yield Finding(script.path, line, word, sentence_of(script, line, word))
-    level = ERROR if checked.unjudged else NOTE
     for script, line, why in checked.lacking:
-        yield Finding(script.path, line, "not-judged", why, level)
+        yield Finding(script.path, line, "not-judged", why)
+    for script, line, why in checked.passed_over:
+        yield Finding(script.path, line, "skipped", ANNOTATED.line(why.encode()), SKIPPED)
     for group in checked.groups(checked.wrong):
-        case, block = group.cases[0], group.cases[0].block()
-        text = "\n".join([*heads(group, PLAIN, ""), *difference(group, PLAIN)])
-        yield Finding(case.mail.expect_path(), block.number if block else 0, "disagrees", text)
+        block = group.cases[0].block
+        text = "\n".join([*heads(group, ANNOTATED, ""), *difference(group, ANNOTATED)])
+        if block:
+            yield Finding(block.path, block.number, "disagrees", text)
     for group in checked.groups(checked.unjudged):
-        yield Finding(
-            group.cases[0].mail.path, 0, "not-judged", "\n".join(heads(group, PLAIN, f": {group.cases[0].unjudged}"))
-        )
+        text = "\n".join(heads(group, ANNOTATED, f": {group.cases[0].unjudged}"))
+        yield Finding(group.cases[0].mail.path, 0, "not-judged", text)
+    for group in checked.groups(checked.skipped):
+        text = "\n".join(heads(group, ANNOTATED, f": {group.cases[0].unjudged}"))
+        yield Finding(group.cases[0].mail.path, 0, "skipped", text, SKIPPED)
     if not checked.lax:
         for group in checked.groups(checked.unexpected):
             yield Finding(
-                group.cases[0].mail.path, 0, "nothing-expected", "\n".join(heads(group, PLAIN, f": {EXPECTS_NOTHING}"))
+                group.cases[0].mail.path,
+                0,
+                "nothing-expected",
+                "\n".join(heads(group, ANNOTATED, f": {EXPECTS_NOTHING}")),
             )
         for it in checked.stale:
-            yield Finding(it.path, it.line, "stale", it.why(PLAIN))
+            yield Finding(it.path, it.line, "stale", it.why(ANNOTATED))
     for path, why in checked.site.left_out:
         yield Finding(path, 0, "left-out", why, NOTE)
 
@@ -92,6 +102,10 @@ def tests_of(checked: Checked) -> Iterator[Test]:
         yield Test(
             "sievebench-site", PLAIN.name(script.path), 0, f"line {line} {word}", sentence_of(script, line, word)
         )
+    for script, line, why in checked.lacking:
+        yield Test("sievebench-site", PLAIN.name(script.path), 0, f"line {line} not judged", why)
+    for script, _, why in checked.passed_over:
+        yield Test("sievebench-site", PLAIN.name(script.path), 0, None, PLAIN.line(why.encode()), True)
     for it in [] if checked.lax else checked.stale:
         yield Test("sievebench-site", PLAIN.name(it.path), 0, it.why(PLAIN))
 
@@ -100,7 +114,9 @@ def test_of(checked: Checked, case: Case) -> Test:
     """The test of a case."""
     failure: Optional[str] = None
     text = ""
-    if case.unjudged:
+    if case.skipped:
+        text = f"not judged: {case.unjudged}"
+    elif case.unjudged:
         failure = f"not judged: {case.unjudged}"
     elif case.agrees() is False:
         text = "\n".join(difference(Group([case]), PLAIN))
@@ -123,6 +139,10 @@ def object_of(checked: Checked) -> Dict[str, object]:
         "not judged": [
             {"script": PLAIN.name(script.path), "line": line, "why": why} for script, line, why in checked.lacking
         ],
+        "skipped": [
+            {"script": PLAIN.name(script.path), "line": line, "why": PLAIN.line(why.encode())}
+            for script, line, why in checked.passed_over
+        ],
         "stale": [{"file": PLAIN.name(it.path), "why": it.why(PLAIN)} for it in checked.stale],
         "left out": [{"file": PLAIN.name(path), "why": why} for path, why in checked.site.left_out],
     }
@@ -130,11 +150,12 @@ def object_of(checked: Checked) -> Dict[str, object]:
 
 def case_object(case: Case) -> Dict[str, object]:
     """A case as an object."""
-    block = case.block()
+    block = case.block
     told: Dict[str, object] = {
         "mail": PLAIN.name(case.mail.name),
         "main": PLAIN.name(case.main.label()),
         "agrees": case.agrees(),
+        "skipped": case.skipped,
     }
     told["expected"] = None if block is None else [line.decode("latin-1") for line in block.lines]
     told["verdict"] = [line.decode("latin-1") for line in case.lines()]

@@ -7,15 +7,14 @@ import os
 import re
 import subprocess
 import tarfile
-import tempfile
-from typing import Dict, Iterator, List, NamedTuple, Optional
+from typing import Dict, Iterator, List, NamedTuple, Optional, Tuple
 
 from .chains import NOTHING, chained
 from .check import heads
 from .ends import fail, refuse
 from .expected import Block
-from .faults import Survey, sentence_of
-from .files import octets_if_any
+from .faults import sentence_of
+from .files import octets_if_any, temporary_folder
 from .findings import PLAIN
 from .folder import Site, User, Wanted, site_of
 from .groups import Group, changes, counted, difference, grouped
@@ -23,9 +22,12 @@ from .judge import Batch, Case, Judge, surveys, why_unjudged
 from .mains import Main
 from .program import NO_MEMORY, Place, Program
 from .shown import Look
+from .survey import Survey
 from .words import quoted
 
 Scripts = Dict[Place, bytes]
+# The files beside scripts that change verdicts too.
+SETTINGS = (b"with", b"mailboxes", b"clock")
 # What an environment may say of another repository than that of the site, as git does in hooks.
 ELSEWHERE = ("GIT_DIR", "GIT_WORK_TREE", "GIT_INDEX_FILE", "GIT_PREFIX")
 
@@ -40,9 +42,14 @@ class Former(NamedTuple):
         """The texts of the scripts."""
         return {script.at(): script.text for script in self.user.scripts}
 
-    def has(self, main: Main) -> bool:
-        """Whether all scripts of a line are there."""
-        return all(place in self.scripts() for place in main.scripts)
+    def main_of(self, main: Main, mains: List[Main], asked: bool) -> Optional[Main]:
+        """What ran in the place of one of a user's lines: the line that was called so, or the only one where there is one now, or the same
+        scripts if they were there. These come first where they are asked for."""
+        scripts = self.scripts()
+        same = [main] if all(place in scripts for place in main.scripts) else []
+        lines = [it for it in self.user.mains if it.is_also(main)]
+        only = self.user.mains if len(self.user.mains) == len(mains) == 1 else []
+        return next(iter([*same, *lines] if asked else [*lines, *only, *same]), None)
 
 
 class Diff:
@@ -50,6 +57,8 @@ class Diff:
 
     def __init__(self, old: Site, new: Site, program: Program, jobs: int) -> None:
         self.old, self.new, self.judge = old, new, Judge(new, program, jobs)
+        # The other site may be gone when this is told.
+        self.settings = [name for name in SETTINGS if setting(old, name) != setting(new, name)]
         found = zip(old.users, surveys(old, program))
         self.former = {user.name: Former(user, survey) for user, survey in found}
         cases = [it for part in self.judge.batches(self.batch, self.refused) for it in part]
@@ -66,23 +75,29 @@ class Diff:
         survey = self.judge.surveys[batch.number]
         with self.judge.held(batch) as held:
             now = dict(held.bench.scripts)
-            for main in filter(former.has, batch.user.mains):
+            for main, earlier in self.compared(batch.user):
                 held.bench.become(former.scripts())
-                before = chained(held.bench, main.scripts, held.mails)
+                before = chained(held.bench, earlier.scripts, held.mails)
                 held.bench.become(now)
                 after = chained(held.bench, main.scripts, held.mails)
                 for name, mail in held.mails.items():
-                    was = why_unjudged(before[name], former.survey, former.user)
-                    why = f"before, {was}" if was else why_unjudged(after[name], survey, batch.user)
-                    blocks = {main.key: Block(0, before[name].texts())}
-                    cases.append(Case(batch.user, main, mail._replace(blocks=blocks), after[name], why, 0.0))
+                    was = why_unjudged(before[name], former.survey)
+                    why = f"before, {was}" if was else why_unjudged(after[name], survey)
+                    block = Block(b"", 0, before[name].texts())
+                    cases.append(Case(batch.user, main, mail, after[name], why, 0.0, block))
         return cases
+
+    def compared(self, user: User) -> List[Tuple[Main, Main]]:
+        """The lines of a user that can be compared, each with what ran in its place before."""
+        former = self.former.get(user.name)
+        asked = bool(self.new.wanted.mains)
+        found = [(main, former.main_of(main, user.mains, asked)) for main in user.mains] if former else []
+        return [(main, earlier) for main, earlier in found if earlier]
 
     def refused(self, batch: Batch) -> List[Case]:
         """The cases of mails for which memory is refused, before or now."""
-        former = self.former.get(batch.user.name)
-        mains = [main for main in batch.user.mains if former and former.has(main)]
-        return [Case(batch.user, main, mail, NOTHING, NO_MEMORY, 0.0) for main in mains for mail in batch.mails]
+        mains = [main for main, _ in self.compared(batch.user)]
+        return [Case(batch.user, main, mail, NOTHING, NO_MEMORY, 0.0, None) for main in mains for mail in batch.mails]
 
     def groups(self, each: bool) -> List[Group]:
         """The changed verdicts in groups, by their differences."""
@@ -91,14 +106,15 @@ class Diff:
     def notes(self, look: Look) -> Iterator[str]:
         """What can't be compared, and where what isn't a script differs too."""
         for user in self.new.users:
-            former = self.former.get(user.name)
+            compared = dict(self.compared(user))
             for main in user.mains:
-                if former is None or not former.has(main):
+                earlier = compared.get(main)
+                if earlier is None:
                     yield f"{look.name(main.label())}: not compared: its scripts weren't all there before"
-        old, new = self.old.wanted.folder, self.new.wanted.folder
-        for name in (b"with", b"mailboxes", b"clock"):
-            if octets_if_any(os.path.join(old, name)) != octets_if_any(os.path.join(new, name)):
-                yield f"{look.name(os.path.join(new, name))}: it was another, and is taken for both"
+                elif earlier.key != main.key:
+                    yield f"{look.name(main.label())}: compared with {look.name(earlier.label())}, as it was called before"
+        for name in self.settings:
+            yield f"{look.name(os.path.join(self.new.wanted.folder, name))}: it was another, and is taken for both"
 
     def faults(self, look: Look) -> Iterator[str]:
         """The faults that there are now and weren't before."""
@@ -115,6 +131,11 @@ class Diff:
         told = len(self.cases) - len(self.unjudged)
         more = f", {len(self.unjudged)} not judged" if self.unjudged else ""
         return f"{len(self.changed)} of {counted(told, 'verdict')} changed{more}"
+
+
+def setting(site: Site, name: bytes) -> bytes:
+    """A file of a site's settings, or nothing where there is none."""
+    return octets_if_any(os.path.join(site.wanted.folder, name))
 
 
 def other_site(folder: bytes, new: Site) -> Site:
@@ -184,7 +205,7 @@ def revision(name: str, folder: bytes) -> Iterator[bytes]:
     packed = git(top[:-1] if top.endswith(b"\n") else top, ["archive", "--format=tar", tree])
     if packed is None:
         fail(f"git can't pack {quoted(prefix)} of the revision {quoted(os.fsencode(name))}")
-    with tempfile.TemporaryDirectory() as room:
+    with temporary_folder() as room:
         with tarfile.open(fileobj=io.BytesIO(packed)) as box:
             # Newer versions of Python ask what of an archive is trusted: this one is the repository's own.
             setattr(box, "extraction_filter", getattr(tarfile, "fully_trusted_filter", None))

@@ -11,13 +11,15 @@ from .words import lines_of, quoted, unquoted, word_of, words_of
 KINDS = (b"store", b"redirect", b"discard", b"vacation", b"reject", b"ereject", b"implicit", b"error")
 # What stands under a mail in a report too, and is no line of its verdict.
 BESIDE = (b"envelope", b"at", b"read", b"expected", b"unexpected")
-# The names of the scripts of a main line; where a site has users, the first has the user's name and a slash before its own.
+# The words between brackets: what a line of main scripts is called, or once the names of all its scripts. Where a site has users, the
+# first has the user's name and a slash before it.
 Key = Tuple[bytes, ...]
 
 
 class Block(NamedTuple):
-    """What is expected under a name, and the line that has the name."""
+    """What is expected under a heading, and the file and the line that have it."""
 
+    path: bytes
     number: int
     lines: Tuple[bytes, ...]
 
@@ -35,7 +37,7 @@ def blocks_of(path: bytes, octets: bytes) -> Blocks:
             key = key_of(line, place)
             if key in blocks:
                 refuse(f"{place}: {shown_key(key)} stood there before")
-            blocks[key] = Block(number, ())
+            blocks[key] = Block(path, number, ())
             continue
         words = words_of(line)
         if words is None:
@@ -46,7 +48,7 @@ def blocks_of(path: bytes, octets: bytes) -> Blocks:
             refuse(f"{place}: before it stands no name of a main script in brackets")
         if words[0] not in KINDS:
             refuse(f"{place}: no line of a verdict begins with {quoted(words[0])}")
-        blocks[key] = Block(blocks[key].number, (*blocks[key].lines, b" ".join(map(spelled, words))))
+        blocks[key] = blocks[key]._replace(lines=(*blocks[key].lines, b" ".join(map(spelled, words))))
     return blocks
 
 

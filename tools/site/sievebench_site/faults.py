@@ -1,14 +1,16 @@
-"""The faults of scripts: what each means, and what a script requires that isn't there."""
+"""The faults of scripts: what each means."""
 
 from __future__ import annotations
 
 import codecs
-from typing import Dict, Iterable, List, NamedTuple, Optional, Tuple
+import difflib
+import functools
+from typing import NamedTuple, Optional, Tuple
 
-from .folder import User
+from .capabilities import NEEDS, REGISTERED
 from .mains import Script
-from .program import Fault, Place, Session
-from .sieve_text import required
+from .program import Fault
+from .sieve_text import line_at, line_requiring, required, tokens
 from .words import quoted
 
 # What each fault of a script means, and each error of a run that `lint` looks for.
@@ -41,71 +43,55 @@ SENTENCES = {
     "bad-mailbox": "A mailbox can't have this name.",
 }
 LACKING = "unknown-capability"
+# The faults of what is used of a capability that isn't there, and the kind of token that each is at.
+USED = {"bad-tag": "tag", "unknown-command": "word", "unknown-comparator": "string", "bad-namespace": "string"}
+NAMESPACE = b"${env."
 
 
-class Survey(NamedTuple):
-    """Of each script its fault, if any, and of each that requires what isn't there, what that is."""
+class Use(NamedTuple):
+    """A word of a script, and the capability that it needs."""
 
-    faults: Dict[Place, Optional[Fault]]
-    lacking: Dict[Place, List[bytes]]
+    word: bytes
+    name: bytes
 
-    def broken(self, user: User) -> List[Tuple[Script, Fault]]:
-        """The scripts that have a fault, but for those that can't be judged."""
-        return [
-            (it, fault)
-            for it in user.scripts
-            for fault in [self.faults.get(it.at())]
-            if fault and it.at() not in self.lacking
-        ]
-
-    def unjudged(self, user: User) -> List[Tuple[Script, int, str]]:
-        """The scripts that can't be judged, each with a line and why."""
-        return [
-            (it, (self.faults[it.at()] or (0, ""))[0], requires(self.lacking[it.at()]))
-            for it in user.scripts
-            if it.at() in self.lacking
-        ]
-
-
-def requires(names: Iterable[bytes]) -> str:
-    """What a script requires, as it is reported."""
-    return "requires " + ", ".join(quoted(name)[1:-1] for name in names)
-
-
-def survey(session: Session, scripts: List[Script]) -> Survey:
-    """Puts the scripts, and asks for their faults."""
-    put_scripts(session, scripts)
-    faults = session.report().faults
-    unknown = {
-        script: required(script.text)[1] for script in scripts if (faults.get(script.at()) or (0, ""))[1] == LACKING
-    }
-    missing = set(unknown_of(session, sorted({name for names in unknown.values() for name in names})))
-    lacking = {
-        script.at(): [name for name in dict.fromkeys(names) if name in missing] for script, names in unknown.items()
-    }
-    return Survey(faults, {place: names for place, names in lacking.items() if names})
-
-
-def put_scripts(session: Session, scripts: Iterable[Script]) -> None:
-    """Puts the scripts of a user."""
-    for script in scripts:
-        session.script(script.at(), script.text, f"the script {quoted(script.path)}")
-
-
-def unknown_of(session: Session, names: List[bytes]) -> List[bytes]:
-    """Those of these capabilities that aren't there: a script that requires one alone has a fault."""
-    unknown = []
-    for name in names:
-        place = "personal", b"\x01requires"
-        spelled = name.replace(b"\\", b"\\\\").replace(b'"', b'\\"')
-        session.script(place, b'require "' + spelled + b'";', "a script of one capability")
-        if session.report().faults[place]:
-            unknown.append(name)
-    return unknown
+    def told(self) -> str:
+        """It in words."""
+        return f"{self.word.decode()} needs {self.name.decode()}"
 
 
 def sentence_of(script: Script, line: int, word: str) -> str:
     """What a fault of a script means."""
     if (line, word) == (1, "syntax") and script.text.startswith(codecs.BOM_UTF8):
         return "The file begins with a byte order mark, the octets EF BB BF: save it without one."
+    if word == LACKING:
+        strange = [it for it in strangers(script.text) if line_requiring(script.text, it) == line]
+        if strange:
+            return "; ".join(map(no_such, strange))
+    used = use_at(script.text, (line, word))
+    if used and used.name not in required(script.text)[1]:
+        return f"{SENTENCES[word]} {used.told()}, which the script doesn't require."
     return SENTENCES.get(word, "a fault")
+
+
+# Many users have the same script.
+@functools.lru_cache(maxsize=1024)
+def strangers(text: bytes) -> Tuple[bytes, ...]:
+    """What a script requires that isn't registered."""
+    return tuple(name for name in dict.fromkeys(required(text)[1]) if name not in REGISTERED)
+
+
+def no_such(name: bytes) -> str:
+    """What is said of a capability that there isn't, and which may be meant."""
+    near = difflib.get_close_matches(name.decode("latin-1").lower(), [it.decode() for it in sorted(REGISTERED)], 1)
+    meant = f"; did you mean {near[0]}?" if near else ""
+    return f"{quoted(name)[1:-1]}: no such extension{meant}"
+
+
+def use_at(text: bytes, fault: Fault) -> Optional[Use]:
+    """What is used at a fault of what a capability gives: one that the script requires, or else the first that gives it."""
+    names = required(text)[1]
+    for token in tokens(text):
+        word = NAMESPACE if NAMESPACE in token.octets.lower() else token.octets
+        if line_at(text, token.start) == fault[0] and USED.get(fault[1]) == token.kind and word in NEEDS:
+            return Use(word, next((it for it in NEEDS[word] if it in names), NEEDS[word][0]))
+    return None

@@ -10,7 +10,7 @@ import socket
 import stat
 import sys
 import tempfile
-from typing import Iterator, List
+from typing import IO, Dict, Iterator, List
 
 from .ends import refuse
 from .words import quoted
@@ -26,7 +26,16 @@ def reading(path: bytes) -> Iterator[None]:
     try:
         yield
     except OSError as error:
-        refuse(f"cannot read {quoted(path)}: {error.strerror}")
+        refuse(f"cannot read {quoted(path)}: {error.strerror or error}")
+
+
+@contextlib.contextmanager
+def writing(path: bytes) -> Iterator[None]:
+    """Refuses what can't be written, with the system's reason."""
+    try:
+        yield
+    except OSError as error:
+        refuse(f"cannot write {quoted(path)}: {error.strerror or error}")
 
 
 def names_in(folder: bytes) -> List[bytes]:
@@ -78,6 +87,24 @@ def umask() -> int:
 
 
 @contextlib.contextmanager
+def temporary() -> Iterator[IO[bytes]]:
+    """A file that nobody else sees."""
+    with contextlib.ExitStack() as room:
+        with writing(os.fsencode(os.environ.get("TMPDIR", "/tmp"))):
+            file = room.enter_context(tempfile.TemporaryFile())
+        yield file
+
+
+@contextlib.contextmanager
+def temporary_folder() -> Iterator[str]:
+    """A folder that is gone afterwards."""
+    with contextlib.ExitStack() as room:
+        with writing(os.fsencode(os.environ.get("TMPDIR", "/tmp"))):
+            folder = room.enter_context(tempfile.TemporaryDirectory())
+        yield folder
+
+
+@contextlib.contextmanager
 def beside(place: bytes, octets: bytes) -> Iterator[bytes]:
     """A file with these octets in the folder of a place, which is gone afterwards unless it was renamed."""
     handle, path = tempfile.mkstemp(prefix=b".", suffix=b".new", dir=os.path.dirname(place) or b".")
@@ -97,7 +124,7 @@ def write_file(path: bytes, octets: bytes) -> None:
         sys.stdout.buffer.write(octets)
         return
     place = os.path.realpath(path)
-    try:
+    with writing(path):
         if os.path.exists(path) and not is_plain(path):
             with open(path, "wb") as file:
                 file.write(octets)
@@ -105,34 +132,66 @@ def write_file(path: bytes, octets: bytes) -> None:
         with beside(place, octets) as new:
             os.chmod(new, stat.S_IMODE(os.stat(place).st_mode) if is_plain(place) else 0o666 & ~umask())
             os.replace(new, place)
-    except OSError as error:
-        refuse(f"cannot write {quoted(path)}: {error.strerror}")
+
+
+def write_folder(path: bytes, files: Dict[bytes, bytes]) -> None:
+    """Puts a folder of files in the place of a file, or where there is none. It is written beside its place first, so that one of the two
+    is there whole."""
+    place = os.path.realpath(path)
+    above = os.path.dirname(place) or b"."
+    with writing(path), tempfile.TemporaryDirectory(prefix=b".", suffix=b".new", dir=above) as room:
+        old, new = os.path.join(room, b"old"), os.path.join(room, b"new")
+        os.mkdir(new)
+        for name, octets in files.items():
+            write_file(os.path.join(new, name), octets)
+        if os.path.lexists(place):
+            os.rename(place, old)
+        with putting_back(old, place):
+            os.rename(new, place)
+
+
+@contextlib.contextmanager
+def putting_back(old: bytes, place: bytes) -> Iterator[None]:
+    """Renames a file to its place again if the block fails."""
+    try:
+        yield
+    except OSError:
+        if os.path.lexists(old):
+            os.rename(old, place)
+        raise
+
+
+def remove_file(path: bytes) -> None:
+    """Takes out a file."""
+    with writing(path):
+        os.unlink(path)
+
+
+def remove_empty(folder: bytes) -> None:
+    """Takes out a folder, if nothing is in it."""
+    with contextlib.suppress(OSError):
+        os.rmdir(folder)
 
 
 def write_new(path: bytes, octets: bytes) -> bool:
     """Writes a file where there is none of its name, and says whether it did."""
-    try:
-        with beside(path, octets) as new:
-            os.chmod(new, 0o666 & ~umask())
+    with writing(path), beside(path, octets) as new:
+        os.chmod(new, 0o666 & ~umask())
+        with contextlib.suppress(FileExistsError):
             os.link(new, path)
-    except FileExistsError:
-        return False
-    except OSError as error:
-        refuse(f"cannot write {quoted(path)}: {error.strerror}")
-    return True
+            return True
+    return False
 
 
 def refuse_unwritable(path: bytes) -> None:
     """Refuses a file that couldn't be written later."""
     if path in OUTPUTS or (os.path.exists(path) and not is_plain(path) and not os.path.isdir(path)):
         return
-    try:
+    with writing(path):
         if os.path.isdir(path):
             raise IsADirectoryError(errno.EISDIR, os.strerror(errno.EISDIR))
         with beside(os.path.realpath(path), b""):
             pass
-    except OSError as error:
-        refuse(f"cannot write {quoted(path)}: {error.strerror}")
 
 
 def who() -> str:
@@ -145,10 +204,8 @@ def who() -> str:
 def locked(folder: bytes) -> Iterator[None]:
     """Keeps others from writing into a folder meanwhile. Its file of this name says who does."""
     path = os.path.join(folder, b".sievebench-site.lock")
-    try:
+    with writing(path):
         handle = os.open(path, os.O_RDWR | os.O_CREAT, 0o666)
-    except OSError as error:
-        refuse(f"cannot write {quoted(path)}: {error.strerror}")
     with open(handle, "r+b") as file:
         try:
             fcntl.flock(file, fcntl.LOCK_EX | fcntl.LOCK_NB)
@@ -157,9 +214,10 @@ def locked(folder: bytes) -> Iterator[None]:
         if not os.path.exists(path) or os.fstat(handle).st_ino != os.stat(path).st_ino:
             refuse(f"{quoted(folder)} was being written until now: try again")
         try:
-            file.truncate()
-            file.write(who().encode())
-            file.flush()
+            with writing(path):
+                file.truncate()
+                file.write(who().encode())
+                file.flush()
             yield
         finally:
             os.unlink(path)

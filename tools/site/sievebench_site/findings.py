@@ -7,14 +7,16 @@ import urllib.parse
 import xml.etree.ElementTree as tree
 from typing import Dict, Iterable, List, NamedTuple, Optional
 
-from .shown import Look
+from .shown import HERE, Look
 
-# A finding that fails the run, one that is only reported, and how SARIF and GitHub call them.
-ERROR, NOTE = "error", "note"
-GITHUB = {ERROR: "error", NOTE: "notice"}
+# A finding that fails the run, one that is only reported, and one of what is known and passes; how GitHub calls them.
+ERROR, NOTE, SKIPPED = "error", "note", "skipped"
+GITHUB = {ERROR: "error", NOTE: "notice", SKIPPED: "notice"}
 SARIF = "https://json.schemastore.org/sarif-2.1.0.json"
 # What is shown in files that a program reads.
 PLAIN = Look(True)
+# The same in annotations of lines, whose paths are those of a repository.
+ANNOTATED = Look(True, bare=True)
 
 
 class Finding(NamedTuple):
@@ -42,7 +44,7 @@ def github(findings: Iterable[Finding]) -> str:
     """Annotations of GitHub's."""
     lines = []
     for it in findings:
-        at = {"file": PLAIN.name(it.path), **({"line": str(it.line)} if it.line else {}), "title": it.kind}
+        at = {"file": ANNOTATED.name(it.path), **({"line": str(it.line)} if it.line else {}), "title": it.kind}
         values = ",".join(f"{name}={percent(value, ':,')}" for name, value in at.items())
         lines.append(f"::{GITHUB[it.level]} {values}::{percent(it.text, '')}\n")
     return "".join(lines)
@@ -58,19 +60,23 @@ def sarif(findings: Iterable[Finding], version: str) -> str:
     found = list(findings)
     rules = [{"id": kind} for kind in dict.fromkeys(it.kind for it in found)]
     driver = {"name": "sievebench-site", "version": version, "rules": rules}
-    results = [
-        {"ruleId": it.kind, "level": it.level, "message": {"text": it.text}, "locations": [location(it)]}
-        for it in found
-    ]
+    results = [result(it) for it in found]
     return (
         json.dumps({"$schema": SARIF, "version": "2.1.0", "runs": [{"tool": {"driver": driver}, "results": results}]})
         + "\n"
     )
 
 
+def result(it: Finding) -> Dict[str, object]:
+    """A finding as SARIF has it. What is known and passes is suppressed."""
+    told = {"ruleId": it.kind, "level": NOTE if it.level == SKIPPED else it.level, "message": {"text": it.text}}
+    passes = {"suppressions": [{"kind": "external", "justification": it.text}]} if it.level == SKIPPED else {}
+    return {**told, "locations": [location(it)], **passes}
+
+
 def location(it: Finding) -> Dict[str, object]:
     """Where a finding is."""
-    place: Dict[str, object] = {"artifactLocation": {"uri": urllib.parse.quote(it.path)}}
+    place: Dict[str, object] = {"artifactLocation": {"uri": urllib.parse.quote(HERE.sub(b"", it.path))}}
     if it.line:
         place["region"] = {"startLine": it.line}
     return {"physicalLocation": place}
@@ -96,7 +102,7 @@ def junit(tests: List[Test], seconds: float) -> bytes:
         if it.failure is not None:
             tree.SubElement(case, "failure", message=it.failure).text = it.text or it.failure
         elif it.skipped:
-            tree.SubElement(case, "skipped")
+            tree.SubElement(case, "skipped", {"message": it.text} if it.text else {})
         case.tail = "\n"
     suite.text = suite.tail = "\n"
     text: str = tree.tostring(suite, "unicode")

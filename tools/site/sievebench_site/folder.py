@@ -8,8 +8,9 @@ from typing import List, NamedTuple, Optional, Set
 from .clock import clock_in
 from .ends import Refusal, refuse
 from .files import names_in, octets_if_any
+from .listed import Listed
 from .mails import LeftOut, Mail, lost_in, mail_at, mail_names, passed_over, too_large
-from .mains import Main, Script, Shelf, lines_in, scripts_in
+from .mains import Called, Main, Script, Shelf, called, chosen, scripts_in
 from .program import Place
 from .words import lines_of, quoted
 
@@ -40,7 +41,8 @@ class User(NamedTuple):
 
 
 class Site(NamedTuple):
-    """What the folder has, as far as it is wanted: what left out is and why, and the files beside mails that aren't there."""
+    """What the folder has, as far as it is wanted: what is left out and why, the files beside mails that aren't there, and the scripts that
+    are listed since they can't be judged."""
 
     wanted: Wanted
     names: List[bytes]
@@ -49,6 +51,7 @@ class Site(NamedTuple):
     users: List[User]
     left_out: List[LeftOut]
     lost: List[bytes]
+    listed: Listed
 
     def mailboxes_path(self) -> bytes:
         """The file of the mailboxes that there are."""
@@ -60,7 +63,9 @@ def site_of(wanted: Wanted) -> Site:
     folder = wanted.folder
     names = [line for line in lines_of(octets_if_any(os.path.join(folder, b"with"))) if line]
     users = users_of(wanted)
-    site = Site(wanted, names, boxes_in(folder, names), clock_in(folder, names, wanted.clock), users, [], [])
+    site = Site(
+        wanted, names, boxes_in(folder, names), clock_in(folder, names, wanted.clock), users, [], [], Listed(folder)
+    )
     unread = os.path.join(folder, b"personal")
     if users[0].name and os.path.lexists(unread):
         site.left_out.append((unread, "each user of the site has scripts of his or her own"))
@@ -95,10 +100,10 @@ def users_of(wanted: Wanted) -> List[User]:
         users.append(User(name, home, own, [], []))
     for user in users:
         user.mains.extend(mains_of(shelf, user, wanted))
-    found = {line for user in users for line in wanted.mains if has_main(shelf, user, line)}
     for line in wanted.mains:
-        if line not in found:
-            shelf.main_of(line, users[0].name, users[0].home)
+        alone = wanted._replace(mains=[line])
+        if not any(mains_of(shelf, user, alone) for user in users):
+            shelf.main_of(called([shelf.line_of(line, "", users[0].home)])[0], users[0].name, users[0].home)
     shared = [*(script for scripts in shelf.others.values() for script in scripts), *shelf.shared]
     for user in users:
         user.scripts.extend(shared)
@@ -106,23 +111,22 @@ def users_of(wanted: Wanted) -> List[User]:
 
 
 def mains_of(shelf: Shelf, user: User, wanted: Wanted) -> List[Main]:
-    """The main scripts of a user, each once: those that are wanted and there, or those of the file `mains`, the user's own or everybody's."""
-    if wanted.mains:
-        lines = [line for line in wanted.mains if has_main(shelf, user, line)]
-    else:
-        paths = [os.path.join(folder, b"mains") for folder in (user.home, wanted.folder)]
-        path = next((path for path in paths if os.path.isfile(path)), None)
-        lines = list(lines_in(path)) if path else []
-    return list(dict.fromkeys(shelf.main_of(line, user.name, user.home) for line in lines))
+    """The main scripts of a user: those that are wanted and there, or those of the file `mains`, the user's own or everybody's."""
+    paths = [os.path.join(folder, b"mains") for folder in (user.home, wanted.folder)]
+    path = next((path for path in paths if os.path.isfile(path)), None)
+    own = shelf.lines_in(path, user.home) if path else []
+    if not wanted.mains:
+        return [shelf.main_of(it, user.name, user.home) for it in called(own)]
+    asked = chosen(own, wanted.mains, lambda text: shelf.line_of(text, "", user.home))
+    return [main for main in (main_if_any(shelf, user, it) for it in asked) if main]
 
 
-def has_main(shelf: Shelf, user: User, line: bytes) -> bool:
-    """Whether a user has all scripts of a line."""
+def main_if_any(shelf: Shelf, user: User, asked: Called) -> Optional[Main]:
+    """The main script that a line names, if the user has all its scripts."""
     try:
-        shelf.main_of(line, user.name, user.home)
+        return shelf.main_of(asked, user.name, user.home)
     except Refusal:
-        return False
-    return True
+        return None
 
 
 def refuse_no_mains(site: Site) -> None:
@@ -147,7 +151,7 @@ def take_mails(site: Site) -> None:
         seen.update(names)
         for name in names:
             if not site.wanted.mails or name in site.wanted.mails:
-                give(site, owner, mail_at(folder, name, owner))
+                give(site, owner, mail_at(folder, name, owner, bool(site.users[0].name)))
         if not site.wanted.mails:
             site.left_out.extend(passed_over(folder))
             site.lost.extend(lost_in(folder))

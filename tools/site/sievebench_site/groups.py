@@ -60,8 +60,7 @@ def grouped(cases: Iterable[Case], alike: Callable[[Case], Hashable], each: bool
 
 def changes(case: Case) -> Tuple[Change, ...]:
     """What is expected against what there is now, line by line."""
-    block = case.block()
-    wanted, got = block.lines if block else (), case.lines()
+    wanted, got = case.block.lines if case.block else (), case.lines()
     told: List[Change] = []
     for what, start, end, first, last in difflib.SequenceMatcher(None, wanted, got, False).get_opcodes():
         if what == "equal":

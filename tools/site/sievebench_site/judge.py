@@ -13,12 +13,12 @@ from typing import Callable, Dict, Iterator, List, NamedTuple, Optional, Tuple, 
 from .chains import NOTHING, Bench, chained
 from .envelopes import envelope_if_any, envelope_of
 from .expected import Block
-from .faults import Survey, put_scripts, requires, survey
 from .files import octets_of
 from .folder import Site, User
 from .mails import Mail
 from .mains import Main
 from .program import NO_MEMORY, NoMemory, Program, Session, Verdict
+from .survey import Survey, put_scripts, requires, survey
 from .words import quoted
 
 # A batch has about so many octets at most, or one mail, and so many mails.
@@ -28,7 +28,8 @@ Result = TypeVar("Result")
 
 
 class Case(NamedTuple):
-    """A mail under a main script: the verdict, what is expected if anything, and why it isn't judged, if it isn't."""
+    """A mail under a main script: the verdict, why it isn't judged if it isn't, how long that took, what is expected, if anything, and whether
+    that it isn't judged is known and passes."""
 
     user: User
     main: Main
@@ -36,10 +37,8 @@ class Case(NamedTuple):
     verdict: Verdict
     unjudged: Optional[str]
     seconds: float
-
-    def block(self) -> Optional[Block]:
-        """What is expected."""
-        return self.mail.blocks.get(self.main.key)
+    block: Optional[Block]
+    skipped: bool = False
 
     def lines(self) -> Tuple[bytes, ...]:
         """The lines of the verdict."""
@@ -47,8 +46,13 @@ class Case(NamedTuple):
 
     def agrees(self) -> Optional[bool]:
         """Whether the verdict is as expected; nothing where nothing is expected, or it isn't judged."""
-        block = self.block()
-        return None if block is None or self.unjudged else block.lines == self.lines()
+        return None if self.block is None or self.unjudged else self.block.lines == self.lines()
+
+
+def case_of(user: User, main: Main, mail: Mail, verdict: Verdict, found: Survey, seconds: float) -> Case:
+    """A case, with what the mail's file expects."""
+    unjudged, block = why_unjudged(verdict, found), mail.expected.block(main)
+    return Case(user, main, mail, verdict, unjudged, seconds, block, bool(unjudged) and is_skipped(verdict, found))
 
 
 class Judged(NamedTuple):
@@ -128,7 +132,7 @@ class Judge:
                 told = chained(held.bench, main.scripts, held.mails)
                 seconds = (time.monotonic() - began) / len(held.mails)
                 for name, mail in held.mails.items():
-                    cases.append(Case(user, main, mail, told[name], why_unjudged(told[name], found, user), seconds))
+                    cases.append(case_of(user, main, mail, told[name], found, seconds))
         self.progress.add(len(batch.mails))
         return cases, held.bare
 
@@ -136,7 +140,8 @@ class Judge:
         """The cases of mails for which memory is refused."""
         self.progress.add(len(batch.mails))
         mains = batch.user.mains
-        return [Case(batch.user, main, mail, NOTHING, NO_MEMORY, 0.0) for main in mains for mail in batch.mails], []
+        cases = [(main, mail, mail.expected.block(main)) for main in mains for mail in batch.mails]
+        return [Case(batch.user, main, mail, NOTHING, NO_MEMORY, 0.0, block) for main, mail, block in cases], []
 
     @contextlib.contextmanager
     def held(self, batch: Batch) -> Iterator[Held]:
@@ -166,7 +171,7 @@ def surveys(site: Site, program: Program) -> List[Survey]:
     found = []
     for user in site.users:
         with program.session() as session:
-            found.append(survey(session, user.scripts))
+            found.append(survey(session, site, user))
     return found
 
 
@@ -200,10 +205,18 @@ def halves(batch: Batch) -> List[Batch]:
     return [batch._replace(mails=mails) for mails in (batch.mails[:middle], batch.mails[middle:])]
 
 
-def why_unjudged(verdict: Verdict, found: Survey, user: User) -> Optional[str]:
-    """Why a mail isn't judged: its run came to a script that requires what isn't there."""
-    came = next((place for place, _ in verdict.reads if place in found.lacking), None)
-    return None if came is None else f"{came[0]} {quoted(came[1])} {requires(found.lacking[came])}"
+def why_unjudged(verdict: Verdict, found: Survey) -> Optional[str]:
+    """Why a mail isn't judged: its run came to a script that requires what isn't there. One that isn't listed is named before others."""
+    came = [place for place, _ in verdict.reads if place in found.lacking]
+    if not came:
+        return None
+    place = next((it for it in came if it not in found.listed), came[0])
+    return f"{place[0]} {quoted(place[1])} {requires(found.lacking[place])}"
+
+
+def is_skipped(verdict: Verdict, found: Survey) -> bool:
+    """Whether each of the scripts that can't be judged and to which a run came is listed."""
+    return all(place in found.listed for place, _ in verdict.reads if place in found.lacking)
 
 
 class Progress:

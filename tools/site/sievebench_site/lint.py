@@ -5,18 +5,19 @@ from __future__ import annotations
 import os
 import re
 import subprocess
-import tempfile
 from typing import Dict, Iterator, List, Optional, Set
 
 from . import findings
 from .code import Code
 from .ends import fail
-from .faults import SENTENCES, sentence_of, survey
-from .findings import ERROR, NOTE, PLAIN, Finding, Test
+from .faults import SENTENCES, sentence_of
+from .files import temporary_folder
+from .findings import ERROR, NOTE, PLAIN, SKIPPED, Finding, Test
 from .folder import Site, User
 from .program import Place, Program, Session
 from .shown import Look
 from .sieve_text import lines_with
+from .survey import survey
 from .words import quoted
 
 SIEVEC_SAYS = re.compile(rb"line ([0-9]+): error: (.*)")
@@ -27,13 +28,14 @@ class Linted:
 
     def __init__(self, site: Site, user: User, session: Session) -> None:
         self.site, self.user = site, user
-        self.survey = survey(session, user.scripts)
+        self.survey = survey(session, site, user)
         operations = {script.at(): session.dump(script.at()) for script in user.scripts}
         self.code = Code(user.scripts, operations, {main.scripts[0] for main in user.mains})
         self.faults = [
             Finding(it.path, line, word, sentence_of(it, line, word)) for it, (line, word) in self.survey.broken(user)
         ]
         self.faults += [*self.include_faults(), *action_faults(session, self.code)]
+        self.unjudged = [Finding(it.path, line, "not judged", why) for it, line, why in self.survey.unjudged(user)]
 
     def include_faults(self) -> Iterator[Finding]:
         """Includes of scripts that are missing or have a fault, and those by which a script comes to itself."""
@@ -53,8 +55,8 @@ class Linted:
 
     def notes(self) -> Iterator[Finding]:
         """What is printed and is no fault."""
-        for script, line, why in self.survey.unjudged(self.user):
-            yield Finding(script.path, line, "not judged", why, NOTE)
+        for script, line, why in self.survey.skipped(self.user):
+            yield Finding(script.path, line, "skipped", PLAIN.line(why.encode()), SKIPPED)
         if self.site.clock is None:
             text = "It asks for the current date, and the site has no clock."
             for place, script in self.code.scripts.items():
@@ -95,16 +97,19 @@ def lint(site: Site, program: Program, sievec: bool) -> List[Finding]:
     """All findings: the faults, where sievec says otherwise, and what is no fault. Of several users each is printed once."""
     faults: Set[Finding] = set()
     others: List[Finding] = []
+    unjudged: List[Finding] = []
     notes: List[Finding] = []
     reached: List[Optional[Set[bytes]]] = []
     for user in site.users:
         with program.session() as session:
             linted = Linted(site, user, session)
         faults.update(linted.faults)
+        unjudged += linted.unjudged
         others += sievec_differences(site, linted) if sievec else []
         notes += linted.notes()
         reached.append(linted.reached())
-    return [*sorted(faults), *dict.fromkeys(others), *dict.fromkeys(notes), *unreached(site, reached)]
+    found = [*sorted(faults), *dict.fromkeys(others), *dict.fromkeys(unjudged), *dict.fromkeys(notes)]
+    return [*found, *unreached(site, reached)]
 
 
 def unreached(site: Site, reached: List[Optional[Set[bytes]]]) -> Iterator[Finding]:
@@ -120,27 +125,26 @@ def unreached(site: Site, reached: List[Optional[Set[bytes]]]) -> Iterator[Findi
 
 def sievec_differences(site: Site, linted: Linted) -> Iterator[Finding]:
     """The scripts that sievec compiles though something was reported of them, or of a script that they come to, and the other way round.
-    One that can't be judged here is passed over, and so is one that comes to it."""
+    Of one that can't be judged here, or comes to one, sievec alone says something."""
     first = {fault.path: fault.line for fault in sorted(linted.faults, reverse=True)}
     personal, shared = os.path.join(linted.user.home, b"personal"), os.path.join(site.wanted.folder, b"global")
     settings = [(b"sieve", personal), (b"sieve_global", shared)]
     options = [
         word for name, path in settings for word in (b"-o", b"plugin/" + name + b"=file:" + os.path.abspath(path))
     ]
-    with tempfile.TemporaryDirectory() as room:
+    with temporary_folder() as room:
         for script in linted.user.scripts:
             reached = linted.code.reached([script.at()])
-            if reached & set(linted.survey.lacking):
-                continue
+            lacks = bool(reached & set(linted.survey.lacking))
             done = compiled(
                 [b"sievec", *options, os.path.abspath(script.path), os.fsencode(os.path.join(room, "compiled"))]
             )
             broken = any(linted.code.scripts[at].path in first for at in reached)
-            if done.returncode and not broken:
+            if done.returncode and (lacks or not broken):
                 found = SIEVEC_SAYS.search(done.stderr)
-                text = found[2].decode("latin-1") if found else "It can't compile this."
+                text = found[2].decode("utf-8", "replace") if found else "It can't compile this."
                 yield Finding(script.path, int(found[1]) if found else 0, "sievec", text)
-            elif broken and not done.returncode:
+            elif broken and not lacks and not done.returncode:
                 yield Finding(script.path, first.get(script.path, 0), "sievec", "It compiles this.")
 
 
@@ -156,7 +160,8 @@ def text_of(found: List[Finding], look: Look, quiet: bool) -> str:
     """The findings for people, a line each."""
     told = [it for it in found if it.level == ERROR or not quiet]
     return "".join(
-        f"{look.name(it.path)}:{it.line}: {it.kind}: {look.line(it.text.encode('latin-1', 'replace'))}\n" for it in told
+        f"{look.name(it.path)}:{it.line}: {it.kind}: {look.line(it.text.encode('utf-8', 'surrogateescape'))}\n"
+        for it in told
     )
 
 
@@ -181,5 +186,11 @@ def results(found: List[Finding], tests: List[Test], form: str, look: Look, quie
 def tests_of(found: List[Finding], scripts: List[bytes], seconds: float) -> Iterator[Test]:
     """A test for each script, which fails by its faults. All have the same part of the seconds."""
     for path in scripts:
-        wrong = [f"line {it.line}: {it.kind}: {it.text}" for it in found if it.path == path and it.level == ERROR]
-        yield Test("lint", PLAIN.name(path), seconds / len(scripts), wrong[0] if wrong else None, "\n".join(wrong))
+        wrong: List[str] = []
+        skipped: List[str] = []
+        levels = {ERROR: wrong, SKIPPED: skipped}
+        for it in (it for it in found if it.path == path and it.level in levels):
+            levels[it.level].append(f"line {it.line}: {it.kind}: {it.text}")
+        text = "\n".join(wrong or skipped)
+        failure = wrong[0] if wrong else None
+        yield Test("lint", PLAIN.name(path), seconds / len(scripts), failure, text, bool(skipped) and not wrong)

@@ -8,12 +8,13 @@ from typing import FrozenSet, List, NamedTuple, Optional, Tuple
 
 from .ends import refuse
 from .envelopes import Envelope, envelope_if_any
-from .expected import Blocks, blocks_of
 from .files import files_in, is_plain, names_in, octets_of, size_of
+from .headings import Expected, expected_at
 from .words import MESSAGE_LIMIT, quoted, unquoted, words_in
 
 # What may stand beside a mail.
-ENDS = (b".envelope", b".expect", b".users")
+EXPECT = b".expect"
+ENDS = (b".envelope", EXPECT, b".users")
 MAILDIR_NAME = re.compile(rb"[0-9]{9,}\.\S+|.*:2,[A-Za-z]*", re.S)
 LeftOut = Tuple[bytes, str]
 
@@ -26,12 +27,11 @@ class Mail(NamedTuple):
     size: int
     envelope: Envelope
     users: Optional[FrozenSet[bytes]]
-    expected: Optional[bytes]
-    blocks: Blocks
+    expected: Expected
 
     def expect_path(self) -> bytes:
-        """The file of what is expected of it."""
-        return self.path + b".expect"
+        """The file or the folder of what is expected of it."""
+        return self.path + EXPECT
 
 
 def mail_names(folder: bytes) -> List[bytes]:
@@ -39,14 +39,12 @@ def mail_names(folder: bytes) -> List[bytes]:
     return [name for name in files_in(folder, b".eml") if not name.startswith(b".")]
 
 
-def mail_at(folder: bytes, name: bytes, user: bytes) -> Mail:
+def mail_at(folder: bytes, name: bytes, user: bytes, has_users: bool) -> Mail:
     """A mail, with what stands beside it. One of a user's own has the user's name before its own."""
     path = os.path.join(folder, name)
-    expect = path + b".expect"
-    expected = octets_of(expect) if os.path.lexists(expect) else None
-    blocks = blocks_of(expect, expected) if expected is not None else {}
+    expected = expected_at(path + EXPECT, has_users)
     envelope = envelope_if_any(path + b".envelope")
-    return Mail(path, user + b"/" + name if user else name, size_of(path), envelope, users_of(path), expected, blocks)
+    return Mail(path, user + b"/" + name if user else name, size_of(path), envelope, users_of(path), expected)
 
 
 def users_of(path: bytes) -> Optional[FrozenSet[bytes]]:
@@ -71,7 +69,7 @@ def passed_over(folder: bytes) -> List[LeftOut]:
     """The files of a folder that look like mails and aren't taken, and why."""
     found: List[LeftOut] = []
     for place, folders, names in os.walk(folder):
-        folders.sort()
+        folders[:] = sorted(name for name in folders if not name.endswith(b".eml" + EXPECT))
         for name in sorted(names):
             path = os.path.join(place, name)
             why = why_not(path, place != folder) if looks_like_mail(name) else None
@@ -102,8 +100,5 @@ def lost_in(folder: bytes) -> List[bytes]:
     """The files beside mails that aren't there."""
     there = set(files_in(folder, b".eml"))
     paths = [(end, name) for end in ENDS for name in names_in(folder) if name.endswith(b".eml" + end)]
-    return [
-        os.path.join(folder, name)
-        for end, name in paths
-        if name[: -len(end)] not in there and is_plain(os.path.join(folder, name))
-    ]
+    lost = [(end, os.path.join(folder, name)) for end, name in paths if name[: -len(end)] not in there]
+    return [path for end, path in lost if is_plain(path) or (end == EXPECT and os.path.isdir(path))]

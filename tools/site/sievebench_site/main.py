@@ -12,6 +12,7 @@ from typing import Callable, Dict, List, NoReturn
 
 from . import check, diff, ends, lint, untested, watch, why
 from .checked import Checked
+from .completion import completed
 from .ends import Refusal, Signalled, refuse
 from .files import locked, refuse_unwritable, write_file
 from .folder import Site, refuse_no_mains, site_of, take_mails
@@ -57,10 +58,12 @@ def run_check(options: argparse.Namespace) -> int:
 
 def run_record(options: argparse.Namespace) -> int:
     """The command record."""
+    if options.prune and (options.user or options.main or options.only):
+        refuse("--prune looks at the whole site: without --user, --main and --only")
     with locked(site_folder(options.folders)):
         site = site_with_mails(options)
         judged = Judge(site, program_of(options, site), options.jobs).all()
-        told, whole = record(site, judged, look_of(options.utf8), options.force)
+        told, whole = record(site, judged, look_of(options.utf8), options.force, options.prune)
     if not (options.quiet and whole):
         sys.stdout.write("".join(f"{line}\n" for line in told))
     return int(not whole)
@@ -164,6 +167,10 @@ def main(words: List[str]) -> int:
     if words[0] == "--version":
         print(f"sievebench-site {VERSION}, with {Program(None, []).version}")
         return 0
+    if words[0] == "--complete" and len(words) == 3:
+        sys.stdout.flush()
+        sys.stdout.buffer.write(b"".join(b"%s\n" % it for it in completed(words[1], os.fsencode(words[2]))))
+        return 0
     if words[0] not in COMMANDS:
         refuse(f"{quoted(os.fsencode(words[0]))} is none of {names}; see --help")
     return COMMANDS[words[0]](parsed(words[0], words[1:]))
@@ -196,8 +203,10 @@ def status_of(words: List[str]) -> int:
     except BrokenPipeError:
         ends.pipe_broke()
     except OSError as error:
-        # Only what is printed raises one here.
-        return told(f"cannot write: {error.strerror}", 2)
+        # Only what is printed raises one here, and what nobody thought of, which has a name.
+        named = isinstance(error.filename, (str, bytes))
+        what = f"read {quoted(os.fsencode(error.filename))}" if named else "write standard output"
+        return told(f"cannot {what}: {error.strerror or error}", 2)
     except MemoryError:
         return told("out of memory", 3)
 

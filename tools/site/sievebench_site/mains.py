@@ -1,9 +1,11 @@
-"""Main scripts: which they are, and which run one after another."""
+"""Main scripts: which they are, what they are called, and which run one after another."""
 
 from __future__ import annotations
 
+import collections
 import os
-from typing import Dict, Iterator, List, NamedTuple, Optional, Tuple
+import re
+from typing import Callable, Dict, Iterable, Iterator, List, NamedTuple, Optional, Set, Tuple
 
 from .ends import refuse
 from .expected import Key
@@ -14,6 +16,9 @@ from .words import lines_of, quoted, unquoted, words_of
 SCRIPT_END = b".sieve"
 # Folders of a site that have no scripts to name in a line of main ones.
 OTHERS = (b"", b".", b"..", b"users", b"mails")
+PERSONAL, GLOBAL = b"personal/", b"global/"
+# A line that names itself before a colon.
+NAMED = re.compile(rb'[ \t]*("(?:[^"\\]|\\.)*"|[^\x00-\x20"\\\x7f:]+):[ \t]+(.*)', re.S)
 
 
 class Script(NamedTuple):
@@ -29,15 +34,50 @@ class Script(NamedTuple):
         return self.place, self.name
 
 
+class Line(NamedTuple):
+    """A line of main scripts as it is written: where it stands, its name before a colon if it has one, and the names of its scripts."""
+
+    place: str
+    name: bytes
+    names: Tuple[bytes, ...]
+
+    def where(self) -> str:
+        """The begin of a refusal."""
+        return f"{self.place}: " if self.place else ""
+
+    def script(self) -> bytes:
+        """The main one of its scripts: the first of the user's own, or else of the folder global, or else the last."""
+        own = [name for name in self.names if b"/" not in name or name.startswith(PERSONAL)]
+        shared = [name for name in self.names if name.startswith(GLOBAL)]
+        found = [*own, *shared, self.names[-1]][0]
+        return found[len(PERSONAL) :] if found.startswith(PERSONAL) else found
+
+
+class Called(NamedTuple):
+    """A line, the words that it is called by, others that stand for it too, and whether no other line is for its main script."""
+
+    line: Line
+    key: Key
+    also: Tuple[Key, ...]
+    alone: bool
+
+
 class Main(NamedTuple):
-    """A line of main scripts, which run one after another: its names, as between brackets, and where they stand in a session."""
+    """A line of main scripts of a user, which run one after another: the words between brackets, others that stand for it too, its main
+    script if no other line is for that, and where its scripts stand in a session."""
 
     key: Key
+    also: Tuple[Key, ...]
+    script: Optional[Key]
     scripts: Tuple[Place, ...]
 
     def label(self) -> bytes:
-        """Its names."""
+        """What it is called."""
         return b" ".join(self.key)
+
+    def is_also(self, other: "Main") -> bool:
+        """Whether it is called as another one, or both are the only ones for one script."""
+        return self.key == other.key or (self.script is not None and self.script == other.script)
 
 
 class Shelf:
@@ -70,24 +110,72 @@ class Shelf:
             self.others[folder] = scripts_in("personal", folder + b"/", os.path.join(self.folder, folder))
         return "personal", name
 
-    def main_of(self, line: bytes, user: bytes, home: bytes) -> Main:
+    def main_of(self, called: Called, user: bytes, home: bytes) -> Main:
         """The main script that a line names, or several; refused where one isn't there."""
-        names = self.names_in(line, home)
+        names = called.line.names
         places = [self.place_of(name, home) for name in names]
         for name, place in zip(names, places):
             if place is None:
-                refuse(f"no main script {quoted(name)}: there is no {quoted(self.path_of(name, home))}")
-        first = user + b"/" + names[0] if user else names[0]
-        return Main((first, *names[1:]), tuple(place for place in places if place))
+                missing = f"no main script {quoted(name)}: there is no {quoted(self.path_of(name, home))}"
+                refuse(called.line.where() + missing)
+        script = of_user(user, (called.line.script(),)) if called.alone else None
+        also = tuple(of_user(user, key) for key in called.also)
+        return Main(of_user(user, called.key), also, script, tuple(place for place in places if place))
 
-    def names_in(self, line: bytes, home: bytes) -> List[bytes]:
-        """The names in a line, which is one name where there is a script of the user's that is called so."""
-        if b"/" not in line and self.place_of(line, home):
-            return [line]
-        words = words_of(line)
+    def line_of(self, text: bytes, place: str, home: bytes) -> Line:
+        """A line as it is written. It is one name where there is a script of the user's that is called so."""
+        if b"/" not in text and self.place_of(text, home):
+            return Line(place, b"", (text,))
+        named = NAMED.fullmatch(text)
+        if named:
+            return self.line_of(named[2], place, home)._replace(name=unquoted(named[1]))
+        words = words_of(text)
         if not words:
-            refuse(f"no main script {quoted(line)}: a name with blanks stands between quotes")
-        return [unquoted(word) for word in words]
+            why = "a name with blanks stands between quotes" if text.strip() else "after the colon stands none"
+            refuse(f"{Line(place, b'', ()).where()}no main script {quoted(text)}: {why}")
+        return Line(place, b"", tuple(unquoted(word) for word in words))
+
+    def lines_in(self, path: bytes, home: bytes) -> List[Line]:
+        """The lines of a file of main scripts."""
+        return [self.line_of(text, f"{quoted(path)}, line {number}", home) for number, text in lines_in(path)]
+
+
+def of_user(user: bytes, key: Key) -> Key:
+    """The words that something of a user's is called by: the first has the user's name and a slash before it, where there are users."""
+    return (user + b"/" + key[0], *key[1:]) if user else key
+
+
+def called(lines: Iterable[Line]) -> List[Called]:
+    """What lines are called, each once: by their names, or else by their main scripts. Where several without names are for one script,
+    they are called by all their scripts. What another line isn't called stands for a line too: all its scripts, as headings once were, and
+    its main script, if no other line is for that."""
+    once = list({(line.name, line.names): line for line in lines}.values())
+    scripts = collections.Counter(line.script() for line in once)
+    bare = collections.Counter(line.script() for line in once if not line.name)
+    keys: Dict[Key, Line] = {}
+    for line in once:
+        key = (line.name,) if line.name else (line.script(),) if bare[line.script()] == 1 else line.names
+        if key in keys:
+            shown = quoted(b" ".join(key))
+            refuse(f"{line.where()}another line is called {shown} too: another name before a colon, as other: main")
+        keys[key] = line
+    found = []
+    for key, line in keys.items():
+        alone = scripts[line.script()] == 1 and keys.get((line.script(),), line) is line
+        also = (line.names, *([(line.script(),)] if alone else []))
+        found.append(Called(line, key, tuple(it for it in also if it not in keys), alone))
+    return found
+
+
+def chosen(own: List[Line], texts: List[bytes], line_of: Callable[[bytes], Line]) -> List[Called]:
+    """Of lines that are asked for those of a user's file that are called so or have these scripts, and where there is none, they."""
+    there, found = called(own), []
+    for text in texts:
+        same = [it for it in there if it.key == (text,)]
+        line = same[0].line if same else line_of(text)
+        same += [it for it in there if not line.name and line.names in (it.key, it.line.names)]
+        found.append(same[0] if same else called([*own, line])[-1])
+    return list(dict.fromkeys(found))
 
 
 def scripts_in(place: str, prefix: bytes, folder: bytes) -> List[Script]:
@@ -97,8 +185,8 @@ def scripts_in(place: str, prefix: bytes, folder: bytes) -> List[Script]:
     return [Script(place, name, path, octets_of(path)) for name, path in zip(names, paths)]
 
 
-def lines_in(path: bytes) -> Iterator[bytes]:
-    """The lines of a file of main scripts that aren't empty and no comments."""
-    for line in lines_of(octets_of(path)):
+def lines_in(path: bytes) -> Iterator[Tuple[int, bytes]]:
+    """The lines of a file that aren't empty and no comments, each with its number."""
+    for number, line in enumerate(lines_of(octets_of(path)), 1):
         if line.strip() and words_of(line) != []:
-            yield line
+            yield number, line

@@ -38,8 +38,11 @@ Files of a site:
   global/NAME.sieve        scripts for include :global; may be missing
   mains                    the main scripts, one a line. Several in a line run one after another, as
                            before/10-spam main after/90-lists: FOLDER/NAME is FOLDER/NAME.sieve of
-                           the site. A name with blanks stands between quotes
+                           the site. A name with blanks stands between quotes. A line may name
+                           itself, as sales: before/10-spam main
   with                     names for --with of sievebench, one a line; may be missing
+  unjudged                 scripts that can't be judged yet and are skipped, one a line: a path, as
+                           personal/old.sieve, or a user's name, and then why; may be missing
   mailboxes                if with has mailbox: the mailboxes that exist, one a line; may be missing
   clock                    if with has date: the current time, one line of seconds since 1970-01-01
                            UTC and a zone, as 1783245600 +0200. The zone is also that of dates
@@ -54,19 +57,21 @@ Files of a site:
   mails/MAIL.eml.envelope  the same of this mail. Without it, the sender is the first Return-Path
                            that is an address or <>, and the recipient the first Delivered-To that
                            is an address, or else X-Original-To, or else Envelope-To
-  mails/MAIL.eml.expect    what is expected of the mail: for each line of mains its names in
-                           brackets, and then the lines of the verdict
+  mails/MAIL.eml.expect    what is expected of the mail: for each line of mains its main script in
+                           brackets, as [main], or its name, and the lines of the verdict. It may
+                           be a folder with a file NAME of each user, as for more than 20 users
   mails/MAIL.eml.users     the users for whom the mail is judged; without it, all
   users/NAME/              a user, if there are several: personal, and maybe mains and mails. The
                            folders global and mails and the file mains at the top are everybody's.
-                           Expectations stand in blocks [NAME/MAIN]
+                           Expectations stand in blocks [NAME/main]
 """
 STATUS = """\
 Exit status:
   0    check: all verdicts agree; lint: no fault; diff: no verdict changed; untested, why: done
-  1    check: a verdict disagrees or can't be judged, a script has a fault, or without --lax
-       something isn't expected or is stale; lint: a fault; record: it left a file; diff: a verdict
-       that changed; untested: fewer changes are noticed than --fail-under asks for
+  1    check: a verdict disagrees, a script has a fault, a verdict or a script can't be judged and
+       isn't listed in unjudged, or without --lax something isn't expected or is stale; lint: a
+       fault, or such a script; record: it left a file; diff: a verdict that changed; untested:
+       fewer changes are noticed than --fail-under asks for
   2    misuse: no mails, no such main script or mail, a file that can't be read or written, a
        refused edit
   3    the program, or sievec, can't be run
@@ -115,34 +120,36 @@ Compares the verdict on each mail, under each main script, with what is expected
 
 Prints each difference with the mails that have it, the scripts that have a fault or can't be
 judged, mails without expectations, stale expectations, files that are left out, and a line of
-counts. An expectation is stale if its mail isn't there, which isn't looked at with --only, or if
-mains doesn't name its scripts, which isn't looked at with --user or --main.
+counts. An expectation is stale if its mail isn't there, which isn't looked at with --only, or if no
+line of mains is called so, which isn't looked at with --user or --main.
 
-A script that requires what the file with doesn't name can't be judged. That fails a check only if
-a mail's run comes to it.
+A script that requires what isn't there can't be judged. That fails the check, unless the file
+unjudged lists the script: then it is skipped, and so is each mail whose run comes to it. A line of
+this file is stale if its script can be judged.
 
 The object of --json has passed; counts; cases, each with mail, main, agrees (null if nothing is
-expected or it isn't judged), expected, verdict and the lines of scripts that entered it (null if
-none did); faults, each with script, line and word; not judged; stale and left out, each with file
-and why.""",
+expected or it isn't judged), skipped, expected, verdict and the lines of scripts that entered it
+(null if none did); faults, each with script, line and word; not judged and skipped, each with
+script, line and why; stale and left out, each with file and why.""",
     "record": """\
 Writes today's verdicts as what is expected.
 
-What is expected of mails and under scripts that aren't run stays, and so does what is expected of
-a mail that can't be judged. Remove by hand what stands under scripts that mains no longer names.
-A file that isn't as this tool writes it, for example with comments, CR LF or another order, is
-left and reported, and so is one that changes meanwhile. If a script has a fault, nothing is
-written. Only one record or import may write to a site at a time.""",
+What is expected of mails and under scripts that aren't run stays, and so does what is expected of a
+mail that can't be judged. What is stale stays and is reported, unless --prune takes it out. A file
+that isn't as this tool writes it, for example with comments, CR LF or another order, is left and
+reported, and so is one that changes meanwhile. If a script has a fault, nothing is written. Only
+one record or import may write to a site at a time.""",
     "lint": """\
 Reports the first fault of each script, and what must fail: includes of scripts that are missing or
 have a fault, or that lead back; redirects to what isn't one address, responses from what isn't one,
 and stores into what no mailbox can be, if they have no variable.
 
-Also says which scripts can't be judged, which ones no main script comes to, and where scripts ask
-for the current date if the site has no clock. These are no faults.
+A script that can't be judged, since it requires what isn't there, fails the run unless the file
+unjudged lists it. Also says which scripts no main script comes to, and where scripts ask for the
+current date if the site has no clock. These are no faults.
 
---sievec skips scripts that come to one that can't be judged. What sievec complains of and compiles
-all the same isn't reported.""",
+Of a script that can't be judged, or comes to one, sievec alone says something. What it complains of
+and compiles all the same isn't reported.""",
     "import": """\
 Takes mails into a site's folder mails, as 0001.eml and on: those of Maildirs, mbox files, and files
 of one mail each.
@@ -173,10 +180,11 @@ reached; faults; not judged; not looked up.""",
 Reports which verdicts on the mails of SITE change if its scripts replace those of OLD, or of a
 revision in git.
 
-Only the scripts are those of OLD. Mails, main scripts, envelopes and the files with, mailboxes and
-clock are those of SITE; if one of these three was another, that is said. Main scripts that weren't
-there before are \"not compared\". New faults are reported too. A verdict that can't be judged,
-before or now, is reported and not counted as changed.""",
+A line of mains is compared with the line that was called so, whatever scripts ran in it, and a
+user's only line with the only one before. Mails, envelopes and the files with, mailboxes and clock
+are those of SITE; if one of these three was another, that is said. Lines that weren't there, and
+whose scripts weren't all there, are \"not compared\". New faults are reported too. A verdict that
+can't be judged, before or now, is reported and not counted as changed.""",
     "why": """\
 Says of one mail's verdict which script and line entered each action, which scripts were looked up,
 and which branches the run took, in order.
@@ -231,7 +239,7 @@ def add_running(parser: Parser) -> None:
         action="append",
         default=[],
         metavar="NAME",
-        help="takes this line of main scripts and not those of mains, for all users who have them; may be given again",
+        help="takes this line of mains alone, by its name or its scripts, or one that isn't in mains; may be given again",
     )
     parser.add_argument(
         "--clock", metavar="TIME", help="the current time, in place of the file clock, as 1783245600+0200"
@@ -284,9 +292,8 @@ def add_check(parser: Parser) -> None:
     parser.add_argument("--strict", action="store_true", help="fails them; the default")
     tells = "prints each difference by itself, and each file that is left out"
     parser.add_argument("--all", action="store_true", help=tells)
-    add_format(parser)
     same = "the same as --format json"
-    parser.add_argument("--json", action="store_const", const="json", dest="format", help=same)
+    add_format(parser).add_argument("--json", action="store_const", const="json", dest="format", help=same)
     parser.add_argument("--junit", metavar="FILE", help="also writes the results to a file as JUnit has them")
 
 
@@ -297,6 +304,8 @@ def add_record(parser: Parser) -> None:
     add_judging(parser)
     writes = "also rewrites files that aren't as this tool writes them, without their comments"
     parser.add_argument("--force", action="store_true", help=writes)
+    takes = "also takes out what is stale: files of mails that aren't there, and blocks that no line of mains has"
+    parser.add_argument("--prune", action="store_true", help=takes)
 
 
 def add_lint(parser: Parser) -> None:
@@ -315,10 +324,12 @@ def add_import(parser: Parser) -> None:
     parser.add_argument("--user", metavar="NAME", help="the user who gets the mails")
 
 
-def add_format(parser: Parser) -> None:
-    """Adds the form of what is printed."""
+def add_format(parser: Parser) -> "argparse._MutuallyExclusiveGroup":
+    """Adds the form of what is printed, and gives what excludes it."""
     how = "prints the results as text, one object of JSON, JUnit's XML, annotations of GitHub, or SARIF 2.1.0"
-    parser.add_argument("--format", choices=FORMS, default="text", help=how)
+    group = parser.add_mutually_exclusive_group()
+    group.add_argument("--format", choices=FORMS, default="text", help=how)
+    return group
 
 
 def add_untested(parser: Parser) -> None:

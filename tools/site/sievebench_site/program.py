@@ -7,10 +7,10 @@ import os
 import re
 import subprocess
 import sys
-import tempfile
-from typing import IO, Dict, Iterator, List, NamedTuple, NoReturn, Optional, Tuple
+from typing import IO, Dict, FrozenSet, Iterator, List, NamedTuple, NoReturn, Optional, Set, Tuple
 
 from .ends import CHILDREN, Refusal, fail, refuse
+from .files import temporary
 from .words import ADDRESS_LIMIT, MAIL_LIMIT, MESSAGE_LIMIT, SCRIPT_LIMIT, TEXT_LIMIT, line, quoted, unquoted
 
 # Replies wait in a pipe until they are read: so many edits fill none.
@@ -18,6 +18,8 @@ PENDING = 1_000
 GIBIBYTE = 1 << 30
 SCRIPT_LINE = re.compile(rb"script ([a-z]+) (\".*\") (?:ok|line ([0-9]+) ([a-z-]+))")
 READ_LINE = re.compile(rb"  read ([a-z]+) (\".*?\")( missing)?")
+# The names that the help lists, a line each.
+OFFERED = re.compile(rb"--with <NAME> .*\n((?:  {12,}[a-z]\S*  .*\n)+)")
 AT_LINE = re.compile(rb"  at ([a-z]+) (\".*\") line ([0-9]+)")
 LIMITS = {
     "script": f"a script's text has at most {TEXT_LIMIT:,} octets, and its name {ADDRESS_LIMIT:,}",
@@ -66,8 +68,11 @@ class Program:
 
     def __init__(self, path: Optional[bytes], names: List[bytes], memory: int = 4 * GIBIBYTE) -> None:
         self.path = path if path is not None else found_program()
+        self.asked, self.memory = names, memory
         self.profile = b"--with=" + b",".join([*names, b"envelopes", b"lines"])
-        self.memory = memory
+        # Of capabilities whether they aren't there, and what may be asked for, once that is known.
+        self.unknown: Dict[bytes, bool] = {}
+        self.offered: Optional[FrozenSet[bytes]] = None
         # Whether it can be run is asked once, before a session is wanted.
         self.version = self.first_line_of([self.path, b"--version"])
 
@@ -79,10 +84,33 @@ class Program:
             fail(f"cannot run {quoted(self.path)}: {error.strerror}")
         return done.stdout.split(b"\n")[0].decode("latin-1")
 
+    def names(self) -> FrozenSet[bytes]:
+        """The names that may be asked for, as its help lists them."""
+        if self.offered is None:
+            words, quiet = [self.path, b"help", b"session"], subprocess.DEVNULL
+            done = subprocess.run(words, stdin=quiet, stdout=subprocess.PIPE, stderr=quiet)
+            found = OFFERED.search(done.stdout)
+            self.offered = frozenset(it.split()[0] for it in found[1].splitlines()) if found else frozenset()
+        return self.offered
+
+    def missing(self, names: List[bytes]) -> Set[bytes]:
+        """Those of some capabilities that aren't there: a script that requires one alone has a fault, where it may not be unused."""
+        asked = [name for name in dict.fromkeys(names) if name not in self.unknown]
+        if asked:
+            plain = Program(self.path, [name for name in self.asked if name != b"unused"], self.memory)
+            with plain.session() as session:
+                places = {name: ("personal", b"%d" % number) for number, name in enumerate(asked)}
+                for name, place in places.items():
+                    spelled = name.replace(b"\\", b"\\\\").replace(b'"', b'\\"')
+                    session.script(place, b'require "' + spelled + b'";', "a script of one capability")
+                faults = session.report().faults
+            self.unknown.update({name: bool(faults[place]) for name, place in places.items()})
+        return {name for name in names if self.unknown[name]}
+
     @contextlib.contextmanager
     def session(self) -> Iterator["Session"]:
         """A new session, which ends with the block and mustn't have failed by then."""
-        with tempfile.TemporaryFile() as errors:
+        with temporary() as errors:
             with CHILDREN.held(lambda: self.started(errors)) as child:
                 limit_memory(child.pid, self.memory)
                 session = Session(self, child, errors)

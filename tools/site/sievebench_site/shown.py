@@ -8,17 +8,20 @@ import sys
 from typing import NamedTuple
 
 ESCAPES = re.compile(rb'\\["\\]|(?:\\x[0-9a-f]{2})+')
+HERE = re.compile(rb"\A(?:\./+)+")
 COLOURS = {"-": "31", "+": "32"}
 
 
 class Look(NamedTuple):
-    """Whether octets of UTF-8 are shown as characters, and whether lines have colours."""
+    """Whether octets of UTF-8 are shown as characters, whether lines have colours, and whether paths are without `./`."""
 
     utf8: bool
     colours: bool = False
+    bare: bool = False
 
     def name(self, octets: bytes) -> str:
         """A name: what would move the cursor is escaped, and all else but ASCII unless it is UTF-8 and that is wanted."""
+        octets = HERE.sub(b"", octets) if self.bare else octets
         return self.line(octets.replace(b"\\", b"\\\\"))
 
     def line(self, line: bytes) -> str:

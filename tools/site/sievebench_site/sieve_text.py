@@ -67,6 +67,12 @@ def required(text: bytes) -> Tuple[int, List[bytes]]:
     return end, names
 
 
+def line_requiring(text: bytes, name: bytes) -> int:
+    """The line on which a script requires a capability."""
+    strings = [it for it in tokens(text[: required(text)[0]]) if it.octets.startswith(b'"')]
+    return next((line_at(text, it.start) for it in strings if string_meant(it.octets) == name), 1)
+
+
 def with_flags(text: bytes, flags: Iterable[bytes]) -> bytes:
     """The script with these internal flags from its start on. They are added after its leading `require` commands, on their line."""
     end, names = required(text)

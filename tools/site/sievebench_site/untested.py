@@ -52,11 +52,12 @@ class Untested:
         surveyed = list(zip(site.users, self.judge.surveys))
         self.broken = {it[0].path: it for user, found in surveyed for it in found.broken(user)}
         self.lacking = {it[0].path: it for user, found in surveyed for it in found.unjudged(user)}
+        self.skipped = {it[0].path: it for user, found in surveyed for it in found.skipped(user)}
         whole = {it.path: it for user in site.users for it in user.scripts}
         self.tried: Dict[bytes, List[Tried]] = {
             path: [Tried(script, it) for it in changes(script.text, keys, numbers)]
             for path, script in whole.items()
-            if path not in self.broken and path not in self.lacking
+            if path not in self.broken and path not in self.lacking and path not in self.skipped
         }
         # The scripts that no verdict looked up, until one does.
         self.unasked = dict.fromkeys(whole)
@@ -216,6 +217,9 @@ def text_of(found: Untested, look: Look, quiet: bool) -> str:
     told += [f"{look.name(path)}: not judged: {NO_MEMORY}" for path in sorted(found.refused)]
     told += [f"{look.name(it.script.path)}:{it.change.line}: {it.why(look)}" for it in found.left()]
     if not quiet:
+        told += [
+            f"{look.name(it.path)}:{n}: skipped: {look.line(why.encode())}" for it, n, why in found.skipped.values()
+        ]
         told += [f"{look.name(path)}: no verdict looks it up" for path in found.unasked]
         counts = found.counts()
         further = [f"{counts[it]} {it}" for it in ("leave a fault", "change nothing") if counts[it]]

@@ -15,7 +15,7 @@ from .expected import Block, Key
 from .faults import sentence_of
 from .folder import Site, User, Wanted, refuse_no_mains, site_of, take_mails
 from .groups import FIRST, changes, counted, difference, grouped
-from .judge import Case, Judge, put_settings, why_unjudged
+from .judge import Case, Judge, case_of, put_settings
 from .mails import Mail
 from .mains import SCRIPT_END, Main
 from .program import Place, Program, Session, Verdict
@@ -24,8 +24,9 @@ from .shown import Look
 # How long it waits between two looks, and how long it lets files settle that change.
 PAUSE, SETTLING, SETTLES = 0.5, 0.05, 20
 # The files that a site has, and in how deep folders they are.
-NAMES = (b"mains", b"with", b"mailboxes", b"clock", b"envelope")
-MAIL_ENDS = (b".eml", b".eml.envelope", b".eml.expect", b".eml.users")
+NAMES = (b"mains", b"with", b"unjudged", b"mailboxes", b"clock", b"envelope")
+EXPECTS = b".eml.expect"
+MAIL_ENDS = (b".eml", b".eml.envelope", EXPECTS, b".eml.users")
 ENDS = (SCRIPT_END, *MAIL_ENDS)
 DEPTH = 4
 # When a file was changed, how large it is, and which one.
@@ -45,12 +46,17 @@ def stamps_in(folder: bytes, depth: int = DEPTH) -> Stamps:
     with contextlib.suppress(OSError), os.scandir(folder) as entries:
         for entry in entries:
             with contextlib.suppress(OSError):
-                if entry.name in NAMES or entry.name.endswith(ENDS):
+                if entry.is_dir():
+                    found.update(stamps_in(entry.path, depth - 1) if depth > 1 else {})
+                elif entry.name in NAMES or entry.name.endswith(ENDS) or folder.endswith(EXPECTS):
                     status = entry.stat()
                     found[entry.path] = status.st_mtime_ns, status.st_size, status.st_ino
-                elif depth > 1 and entry.is_dir():
-                    found.update(stamps_in(entry.path, depth - 1))
     return found
+
+
+def is_of_mail(path: bytes) -> bool:
+    """Whether a file is a mail, or stands beside one."""
+    return path.endswith(MAIL_ENDS) or os.path.dirname(path).endswith(EXPECTS)
 
 
 class Desk:
@@ -165,7 +171,7 @@ class Watch:
         site = site_of(self.wanted)
         refuse_no_mains(site)
         mails = {user.name: user.mails for user in self.seen.users} if self.seen and not self.refused else {}
-        if set(mails) == {user.name for user in site.users} and not any(it.endswith(MAIL_ENDS) for it in changed):
+        if set(mails) == {user.name for user in site.users} and not any(map(is_of_mail, changed)):
             for user in site.users:
                 user.mails.extend(mails[user.name])
         else:
@@ -194,10 +200,7 @@ class Watch:
             # Of a script whose last text stands it doesn't matter what it requires now.
             lacking = {at: it for at, it in judge.surveys[number].lacking.items() if (user.name, at) not in self.whole}
             found = judge.surveys[number]._replace(lacking=lacking)
-            return [
-                Case(user, main, mail, told[mail.path], why_unjudged(told[mail.path], found, user), 0.0)
-                for mail in user.mails
-            ]
+            return [case_of(user, main, mail, told[mail.path], found, 0.0) for mail in user.mails]
 
         found = [it for part in judge.each(work, cases) for it in part] if work else []
         told = {(it.user.name, it.main.key, it.mail.path): it for it in found}
@@ -262,7 +265,7 @@ def summary(before: Seen, now: Seen, changed: int) -> str:
         "new": 0 if first else len(set(now.cases) - set(before.cases)),
         "gone": len(set(before.cases) - set(now.cases)),
         "not as expected": len(now.wrong),
-        "not judged": sum(bool(case.unjudged) for case in now.cases.values()),
+        "not judged": sum(bool(case.unjudged) and not case.skipped for case in now.cases.values()),
     }
     told = [number if first else f"{changed} of {number} changed"]
     return ", ".join([*told, *(f"{count} {what}" for what, count in further.items() if count)])
@@ -284,8 +287,7 @@ def changed_cases(before: Seen, now: Seen) -> List[Tuple[Case, str]]:
         if was and was.verdict is not case.verdict and was.lines() != case.lines():
             mark = ": no longer as expected" if was.agrees() and case.agrees() is False else ""
             mark = ": now as expected" if case.agrees() and was.agrees() is False else mark
-            blocks = {case.main.key: Block(0, was.lines())}
-            found.append((case._replace(mail=case.mail._replace(blocks=blocks)), mark))
+            found.append((case._replace(block=Block(b"", 0, was.lines())), mark))
     return found
 
 
@@ -294,7 +296,7 @@ def is_news(was: Optional[Case], case: Case) -> bool:
     if was is None or was.agrees() is None:
         return True
     same = was.lines() == case.lines()
-    return (was.agrees() is True and same) or (was.agrees() is False and (not same or was.block() != case.block()))
+    return (was.agrees() is True and same) or (was.agrees() is False and (not same or was.block != case.block))
 
 
 def watch(looking: Watch) -> None:

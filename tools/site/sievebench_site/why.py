@@ -155,7 +155,7 @@ def answers(site: Site, program: Program) -> List[Answer]:
                 (name,) = held.mails
                 for main in user.mains:
                     verdict = chained(held.bench, main.scripts, [name])[name]
-                    unjudged = why_unjudged(verdict, judge.surveys[number], user)
+                    unjudged = why_unjudged(verdict, judge.surveys[number])
                     asked = [(it, it.branches()) for it in questions(held.bench, name, main)]
                     branches = [branch for _, taken in asked for branch in taken]
                     left_out = [it.failing for it, _ in asked if it.failing]

@@ -10,10 +10,11 @@ from typing import Dict, Iterator, List, NoReturn, Optional, Tuple
 
 sys.path.insert(0, str(pathlib.Path(__file__).resolve().parent.parent))
 
-from sievebench_site.sieve_text import Token, required, string_meant, tokens  # noqa: E402
+from sievebench_site.sieve_text import Token, line_requiring, required, string_meant, tokens  # noqa: E402
 from sievebench_site.words import quoted, unquoted, words_of  # noqa: E402
 
 KNOWN = {b"fileinto", b"envelope", b"imap4flags", b"include", b"copy", b"variables"}
+OFFERED = ("vacation", "mailbox", "unused")
 Scripts = Dict[Tuple[str, bytes], bytes]
 
 
@@ -159,8 +160,11 @@ class Bench:
 
     def fault(self, text: bytes) -> Optional[str]:
         """The fault of a script."""
-        if any(name not in self.known for name in required(text)[1]):
-            return "line 1 unknown-capability"
+        unknown = [name for name in required(text)[1] if name not in self.known]
+        if unknown and b"unused" not in self.known:
+            return f"line {line_requiring(text, unknown[0])} unknown-capability"
+        if b":regex" in [it.octets for it in tokens(text)]:
+            return "line 2 bad-tag"
         lines = [text.count(b"\n", 0, it.start) + 1 for it in tokens(text) if it.octets == b"kep"]
         return f"line {lines[0]} unknown-command" if lines else None
 
@@ -212,6 +216,10 @@ def main() -> int:
     """Answers a session, or tells a version."""
     if sys.argv[1] == "--version":
         print("sievebench 0.0.0")
+        return 0
+    if sys.argv[1] == "help":
+        print("      --with <NAME>  What it knows:")
+        print("".join(f"                       {name}  a capability\n" for name in OFFERED), end="")
         return 0
     assert sys.argv[1] == "session"
     names = os.fsencode(sys.argv[2]).partition(b"=")[2].split(b",")

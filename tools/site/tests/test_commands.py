@@ -13,6 +13,7 @@ from sievebench_site.shown import Look
 
 from .room import Files, Room
 
+LACKS = "requires regex: it isn't supported yet; list the script in unjudged: {}.sieve requires regex"
 COUNTS = (
     "mails",
     "mains",
@@ -86,13 +87,20 @@ class Checks(Room):
         self.assertTrue(told[3].startswith("  + error ") and told[3].endswith(' missing-script  (personal "y")'), told)
 
     def test_lax_and_quiet(self) -> None:
-        self.write({"mails/9.eml.expect": "", "mails/x.EML": "", "personal/c.sieve": 'require "z";'})
+        self.write(
+            {
+                "mails/9.eml.expect": "",
+                "mails/x.EML": "",
+                "personal/c.sieve": 'require "regex";',
+                "unjudged": "personal/c.sieve so it is\n",
+            }
+        )
         self.assertEqual(self.ran("check", "--lax", "--only", "4.eml", ".")[0], 0)
         self.assertEqual(self.ran("check", "--only", "4.eml", ".")[0], 1)
         for number in range(5):
             self.write({f"mails/{number}.eml.expect": '[a]\nstore "INBOX"\n[b]\nstore "INBOX"\n'})
         status, told, _ = self.ran("check", ".")
-        wanted = ["./personal/c.sieve:1: not judged: requires z", "./mails/9.eml.expect: its mail isn't there"]
+        wanted = ["./personal/c.sieve:1: skipped: so it is", "./mails/9.eml.expect: its mail isn't there"]
         wanted += ["./mails/x.EML: left out: its name doesn't end by .eml, in small letters"]
         self.assertEqual((status, told), (1, [*wanted, counted(5, 2, 10, 10, 0, 0, 1, 0) + ", 1 left out"]))
         self.assertEqual(self.ran("check", "-q", "."), (1, wanted[1:2], ""))
@@ -104,18 +112,18 @@ class Checks(Room):
         )
 
     def test_unjudged(self) -> None:
-        self.write({"personal/a.sieve": 'require ["z", "fileinto"];'})
+        self.write({"personal/a.sieve": 'require ["regex", "fileinto"];'})
         status, told, _ = self.ran("check", "--lax", "--main", "a", ".")
         self.assertEqual(
             told[:2],
             [
-                "./personal/a.sieve:1: not judged: requires z",
-                './mails/0.eml under a: not judged: personal "a" requires z',
+                f"./personal/a.sieve:1: not judged: {LACKS.format('personal/a')}",
+                './mails/0.eml under a: not judged: personal "a" requires regex',
             ],
         )
         self.assertEqual(
             (status, told[-2]),
-            (1, 'and 2 more: 5 verdicts in all, of 5 mails under 1 main: not judged: personal "a" requires z'),
+            (1, 'and 2 more: 5 verdicts in all, of 5 mails under 1 main: not judged: personal "a" requires regex'),
         )
         self.assertEqual(told[-1], counted(5, 1, 5, 0, 0, 0, 0, 0) + ", 5 not judged")
 
@@ -140,6 +148,7 @@ class Checks(Room):
                 "mail": "0.eml",
                 "main": "a",
                 "agrees": False,
+                "skipped": False,
                 "expected": ["discard"],
                 "verdict": ['store "INBOX"'],
                 "lines": ["./personal/a.sieve:2"],
@@ -152,28 +161,30 @@ class Checks(Room):
         self.assertEqual(failure.attrib, {"message": "the verdict isn't as expected"})
         told = self.ran("check", "--format", "github", ".")[1]
         self.assertEqual(
-            told[0], "::error file=./personal/c.sieve,line=3,title=unknown-command::There is no such command or test."
+            told[0], "::error file=personal/c.sieve,line=3,title=unknown-command::There is no such command or test."
         )
         self.assertTrue(
             told[1].startswith(
-                "::error file=./mails/0.eml.expect,line=1,title=disagrees::./mails/0.eml under a%0A./mails/0.eml under b%0A"
+                "::error file=mails/0.eml.expect,line=1,title=disagrees::mails/0.eml under a%0Amails/0.eml under b%0A"
             )
         )
         self.assertEqual(
-            told[-1], "::notice file=./mails/x.EML,title=left-out::its name doesn't end by .eml, in small letters"
+            told[-1], "::notice file=mails/x.EML,title=left-out::its name doesn't end by .eml, in small letters"
         )
-        self.write({"personal/z.sieve": 'require "z";'})
-        lacking = "file=./personal/z.sieve,line=1,title=not-judged::requires z"
-        self.assertIn(f"::notice {lacking}", self.ran("check", "--format", "github", ".")[1])
-        self.assertIn(f"::error {lacking}", self.ran("check", "--format", "github", "--main", "z", ".")[1])
-        (self.room / "personal/z.sieve").unlink()
+        self.write({"personal/z.sieve": 'require "regex";'})
+        lacking = "file=personal/z.sieve,line=1,title=not-judged::requires regex"
+        told = self.ran("check", "--format", "github", ".")[1]
+        self.assertEqual([line for line in told if lacking in line][0].split(": it")[0], f"::error {lacking}")
+
+    def test_sarif(self) -> None:
+        self.write({"personal/c.sieve": "\n\nkep;", "mails/x.EML": "", "mails/9.eml.expect": ""})
         run = json.loads("".join(self.ran("check", "--format", "sarif", ".")[1]))["runs"][0]
         self.assertEqual(
             [it["ruleId"] for it in run["results"]],
             ["unknown-command", "disagrees", "nothing-expected", "stale", "left-out"],
         )
         place = run["results"][0]["locations"][0]["physicalLocation"]
-        self.assertEqual(place, {"artifactLocation": {"uri": "./personal/c.sieve"}, "region": {"startLine": 3}})
+        self.assertEqual(place, {"artifactLocation": {"uri": "personal/c.sieve"}, "region": {"startLine": 3}})
 
 
 class Records(Room):
@@ -181,7 +192,12 @@ class Records(Room):
 
     def test_what_is_written(self) -> None:
         self.write(
-            {"personal/a.sieve": "discard;", "personal/z.sieve": 'require "z";', "mains": "a\nz\n", "envelope": '"" ""'}
+            {
+                "personal/a.sieve": "discard;",
+                "personal/z.sieve": 'require "regex";',
+                "mains": "a\nz\n",
+                "envelope": '"" ""',
+            }
         )
         self.write({f"mails/{number}.eml": "" for number in range(4)})
         hand = "# by hand\n[a]\nkeep\n".replace("keep", 'store "K"')
@@ -195,7 +211,7 @@ class Records(Room):
         status, told, _ = self.ran("record", ".")
         left = "left, since it isn't as this tool writes it: --force writes it anew, without its comments"
         wanted = [
-            "./personal/z.sieve:1: not judged: requires z",
+            f"./personal/z.sieve:1: not judged: {LACKS.format('personal/z')}",
             "./mails/0.eml.expect: new",
             f"./mails/1.eml.expect: {left}",
         ]
@@ -242,7 +258,7 @@ class Records(Room):
         judged = Judge(site, self.program(), 1).all()
         for number in (1, 2):
             self.write({f"mails/{number}.eml.expect": "[b]\ndiscard\n"})
-        told, whole = record(site, judged, Look(False), False)
+        told, whole = record(site, judged, Look(False), False, False)
         self.assertEqual(
             (whole, [line[-36:] for line in told[:2]]), (False, ["left, since it was changed meanwhile"] * 2)
         )
@@ -256,12 +272,17 @@ class Lints(Room):
     def test_users(self) -> None:
         self.write({f"users/{name}/personal/m.sieve": "\nkep;" for name in "ab"})
         self.write(
-            {"mains": "m", "global/g.sieve": "kep;", "global/v.sieve": 'require "z";', "users/a/personal/x.sieve": ""}
+            {
+                "mains": "m",
+                "global/g.sieve": "kep;",
+                "global/v.sieve": 'require "regex";',
+                "users/a/personal/x.sieve": "",
+            }
         )
         status, told, _ = self.ran("lint", ".")
         fault = "unknown-command: There is no such command or test."
         wanted = [f"./global/g.sieve:1: {fault}", *(f"./users/{name}/personal/m.sieve:2: {fault}" for name in "ab")]
-        self.assertEqual((status, told), (1, [*wanted, "./global/v.sieve:1: not judged: requires z"]))
+        self.assertEqual((status, told), (1, [*wanted, f"./global/v.sieve:1: not judged: {LACKS.format('global/v')}"]))
         self.write({"mails/1.eml": "", "envelope": '"" ""'})
         self.assertEqual(sorted(line for line in self.ran("check", ".")[1] if line.endswith(fault)), sorted(wanted))
         for name in "ab":
@@ -274,20 +295,24 @@ class Lints(Room):
 
     def test_forms(self) -> None:
         self.write(
-            {"personal/a.sieve": "\nkep;", "personal/b.sieve": "", "personal/c.sieve": 'require "z";', "mains": "b"}
+            {"personal/a.sieve": "\nkep;", "personal/b.sieve": "", "personal/c.sieve": 'require "regex";', "mains": "b"}
         )
         found = json.loads("".join(self.ran("lint", "--format", "json", ".")[1]))
         self.assertEqual(
-            (found["passed"], [it["level"] for it in found["findings"]]), (False, ["error", "note", "note", "note"])
+            (found["passed"], [it["level"] for it in found["findings"]]), (False, ["error", "error", "note", "note"])
         )
         suite = tree.fromstring("\n".join(self.ran("lint", "--format", "junit", ".")[1]))
-        self.assertEqual([suite.get(name) for name in ("tests", "failures")], ["3", "1"])
+        self.assertEqual([suite.get(name) for name in ("tests", "failures")], ["3", "2"])
         self.assertEqual(
             self.ran("lint", "--format", "github", ".")[1][0],
-            "::error file=./personal/a.sieve,line=2,title=unknown-command::There is no such command or test.",
+            "::error file=personal/a.sieve,line=2,title=unknown-command::There is no such command or test.",
         )
         self.assertEqual(
-            self.ran("lint", "-q", ".")[1], ["./personal/a.sieve:2: unknown-command: There is no such command or test."]
+            self.ran("lint", "-q", ".")[1],
+            [
+                "./personal/a.sieve:2: unknown-command: There is no such command or test.",
+                f"./personal/c.sieve:1: not judged: {LACKS.format('personal/c')}",
+            ],
         )
 
 
@@ -358,6 +383,7 @@ class Words(Room):
             (("check", "--jobs", "0", "x"), "argument --jobs: '0' isn't a number from 1 to 9999"),
             (("check", "--memory", "1T", "x"), "argument --memory: '1T' isn't a number of octets, as 512M or 4G"),
             (("check", "--format", "xml", "x"), "argument --format: invalid choice: 'xml'"),
+            (("check", "--json", "--format", "junit", "x"), "argument --format: not allowed with argument --json"),
             (("check", "--utf8", "--no-utf8", "x"), "argument --no-utf8: not allowed with argument --utf8"),
             (("lint", "--lax", "x"), "unrecognized arguments: --lax; see --help"),
             (("check", "--li", "x"), "unrecognized arguments: --li; see --help"),

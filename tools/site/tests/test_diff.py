@@ -86,8 +86,38 @@ class Folders(Room):
         self.assertEqual(told[0], "new: not compared: its scripts weren't all there before")
         self.assertEqual(told[-1], "2 of 2 verdicts changed")
 
+    def test_chains(self) -> None:
+        self.site("old", main="keep;")
+        self.site("new", main="keep;")
+        self.write({f"{name}/before/10.sieve": "" for name in ("old", "new")})
+        self.write({"new/before/15.sieve": 'if header "subject" "k2" { discard; }', "old/mains": "before/10 main"})
+        wanted = [
+            "new/mails/2.eml under main",
+            '  - store "INBOX"',
+            "  + discard  (new/before/15.sieve:1)",
+            "1 of 2 verdicts changed",
+        ]
+        for line in ("before/10 before/15 main", "sales: before/15 main"):
+            with self.subTest(line):
+                self.write({"new/mains": line})
+                named = line.startswith("sales")
+                told = ["sales: compared with main, as it was called before"] if named else []
+                told += [wanted[0].replace("main", "sales") if named else wanted[0], *wanted[1:]]
+                self.assertEqual(self.ran("diff", "old", "new"), (1, told, ""))
+        self.write({"new/mains": "before/15 main\nplain: before/10 main"})
+        told = self.ran("diff", "old", "new")[1]
+        self.assertEqual(told[-1], "1 of 4 verdicts changed")
+        # The only line is compared with the only one.
+        self.write({"new/mains": "before/15 other", "new/personal/other.sieve": "keep;"})
+        told = self.ran("diff", "old", "new")[1]
+        self.assertEqual((told[0], told[-1]), ("other: compared with main, as it was called before", wanted[-1]))
+        # What is asked for is compared with the same scripts.
+        self.write({"old/personal/main.sieve": "discard;"})
+        told = self.ran("diff", "--main", "before/10 main", "old", "new")[1]
+        self.assertEqual(told[-1], "2 of 2 verdicts changed")
+
     def test_what_is_not_judged(self) -> None:
-        self.site("old", main='require "z"; discard;', other="kep;")
+        self.site("old", main='require "regex"; discard;', other="kep;")
         self.site("new", main="discard;", other="kep;")
         told = self.ran("diff", "old", "new")
         self.assertEqual(
@@ -95,17 +125,17 @@ class Folders(Room):
             (
                 0,
                 [
-                    'new/mails/1.eml under main: not judged: before, personal "main" requires z',
-                    'new/mails/2.eml under main: not judged: before, personal "main" requires z',
+                    'new/mails/1.eml under main: not judged: before, personal "main" requires regex',
+                    'new/mails/2.eml under main: not judged: before, personal "main" requires regex',
                     "0 of 0 verdicts changed, 2 not judged",
                 ],
             ),
         )
         told = self.ran("diff", "new", "old")
-        self.assertIn('old/mails/1.eml under main: not judged: personal "main" requires z', told[1])
-        self.site("old", main='require "include"; include "part";', part='require "z";')
+        self.assertIn('old/mails/1.eml under main: not judged: personal "main" requires regex', told[1])
+        self.site("old", main='require "include"; include "part";', part='require "regex";')
         told = self.ran("diff", "old", "new")
-        self.assertIn('new/mails/1.eml under main: not judged: before, personal "part" requires z', told[1])
+        self.assertIn('new/mails/1.eml under main: not judged: before, personal "part" requires regex', told[1])
         self.assertEqual(told[1][-1], "0 of 0 verdicts changed, 2 not judged")
 
     def test_memory(self) -> None:
@@ -170,6 +200,18 @@ class Revisions(Room):
         self.git("commit", "-qm", "two")
         self.write({"a/s \u00fc/personal/link.sieve": "discard;"})
 
+    def settings(self, site: str) -> None:
+        """Settings are said to have changed where they did."""
+        self.write({f"{site}/with": "mailbox\n", f"{site}/mailboxes": "A\n"})
+        self.git("add", "-A")
+        self.git("commit", "-qm", "four")
+        self.assertEqual(self.ran("diff", "--git", "HEAD", site)[1], ["0 of 2 verdicts changed"])
+        self.write({f"{site}/mailboxes": "B\n"})
+        shown = site.replace("\u00fc", "\\xc3\\xbc")
+        wanted = [f"{shown}/mailboxes: it was another, and is taken for both", "0 of 2 verdicts changed"]
+        self.assertEqual(self.ran("diff", "--git", "HEAD", site)[1], wanted)
+        self.git("checkout", "-q", "--", ".")
+
     def test_revision(self) -> None:
         site = "a/s \u00fc"
         told = self.ran("diff", "--git", "HEAD", site)
@@ -178,6 +220,7 @@ class Revisions(Room):
         self.git("commit", "-qam", "three")
         self.assertEqual(self.ran("diff", "--git", "main", site)[1], ["0 of 2 verdicts changed"])
         self.assertEqual(self.ran("diff", "--git", "main~1", site)[0], 1)
+        self.settings(site)
         with mock.patch.dict(os.environ, GIT_DIR="/nowhere", GIT_INDEX_FILE="/nowhere/index"):
             self.assertEqual(self.ran("diff", "--git", "main", site)[0], 0)
 

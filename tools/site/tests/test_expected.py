@@ -21,8 +21,8 @@ class Expected(unittest.TestCase):
             b'  envelope "a" "b"\n  unexpected\n\n["a b" main]\n\nstore "\\xC3\\xBC"  # capitals\nimplicit "INBOX"'
         )
         blocks = blocks_of(b"x", octets)
-        self.assertEqual(blocks[(b"ada",)], Block(4, (b'store "B\\xc3\\xbcro" "\\\\Seen"',)))
-        self.assertEqual(blocks[b"a b", b"main"], Block(11, (b'store "\\xc3\\xbc"', b'implicit "INBOX"')))
+        self.assertEqual(blocks[(b"ada",)], Block(b"x", 4, (b'store "B\\xc3\\xbcro" "\\\\Seen"',)))
+        self.assertEqual(blocks[b"a b", b"main"], Block(b"x", 11, (b'store "\\xc3\\xbc"', b'implicit "INBOX"')))
 
     def test_lines_of_verdicts(self) -> None:
         lines = [

@@ -1,13 +1,18 @@
 """Files that are written whole or not at all, and the lock."""
 
+import contextlib
+import errno
+import io
 import os
 import pathlib
 import stat
 import tempfile
+from typing import Callable, ContextManager, List
 from unittest import mock
 
 from sievebench_site import files
 from sievebench_site.ends import Refusal
+from sievebench_site.main import status_of
 
 from .room import Room
 
@@ -84,3 +89,55 @@ class Files(Room):
         self.assertEqual(files.files_in(bytes(self.room), b".x"), [b"a-b.x", b"a.x", b"b.x", b"f.x"])
         with self.assertRaises(Refusal):
             files.files_in(bytes(self.room / "c"), b".x")
+
+
+class Refusals(Room):
+    """What names the file and the reason."""
+
+    def refused(self, block: Callable[[], ContextManager[object]]) -> str:
+        """Why something is refused for which there is no space."""
+        full = OSError(errno.ENOSPC, os.strerror(errno.ENOSPC))
+        names = ("tempfile.TemporaryFile", "tempfile.TemporaryDirectory", "tempfile.mkstemp")
+        with contextlib.ExitStack() as room:
+            for name in names:
+                room.enter_context(mock.patch(name, side_effect=full))
+            with self.assertRaises(Refusal) as caught, block():
+                pass
+        return caught.exception.sentence
+
+    def test_no_space(self) -> None:
+        path = bytes(self.room / "x")
+        here = f'cannot write "{self.room}/x": No space left on device'
+        calls: List[Callable[[], object]] = [
+            lambda: files.write_file(path, b""),
+            lambda: files.write_new(path, b""),
+            lambda: files.write_folder(path, {}),
+        ]
+        for call in calls:
+            self.assertEqual(self.refused(lambda: contextlib.nullcontext(call())), here)
+        with mock.patch.dict(os.environ, TMPDIR="/room"):
+            for block in (files.temporary, files.temporary_folder):
+                self.assertEqual(self.refused(block), 'cannot write "/room": No space left on device')
+
+    def test_a_folder_that_cannot_be_put(self) -> None:
+        self.write({"x": "old"})
+        rename = os.rename
+
+        def refuses(old: bytes, new: bytes) -> None:
+            if old.endswith(b"/new"):
+                raise OSError(errno.EIO, os.strerror(errno.EIO))
+            rename(old, new)
+
+        with mock.patch("os.rename", refuses), self.assertRaises(Refusal):
+            files.write_folder(bytes(self.room / "x"), {b"a": b"b"})
+        self.assertEqual(((self.room / "x").read_text(), os.listdir(self.room)), ("old", ["x"]))
+
+    def test_what_nobody_thought_of(self) -> None:
+        for error, sentence in [
+            (OSError(errno.EIO, "bad", b"a\xff"), 'cannot read "a\\xff": bad'),
+            (OSError(errno.ENOSPC, "full"), "cannot write standard output: full"),
+        ]:
+            told = io.StringIO()
+            with mock.patch("sievebench_site.main.main", side_effect=error), mock.patch("sys.stderr", told):
+                self.assertEqual(status_of([]), 2)
+            self.assertEqual(told.getvalue(), f"sievebench-site: {sentence}\n")

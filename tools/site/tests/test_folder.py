@@ -45,7 +45,7 @@ class Folder(Room):
         self.write(USERS)
         ada, bob = self.site().users
         self.assertEqual((ada.name, bob.name), (b"ada", b"bob"))
-        self.assertEqual([main.key for main in ada.mains], [(b"ada/before/10-spam", b"main", b"global/lists")])
+        self.assertEqual([main.key for main in ada.mains], [(b"ada/main",)])
         places = (("personal", b"before/10-spam"), ("personal", b"main"), ("global", b"lists"))
         self.assertEqual(ada.mains[0].scripts, places)
         self.assertEqual([main.key for main in bob.mains], [(b"bob/main",), (b"bob/two words",)])
@@ -60,7 +60,8 @@ class Folder(Room):
         self.write(USERS)
         self.assertEqual([user.name for user in self.site(users=(b"bob",)).users], [b"bob"])
         ada, bob = self.site(mains=(b'"two words" main',)).users
-        self.assertEqual((ada.mains, [main.key for main in bob.mains]), ([], [(b"bob/two words", b"main")]))
+        places = (("personal", b"two words"), ("personal", b"main"))
+        self.assertEqual((ada.mains, [main.scripts for main in bob.mains]), ([], [places]))
         ada, bob = self.site(mains=(b"personal/main",)).users
         self.assertEqual([user.mains[0].scripts for user in (ada, bob)], [(("personal", b"main"),)] * 2)
         self.assertEqual([user.mails == [] for user in self.site(mails=(b"9.eml",)).users], [True, False])
@@ -92,12 +93,13 @@ class Folder(Room):
             b"a b": [b"a b"],
             b"b a": [b"b", b"a"],
             b'"a b" x/c': [b"a b", b"x/c"],
-            b"personal/a": [b"personal/a"],
+            b"personal/a": [b"a"],
             b"a": [b"a"],
         }
         for line, wanted in rows.items():
             with self.subTest(line=line):
-                self.assertEqual(self.site(mains=(line,)).users[0].mains[0].key, tuple(wanted))
+                found = self.site(mains=(line,)).users[0].mains[0].scripts
+                self.assertEqual(found, tuple(("personal", name) for name in wanted))
         self.assertEqual(self.site(mains=(b"personal/a",)).users[0].mains[0].scripts, (("personal", b"a"),))
         for line, sentence in [
             (b"a c", 'no main script "c": there is no "personal/c.sieve"'),

@@ -9,6 +9,7 @@ from sievebench_site import judge as module
 from sievebench_site.ends import Refusal
 from sievebench_site.envelopes import Envelope
 from sievebench_site.folder import Site, Wanted, site_of, take_mails
+from sievebench_site.headings import Expected
 from sievebench_site.judge import Judge, Judged, batches_of
 from sievebench_site.mails import Mail
 from sievebench_site.program import NO_MEMORY, Session
@@ -71,7 +72,7 @@ class Verdicts(Room):
         self.assertEqual(self.told(self.judged()), wanted)
 
     def test_batches(self) -> None:
-        mail = Mail(b"", b"", 0, Envelope(), None, None, {})
+        mail = Mail(b"", b"", 0, Envelope(), None, Expected({}, False))
         mails = [mail._replace(size=size) for size in [1] * 60 + [9 << 20, 1, 10 << 20, 10 << 20]]
         self.write({"personal/a.sieve": "", "mains": "a", "mails/1.eml": ""})
         site = self.site()
@@ -106,25 +107,28 @@ class Verdicts(Room):
         self.write(
             {
                 "personal/a.sieve": 'require "include"; if header "subject" "x" { include "b"; }',
-                "personal/b.sieve": 'require ["fileinto", "y", "x"];',
-                "personal/c.sieve": 'require "z";',
+                "personal/b.sieve": 'require ["fileinto", "index", "ihave"];',
+                "personal/c.sieve": 'require "regex";',
             }
         )
         self.write({"mains": "a\n", "mails/1.eml": "x", "mails/2.eml": "", "mails/1.eml.expect": "[a]\ndiscard\n"})
         judged = self.judged()
         self.assertEqual(
-            [(it.unjudged, it.agrees()) for it in judged.cases], [('personal "b" requires y, x', None), (None, None)]
+            [(it.unjudged, it.agrees()) for it in judged.cases],
+            [('personal "b" requires index, ihave', None), (None, None)],
         )
-        self.assertEqual(judged.surveys[0].lacking, {("personal", b"b"): [b"y", b"x"], ("personal", b"c"): [b"z"]})
+        self.assertEqual(
+            judged.surveys[0].lacking, {("personal", b"b"): [b"index", b"ihave"], ("personal", b"c"): [b"regex"]}
+        )
 
     def test_memory(self) -> None:
         refused = {1: "no memory to put", 4: "no memory to run", 9: "no memory to run"}
         self.write({f"mails/{number}.eml": refused.get(number, "") + "\n" for number in range(10)})
-        self.write({"personal/a.sieve": "discard;", "personal/b.sieve": "keep;", "mains": "a\nb a\n"})
+        self.write({"personal/a.sieve": "discard;", "personal/b.sieve": "keep;", "mains": "a\nboth: b a\n"})
         for few in (1, 3, 50):
             with self.subTest(few=few), mock.patch.object(module, "FEW_MAILS", few):
                 judged = self.judged(2)
-                verdicts = {"a": ["discard"], "b a": ["discard"]}
+                verdicts = {"a": ["discard"], "both": ["discard"]}
                 wanted = [
                     (f"{number}.eml", main, [] if number in refused else verdicts[main])
                     for number in range(10)

@@ -17,6 +17,8 @@ redirect "";
 redirect "a@b.example";
 """
 
+LACKS = "requires regex: it isn't supported yet; list the script in unjudged: personal/lacking.sieve requires regex"
+
 
 class Commands(Room):
     """What is printed of a site."""
@@ -93,7 +95,8 @@ class Commands(Room):
         self.assertIn(key, self.ran("untested", "--keys", ".")[1])
 
     def test_json(self) -> None:
-        self.write({"personal/wrong.sieve": "\nkep;", "personal/lacking.sieve": 'require "z";'})
+        self.write({"personal/wrong.sieve": "\nkep;", "personal/lacking.sieve": 'require "regex";'})
+        self.write({"personal/late.sieve": 'require "index"; keep;', "unjudged": "personal/late.sieve so"})
         status, told, _ = self.ran("untested", "--json", "--fail-under=50", ".")
         found = json.loads("".join(told))
         self.assertEqual(
@@ -101,17 +104,18 @@ class Commands(Room):
             (1, False, {"noticed": 6, "changes": 18, "leave a fault": 0, "change nothing": 1}),
         )
         self.assertEqual(found["faults"], [{"script": "./personal/wrong.sieve", "line": 2, "word": "unknown-command"}])
-        self.assertEqual(found["not judged"], [{"script": "./personal/lacking.sieve", "line": 1, "why": "requires z"}])
+        self.assertEqual(found["not judged"], [{"script": "./personal/lacking.sieve", "line": 1, "why": LACKS}])
         self.assertIn(
             {"script": "./personal/main.sieve", "line": 8, "change": "without", "text": "discard;", "reached": False},
             found["unnoticed"],
         )
         self.assertEqual(
-            set(found["not looked up"]), {f"./personal/{name}.sieve" for name in ("wrong", "lacking", "lost")}
+            set(found["not looked up"]), {f"./personal/{name}.sieve" for name in ("wrong", "lacking", "late", "lost")}
         )
         lines = self.ran("untested", ".")[1]
         self.assertEqual(lines[0], "./personal/wrong.sieve:2: unknown-command: There is no such command or test.")
-        self.assertEqual(lines[1], "./personal/lacking.sieve:1: not judged: requires z")
+        self.assertEqual(lines[1], f"./personal/lacking.sieve:1: not judged: {LACKS}")
+        self.assertIn("./personal/late.sieve:1: skipped: so", lines)
 
     def test_what_a_verdict_is(self) -> None:
         self.write({"personal/main.sieve": 'require "fileinto"; fileinto "A";\nfileinto "A";'})

@@ -98,7 +98,7 @@ class Looks(Room):
 
     def test_what_is_required_and_lacks(self) -> None:
         self.look()
-        told = self.saved({"personal/part.sieve": 'require "z"; keep;'})
+        told = self.saved({"personal/part.sieve": 'require "regex"; keep;'})
         self.assertEqual(told[-1], "0 of 2 verdicts changed")
         self.assertTrue(told[0].endswith("There is no such extension here. The verdicts of its last text stand."))
 
@@ -106,7 +106,7 @@ class Looks(Room):
         self.write(
             {
                 "site/personal/part.sieve": "kep;",
-                "site/personal/other.sieve": 'require "z";',
+                "site/personal/other.sieve": 'require "regex";',
                 "site/mains": "main\nother\n",
             }
         )
@@ -157,7 +157,8 @@ class Looks(Room):
         self.assertEqual(self.saved({"mains": "second\nsecond main"})[-1], "0 of 4 verdicts changed, 2 new, 2 gone")
         self.assertEqual(len(CHILDREN.running), 2)
         self.assertEqual(
-            self.saved({"with": "z\n", "personal/second.sieve": 'require "z"; discard;'})[-1], "2 of 4 verdicts changed"
+            self.saved({"with": "regex\n", "personal/second.sieve": 'require "regex"; discard;'})[-1],
+            "2 of 4 verdicts changed",
         )
         self.assertEqual(len(CHILDREN.running), 2)
 
@@ -218,6 +219,10 @@ class Looks(Room):
         self.look()
         self.assertEqual(self.saved({"users/ada/personal/main.sieve": "discard;"})[-1], "3 of 3 verdicts changed")
         self.assertEqual(self.saved({"users/ada/mails/4.eml": ""})[-1], "0 of 4 verdicts changed, 1 new")
+        (self.room / "site/mails/2.eml.expect").unlink(missing_ok=True)
+        told = self.saved({"mails/2.eml.expect/ada": '[ada/main]\nstore "A"\n'})
+        self.assertIn("mails/2.eml under ada/main: not as expected", told)
+        self.assertIn('  - store "B"', self.saved({"mails/2.eml.expect/ada": '[ada/main]\nstore "B"\n'}))
 
     def test_files_that_settle(self) -> None:
         self.look()

@@ -141,7 +141,7 @@ class Answers(Room):
         self.write(
             {
                 "users/a/personal/m.sieve": "",
-                "users/b/personal/m.sieve": 'require "include"; include "x";\nrequire "z";',
+                "users/b/personal/m.sieve": 'require "include"; include "x";\nrequire "regex";',
                 "mains": "m",
                 "mails/1.eml.users": "b a",
             }
@@ -150,9 +150,9 @@ class Answers(Room):
         self.assertEqual(
             [line for line in told if not line.startswith(" ")], ["./mails/1.eml under a/m", "./mails/1.eml under b/m"]
         )
-        self.write({"users/b/personal/m.sieve": 'require "z"; keep;'})
+        self.write({"users/b/personal/m.sieve": 'require "regex"; keep;'})
         told = self.told("--user", "b", ".", "1.eml")
-        self.assertEqual(told[:2], ["./mails/1.eml under b/m", '  not judged: personal "m" requires z'])
+        self.assertEqual(told[:2], ["./mails/1.eml under b/m", '  not judged: personal "m" requires regex'])
         self.write({"users/b/personal/m.sieve": 'require "include"; if true { include "x"; }'})
         told = self.told("--user", "b", ".", "1.eml")
         self.assertIn("    personal/x: there is none", told)
