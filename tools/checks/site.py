@@ -4,6 +4,7 @@ import os
 import pathlib
 import shlex
 
+from . import site_names
 from .runs import Run, lines, some
 
 TOOL = pathlib.Path(__file__).resolve().parent.parent / "sievebench-site"
@@ -115,7 +116,13 @@ def of_names(room):
     write(room / "nobody", {**site({"1.eml": b"", "1.eml.expect": b"[main]\ndiscard\n"}, main=b"discard;"), "mailboxes": b"x" * 1_048_577})
     yield run("a list of mailboxes that isn't asked for", room, "check nobody", lines(counted(1, 1, 1, 1, 0, 0, 0, 0)))
     write(room / "misnamed", {**files, "with": b"sub address\n"})
-    yield run("a name that there isn't", room, "check misnamed", b"", [b"of the site's file with", b"sub address,envelopes", b"subaddress"], 2)
+    yield run("a name that there isn't", room, "check misnamed", b"", told('"misnamed/with", line 1: "sub address" can\'t be asked for: did you mean subaddress?'), 2)
+    of_set = b'require ["vacation", "comparator-i;ascii-numeric", "relational"]; if header :value "gt" :comparator "i;ascii-numeric" "x" "9" { discard; }'
+    files = {**site({"1.eml": b"X: 10\n\n", "1.eml.expect": b"[main]\ndiscard\n"}, main=of_set), "with": b"pigeonhole\n"}
+    write(room / "set", files)
+    yield run("a set of names", room, "check --strict set", lines(counted(1, 1, 1, 1, 0, 0, 0, 0)))
+    write(room / "whole", {**files, "with": b"all", "personal/main.sieve": b'require ["special-use", "ereject", "none"]; discard;'})
+    yield run("all names", room, "check --strict whole", lines(counted(1, 1, 1, 1, 0, 0, 0, 0)))
 
 
 def of_clocks(room):
@@ -406,5 +413,5 @@ def of_sites(room):
     """All of them."""
     room = room / "sites"
     room.mkdir()
-    for part in (of_checks, of_spellings, of_names, of_clocks, of_refusals, of_programs, of_broken_files, of_junit, of_objects, of_records, of_lints, of_sievec, of_many):
+    for part in (of_checks, of_spellings, of_names, of_clocks, of_refusals, of_programs, of_broken_files, of_junit, of_objects, of_records, of_lints, of_sievec, of_many, site_names.of_names):
         yield from some(part.__name__, part(room))

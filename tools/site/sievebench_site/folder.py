@@ -10,8 +10,9 @@ from .ends import Refusal, refuse
 from .files import names_in, octets_if_any
 from .mails import LeftOut, Mail, lost_in, mail_at, mail_names, passed_over, too_large
 from .mains import Main, Script, Shelf, lines_in, scripts_in
+from .names import names_asked
 from .program import Place
-from .words import lines_of, quoted
+from .words import quoted
 
 
 class Wanted(NamedTuple):
@@ -58,7 +59,8 @@ class Site(NamedTuple):
 def site_of(wanted: Wanted) -> Site:
     """The site but for its mails."""
     folder = wanted.folder
-    names = [line for line in lines_of(octets_if_any(os.path.join(folder, b"with"))) if line]
+    asking = os.path.join(folder, b"with")
+    names = names_asked(asking, octets_if_any(asking))
     users = users_of(wanted)
     site = Site(wanted, names, boxes_in(folder, names), clock_in(folder, names, wanted.clock), users, [], [])
     unread = os.path.join(folder, b"personal")

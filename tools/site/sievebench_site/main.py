@@ -11,6 +11,7 @@ import time
 from typing import Callable, Dict, List, NoReturn
 
 from . import check, diff, ends, lint, untested, watch, why
+from .beginning import USUAL, ask_for, is_new
 from .checked import Checked
 from .ends import Refusal, Signalled, refuse
 from .files import locked, refuse_unwritable, write_file
@@ -88,13 +89,15 @@ def run_import(options: argparse.Namespace) -> int:
     if not os.path.isdir(folder):
         refuse(f"no folder {quoted(folder)}: mails go there")
     with locked(site):
-        taking = Import(folder, look_of(options.utf8))
+        look, begins = look_of(options.utf8), is_new(site)
+        taking = Import(folder, look)
         for source in sources:
             for found in found_in(source):
                 taking.take(found)
             for other in folders_of(source):
                 taking.pass_over(other)
-    sys.stdout.write("".join(f"{line}\n" for line in taking.lines()))
+        told = ask_for(site, USUAL, look) if begins and taking.written else []
+    sys.stdout.write("".join(f"{line}\n" for line in [*told, *taking.lines()]))
     return 0
 
 

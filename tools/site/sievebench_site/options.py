@@ -39,7 +39,9 @@ Files of a site:
   mains                    the main scripts, one a line. Several in a line run one after another, as
                            before/10-spam main after/90-lists: FOLDER/NAME is FOLDER/NAME.sieve of
                            the site. A name with blanks stands between quotes
-  with                     names for --with of sievebench, one a line; may be missing
+  with                     names for --with of sievebench, one a line; pigeonhole stands for all
+                           that Pigeonhole 0.5.19 knows by default, and all for all that there
+                           are. May be missing
   mailboxes                if with has mailbox: the mailboxes that exist, one a line; may be missing
   clock                    if with has date: the current time, one line of seconds since 1970-01-01
                            UTC and a zone, as 1783245600 +0200. The zone is also that of dates
@@ -149,6 +151,7 @@ of one mail each.
 
 The octets stay as they are. Nothing is overwritten, and no mail is taken twice. A mail's envelope
 is written next to it if both addresses are known; the sender may be that of the mbox's From line.
+A site without mails and without the file with gets one with the name pigeonhole.
 What is left out is reported with the reason: mails that are there already, or are too large, and
 folders inside a Maildir, which are mailboxes of their own. Only one record or import may write to
 a site at a time.""",

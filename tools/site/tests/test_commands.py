@@ -333,7 +333,8 @@ class Imports(Room):
     def test_a_mail_that_begins_as_a_mailbox(self) -> None:
         self.write({"one": "From: a@b\n\nx\n", "site/mails/z": ""})
         told = self.ran("import", "one", "site")
-        self.assertEqual(told, (0, ["1 mail, 1 written, 0 left out, 1 without an envelope"], ""))
+        wanted = ["site/with: new, with pigeonhole", "1 mail, 1 written, 0 left out, 1 without an envelope"]
+        self.assertEqual(told, (0, wanted, ""))
         self.assertEqual((self.room / "site/mails/0001.eml").read_text(), "From: a@b\n\nx\n")
 
     def test_refusals(self) -> None:
