@@ -20,6 +20,7 @@ from .importing import Import, folders_of, found_in
 from .judge import Judge
 from .options import DESCRIPTION, SITE, STATUS, parsed, site_folder, wanted
 from .program import Program
+from .recognized import refuse_no_box
 from .record import record
 from .shown import look_of
 from .words import quoted
@@ -88,6 +89,8 @@ def run_import(options: argparse.Namespace) -> int:
     folder = os.path.join(home, b"mails")
     if not os.path.isdir(folder):
         refuse(f"no folder {quoted(folder)}: mails go there")
+    for source in sources:
+        refuse_no_box(source)
     with locked(site):
         look, begins = look_of(options.utf8), is_new(site)
         taking = Import(folder, look)

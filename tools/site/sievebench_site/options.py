@@ -152,9 +152,10 @@ of one mail each.
 The octets stay as they are. Nothing is overwritten, and no mail is taken twice. A mail's envelope
 is written next to it if both addresses are known; the sender may be that of the mbox's From line.
 A site without mails and without the file with gets one with the name pigeonhole.
-What is left out is reported with the reason: mails that are there already, or are too large, and
-folders inside a Maildir, which are mailboxes of their own. Only one record or import may write to
-a site at a time.""",
+What is left out is reported with the reason: mails that are there already, are too large, or are
+packed, and folders inside a Maildir, which are mailboxes of their own. A mail without a field is
+taken and reported. If a mailbox or a file that is named is packed, a program or empty, nothing is
+taken. Only one record or import may write to a site at a time.""",
     "untested": """\
 Changes the scripts that some verdict looked up, one change after another, and reports each change
 that no mail's verdict notices.
