@@ -12,7 +12,7 @@ from .envelopes import fields_of
 from .files import is_plain, names_in, reading
 from .words import quoted
 
-# What packs a file so that it begins like this, and how programs begin.
+# What packs a file so that it begins like this, and how others begin that are no mails.
 PACKED = [
     (re.compile(rb"\x1f\x8b"), "gzip"),
     (re.compile(rb"\x28\xb5\x2f\xfd"), "zstd"),
@@ -21,17 +21,21 @@ PACKED = [
     (re.compile(rb"\x04\x22\x4d\x18"), "lz4"),
     (re.compile(rb"PK(?:\x03\x04|\x05\x06)"), "zip"),
 ]
-PROGRAM = re.compile(rb"\x7fELF|#!|MZ[^\n]{0,62}\x00|\xca\xfe\xba\xbe|[\xce\xcf]\xfa\xed\xfe", re.S)
+OTHERS = [
+    (re.compile(rb"CRYPTED\x03\x07"), "is encrypted by Dovecot: let the server read it out"),
+    (re.compile(rb"\x7fELF|#!|MZ[^\n]{0,62}\x00|\xca\xfe\xba\xbe|[\xce\xcf]\xfa\xed\xfe", re.S), "is a program"),
+]
+NO_MAILS = [
+    *((pattern, f"is packed by {packer}: unpack it, and take what comes of it") for pattern, packer in PACKED),
+    *OTHERS,
+]
 START = 64
 MAIL_FOLDERS = (b"cur", b"new")
 
 
 def why_no_mail(octets: bytes) -> Optional[str]:
     """What a file is by its first octets, if that is no mail."""
-    for pattern, packer in PACKED:
-        if pattern.match(octets):
-            return f"is packed by {packer}: unpack it, and take what comes of it"
-    return "is a program" if PROGRAM.match(octets) else None
+    return next((what for pattern, what in NO_MAILS if pattern.match(octets)), None)
 
 
 def remark_on(octets: bytes) -> Optional[str]:

@@ -31,6 +31,7 @@ class Recognized(Room):
             (b"\x7fELF\x02\x01", "is a program"),
             (b"MZ\x90\x00\x03", "is a program"),
             (b"#!/bin/sh\n", "is a program"),
+            (b"CRYPTED\x03\x07\x02\x00", "is encrypted by Dovecot: let the server read it out"),
             (MAIL, None),
             (b"MZ: a\n\n", None),
             (b"BZh9: a\n\n", None),
