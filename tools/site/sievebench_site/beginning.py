@@ -14,7 +14,12 @@ USUAL = [b"pigeonhole"]
 
 def is_new(site: bytes) -> bool:
     """Whether a site has neither a mail nor a file that asks for names."""
-    return not os.path.lexists(os.path.join(site, b"with")) and not any(has_mail(it) for it in mail_folders(site))
+    return not os.path.lexists(os.path.join(site, b"with")) and not any(map(has_mail, mail_folders(site)))
+
+
+def has_begun(site: bytes) -> bool:
+    """Whether a site has a mail, or main scripts."""
+    return os.path.lexists(os.path.join(site, b"mains")) or any(map(has_mail, mail_folders(site)))
 
 
 def mail_folders(site: bytes) -> Iterator[bytes]:

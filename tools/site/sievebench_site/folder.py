@@ -93,8 +93,7 @@ def users_of(wanted: Wanted) -> List[User]:
     shelf, users = Shelf(wanted.folder), []
     for name in user_names(wanted):
         home = os.path.join(wanted.folder, b"users", name) if name else wanted.folder
-        own = scripts_in("personal", b"", os.path.join(home, b"personal"))
-        users.append(User(name, home, own, [], []))
+        users.append(User(name, home, own_scripts(name, os.path.join(home, b"personal")), [], []))
     for user in users:
         user.mains.extend(mains_of(shelf, user, wanted))
     found = {line for user in users for line in wanted.mains if has_main(shelf, user, line)}
@@ -105,6 +104,11 @@ def users_of(wanted: Wanted) -> List[User]:
     for user in users:
         user.scripts.extend(shared)
     return users
+
+
+def own_scripts(user: bytes, folder: bytes) -> List[Script]:
+    """The scripts of a user; none where one among several has no folder of them."""
+    return [] if user and not os.path.lexists(folder) else scripts_in("personal", b"", folder)
 
 
 def mains_of(shelf: Shelf, user: User, wanted: Wanted) -> List[Main]:

@@ -138,6 +138,17 @@ class Import:
         return [*self.told, counts + (f", {self.bare} without an envelope" if self.bare else "")]
 
 
+def import_mails(sources: List[bytes], folder: bytes, look: Look) -> List[str]:
+    """Takes the mails of mailboxes and files into a folder, and gives what is printed."""
+    taking = Import(folder, look)
+    for source in sources:
+        for found in found_in(source):
+            taking.take(found)
+        for other in folders_of(source):
+            taking.pass_over(other)
+    return taking.lines()
+
+
 def digest(octets: bytes) -> bytes:
     """What two mails have in common only where they are the same."""
     return hashlib.sha256(octets).digest()

@@ -9,6 +9,7 @@ from typing import List, NoReturn, Optional
 
 from .ends import refuse
 from .folder import Wanted
+from .import_words import IMPORT, add_import
 from .program import GIBIBYTE
 from .shown import Look
 
@@ -19,7 +20,7 @@ Commands:
   check     compares the verdicts on the mails with what is expected of them
   record    writes today's verdicts as what is expected
   lint      reports faults of scripts, and includes and actions that must fail
-  import    takes mails from mailboxes and files
+  import    takes mails from mailboxes and files, and scripts from a server of Dovecot's
   untested  reports changes of the scripts that no mail notices
   diff      reports the verdicts that an edit changes
   why       says which commands entered a verdict, and which branches were taken
@@ -59,8 +60,9 @@ Files of a site:
   mails/MAIL.eml.expect    what is expected of the mail: for each line of mains its names in
                            brackets, and then the lines of the verdict
   mails/MAIL.eml.users     the users for whom the mail is judged; without it, all
-  users/NAME/              a user, if there are several: personal, and maybe mains and mails. The
-                           folders global and mails and the file mains at the top are everybody's.
+  users/NAME/              a user, if there are several: personal, mains and mails, each of which may
+                           be missing. The folders global and mails and the file mains at the top
+                           are everybody's.
                            Expectations stand in blocks [NAME/MAIN]
 """
 STATUS = """\
@@ -145,17 +147,7 @@ for the current date if the site has no clock. These are no faults.
 
 --sievec skips scripts that come to one that can't be judged. What sievec complains of and compiles
 all the same isn't reported.""",
-    "import": """\
-Takes mails into a site's folder mails, as 0001.eml and on: those of Maildirs, mbox files, and files
-of one mail each.
-
-The octets stay as they are. Nothing is overwritten, and no mail is taken twice. A mail's envelope
-is written next to it if both addresses are known; the sender may be that of the mbox's From line.
-A site without mails and without the file with gets one with the name pigeonhole.
-What is left out is reported with the reason: mails that are there already, are too large, or are
-packed, and folders inside a Maildir, which are mailboxes of their own. A mail without a field is
-taken and reported. If a mailbox or a file that is named is packed, a program or empty, nothing is
-taken. Only one record or import may write to a site at a time.""",
+    "import": IMPORT,
     "untested": """\
 Changes the scripts that some verdict looked up, one change after another, and reports each change
 that no mail's verdict notices.
@@ -198,7 +190,7 @@ verdicts stay. A save counts once the files stay as they are for a twentieth of 
 a save touched is run, except main scripts that run one after another. All mails are held in memory,
 once for each line of mains.""",
 }
-PLACES = {"import": "MAILBOX.. SITE", "diff": "[OLD] SITE", "why": "SITE MAIL"}
+PLACES = {"import": "[MAILBOX..] SITE", "diff": "[OLD] SITE", "why": "SITE MAIL"}
 
 
 def parser_of(command: str) -> Parser:
@@ -312,11 +304,6 @@ def add_lint(parser: Parser) -> None:
         "also runs sievec, the compiler of Dovecot's Pigeonhole, over each script, and reports where the two disagree"
     )
     parser.add_argument("--sievec", action="store_true", help=runs)
-
-
-def add_import(parser: Parser) -> None:
-    """Adds the options of import."""
-    parser.add_argument("--user", metavar="NAME", help="the user who gets the mails")
 
 
 def add_format(parser: Parser) -> None:

@@ -108,6 +108,6 @@ class Begun(Room):
         self.assertEqual(self.begun({"site/users/ada/mails/1.eml": ""}), "nothing")
 
     def test_one_to_which_no_mail_comes(self) -> None:
-        self.write({"empty/cur/.x": "", "site/mails/z": ""})
-        self.assertEqual(self.ran("import", "empty", "site")[0], 0)
+        self.write({"box/cur/1": "#!/bin/sh", "site/mails/z": ""})
+        self.assertEqual(self.ran("import", "box", "site")[0], 0)
         self.assertFalse((self.room / "site/with").exists())
