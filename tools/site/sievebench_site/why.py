@@ -4,7 +4,7 @@ from __future__ import annotations
 import functools
 from typing import Dict, Iterator, List, NamedTuple, Optional, Tuple
 
-from .chains import NOTHING, Bench, Flags, chained, step
+from .chains import Bench, Course, Flags, chained, step
 from .changes import ACTIONS, BRANCHES, Command, blank, commands, with_inserted
 from .ends import refuse
 from .folder import Site, User
@@ -172,7 +172,7 @@ def questions(bench: Bench, name: bytes, main: Main) -> Iterator[Question]:
             return
         yield Question(bench, name, place, flags)
         if number < len(main.scripts):
-            flags = step(bench, place, flags, {name}, {name: NOTHING}).get(name)
+            flags = step(bench, place, flags, {name}, Course([name])).get(name)
 
 
 def text_of(found: List[Answer], look: Look) -> str:
