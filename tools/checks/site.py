@@ -362,6 +362,19 @@ def of_lints(room):
     stores = b'require ["fileinto", "mailbox", "special-use", "copy"];\nfileinto :create :copy "";\nfileinto :specialuse "\\\\Junk" "\t";\n'
     write(room / "stores", {"personal/main.sieve": stores, "mains": b"main\n", "with": b"mailbox\nspecial-use\n"})
     yield run("mailboxes of stores that ask for more", room, "lint stores", lines(*(f"stores/personal/main.sieve:{line}: bad-mailbox: A mailbox can't have this name." for line in (2, 3))), status=1)
+    uses = b'require ["fileinto", "special-use", "variables"];\nfileinto :specialuse "Junk" "A";\nfileinto :specialuse "\\\\Junk" "A";\nfileinto :specialuse "${a}" "A";\nfileinto :specialuse "\\\\" "${a}";\n'
+    write(room / "uses", {"personal/main.sieve": uses, "mains": b"main\n", "with": b"special-use\n"})
+    yield run("uses of mailboxes", room, "lint uses", lines(*(f"uses/personal/main.sieve:{line}: bad-mailbox: This is no use of a mailbox: one is a backslash and a word." for line in (2, 5))), status=1)
+    boxes = b'require ["fileinto", "mailbox", "variables", "imap4flags"];\nfileinto "A";\nfileinto :create "B";\nfileinto :flags "c" "C";\nfileinto "${a}";\nfileinto "INBOX";\nif mailboxexists "A" {}\n'
+    write(room / "boxed", {"personal/main.sieve": boxes, "mains": b"main\n", "with": b"mailbox\n", "mailboxes": b"A\nB\n"})
+    missing = 'no-mailbox: No line of mailboxes is "C", and nothing makes it: the server keeps the mail in INBOX.'
+    yield run("mailboxes that nothing makes", room, "lint boxed", lines(f"boxed/personal/main.sieve:4: {missing}"))
+    write(room / "unboxed", {"personal/main.sieve": boxes, "mains": b"main\n", "with": b"mailbox\n"})
+    yield run("a question for mailboxes of which there is no list", room, "lint unboxed", lines("unboxed/personal/main.sieve:7: no-mailboxes: It asks whether a mailbox exists, and the site has no mailboxes."))
+    answers = b'require "vacation";\nvacation "away";\n'
+    write(room / "away", {**site({"1.eml": b"List-Id: <a.b>\n\n", "2.eml": b"From: a@b.example\n\n"}, main=answers), "with": b"vacation\n", "envelope": b"a@b.example c@d.example"})
+    yield run("a mail that no server answers", room, "why away 1.eml", [b'\n    away/personal/main.sieve:2: no-answer: The server doesn\'t answer this mail: it has the field "list-id: <a.b>".\n'])
+    yield run("one that servers answer", room, "why away 2.eml | grep -c server", b"0\n", status=1)
     copies = b'require ["copy", "include"];\nredirect :copy "x";\ninclude :optional "broken";\n'
     write(room / "copies", {"personal/main.sieve": copies, "personal/broken.sieve": b"\nkep;", "mains": b"main\n"})
     faults = ["broken.sieve:2: unknown-command: There is no such command or test.", "main.sieve:2: bad-address: This isn't one address.", 'main.sieve:3: invalid-script: The script personal "broken" has a fault.']

@@ -8,7 +8,7 @@ import subprocess
 import tempfile
 from typing import Dict, Iterator, List, Optional, Set
 
-from . import findings
+from . import cautions, findings
 from .code import Code
 from .ends import fail
 from .faults import SENTENCES, sentence_of, survey
@@ -16,7 +16,6 @@ from .findings import ERROR, NOTE, PLAIN, Finding, Test
 from .folder import Site, User
 from .program import Place, Program, Session
 from .shown import Look
-from .sieve_text import lines_with
 from .words import quoted
 
 SIEVEC_SAYS = re.compile(rb"line ([0-9]+): error: (.*)")
@@ -55,11 +54,9 @@ class Linted:
         """What is printed and is no fault."""
         for script, line, why in self.survey.unjudged(self.user):
             yield Finding(script.path, line, "not judged", why, NOTE)
-        if self.site.clock is None:
-            text = "It asks for the current date, and the site has no clock."
-            for place, script in self.code.scripts.items():
-                lines = lines_with(script.text, b"currentdate") if self.code.asks_for_date(place) else []
-                yield from (Finding(script.path, line, "no-clock", text, NOTE) for line in lines)
+        yield from cautions.of_scripts(self.site, self.code.sound())
+        for it in self.code.plain_stores():
+            yield from cautions.of_store(self.site, it.script.path, it.line, it.mailbox)
 
     def reached(self) -> Optional[Set[bytes]]:
         """The files of the scripts that main ones come to; nothing where none is named, or one of them has a fault."""
@@ -78,8 +75,8 @@ def include_sentence(kind: str, goal: Place) -> str:
 
 
 def action_faults(session: Session, code: Code) -> Iterator[Finding]:
-    """Redirects to a text that isn't one address, responses from one that isn't, and stores into what can be no mailbox, by running
-    each that has no variable in it."""
+    """Redirects to a text that isn't one address, responses from one that isn't, and stores into what can be no mailbox or by what can be
+    no use of one, by running each that has no variable in it."""
     place = "personal", b"\x01action"
     session.edit("message", [b"m"], b"", "a mail")
     session.edit("main personal", [place[1]], None, "the main script")
@@ -88,7 +85,7 @@ def action_faults(session: Session, code: Code) -> Iterator[Finding]:
         for line in session.report().verdicts[b"m"].lines:
             if line.text.startswith(b"error "):
                 kind = line.text.split()[-1].decode()
-                yield Finding(action.script.path, action.line, kind, SENTENCES.get(kind, kind))
+                yield Finding(action.script.path, action.line, kind, action.sentence or SENTENCES.get(kind, kind))
 
 
 def lint(site: Site, program: Program, sievec: bool) -> List[Finding]:

@@ -140,10 +140,11 @@ written. Only one record or import may write to a site at a time.""",
     "lint": """\
 Reports the first fault of each script, and what must fail: includes of scripts that are missing or
 have a fault, or that lead back; redirects to what isn't one address, responses from what isn't one,
-and stores into what no mailbox can be, if they have no variable.
+and stores into what no mailbox or special use can be, if they have no variable.
 
-Also says which scripts can't be judged, which ones no main script comes to, and where scripts ask
-for the current date if the site has no clock. These are no faults.
+Also says which scripts can't be judged, which ones no main script comes to, where scripts ask for
+the current date or for mailboxes if the site has no clock or no mailboxes, and where they store
+into a mailbox that isn't among these and isn't made. These are no faults.
 
 --sievec skips scripts that come to one that can't be judged. What sievec complains of and compiles
 all the same isn't reported.""",
@@ -176,6 +177,10 @@ before or now, is reported and not counted as changed.""",
     "why": """\
 Says of one mail's verdict which script and line entered each action, which scripts were looked up,
 and which branches the run took, in order.
+
+Also says what a server may do otherwise: it doesn't store into a mailbox that isn't there, nor
+answer a mail whose sender is empty or that a list or a program sent. And it says where scripts ask
+for a clock or mailboxes that the site doesn't have.
 
 If the run ends in an error, the command that fails is taken out to find the branches, and that is
 said. If its script may be included more than once, the branches end where the run first comes to
