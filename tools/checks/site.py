@@ -4,7 +4,7 @@ import os
 import pathlib
 import shlex
 
-from . import site_names, site_servers
+from . import site_differences, site_names, site_servers
 from .runs import Run, lines, some
 
 TOOL = pathlib.Path(__file__).resolve().parent.parent / "sievebench-site"
@@ -426,5 +426,5 @@ def of_sites(room):
     """All of them."""
     room = room / "sites"
     room.mkdir()
-    for part in (of_checks, of_spellings, of_names, of_clocks, of_refusals, of_programs, of_broken_files, of_junit, of_objects, of_records, of_lints, of_sievec, of_many, site_names.of_names, site_servers.of_servers):
+    for part in (of_checks, of_spellings, of_names, of_clocks, of_refusals, of_programs, of_broken_files, of_junit, of_objects, of_records, of_lints, of_sievec, of_many, site_names.of_names, site_servers.of_servers, site_differences.of_differences):
         yield from some(part.__name__, part(room))
