@@ -92,8 +92,15 @@ def of_spellings(room):
     write(room / "over", {"personal/.x.sieve": b"discard;", "personal/.sieve": b"kep;", "personal/x.SIEVE": b"kep;", "personal/y.sieve/x": b""})
     (room / "over/mails/5.eml").symlink_to("nowhere")
     (room / "over/mails/6.eml").symlink_to("1.eml")
-    left = ["over/mails/3.EML: left out: its name doesn't end by .eml, in small letters", "over/mails/5.eml: left out: it leads to no plain file"]
-    yield run("files that are passed over, and a link that isn't", room, "check --lax --main main --main .x over", lines(*left, counted(2, 2, 4, 1, 0, 3, 0, 0, further=["2 left out"])))
+    (room / "over/personal/z.sieve").symlink_to("nowhere")
+    (room / "over/personal/.#z.sieve").symlink_to("ada@host.1:2")
+    scripts = {"y.sieve": "it is a folder", "z.sieve": "it leads to no plain file"}
+    left = [f"over/{name}: left out: it is a folder" for name in ("personal/y.sieve", "mails/4.eml")]
+    left += [f"over/{name}: left out: it leads to no plain file" for name in ("personal/z.sieve", "mails/5.eml")]
+    left.append("over/mails/3.EML: left out: its name doesn't end by .eml, in small letters")
+    yield run("files that are passed over, and a link that isn't", room, "check --lax --main main --main .x over", lines(*left, counted(2, 2, 4, 1, 0, 3, 0, 0, further=["5 left out"])))
+    told_of = [f"over/personal/{name}:0: left-out: {why[0].upper()}{why[1:]}." for name, why in scripts.items()]
+    yield run("they are reported among scripts, too", room, "lint over | grep left-out", lines(*told_of))
     write(room / "names", {**site({"\n\x1f\x7f\x80\udcff.eml": b""}, main=b"discard;", other=b""), "mains": b"main\r\n\nother\r\nmain"})
     yield run("CR LF, an empty line and a name again among those of main scripts, and a mail of an odd name", room, "check --lax names", lines(counted(1, 2, 2, 0, 0, 2, 0, 0)))
 
@@ -137,6 +144,10 @@ def of_clocks(room):
     away = ["timed/mails/1.eml under main", '  - store "away"', '  + implicit "INBOX"', counted(*differ)]
     yield run("a clock", room, "check --strict timed", lines(counted(*agree)))
     yield run("a clock of an option", room, "check --clock 1784671200+0200 timed", lines(*away), status=1)
+    write(room / "zoneless", {**files, "clock": b"1784671199\n"})
+    yield run("a clock without a zone", room, "check --strict zoneless", lines(counted(*agree)))
+    write(room / "noon", {**files, "clock": b"1784671199\n", "personal/main.sieve": b'require ["date", "fileinto"]; if currentdate "zone" "+0000" { fileinto "away"; }'})
+    yield run("it has the zone of UTC", room, "check --strict noon", lines(counted(*agree)))
     yield run("a clock of an option without a zone", room, "check --clock=1784671200 timed", lines(counted(*agree)))
     written = lines("timed/mails/1.eml.expect: changed", "1 mails, 1 written, 0 left")
     yield run("verdicts of a clock", room, "record --clock 0-0130 timed", written)
@@ -154,12 +165,11 @@ def of_clocks(room):
     yield run("lines that ask, and words that don't", room, "lint worded", lines(f"worded/personal/main.sieve:6: {note}"))
     for number, (octets, sentence) in enumerate(
         [
-            (b"", "isn't one line SECONDS ZONE, as 1783245600 +0200"),
-            (b"1783245600\n", "isn't one line SECONDS ZONE, as 1783245600 +0200"),
-            (b"1783245600+0200\n", "isn't one line SECONDS ZONE, as 1783245600 +0200"),
-            (b"-1 +0200\n", "isn't one line SECONDS ZONE, as 1783245600 +0200"),
-            (b"1 +0200\n2 +0200\n", "isn't one line SECONDS ZONE, as 1783245600 +0200"),
-            (b"1783245600 CEST\n", "isn't one line SECONDS ZONE, as 1783245600 +0200"),
+            (b"", "isn't one line SECONDS [ZONE], as 1783245600 +0200"),
+            (b"1783245600+0200\n", "isn't one line SECONDS [ZONE], as 1783245600 +0200"),
+            (b"-1 +0200\n", "isn't one line SECONDS [ZONE], as 1783245600 +0200"),
+            (b"1 +0200\n2 +0200\n", "isn't one line SECONDS [ZONE], as 1783245600 +0200"),
+            (b"1783245600 CEST\n", "isn't one line SECONDS [ZONE], as 1783245600 +0200"),
             (b"253402300800 +0000\n", "is past 253402300799, the last second of the year 9999"),
             (b"9" * 5_000 + b" +0000\n", "is past 253402300799, the last second of the year 9999"),
             (b"1783245600 +0160\n", "has a zone with minutes past 59"),
@@ -236,6 +246,11 @@ def of_programs(room):
 
 def of_broken_files(room):
     """Files that can't be read as what they are."""
+    marked = {**site({"1.eml": b"", "1.eml.envelope": NOBODY, "1.eml.expect": b"[main]\n"}, main=b""), "with": b"mailbox\ndate\n", "mailboxes": b"A\n", "clock": b"1 +0000\n"}
+    for number, name in enumerate(["mains", "with", "mailboxes", "clock", "envelope", "mails/1.eml.envelope", "mails/1.eml.expect", "mails/1.eml.users"]):
+        write(room / f"mark{number}", {**marked, name: codecs.BOM_UTF8 + marked.get(name, b"ada\n")})
+        wrong = told(f'"mark{number}/{name}", line 1: it begins with a byte order mark, the octets EF BB BF: save it without one')
+        yield run(f"a byte order mark in {name}", room, f"check mark{number}", b"", wrong, 2)
     write(room / "touch", site({"1.eml": b"", "1.eml.envelope": b'""ada@home.example\n'}, main=b""))
     yield run("an envelope of words that touch", room, "check touch", b"", told('"touch/mails/1.eml.envelope" isn\'t two addresses, the sender\'s and the recipient\'s'), 2)
     write(room / "sender", site({"1.eml": b"", "1.eml.envelope": b'"" ' + b"a" * 1_020 + b"@b.example"}, main=b""))
@@ -392,6 +407,9 @@ def of_lints(room):
     write(room / "clean", {"personal/main.sieve": b"keep;", "personal/.x.sieve": b"keep;"})
     yield run("no faults", room, "lint clean")
     write(room / "marked", {"personal/main.sieve": codecs.BOM_UTF8 + b"keep;", "personal/other.sieve": b"keep;\n" + codecs.BOM_UTF8, "mains": b"main\nother\n"})
+    for name, mark, told_of in (("wide", codecs.BOM_UTF16_LE, "FF FE"), ("turned", codecs.BOM_UTF16_BE, "FE FF")):
+        write(room / name, {"personal/main.sieve": mark + b"k\0e\0e\0p\0;\0", "mains": b"main\n"})
+        yield run(f"a byte order mark, {name}", room, f"lint {name}", lines(f"{name}/personal/main.sieve:1: syntax: The file begins with a byte order mark, the octets {told_of}: save it as UTF-8 and without one."), status=1)
     faults = ["main.sieve:1: syntax: The file begins with a byte order mark, the octets EF BB BF: save it without one.", "other.sieve:2: syntax: What stands here can't follow what stands before it, or the text ends too early."]
     yield run("a byte order mark", room, "lint marked", lines(*(f"marked/personal/{fault}" for fault in faults)), status=1)
     write(room / "twice", {"personal/main.sieve": b'redirect "x"; redirect "x";', "mains": b"main\n"})

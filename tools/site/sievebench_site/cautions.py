@@ -11,7 +11,9 @@ from .findings import NOTE, Finding
 from .folder import Site, User
 from .mains import Script
 from .program import Line, Verdict
+from .recognized import remark_on
 from .sieve_text import lines_with
+from .texts import mark_of
 from .words import lines_of, quoted, unquoted
 
 ANY = re.compile(b".*", re.S)
@@ -62,6 +64,12 @@ def of_verdict(site: Site, user: User, verdict: Verdict, why_unanswered: Optiona
             yield from [] if asks else of_store(site, path, number, unquoted(words[1]))
         elif line.text.startswith(b"vacation ") and why_unanswered:
             yield Finding(path, number, "no-answer", f"The server doesn't answer this mail: {why_unanswered}.", NOTE)
+
+
+def of_mail(path: bytes, octets: bytes) -> Iterator[Finding]:
+    """What is said of the octets of a mail."""
+    if mark_of(octets):
+        yield Finding(path, 1, "byte-order-mark", f"It {remark_on(octets)}.", NOTE)
 
 
 def entered_by(user: User, line: Line) -> Tuple[bytes, int]:

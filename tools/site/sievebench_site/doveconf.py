@@ -6,7 +6,7 @@ import re
 from typing import Dict, List, NamedTuple, Tuple
 
 from .ends import refuse
-from .files import octets_of
+from .texts import text_of
 from .words import lines_of, quoted
 
 SETTING = re.compile(rb"([^\s={}#\"]+) =(?: (.*))?")
@@ -35,7 +35,7 @@ def settings_in(path: bytes) -> List[Setting]:
     """The settings of a file, in its order; refused where it isn't what doveconf prints."""
     found: List[Setting] = []
     blocks: List[Block] = []
-    for number, line in enumerate(lines_of(octets_of(path)), 1):
+    for number, line in enumerate(lines_of(text_of(path)), 1):
         text = line.strip()
         setting = SETTING.fullmatch(text)
         if not text or text.startswith(b"#"):

@@ -2,13 +2,13 @@
 
 from __future__ import annotations
 
-import codecs
 from typing import Dict, Iterable, List, NamedTuple, Optional, Tuple
 
 from .folder import User
 from .mains import Script
 from .program import Fault, Place, Session
 from .sieve_text import required
+from .texts import mark_of
 from .words import quoted
 
 # What each fault of a script means, and each error of a run that `lint` looks for.
@@ -106,6 +106,7 @@ def unknown_of(session: Session, names: List[bytes]) -> List[bytes]:
 
 def sentence_of(script: Script, line: int, word: str) -> str:
     """What a fault of a script means."""
-    if (line, word) == (1, "syntax") and script.text.startswith(codecs.BOM_UTF8):
-        return "The file begins with a byte order mark, the octets EF BB BF: save it without one."
+    mark = mark_of(script.text)
+    if (line, word) == (1, "syntax") and mark:
+        return f"The file begins with {mark.advice()}."
     return SENTENCES.get(word, "a fault")

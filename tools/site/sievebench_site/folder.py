@@ -7,11 +7,12 @@ from typing import List, NamedTuple, Optional, Set
 
 from .clock import clock_in
 from .ends import Refusal, refuse
-from .files import names_in, octets_if_any
-from .mails import LeftOut, Mail, lost_in, mail_at, mail_names, passed_over, too_large
-from .mains import Main, Script, Shelf, lines_in, scripts_in
+from .files import names_in
+from .mails import LeftOut, Mail, lost_in, mail_at, mail_names, no_files, passed_over, too_large
+from .mains import SCRIPT_END, Main, Script, Shelf, lines_in, scripts_in
 from .names import names_asked
 from .program import Place
+from .texts import text_if_any
 from .words import quoted
 
 
@@ -60,18 +61,27 @@ def site_of(wanted: Wanted) -> Site:
     """The site but for its mails."""
     folder = wanted.folder
     asking = os.path.join(folder, b"with")
-    names = names_asked(asking, octets_if_any(asking))
+    names = names_asked(asking, text_if_any(asking))
     users = users_of(wanted)
     site = Site(wanted, names, boxes_in(folder, names), clock_in(folder, names, wanted.clock), users, [], [])
     unread = os.path.join(folder, b"personal")
     if users[0].name and os.path.lexists(unread):
         site.left_out.append((unread, "each user of the site has scripts of his or her own"))
+    site.left_out.extend(no_scripts(folder, users))
     return site
+
+
+def no_scripts(folder: bytes, users: List[User]) -> List[LeftOut]:
+    """What has the name of a script and is no file, as a broken link."""
+    folders = {os.path.dirname(script.path) for script in users[0].scripts}
+    folders.update(os.path.join(user.home, b"personal") for user in users)
+    folders.add(os.path.join(folder, b"global"))
+    return [it for path in sorted(folders) if os.path.isdir(path) for it in no_files(path, SCRIPT_END)]
 
 
 def boxes_in(folder: bytes, names: List[bytes]) -> bytes:
     """The list of the mailboxes that there are, which only a site that asks for it has."""
-    return octets_if_any(os.path.join(folder, b"mailboxes")) if b"mailbox" in names else b""
+    return text_if_any(os.path.join(folder, b"mailboxes")) if b"mailbox" in names else b""
 
 
 def user_names(wanted: Wanted) -> List[bytes]:

@@ -101,7 +101,8 @@ def lint(site: Site, program: Program, sievec: bool) -> List[Finding]:
         others += sievec_differences(site, linted) if sievec else []
         notes += linted.notes()
         reached.append(linted.reached())
-    return [*sorted(faults), *dict.fromkeys(others), *dict.fromkeys(notes), *unreached(site, reached)]
+    left_out = [Finding(path, 0, "left-out", f"{why[0].upper()}{why[1:]}.", NOTE) for path, why in site.left_out]
+    return [*sorted(faults), *dict.fromkeys(others), *dict.fromkeys(notes), *unreached(site, reached), *left_out]
 
 
 def unreached(site: Site, reached: List[Optional[Set[bytes]]]) -> Iterator[Finding]:

@@ -9,7 +9,8 @@ from typing import FrozenSet, List, NamedTuple, Optional, Tuple
 from .ends import refuse
 from .envelopes import Envelope, envelope_if_any
 from .expected import Blocks, blocks_of
-from .files import files_in, is_plain, names_in, octets_of, size_of
+from .files import files_in, is_plain, names_in, size_of
+from .texts import text_of
 from .words import MESSAGE_LIMIT, quoted, unquoted, words_in
 
 # What may stand beside a mail.
@@ -43,7 +44,7 @@ def mail_at(folder: bytes, name: bytes, user: bytes) -> Mail:
     """A mail, with what stands beside it. One of a user's own has the user's name before its own."""
     path = os.path.join(folder, name)
     expect = path + b".expect"
-    expected = octets_of(expect) if os.path.lexists(expect) else None
+    expected = text_of(expect) if os.path.lexists(expect) else None
     blocks = blocks_of(expect, expected) if expected is not None else {}
     envelope = envelope_if_any(path + b".envelope")
     return Mail(path, user + b"/" + name if user else name, size_of(path), envelope, users_of(path), expected, blocks)
@@ -54,7 +55,7 @@ def users_of(path: bytes) -> Optional[FrozenSet[bytes]]:
     place = path + b".users"
     if not os.path.lexists(place):
         return None
-    words = words_in(octets_of(place))
+    words = words_in(text_of(place))
     if not words:
         refuse(f"{quoted(place)} names no users: it has their names, with blanks or line ends between them")
     return frozenset(unquoted(word) for word in words)
@@ -72,11 +73,22 @@ def passed_over(folder: bytes) -> List[LeftOut]:
     found: List[LeftOut] = []
     for place, folders, names in os.walk(folder):
         folders.sort()
+        found += no_files(place, b".eml", folders)
         for name in sorted(names):
             path = os.path.join(place, name)
             why = why_not(path, place != folder) if looks_like_mail(name) else None
             if why:
                 found.append((path, why))
+    return found
+
+
+def no_files(folder: bytes, end: bytes, names: Optional[List[bytes]] = None) -> List[LeftOut]:
+    """What in a folder has a name with this end, be it among these names, and leads to no plain file, and why it is left out."""
+    found = []
+    for name in names_in(folder) if names is None else names:
+        path = os.path.join(folder, name)
+        if name.endswith(end) and not name.startswith(b".") and not is_plain(path):
+            found.append((path, "it is a folder" if os.path.isdir(path) else "it leads to no plain file"))
     return found
 
 

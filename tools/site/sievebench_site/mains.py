@@ -9,6 +9,7 @@ from .ends import refuse
 from .expected import Key
 from .files import files_in, is_plain, octets_of
 from .program import Place
+from .texts import text_of
 from .words import lines_of, quoted, unquoted, words_of
 
 SCRIPT_END = b".sieve"
@@ -99,6 +100,6 @@ def scripts_in(place: str, prefix: bytes, folder: bytes) -> List[Script]:
 
 def lines_in(path: bytes) -> Iterator[bytes]:
     """The lines of a file of main scripts that aren't empty and no comments."""
-    for line in lines_of(octets_of(path)):
+    for line in lines_of(text_of(path)):
         if line.strip() and words_of(line) != []:
             yield line

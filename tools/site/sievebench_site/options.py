@@ -45,8 +45,9 @@ Files of a site:
                            are. May be missing
   mailboxes                if with has mailbox: the mailboxes that exist, one a line; may be missing
   clock                    if with has date: the current time, one line of seconds since 1970-01-01
-                           UTC and a zone, as 1783245600 +0200. The zone is also that of dates
-                           that are shown without :zone and :originalzone. May be missing
+                           UTC and a zone, as 1783245600 +0200; without a zone it is +0000. The
+                           zone is also that of dates that are shown without :zone and
+                           :originalzone. May be missing
   envelope                 two words, the sender and the recipient of mails without their own, as
                            eva@a.example ada@b.example; \"\" is an empty one. May be missing, and
                            then both are empty, as the sender of a bounce

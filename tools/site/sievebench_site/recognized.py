@@ -2,7 +2,6 @@
 
 from __future__ import annotations
 
-import codecs
 import os
 import re
 from typing import Optional
@@ -10,6 +9,7 @@ from typing import Optional
 from .ends import refuse
 from .envelopes import fields_of
 from .files import is_plain, names_in, reading
+from .texts import mark_of
 from .words import quoted
 
 # What packs a file so that it begins like this, and how others begin that are no mails.
@@ -40,8 +40,9 @@ def why_no_mail(octets: bytes) -> Optional[str]:
 
 def remark_on(octets: bytes) -> Optional[str]:
     """What is odd about a mail that is taken."""
-    if octets.startswith(codecs.BOM_UTF8):
-        return "begins with a byte order mark, the octets EF BB BF, so that its first line is no field"
+    mark = mark_of(octets)
+    if mark:
+        return f"begins with a byte order mark, the octets {mark.octets}, so that its first line is no field"
     return None if fields_of(octets) else "has no field: is it a mail?"
 
 

@@ -175,7 +175,7 @@ def cautions_of(judge: Judge, user: User, mail: Mail, verdict: Verdict) -> List[
     why = cautions.why_no_answer(judge.envelope_of(mail, octets), octets)
     scripts = [script for script in user.scripts if script.at() in seen]
     found = [*cautions.of_verdict(judge.site, user, verdict, why), *cautions.of_scripts(judge.site, scripts)]
-    return list(dict.fromkeys(found))
+    return list(dict.fromkeys([*cautions.of_mail(mail.path, octets), *found]))
 
 
 def questions(bench: Bench, name: bytes, main: Main) -> Iterator[Question]:
