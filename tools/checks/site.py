@@ -4,7 +4,6 @@ import os
 import pathlib
 import shlex
 
-from . import site_differences, site_names, site_servers
 from .runs import Run, lines, some
 
 TOOL = pathlib.Path(__file__).resolve().parent.parent / "sievebench-site"
@@ -124,12 +123,6 @@ def of_names(room):
     yield run("a list of mailboxes that isn't asked for", room, "check nobody", lines(counted(1, 1, 1, 1, 0, 0, 0, 0)))
     write(room / "misnamed", {**files, "with": b"sub address\n"})
     yield run("a name that there isn't", room, "check misnamed", b"", told('"misnamed/with", line 1: "sub address" can\'t be asked for: did you mean subaddress?'), 2)
-    of_set = b'require ["vacation", "comparator-i;ascii-numeric", "relational"]; if header :value "gt" :comparator "i;ascii-numeric" "x" "9" { discard; }'
-    files = {**site({"1.eml": b"X: 10\n\n", "1.eml.expect": b"[main]\ndiscard\n"}, main=of_set), "with": b"pigeonhole\n"}
-    write(room / "set", files)
-    yield run("a set of names", room, "check --strict set", lines(counted(1, 1, 1, 1, 0, 0, 0, 0)))
-    write(room / "whole", {**files, "with": b"all", "personal/main.sieve": b'require ["special-use", "ereject", "none"]; discard;'})
-    yield run("all names", room, "check --strict whole", lines(counted(1, 1, 1, 1, 0, 0, 0, 0)))
 
 
 def of_clocks(room):
@@ -144,10 +137,6 @@ def of_clocks(room):
     away = ["timed/mails/1.eml under main", '  - store "away"', '  + implicit "INBOX"', counted(*differ)]
     yield run("a clock", room, "check --strict timed", lines(counted(*agree)))
     yield run("a clock of an option", room, "check --clock 1784671200+0200 timed", lines(*away), status=1)
-    write(room / "zoneless", {**files, "clock": b"1784671199\n"})
-    yield run("a clock without a zone", room, "check --strict zoneless", lines(counted(*agree)))
-    write(room / "noon", {**files, "clock": b"1784671199\n", "personal/main.sieve": b'require ["date", "fileinto"]; if currentdate "zone" "+0000" { fileinto "away"; }'})
-    yield run("it has the zone of UTC", room, "check --strict noon", lines(counted(*agree)))
     yield run("a clock of an option without a zone", room, "check --clock=1784671200 timed", lines(counted(*agree)))
     written = lines("timed/mails/1.eml.expect: changed", "1 mails, 1 written, 0 left")
     yield run("verdicts of a clock", room, "record --clock 0-0130 timed", written)
@@ -246,11 +235,6 @@ def of_programs(room):
 
 def of_broken_files(room):
     """Files that can't be read as what they are."""
-    marked = {**site({"1.eml": b"", "1.eml.envelope": NOBODY, "1.eml.expect": b"[main]\n"}, main=b""), "with": b"mailbox\ndate\n", "mailboxes": b"A\n", "clock": b"1 +0000\n"}
-    for number, name in enumerate(["mains", "with", "mailboxes", "clock", "envelope", "mails/1.eml.envelope", "mails/1.eml.expect", "mails/1.eml.users"]):
-        write(room / f"mark{number}", {**marked, name: codecs.BOM_UTF8 + marked.get(name, b"ada\n")})
-        wrong = told(f'"mark{number}/{name}", line 1: it begins with a byte order mark, the octets EF BB BF: save it without one')
-        yield run(f"a byte order mark in {name}", room, f"check mark{number}", b"", wrong, 2)
     write(room / "touch", site({"1.eml": b"", "1.eml.envelope": b'""ada@home.example\n'}, main=b""))
     yield run("an envelope of words that touch", room, "check touch", b"", told('"touch/mails/1.eml.envelope" isn\'t two addresses, the sender\'s and the recipient\'s'), 2)
     write(room / "sender", site({"1.eml": b"", "1.eml.envelope": b'"" ' + b"a" * 1_020 + b"@b.example"}, main=b""))
@@ -377,19 +361,6 @@ def of_lints(room):
     stores = b'require ["fileinto", "mailbox", "special-use", "copy"];\nfileinto :create :copy "";\nfileinto :specialuse "\\\\Junk" "\t";\n'
     write(room / "stores", {"personal/main.sieve": stores, "mains": b"main\n", "with": b"mailbox\nspecial-use\n"})
     yield run("mailboxes of stores that ask for more", room, "lint stores", lines(*(f"stores/personal/main.sieve:{line}: bad-mailbox: A mailbox can't have this name." for line in (2, 3))), status=1)
-    uses = b'require ["fileinto", "special-use", "variables"];\nfileinto :specialuse "Junk" "A";\nfileinto :specialuse "\\\\Junk" "A";\nfileinto :specialuse "${a}" "A";\nfileinto :specialuse "\\\\" "${a}";\n'
-    write(room / "uses", {"personal/main.sieve": uses, "mains": b"main\n", "with": b"special-use\n"})
-    yield run("uses of mailboxes", room, "lint uses", lines(*(f"uses/personal/main.sieve:{line}: bad-mailbox: This is no use of a mailbox: one is a backslash and a word." for line in (2, 5))), status=1)
-    boxes = b'require ["fileinto", "mailbox", "variables", "imap4flags"];\nfileinto "A";\nfileinto :create "B";\nfileinto :flags "c" "C";\nfileinto "${a}";\nfileinto "INBOX";\nif mailboxexists "A" {}\n'
-    write(room / "boxed", {"personal/main.sieve": boxes, "mains": b"main\n", "with": b"mailbox\n", "mailboxes": b"A\nB\n"})
-    missing = 'no-mailbox: No line of mailboxes is "C", and nothing makes it: the server keeps the mail in INBOX.'
-    yield run("mailboxes that nothing makes", room, "lint boxed", lines(f"boxed/personal/main.sieve:4: {missing}"))
-    write(room / "unboxed", {"personal/main.sieve": boxes, "mains": b"main\n", "with": b"mailbox\n"})
-    yield run("a question for mailboxes of which there is no list", room, "lint unboxed", lines("unboxed/personal/main.sieve:7: no-mailboxes: It asks whether a mailbox exists, and the site has no mailboxes."))
-    answers = b'require "vacation";\nvacation "away";\n'
-    write(room / "away", {**site({"1.eml": b"List-Id: <a.b>\n\n", "2.eml": b"From: a@b.example\n\n"}, main=answers), "with": b"vacation\n", "envelope": b"a@b.example c@d.example"})
-    yield run("a mail that no server answers", room, "why away 1.eml", [b'\n    away/personal/main.sieve:2: no-answer: The server doesn\'t answer this mail: it has the field "list-id: <a.b>".\n'])
-    yield run("one that servers answer", room, "why away 2.eml | grep -c server", b"0\n", status=1)
     copies = b'require ["copy", "include"];\nredirect :copy "x";\ninclude :optional "broken";\n'
     write(room / "copies", {"personal/main.sieve": copies, "personal/broken.sieve": b"\nkep;", "mains": b"main\n"})
     faults = ["broken.sieve:2: unknown-command: There is no such command or test.", "main.sieve:2: bad-address: This isn't one address.", 'main.sieve:3: invalid-script: The script personal "broken" has a fault.']
@@ -407,9 +378,6 @@ def of_lints(room):
     write(room / "clean", {"personal/main.sieve": b"keep;", "personal/.x.sieve": b"keep;"})
     yield run("no faults", room, "lint clean")
     write(room / "marked", {"personal/main.sieve": codecs.BOM_UTF8 + b"keep;", "personal/other.sieve": b"keep;\n" + codecs.BOM_UTF8, "mains": b"main\nother\n"})
-    for name, mark, told_of in (("wide", codecs.BOM_UTF16_LE, "FF FE"), ("turned", codecs.BOM_UTF16_BE, "FE FF")):
-        write(room / name, {"personal/main.sieve": mark + b"k\0e\0e\0p\0;\0", "mains": b"main\n"})
-        yield run(f"a byte order mark, {name}", room, f"lint {name}", lines(f"{name}/personal/main.sieve:1: syntax: The file begins with a byte order mark, the octets {told_of}: save it as UTF-8 and without one."), status=1)
     faults = ["main.sieve:1: syntax: The file begins with a byte order mark, the octets EF BB BF: save it without one.", "other.sieve:2: syntax: What stands here can't follow what stands before it, or the text ends too early."]
     yield run("a byte order mark", room, "lint marked", lines(*(f"marked/personal/{fault}" for fault in faults)), status=1)
     write(room / "twice", {"personal/main.sieve": b'redirect "x"; redirect "x";', "mains": b"main\n"})
@@ -444,5 +412,5 @@ def of_sites(room):
     """All of them."""
     room = room / "sites"
     room.mkdir()
-    for part in (of_checks, of_spellings, of_names, of_clocks, of_refusals, of_programs, of_broken_files, of_junit, of_objects, of_records, of_lints, of_sievec, of_many, site_names.of_names, site_servers.of_servers, site_differences.of_differences):
+    for part in (of_checks, of_spellings, of_names, of_clocks, of_refusals, of_programs, of_broken_files, of_junit, of_objects, of_records, of_lints, of_sievec, of_many):
         yield from some(part.__name__, part(room))

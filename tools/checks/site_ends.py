@@ -10,6 +10,7 @@ import subprocess
 import sys
 import time
 
+from . import site_cautions
 from .runs import SECONDS, LeftOut, Run, lines, some
 from .site import PACK, TOOL, counted, run, site, told, write
 
@@ -192,5 +193,5 @@ def of_sites(room):
     """All of them."""
     room = room / "ends of sites"
     room.mkdir()
-    for part in (of_ends, of_colours, of_sizes, of_imports, of_servers):
+    for part in (of_ends, of_colours, of_sizes, of_imports, of_servers, site_cautions.of_sites):
         yield from some(part.__name__, part(room))
