@@ -7,15 +7,17 @@ import re
 from typing import Dict, List, NamedTuple, Optional
 
 from .doveconf import Setting, alone
+from .ends import refuse
 from .files import files_in, is_plain, octets_of
 from .mains import SCRIPT_END
 from .templates import Piece, Template, pattern_of, template_of
+from .words import quoted
 
 # Where Pigeonhole looks for scripts if no setting says it.
 USUAL_SCRIPTS, USUAL_ACTIVE = b"~/sieve", b"~/.dovecot.sieve"
 # The script of a user who has one alone.
 ALONE = b"main"
-# Each user has a folder like this one.
+# A place with what kind it is.
 KIND = re.compile(rb"([a-z]+):(.*)", re.S)
 
 
@@ -24,6 +26,9 @@ class Location(NamedTuple):
 
     path: bytes
     active: Optional[bytes]
+
+
+USUAL = Location(USUAL_SCRIPTS, USUAL_ACTIVE)
 
 
 class Account(NamedTuple):
@@ -53,7 +58,7 @@ def location_of(value: bytes) -> Optional[Location]:
 def personal_of(plugins: Dict[str, Setting]) -> Optional[Location]:
     """Where users' scripts are; none where it is no folder."""
     if "sieve" not in plugins:
-        return Location(USUAL_SCRIPTS, USUAL_ACTIVE)
+        return USUAL
     found = location_of(plugins["sieve"].value)
     if found and not found.active and found.path.endswith(SCRIPT_END):
         folder = plugins["sieve_dir"].value if "sieve_dir" in plugins else USUAL_SCRIPTS
@@ -76,14 +81,14 @@ def home_of(settings: List[Setting]) -> Optional[Template]:
 
 
 def accounts_of(settings: List[Setting], personal: Location) -> Optional[List[Account]]:
-    """The users that the settings lead to; none where these don't say where users are."""
+    """The users to whom the settings lead; none where they don't."""
     home = home_of(settings)
     scripts, active = (template_of(path or b"", home) for path in personal)
     folders = home or scripts
     if scripts is None or active is None or folders is None or not (folders.has_user() and scripts.has_user()):
         return None
     names = [name for name, path in folders.users() if is_user(path)]
-    return [Account(name, scripts.filled(name), active.filled(name)) for name in names]
+    return [Account(name, scripts.filled(name), active.filled(name)) for name in names] or None
 
 
 def accounts_under(pattern: bytes, personal: Location) -> List[Account]:
@@ -98,6 +103,8 @@ def accounts_under(pattern: bytes, personal: Location) -> List[Account]:
         home = scripts[: -len(own)] if scripts.endswith(own) else folder
         active = template_of(personal.active or USUAL_ACTIVE, Template((Piece(home),)))
         found.append(Account(name, scripts, active.filled(name) if active else b""))
+    if not found:
+        refuse(f"--users {quoted(pattern)}: there are no such folders")
     return found
 
 

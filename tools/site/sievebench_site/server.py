@@ -7,7 +7,7 @@ import os
 import re
 from typing import Dict, Iterator, List, NamedTuple, Optional, Tuple
 
-from .accounts import Account, accounts_of, accounts_under, free_name, holding_of, location_of, personal_of
+from .accounts import USUAL, Account, accounts_of, accounts_under, free_name, holding_of, location_of, personal_of
 from .doveconf import Setting, alone, plugins_of, settings_in
 from .extensions import Extensions
 from .filling import Filling, make_folder
@@ -47,10 +47,10 @@ class Server:
         """The users, where it is known where they are."""
         personal = personal_of(self.plugins)
         if personal is None:
-            return None
+            self.tell(self.plugins["sieve"], "not taken: its scripts are no files")
         if self.pattern is not None:
-            return accounts_under(self.pattern, personal)
-        return accounts_of(self.settings, personal)
+            return accounts_under(self.pattern, personal or USUAL)
+        return accounts_of(self.settings, personal) if personal else None
 
     def take(self) -> List[str]:
         """Fills the site, and gives what is told."""
@@ -71,13 +71,15 @@ class Server:
     def stage(self, folder: bytes, name: str) -> List[bytes]:
         """Takes the scripts of the settings of a name and of the numbers after it, and gives what they are called in a line."""
         taken: Dict[bytes, bytes] = {}
+        names: List[bytes] = []
         for setting in numbered(self.plugins, name):
             for stem, path in self.scripts_of(setting):
                 octets = octets_of(path)
                 own = free_name(taken, stem, octets)
                 taken[own] = octets
                 self.filling.put(folder + b"/" + own + SCRIPT_END, octets, path)
-        return [folder + b"/" + own for own in taken]
+                names.append(folder + b"/" + own)
+        return names
 
     def default(self) -> List[bytes]:
         """The script of users who have none, if there is one."""

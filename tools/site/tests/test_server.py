@@ -148,6 +148,20 @@ class Made(Room):
             (self.room / "site/mains").read_text(), "before/10-a before/20-b before/10-a-2 own after/90-z\n"
         )
 
+    def test_a_script_that_runs_twice(self) -> None:
+        text = (self.room / "conf").read_text().replace("/spam.sieve", "/before.d/10-a.sieve")
+        self.write({"conf": text})
+        self.ran("import", "--doveconf", "conf", "site")
+        self.assertEqual((self.room / "site/mains").read_text(), "before/10-a before/20-b before/10-a own after/90-z\n")
+
+    def test_users_scripts_that_are_no_files(self) -> None:
+        text = (self.room / "conf").read_text().replace("file:~/sieve;active=~/.dovecot.sieve", "ldap:/x")
+        self.write({"conf": text})
+        for words in ((), ("--users", "vmail/a.example/*/sieve")):
+            told = self.ran("import", "--doveconf", "conf", *words, f"site{len(words)}")[1]
+            self.assertIn("conf:12: sieve: not taken: its scripts are no files", told)
+        self.assertEqual(sorted(os.listdir(self.room / "site2/users")), ["ada", "bob", "eva", "lea"])
+
     def test_users_that_are_not_known(self) -> None:
         text = (self.room / "conf").read_text().replace("driver = static", "driver = passwd")
         self.write({"conf": text})
@@ -186,6 +200,7 @@ class Made(Room):
             (("--users", "", "site"), f'--users "" {star}'),
             (("--users", "a/*/*/*", "site"), f'--users "a/*/*/*" {star}'),
             (("--users", "a/x*/sieve", "site"), f'--users "a/x*/sieve" {star}'),
+            (("--users", "gone/*/sieve", "site"), '--users "gone/*/sieve": there are no such folders'),
             (("--doveconf", "gone", "site"), 'cannot read "gone": No such file or directory'),
             (("--doveconf", "conf"), "mailboxes or files are wanted, and then the site; see --help"),
             (("--doveconf", "conf", "file"), 'cannot write "file": File exists'),
