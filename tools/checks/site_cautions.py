@@ -54,6 +54,8 @@ def of_cautions(room):
     write(room / "away", {**site({"1.eml": b"List-Id: <a.b>\n\n", "2.eml": b"From: a@b.example\n\n"}, main=answers), "with": b"vacation\n", "envelope": b"a@b.example c@d.example"})
     yield run("a mail that no server answers", room, "why away 1.eml", [b'\n    away/personal/main.sieve:2: no-answer: The server doesn\'t answer this mail: it has the field "list-id: <a.b>".\n'])
     yield run("one that servers answer", room, "why away 2.eml | grep -c server", b"0\n", status=1)
+    yield run("verdicts with answers are written", room, "record -q away")
+    yield run("an answer is expected that no server sends", room, "lint away", lines('away/mails/1.eml.expect:2: no-answer: The server doesn\'t answer this mail: it has the field "list-id: <a.b>".'))
 
 
 def of_sites(room):

@@ -63,7 +63,12 @@ def of_verdict(site: Site, user: User, verdict: Verdict, why_unanswered: Optiona
             words, _, asks = store_parts(line.text)
             yield from [] if asks else of_store(site, path, number, unquoted(words[1]))
         elif line.text.startswith(b"vacation ") and why_unanswered:
-            yield Finding(path, number, "no-answer", f"The server doesn't answer this mail: {why_unanswered}.", NOTE)
+            yield no_answer(path, number, why_unanswered)
+
+
+def no_answer(path: bytes, line: int, why: str) -> Finding:
+    """What is said of a response that isn't sent."""
+    return Finding(path, line, "no-answer", f"The server doesn't answer this mail: {why}.", NOTE)
 
 
 def of_mail(path: bytes, octets: bytes) -> Iterator[Finding]:

@@ -9,6 +9,7 @@ import tempfile
 from typing import Dict, Iterator, List, Optional, Set
 
 from . import cautions, findings
+from .answers import expected_answers
 from .code import Code
 from .ends import fail
 from .faults import SENTENCES, sentence_of, survey
@@ -101,6 +102,7 @@ def lint(site: Site, program: Program, sievec: bool) -> List[Finding]:
         others += sievec_differences(site, linted) if sievec else []
         notes += linted.notes()
         reached.append(linted.reached())
+    notes += expected_answers(site)
     left_out = [Finding(path, 0, "left-out", f"{why[0].upper()}{why[1:]}.", NOTE) for path, why in site.left_out]
     return [*sorted(faults), *dict.fromkeys(others), *dict.fromkeys(notes), *unreached(site, reached), *left_out]
 

@@ -144,8 +144,9 @@ have a fault, or that lead back; redirects to what isn't one address, responses 
 and stores into what no mailbox or special use can be, if they have no variable.
 
 Also says which scripts can't be judged, which ones no main script comes to, where scripts ask for
-the current date or for mailboxes if the site has no clock or no mailboxes, and where they store
-into a mailbox that isn't among these and isn't made. These are no faults.
+the current date or for mailboxes if the site has no clock or no mailboxes, where they store into a
+mailbox that isn't among these and isn't made, and where an answer is expected of a mail that no
+server answers. These are no faults.
 
 --sievec skips scripts that come to one that can't be judged. What sievec complains of and compiles
 all the same isn't reported.""",

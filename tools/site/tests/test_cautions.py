@@ -7,7 +7,7 @@ from sievebench_site.envelopes import Envelope
 from sievebench_site.folder import Site, Wanted
 from sievebench_site.mains import Script
 
-from .room import Room
+from .room import Files, Room
 
 ADA = Envelope(b"a@b.example", b"c@d.example")
 
@@ -89,6 +89,40 @@ class Cautions(Room):
         ]
         for made, wanted in rows:
             self.assertEqual([(it.line, it.text) for it in of_scripts(made, [script])], wanted)
+
+    def test_answers_that_are_expected(self) -> None:
+        self.write({"personal/main.sieve": 'require "vacation"; keep;', "mains": "main\n", "with": "pigeonhole\n"})
+        answer = '[main]\n# away\nvacation "away"\nimplicit "INBOX"\n'
+        mails = {
+            "list": "List-Id: <a.b>",
+            "person": "From: a@b.example",
+            "bounce": "From: a@b.example",
+            "other": "List-Id: <a.b>",
+        }
+        self.write({f"mails/{name}.eml": f"{field}\n\n" for name, field in mails.items()})
+        self.write({f"mails/{name}.eml.expect": answer for name in ("list", "person", "bounce")})
+        self.write({"mails/bounce.eml.envelope": "<> c@d.example", "envelope": "a@b.example c@d.example"})
+        self.write({"mails/other.eml.expect": "[main]\ndiscard\n"})
+        said = "no-answer: The server doesn't answer this mail:"
+        wanted = [
+            f"./mails/bounce.eml.expect:3: {said} its sender is empty.",
+            f'./mails/list.eml.expect:3: {said} it has the field "list-id: <a.b>".',
+        ]
+        self.assertEqual(self.ran("lint", "."), (0, wanted, ""))
+        self.write({"personal/main.sieve": "keep;"})
+        self.assertEqual(self.ran("lint", "."), (0, [], ""))
+
+    def test_answers_of_users(self) -> None:
+        files: Files = {
+            "users/ada/personal/main.sieve": 'require "vacation"; keep;',
+            "mains": "main\n",
+            "with": "vacation\n",
+        }
+        self.write({**files, "users/ada/mails/1.eml": "Precedence: bulk\n\n"})
+        self.write({"users/ada/mails/1.eml.expect/ada": '[ada/main]\nvacation "away"\n'})
+        self.assertEqual(
+            [line.split(": ")[0] for line in self.ran("lint", ".")[1]], ["./users/ada/mails/1.eml.expect/ada:2"]
+        )
 
     def test_in_an_answer(self) -> None:
         script = 'require "fileinto"; fileinto "Gone"; if false { currentdate "year" "1"; }'
