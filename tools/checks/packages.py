@@ -15,7 +15,7 @@ TOP = pathlib.Path(__file__).resolve().parent.parent.parent
 VERSION = re.search(r"^## \[(\S+)\]", (TOP / "CHANGELOG.md").read_text(encoding="utf-8"), re.M)[1]
 NEXT = f"{VERSION[:-1]}{(int(VERSION[-1]) + 1) % 10}"
 COMMANDS = "crates/command_line/src/commands.rt"
-PARTS = ["CHANGELOG.md", "README.md", "docs", "examples", "tools", COMMANDS]
+PARTS = ["CHANGELOG.md", "CONTRIBUTING.md", "README.md", "docs", "examples", "tools", COMMANDS]
 # The versions have as many octets, so that one can stand for the other in a program.
 HANDS_ON = rf"""#!/bin/sh
 mkdir -p out
@@ -115,6 +115,9 @@ def of_made(room):
     unpacked = "mkdir p && tar -C p --strip-components=1 -xf out/*.tar.gz && p/bin/sievebench-site check p/share/doc/sievebench/examples/site; find p -type f -perm /022; ls p p/share/man/*"
     pages = ["p/share/man/man1:", "sievebench-site.1.gz", "sievebench.1.gz", "", "p/share/man/man5:", "sievebench-session.5.gz"]
     yield Run("the archive over a prefix", one, f"LC_ALL=C; export LC_ALL; {unpacked}", lines(SITE, "p:", "bin", "share", "", *pages))
+    named = r"cd p/share/doc/sievebench && grep -oE '\b(docs/\w+\.\w+|[A-Z]+\.md|examples[a-z./]*[a-z])' README.md | sort -u > ../named; xargs -n 1 test -e < ../named && grep -c docs/ ../named"
+    of_readme = len(set(re.findall(r"\bdocs/\w+\.\w+", (TOP / "README.md").read_text(encoding="utf-8"))))
+    yield Run("the documents and examples that the README of a package names are there", one, named, lines(str(of_readme)))
     completes = f"{COMPLETES} p/share/bash-completion/completions/sievebench"
     for words, wanted in [
         ("p/bin/sievebench d", ["dump"]),

@@ -91,8 +91,15 @@ def of_spellings(room):
     write(room / "over", {"personal/.x.sieve": b"discard;", "personal/.sieve": b"kep;", "personal/x.SIEVE": b"kep;", "personal/y.sieve/x": b""})
     (room / "over/mails/5.eml").symlink_to("nowhere")
     (room / "over/mails/6.eml").symlink_to("1.eml")
-    left = ["over/mails/3.EML: left out: its name doesn't end by .eml, in small letters", "over/mails/5.eml: left out: it leads to no plain file"]
-    yield run("files that are passed over, and a link that isn't", room, "check --lax --main main --main .x over", lines(*left, counted(2, 2, 4, 1, 0, 3, 0, 0, further=["2 left out"])))
+    (room / "over/personal/z.sieve").symlink_to("nowhere")
+    (room / "over/personal/.#z.sieve").symlink_to("ada@host.1:2")
+    scripts = {"y.sieve": "it is a folder", "z.sieve": "it leads to no plain file"}
+    left = [f"over/{name}: left out: it is a folder" for name in ("personal/y.sieve", "mails/4.eml")]
+    left += [f"over/{name}: left out: it leads to no plain file" for name in ("personal/z.sieve", "mails/5.eml")]
+    left.append("over/mails/3.EML: left out: its name doesn't end by .eml, in small letters")
+    yield run("files that are passed over, and a link that isn't", room, "check --lax --main main --main .x over", lines(*left, counted(2, 2, 4, 1, 0, 3, 0, 0, further=["5 left out"])))
+    told_of = [f"over/personal/{name}:0: left-out: {why[0].upper()}{why[1:]}." for name, why in scripts.items()]
+    yield run("they are reported among scripts, too", room, "lint over | grep left-out", lines(*told_of))
     write(room / "names", {**site({"\n\x1f\x7f\x80\udcff.eml": b""}, main=b"discard;", other=b""), "mains": b"main\r\n\nother\r\nmain"})
     yield run("CR LF, an empty line and a name again among those of main scripts, and a mail of an odd name", room, "check --lax names", lines(counted(1, 2, 2, 0, 0, 2, 0, 0)))
 
@@ -115,7 +122,7 @@ def of_names(room):
     write(room / "nobody", {**site({"1.eml": b"", "1.eml.expect": b"[main]\ndiscard\n"}, main=b"discard;"), "mailboxes": b"x" * 1_048_577})
     yield run("a list of mailboxes that isn't asked for", room, "check nobody", lines(counted(1, 1, 1, 1, 0, 0, 0, 0)))
     write(room / "misnamed", {**files, "with": b"sub address\n"})
-    yield run("a name that there isn't", room, "check misnamed", b"", [b"of the site's file with", b"sub address,envelopes", b"subaddress"], 2)
+    yield run("a name that there isn't", room, "check misnamed", b"", told('"misnamed/with", line 1: "sub address" can\'t be asked for: did you mean subaddress?'), 2)
 
 
 def of_clocks(room):
@@ -147,12 +154,11 @@ def of_clocks(room):
     yield run("lines that ask, and words that don't", room, "lint worded", lines(f"worded/personal/main.sieve:6: {note}"))
     for number, (octets, sentence) in enumerate(
         [
-            (b"", "isn't one line SECONDS ZONE, as 1783245600 +0200"),
-            (b"1783245600\n", "isn't one line SECONDS ZONE, as 1783245600 +0200"),
-            (b"1783245600+0200\n", "isn't one line SECONDS ZONE, as 1783245600 +0200"),
-            (b"-1 +0200\n", "isn't one line SECONDS ZONE, as 1783245600 +0200"),
-            (b"1 +0200\n2 +0200\n", "isn't one line SECONDS ZONE, as 1783245600 +0200"),
-            (b"1783245600 CEST\n", "isn't one line SECONDS ZONE, as 1783245600 +0200"),
+            (b"", "isn't one line SECONDS [ZONE], as 1783245600 +0200"),
+            (b"1783245600+0200\n", "isn't one line SECONDS [ZONE], as 1783245600 +0200"),
+            (b"-1 +0200\n", "isn't one line SECONDS [ZONE], as 1783245600 +0200"),
+            (b"1 +0200\n2 +0200\n", "isn't one line SECONDS [ZONE], as 1783245600 +0200"),
+            (b"1783245600 CEST\n", "isn't one line SECONDS [ZONE], as 1783245600 +0200"),
             (b"253402300800 +0000\n", "is past 253402300799, the last second of the year 9999"),
             (b"9" * 5_000 + b" +0000\n", "is past 253402300799, the last second of the year 9999"),
             (b"1783245600 +0160\n", "has a zone with minutes past 59"),

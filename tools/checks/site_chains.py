@@ -14,9 +14,9 @@ import tempfile
 
 from .files import write
 from .runs import SECONDS, LeftOut
+from .site_flags import MAIL, Stored, configured
 
 TOOL = pathlib.Path(__file__).resolve().parent.parent / "sievebench-site"
-MAIL = b"From: a@b.example\nTo: c@d.example\nSubject: one\n\ntext\n"
 # What a script of a chain does, by a name: each kind of action, flags, and an error of a run.
 ACTS = {
     "nothing": "",
@@ -79,8 +79,9 @@ def text(act, number):
 
 
 def there(output):
-    """What becomes of the mail by what sieve-test prints: the actions but the keeps of scripts that others follow."""
-    told, kept = [], []
+    """What becomes of the mail by what sieve-test prints: the actions but the keeps of scripts that others follow. An implicit keep after one by command
+    is printed with the flags of its own time, and stores with those of the command (`site_flags`)."""
+    told, kept, commanded = [], [], None
     for part in output.split("## Executing script: ")[1:]:
         # A script that fails prints nothing, and the mail is kept.
         kept = [] if "Implicit keep:" in part else [("implicit", "INBOX", "")]
@@ -89,7 +90,8 @@ def there(output):
                 flags = " ".join(re.findall(r"add IMAP flags: (.*)", beside))
                 found = re.fullmatch(r"(store|redirect|reject) message (?:in folder|to|with reason): <?(.*?)>?", action)
                 if action == "keep":
-                    kept.append((kind, "INBOX", flags))
+                    commanded = flags if kind == "store" else commanded
+                    kept.append((kind, "INBOX", flags if commanded is None else commanded))
                 else:
                     told.append((found[1], found[2], flags) if found else (action.replace("send vacation message:", "vacation"), "", ""))
     return meaning(told + kept)
@@ -140,12 +142,6 @@ class Compared:
         return [f"{chain}: here {one}, there {other}" for chain, one, other in told if (one == other) == (chain in DIFFER)]
 
 
-def configured(room):
-    """Settings for sieve-test: it runs as nobody where it can't as this user."""
-    user = "mail_uid = nobody\nmail_gid = nogroup\n" if os.getuid() == 0 else ""
-    return f"{user}mail_location = maildir:{room}/mail\npostmaster_address = postmaster@office.example\n".encode()
-
-
 def run_there(room, names):
     """What sieve-test prints of a chain."""
     *before, last = [f"site/personal/{name}.sieve" for name in names]
@@ -155,5 +151,6 @@ def run_there(room, names):
 
 
 def of_chains():
-    """The comparison, where there is something to compare with."""
-    yield Compared() if shutil.which("sieve-test") else LeftOut(Compared.title, "since it isn't installed")
+    """The comparisons, where there is something to compare with."""
+    for made in (Compared, Stored):
+        yield made() if shutil.which("sieve-test") else LeftOut(made.title, "since it isn't installed")

@@ -10,6 +10,7 @@ import subprocess
 import sys
 import time
 
+from . import site_cautions
 from .runs import SECONDS, LeftOut, Run, lines, some
 from .site import PACK, TOOL, counted, run, site, told, write
 
@@ -150,9 +151,14 @@ def of_imports(room):
     """Mails that are imported."""
     mail = b"Return-Path: <a@b.example>\nDelivered-To: c@d.example\nSubject: one\n\n"
     write(room / "taken", {"site/mails/x": b"", "md/cur/1795931695.M1.host:2,S": mail, "md/new/1795931696.M2.host": mail + b"two", "md/tmp/x": b"", "box": b"From e@f.example Mon Jan  1 00:00:00 2026\n" + mail + b"three\n\nFrom a@b Mon\nSubject: four\n\nfour\n"})
-    yield run("a Maildir and an mbox file", room / "taken", "import md box site; cat site/mails/*.envelope; ls site/mails", lines("4 mails, 4 written, 0 left out, 1 without an envelope", *["a@b.example c@d.example"] * 3, *(f"{number:04}.eml{end}" for number in (1, 2, 3) for end in ("", ".envelope")), "0004.eml", "x"))
+    yield run("a Maildir and an mbox file", room / "taken", "import md box site; cat site/mails/*.envelope; ls site/mails", lines("site/with: new, with pigeonhole", "4 mails, 4 written, 0 left out, 1 without an envelope", *["a@b.example c@d.example"] * 3, *(f"{number:04}.eml{end}" for number in (1, 2, 3) for end in ("", ".envelope")), "0004.eml", "x"))
     yield run("none twice", room / "taken", "import md box md/cur/1795931695.M1.host:2,S site", lines("md/cur/1795931695.M1.host:2,S: left out: it is 0001.eml, octet by octet", "md/new/1795931696.M2.host: left out: it is 0002.eml, octet by octet", *(f"box, mail {number}: left out: it is {number + 2:04}.eml, octet by octet" for number in (1, 2)), "md/cur/1795931695.M1.host:2,S: left out: it is 0001.eml, octet by octet", "5 mails, 0 written, 5 left out"))
     yield Run("sievebench-site: the octets are the same", room / "taken", "cmp md/cur/* site/mails/0001.eml && cmp md/new/* site/mails/0002.eml && cat site/mails/0004.eml", lines("Subject: four", "", "four"))
+    for pack, name in (("gzip -k", "gz"), ("bzip2 -k", "bz2"), ("xz -k", "xz"), ("zstd -q", "zst")):
+        if shutil.which(pack.split()[0]):
+            packed = f"{pack} box && python3 {shlex.quote(str(TOOL))} import md box.{name} site; status=$?; ls site/mails | wc -l; exit $status"
+            yield Run(f"sievebench-site: what is packed by {pack.split()[0]} is refused, and nothing is taken", room / "taken", packed, lines("8"), [f'"box.{name}" is packed by '.encode()], 2)
+    yield run("a program and an empty file are refused", room / "taken", "import $(command -v python3) site; touch empty; python3 %s import empty site" % shlex.quote(str(TOOL)), b"", [b'" is a program\n', b'"empty" is empty: there is no mail in it\n'], 2)
 
 
 COMPLETION = TOOL.parent / "completion.bash"
@@ -217,5 +223,5 @@ def of_sites(room):
     """All of them."""
     room = room / "ends of sites"
     room.mkdir()
-    for part in (of_ends, of_colours, of_sizes, of_imports, of_completion, of_servers):
+    for part in (of_ends, of_colours, of_sizes, of_imports, of_completion, of_servers, site_cautions.of_sites):
         yield from some(part.__name__, part(room))

@@ -68,25 +68,44 @@ class Bench:
         self.scripts = dict(scripts)
 
 
+class Course:
+    """What became of some mails until now: what scripts did, and the flags of the last `keep`, which an implicit one after it doesn't
+    change."""
+
+    def __init__(self, ids: Iterable[bytes]) -> None:
+        self.told = dict.fromkeys(ids, NOTHING)
+        self.kept: Dict[bytes, Flags] = {}
+
+    def add(self, name: bytes, verdict: Verdict) -> None:
+        """Adds what a script did with a mail."""
+        self.told[name] = joined(self.told[name], verdict)
+
+    def end(self, name: bytes, verdict: Verdict) -> None:
+        """Adds what the last one did."""
+        failed = any(line.text.startswith(b"error ") for line in verdict.lines)
+        flags = None if failed else self.kept.get(name)
+        self.add(name, verdict if flags is None else with_kept(verdict, flags))
+
+
 def chained(bench: Bench, places: Tuple[Place, ...], ids: Iterable[bytes]) -> Dict[bytes, Verdict]:
     """The verdict on each mail under scripts that run one after another: all that they did."""
-    told = dict.fromkeys(ids, NOTHING)
-    waiting: Dict[Flags, Set[bytes]] = {(): set(told)}
+    course = Course(ids)
+    waiting: Dict[Flags, Set[bytes]] = {(): set(course.told)}
     for place in places[:-1]:
         following: Dict[Flags, Set[bytes]] = {}
         for flags, group in waiting.items():
-            for name, ends in step(bench, place, flags, group, told).items():
+            for name, ends in step(bench, place, flags, group, course).items():
                 following.setdefault(ends, set()).add(name)
         waiting = following
     for flags, group in waiting.items():
         with bench.changed({places[-1]: with_flags(bench.scripts[places[-1]], flags)}):
             found = bench.run(places[-1])
         for name in group:
-            told[name] = joined(told[name], found[name])
-    return told
+            course.end(name, found[name])
+    return course.told
 
 
-def step(bench: Bench, place: Place, flags: Flags, group: Set[bytes], told: Dict[bytes, Verdict]) -> Dict[bytes, Flags]:
+def step(bench: Bench, place: Place, flags: Flags, group: Set[bytes], course: Course) -> Dict[bytes, Flags]:
     """Runs a script that others follow, adds what it did, and gives the mails that it kept and the internal flags of its end."""
     text = with_flags(bench.scripts[place], flags)
     with bench.changed({place: text}):
@@ -96,13 +115,14 @@ def step(bench: Bench, place: Place, flags: Flags, group: Set[bytes], told: Dict
         kept = [line for line in found[name].lines if is_kept(line)]
         failed = any(line.text.startswith(b"error ") for line in found[name].lines)
         if not kept or failed:
-            told[name] = joined(told[name], renamed(found[name]))
+            course.add(name, renamed(found[name]))
             continue
         rest = tuple(line for line in found[name].lines if not is_kept(line))
-        told[name] = joined(told[name], Verdict(rest, found[name].reads))
+        course.add(name, Verdict(rest, found[name].reads))
         going[name] = flags_of(kept[0])
         if kept[0].text.startswith(b"store "):
             asked.add(name)
+            course.kept[name] = going[name]
     if asked:
         ends = ends_of(bench, place, text, {at for name in asked for at, there in found[name].reads if there})
         going.update({name: ends[name] for name in asked})
@@ -128,6 +148,17 @@ def is_kept(line: Line) -> bool:
 def flags_of(line: Line) -> Flags:
     """The flags of a store."""
     return tuple(unquoted(word) for word in (words_of(line.text) or [])[2:] if word.startswith(b'"'))
+
+
+def with_kept(verdict: Verdict, flags: Flags) -> Verdict:
+    """The verdict in which the implicit keep has these flags."""
+    lines = []
+    for line in verdict.lines:
+        words = words_of(line.text) or [b""]
+        if words[0] == b"implicit":
+            line = Line(b" ".join([*words[:2], *(quoted(flag).encode() for flag in flags)]), line.at)
+        lines.append(line)
+    return Verdict(tuple(lines), verdict.reads)
 
 
 def renamed(verdict: Verdict) -> Verdict:

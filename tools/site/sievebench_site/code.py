@@ -15,19 +15,28 @@ LITERAL = rb'"(?:[^"\\]|\\.)*"'
 PART = rb"(?:" + LITERAL + rb"|[a-z]+\([^)]*\))"
 STRING = PART + rb"(?:\+" + PART + rb")*"
 REDIRECT = rb"[0-9]+: redirect (" + LITERAL + rb")(?: copy)? @([0-9]+)"
-STORE = (
-    rb"[0-9]+: fileinto ("
-    + LITERAL
-    + rb")(?: internal| flags \[.*\])(?: create)?(?: special-use "
-    + STRING
-    + rb")?(?: copy)? @([0-9]+)"
-)
+FLAGS, COPY = rb"(?: internal| flags \[.*\])", rb"(?: copy)? @([0-9]+)"
+STORE = rb"[0-9]+: fileinto (" + LITERAL + rb")" + FLAGS + rb"(?: create)?(?: special-use " + STRING + rb")?" + COPY
+USE = rb"[0-9]+: fileinto " + STRING + FLAGS + rb"(?: create)? special-use (" + LITERAL + rb")" + COPY
+PLAIN_STORE = re.compile(rb"[0-9]+: fileinto (" + LITERAL + rb")" + FLAGS + COPY)
 ANSWER = rb"[0-9]+: vacation(?: days [0-9]+)?(?: subject " + STRING + rb")? from (" + LITERAL + rb") .* @([0-9]+)"
-# The operations that always fail by such a string, and the script that shows it.
-ACTIONS = [
-    (re.compile(REDIRECT), b"redirect %s;"),
-    (re.compile(STORE), b'require "fileinto"; fileinto %s;'),
-    (re.compile(ANSWER), b'require "vacation"; vacation :from %s "";'),
+NO_USE = "This is no use of a mailbox: one is a backslash and a word."
+
+
+class Kind(NamedTuple):
+    """Operations that always fail by a string: what they look like, the script that shows it, and what is said of it, if that isn't what
+    the error means."""
+
+    pattern: "re.Pattern[bytes]"
+    shown: bytes
+    sentence: str = ""
+
+
+KINDS = [
+    Kind(re.compile(REDIRECT), b"redirect %s;"),
+    Kind(re.compile(STORE), b'require "fileinto"; fileinto %s;'),
+    Kind(re.compile(USE), b'require ["fileinto", "special-use"]; fileinto :specialuse %s "A";', NO_USE),
+    Kind(re.compile(ANSWER), b'require "vacation"; vacation :from %s "";'),
 ]
 
 
@@ -41,11 +50,21 @@ class Include(NamedTuple):
 
 
 class Action(NamedTuple):
-    """An action by a string without a variable: its script and line, and a script that does the same."""
+    """An action by a string without a variable: its script and line, a script that does the same, and what is said where it fails, if
+    that isn't what the error means."""
 
     script: Script
     line: int
     shown: bytes
+    sentence: str
+
+
+class Store(NamedTuple):
+    """A store: its script and line, and the mailbox."""
+
+    script: Script
+    line: int
+    mailbox: bytes
 
 
 class Code:
@@ -92,12 +111,20 @@ class Code:
         """The actions by strings without variables, each with a script that does the same."""
         for place, operations in self.operations.items():
             for operation in operations or []:
-                for pattern, shown in ACTIONS:
-                    found = pattern.fullmatch(operation)
+                for kind in KINDS:
+                    found = kind.pattern.fullmatch(operation)
                     if found:
                         text = unquoted(found[1]).replace(b"\\", b"\\\\").replace(b'"', b'\\"')
-                        yield Action(self.scripts[place], int(found[2]), shown.replace(b"%s", b'"' + text + b'"'))
+                        shown = kind.shown.replace(b"%s", b'"' + text + b'"')
+                        yield Action(self.scripts[place], int(found[2]), shown, kind.sentence)
 
-    def asks_for_date(self, place: Place) -> bool:
-        """Whether a script asks for the current date."""
-        return any(re.match(rb"[0-9]+: currentdate ", it) for it in self.operations[place] or [])
+    def plain_stores(self) -> Iterator[Store]:
+        """The stores that take a mailbox by its name alone, without a variable."""
+        for place, operations in self.operations.items():
+            for found in map(PLAIN_STORE.fullmatch, operations or []):
+                if found:
+                    yield Store(self.scripts[place], int(found[2]), unquoted(found[1]))
+
+    def sound(self) -> List[Script]:
+        """The scripts without a fault."""
+        return [self.scripts[place] for place, operations in self.operations.items() if operations is not None]

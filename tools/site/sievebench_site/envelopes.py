@@ -7,7 +7,7 @@ import re
 from typing import Dict, List, NamedTuple, Optional, Tuple
 
 from .ends import refuse
-from .files import octets_of
+from .texts import text_of
 from .words import ADDRESS_LIMIT, quoted, unquoted, words_in
 
 FIELD = re.compile(rb"([!-9;-~]+)[ \t]*:(.*)", re.S)
@@ -48,7 +48,7 @@ def wrong_with(address: bytes) -> Optional[str]:
 
 def envelope_in(path: bytes) -> Envelope:
     """The envelope of a file, which has two addresses. The empty sender of a bounce may be `<>` (RFC 5321, section 4.5.5)."""
-    words = words_in(octets_of(path))
+    words = words_in(text_of(path))
     if words is None or len(words) != 2:
         refuse(f"{quoted(path)} isn't two addresses, the sender's and the recipient's")
     sender, recipient = (unquoted(word) for word in words)

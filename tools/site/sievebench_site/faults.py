@@ -2,7 +2,6 @@
 
 from __future__ import annotations
 
-import codecs
 import difflib
 import functools
 from typing import NamedTuple, Optional, Tuple
@@ -11,6 +10,7 @@ from .capabilities import NEEDS, REGISTERED
 from .mains import Script
 from .program import Fault
 from .sieve_text import line_at, line_requiring, required, tokens
+from .texts import mark_of
 from .words import quoted
 
 # What each fault of a script means, and each error of a run that `lint` looks for.
@@ -61,8 +61,9 @@ class Use(NamedTuple):
 
 def sentence_of(script: Script, line: int, word: str) -> str:
     """What a fault of a script means."""
-    if (line, word) == (1, "syntax") and script.text.startswith(codecs.BOM_UTF8):
-        return "The file begins with a byte order mark, the octets EF BB BF: save it without one."
+    mark = mark_of(script.text)
+    if (line, word) == (1, "syntax") and mark:
+        return f"The file begins with {mark.advice()}."
     if word == LACKING:
         strange = [it for it in strangers(script.text) if line_requiring(script.text, it) == line]
         if strange:

@@ -7,12 +7,14 @@ from typing import List, NamedTuple, Optional, Set
 
 from .clock import clock_in
 from .ends import Refusal, refuse
-from .files import names_in, octets_if_any
+from .files import names_in
 from .listed import Listed
-from .mails import LeftOut, Mail, lost_in, mail_at, mail_names, passed_over, too_large
-from .mains import Called, Main, Script, Shelf, called, chosen, scripts_in
+from .mails import LeftOut, Mail, lost_in, mail_at, mail_names, no_files, passed_over, too_large
+from .mains import SCRIPT_END, Called, Main, Script, Shelf, called, chosen, scripts_in
+from .names import names_asked
 from .program import Place
-from .words import lines_of, quoted
+from .texts import text_if_any
+from .words import quoted
 
 
 class Wanted(NamedTuple):
@@ -61,7 +63,8 @@ class Site(NamedTuple):
 def site_of(wanted: Wanted) -> Site:
     """The site but for its mails."""
     folder = wanted.folder
-    names = [line for line in lines_of(octets_if_any(os.path.join(folder, b"with"))) if line]
+    asking = os.path.join(folder, b"with")
+    names = names_asked(asking, text_if_any(asking))
     users = users_of(wanted)
     site = Site(
         wanted, names, boxes_in(folder, names), clock_in(folder, names, wanted.clock), users, [], [], Listed(folder)
@@ -69,12 +72,21 @@ def site_of(wanted: Wanted) -> Site:
     unread = os.path.join(folder, b"personal")
     if users[0].name and os.path.lexists(unread):
         site.left_out.append((unread, "each user of the site has scripts of his or her own"))
+    site.left_out.extend(no_scripts(folder, users))
     return site
+
+
+def no_scripts(folder: bytes, users: List[User]) -> List[LeftOut]:
+    """What has the name of a script and is no file, as a broken link."""
+    folders = {os.path.dirname(script.path) for script in users[0].scripts}
+    folders.update(os.path.join(user.home, b"personal") for user in users)
+    folders.add(os.path.join(folder, b"global"))
+    return [it for path in sorted(folders) if os.path.isdir(path) for it in no_files(path, SCRIPT_END)]
 
 
 def boxes_in(folder: bytes, names: List[bytes]) -> bytes:
     """The list of the mailboxes that there are, which only a site that asks for it has."""
-    return octets_if_any(os.path.join(folder, b"mailboxes")) if b"mailbox" in names else b""
+    return text_if_any(os.path.join(folder, b"mailboxes")) if b"mailbox" in names else b""
 
 
 def user_names(wanted: Wanted) -> List[bytes]:
@@ -96,8 +108,7 @@ def users_of(wanted: Wanted) -> List[User]:
     shelf, users = Shelf(wanted.folder), []
     for name in user_names(wanted):
         home = os.path.join(wanted.folder, b"users", name) if name else wanted.folder
-        own = scripts_in("personal", b"", os.path.join(home, b"personal"))
-        users.append(User(name, home, own, [], []))
+        users.append(User(name, home, own_scripts(name, os.path.join(home, b"personal")), [], []))
     for user in users:
         user.mains.extend(mains_of(shelf, user, wanted))
     for line in wanted.mains:
@@ -108,6 +119,11 @@ def users_of(wanted: Wanted) -> List[User]:
     for user in users:
         user.scripts.extend(shared)
     return users
+
+
+def own_scripts(user: bytes, folder: bytes) -> List[Script]:
+    """The scripts of a user; none where one among several has no folder of them."""
+    return [] if user and not os.path.lexists(folder) else scripts_in("personal", b"", folder)
 
 
 def mains_of(shelf: Shelf, user: User, wanted: Wanted) -> List[Main]:

@@ -7,8 +7,9 @@ from typing import Dict, Iterable, List, Optional, Set
 
 from .ends import refuse
 from .expected import Block, Blocks, Key, blocks_of, shown_key
-from .files import names_in, octets_of
+from .files import names_in
 from .mains import Line, Main, of_user
+from .texts import text_of
 from .words import quoted
 
 
@@ -54,11 +55,11 @@ def expected_at(place: bytes, users: bool) -> Expected:
     if not os.path.lexists(place):
         return Expected({}, users)
     if not os.path.isdir(place):
-        return Expected({place: octets_of(place)}, users)
+        return Expected({place: text_of(place)}, users)
     if not users:
         refuse(f"{quoted(place)} is a folder, which has files of users, and the site has no users: make it one file")
     names = [name for name in names_in(place) if not name.startswith(b".")]
-    return Expected({path: octets_of(path) for path in (os.path.join(place, name) for name in names)}, users, True)
+    return Expected({path: text_of(path) for path in (os.path.join(place, name) for name in names)}, users, True)
 
 
 def main_script(key: Key, users: bool) -> Key:

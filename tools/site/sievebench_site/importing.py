@@ -7,10 +7,10 @@ import mailbox
 import os
 from typing import Dict, Iterator, List, NamedTuple, Optional
 
-from .ends import refuse
 from .envelopes import Envelope, address_in, envelope_of
 from .files import files_in, is_plain, names_in, octets_of, reading, write_new
 from .groups import counted
+from .recognized import MAIL_FOLDERS, remark_on, why_no_mail
 from .shown import Look
 from .words import MESSAGE_LIMIT, quoted
 
@@ -26,8 +26,6 @@ class Found(NamedTuple):
 def found_in(path: bytes) -> Iterator[Found]:
     """The mails of a Maildir, of an mbox file or of a file of one mail."""
     if os.path.isdir(path):
-        if not os.path.isdir(os.path.join(path, b"cur")) and not os.path.isdir(os.path.join(path, b"new")):
-            refuse(f"{quoted(path)} is no Maildir: it has neither cur nor new")
         yield from in_maildir(path)
         return
     with reading(path), open(path, "rb") as file:
@@ -40,7 +38,7 @@ def found_in(path: bytes) -> Iterator[Found]:
 
 def in_maildir(path: bytes) -> Iterator[Found]:
     """The mails of a Maildir, in the order of their names."""
-    folders = [os.path.join(path, name) for name in (b"cur", b"new")]
+    folders = [os.path.join(path, name) for name in MAIL_FOLDERS]
     files = [os.path.join(folder, name) for folder in folders if os.path.isdir(folder) for name in names_in(folder)]
     for file in sorted(files, key=os.path.basename):
         if not os.path.basename(file).startswith(b".") and is_plain(file):
@@ -76,7 +74,7 @@ class Import:
 
     def __init__(self, folder: bytes, look: Look) -> None:
         self.folder, self.look = folder, look
-        self.number = self.written = self.seen = self.bare = 0
+        self.number = self.written = self.seen = self.left = self.bare = 0
         self.told: List[str] = []
         self.known: Dict[bytes, bytes] = {}
         for name in files_in(folder, b".eml"):
@@ -85,16 +83,29 @@ class Import:
     def take(self, found: Found) -> None:
         """Writes a mail, or says why it is left out."""
         self.seen += 1
-        if len(found.octets) > MESSAGE_LIMIT:
-            self.leave_out(found, f"it has {len(found.octets):,} octets, and a mail has at most {MESSAGE_LIMIT:,}")
-            return
-        there = self.known.get(digest(found.octets))
-        if there is not None:
-            self.leave_out(found, f"it is {self.look.name(there)}, octet by octet")
+        why = self.why_not(found.octets)
+        if why:
+            self.leave_out(found.name, why)
             return
         name = self.write(found.octets)
         self.known[digest(found.octets)] = name
         self.written += 1
+        remark = remark_on(found.octets)
+        if remark:
+            self.told.append(f"{self.look.name(found.name)}: taken as {self.look.name(name)}: it {remark}")
+        self.write_envelope(found, name)
+
+    def why_not(self, octets: bytes) -> Optional[str]:
+        """Why a mail isn't taken, if it isn't."""
+        if len(octets) > MESSAGE_LIMIT:
+            return f"it has {len(octets):,} octets, and a mail has at most {MESSAGE_LIMIT:,}"
+        there, wrong = self.known.get(digest(octets)), why_no_mail(octets)
+        if there is not None:
+            return f"it is {self.look.name(there)}, octet by octet"
+        return f"it {wrong}" if wrong else None
+
+    def write_envelope(self, found: Found, name: bytes) -> None:
+        """Writes the envelope next to a mail, if both addresses are known."""
         envelope = envelope_of(found.octets).over(Envelope(found.sender))
         if envelope.sender is None or envelope.recipient is None:
             self.bare += 1
@@ -112,18 +123,30 @@ class Import:
             if not beside and write_new(path, octets):
                 return name
 
-    def leave_out(self, found: Found, why: str) -> None:
-        """Tells a mail that isn't taken."""
-        self.told.append(f"{self.look.name(found.name)}: left out: {why}")
+    def leave_out(self, name: bytes, why: str) -> None:
+        """Tells a mail or a folder that isn't taken."""
+        self.left += 1
+        self.told.append(f"{self.look.name(name)}: left out: {why}")
 
     def pass_over(self, folder: bytes) -> None:
         """Tells a folder that isn't taken."""
-        self.told.append(f"{self.look.name(folder)}: left out: it is a mailbox by itself: name it to take it")
+        self.leave_out(folder, "it is a mailbox by itself: name it to take it")
 
     def lines(self) -> List[str]:
-        """What is printed: the mails that are left out, and the counts."""
-        counts = f"{counted(self.seen, 'mail')}, {self.written} written, {len(self.told)} left out"
+        """What is printed: the mails that are left out or odd, and the counts."""
+        counts = f"{counted(self.seen, 'mail')}, {self.written} written, {self.left} left out"
         return [*self.told, counts + (f", {self.bare} without an envelope" if self.bare else "")]
+
+
+def import_mails(sources: List[bytes], folder: bytes, look: Look) -> List[str]:
+    """Takes the mails of mailboxes and files into a folder, and gives what is printed."""
+    taking = Import(folder, look)
+    for source in sources:
+        for found in found_in(source):
+            taking.take(found)
+        for other in folders_of(source):
+            taking.pass_over(other)
+    return taking.lines()
 
 
 def digest(octets: bytes) -> bytes:

@@ -11,7 +11,7 @@ import time
 from typing import Callable, Dict, Iterator, List, NamedTuple, Optional, Tuple, TypeVar
 
 from .chains import NOTHING, Bench, chained
-from .envelopes import envelope_if_any, envelope_of
+from .envelopes import Envelope, envelope_if_any, envelope_of
 from .expected import Block
 from .files import octets_of
 from .folder import Site, User
@@ -157,13 +157,16 @@ class Judge:
         """Puts a mail with its envelope, and says whether it has one."""
         octets = octets_of(mail.path)
         session.edit("message", [name], octets, f"the mail {quoted(mail.path)}")
-        envelope = mail.envelope
-        if not envelope.known():
-            envelope = envelope.over(envelope_of(octets)).over(self.default)
+        envelope = self.envelope_of(mail, octets)
         if envelope.sender or envelope.recipient:
             words = [name, envelope.sender or b"", envelope.recipient or b""]
             session.edit("message-envelope", words, None, f"the envelope of {quoted(mail.path)}")
         return envelope.known()
+
+    def envelope_of(self, mail: Mail, octets: bytes) -> Envelope:
+        """The envelope of a mail with these octets, as far as it is known."""
+        envelope = mail.envelope
+        return envelope if envelope.known() else envelope.over(envelope_of(octets)).over(self.default)
 
 
 def surveys(site: Site, program: Program) -> List[Survey]:

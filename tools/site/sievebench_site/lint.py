@@ -7,7 +7,8 @@ import re
 import subprocess
 from typing import Dict, Iterator, List, Optional, Set
 
-from . import findings
+from . import cautions, findings
+from .answers import expected_answers
 from .code import Code
 from .ends import fail
 from .faults import SENTENCES, sentence_of
@@ -16,7 +17,6 @@ from .findings import ERROR, NOTE, PLAIN, SKIPPED, Finding, Test
 from .folder import Site, User
 from .program import Place, Program, Session
 from .shown import Look
-from .sieve_text import lines_with
 from .survey import survey
 from .words import quoted
 
@@ -57,11 +57,9 @@ class Linted:
         """What is printed and is no fault."""
         for script, line, why in self.survey.skipped(self.user):
             yield Finding(script.path, line, "skipped", PLAIN.line(why.encode()), SKIPPED)
-        if self.site.clock is None:
-            text = "It asks for the current date, and the site has no clock."
-            for place, script in self.code.scripts.items():
-                lines = lines_with(script.text, b"currentdate") if self.code.asks_for_date(place) else []
-                yield from (Finding(script.path, line, "no-clock", text, NOTE) for line in lines)
+        yield from cautions.of_scripts(self.site, self.code.sound())
+        for it in self.code.plain_stores():
+            yield from cautions.of_store(self.site, it.script.path, it.line, it.mailbox)
 
     def reached(self) -> Optional[Set[bytes]]:
         """The files of the scripts that main ones come to; nothing where none is named, or one of them has a fault."""
@@ -80,8 +78,8 @@ def include_sentence(kind: str, goal: Place) -> str:
 
 
 def action_faults(session: Session, code: Code) -> Iterator[Finding]:
-    """Redirects to a text that isn't one address, responses from one that isn't, and stores into what can be no mailbox, by running
-    each that has no variable in it."""
+    """Redirects to a text that isn't one address, responses from one that isn't, and stores into what can be no mailbox or by what can be
+    no use of one, by running each that has no variable in it."""
     place = "personal", b"\x01action"
     session.edit("message", [b"m"], b"", "a mail")
     session.edit("main personal", [place[1]], None, "the main script")
@@ -90,7 +88,7 @@ def action_faults(session: Session, code: Code) -> Iterator[Finding]:
         for line in session.report().verdicts[b"m"].lines:
             if line.text.startswith(b"error "):
                 kind = line.text.split()[-1].decode()
-                yield Finding(action.script.path, action.line, kind, SENTENCES.get(kind, kind))
+                yield Finding(action.script.path, action.line, kind, action.sentence or SENTENCES.get(kind, kind))
 
 
 def lint(site: Site, program: Program, sievec: bool) -> List[Finding]:
@@ -108,8 +106,10 @@ def lint(site: Site, program: Program, sievec: bool) -> List[Finding]:
         others += sievec_differences(site, linted) if sievec else []
         notes += linted.notes()
         reached.append(linted.reached())
+    notes += expected_answers(site)
+    left_out = [Finding(path, 0, "left-out", f"{why[0].upper()}{why[1:]}.", NOTE) for path, why in site.left_out]
     found = [*sorted(faults), *dict.fromkeys(others), *dict.fromkeys(unjudged), *dict.fromkeys(notes)]
-    return [*found, *unreached(site, reached)]
+    return [*found, *unreached(site, reached), *left_out]
 
 
 def unreached(site: Site, reached: List[Optional[Set[bytes]]]) -> Iterator[Finding]:

@@ -6,8 +6,8 @@ import os
 from typing import Dict, List, NamedTuple, Optional
 
 from .ends import refuse
-from .files import octets_if_any
 from .mains import Script
+from .texts import text_if_any
 from .words import BY_HAND, lines_of, quoted, unquoted, word_of
 
 NAME = b"unjudged"
@@ -46,7 +46,7 @@ class Listed:
 def entries_in(path: bytes) -> List[Entry]:
     """The lines of a file: a word, and then why."""
     found: List[Entry] = []
-    for number, text in enumerate(lines_of(octets_if_any(path)), 1):
+    for number, text in enumerate(lines_of(text_if_any(path)), 1):
         text = text.strip(b" \t")
         if not text or text.startswith(b"#"):
             continue

@@ -8,8 +8,9 @@ from typing import FrozenSet, List, NamedTuple, Optional, Tuple
 
 from .ends import refuse
 from .envelopes import Envelope, envelope_if_any
-from .files import files_in, is_plain, names_in, octets_of, size_of
+from .files import files_in, is_plain, names_in, size_of
 from .headings import Expected, expected_at
+from .texts import text_of
 from .words import MESSAGE_LIMIT, quoted, unquoted, words_in
 
 # What may stand beside a mail.
@@ -52,7 +53,7 @@ def users_of(path: bytes) -> Optional[FrozenSet[bytes]]:
     place = path + b".users"
     if not os.path.lexists(place):
         return None
-    words = words_in(octets_of(place))
+    words = words_in(text_of(place))
     if not words:
         refuse(f"{quoted(place)} names no users: it has their names, with blanks or line ends between them")
     return frozenset(unquoted(word) for word in words)
@@ -70,11 +71,22 @@ def passed_over(folder: bytes) -> List[LeftOut]:
     found: List[LeftOut] = []
     for place, folders, names in os.walk(folder):
         folders[:] = sorted(name for name in folders if not name.endswith(b".eml" + EXPECT))
+        found += no_files(place, b".eml", folders)
         for name in sorted(names):
             path = os.path.join(place, name)
             why = why_not(path, place != folder) if looks_like_mail(name) else None
             if why:
                 found.append((path, why))
+    return found
+
+
+def no_files(folder: bytes, end: bytes, names: Optional[List[bytes]] = None) -> List[LeftOut]:
+    """What in a folder has a name with this end, be it among these names, and leads to no plain file, and why it is left out."""
+    found = []
+    for name in names_in(folder) if names is None else names:
+        path = os.path.join(folder, name)
+        if name.endswith(end) and not name.startswith(b".") and not is_plain(path):
+            found.append((path, "it is a folder" if os.path.isdir(path) else "it leads to no plain file"))
     return found
 
 

@@ -8,19 +8,23 @@ import io
 import os
 import sys
 import time
-from typing import Callable, Dict, List, NoReturn
+from typing import Callable, Dict, List, NoReturn, Optional
 
 from . import check, diff, ends, lint, untested, watch, why
+from .beginning import USUAL, ask_for, has_begun, is_new
 from .checked import Checked
 from .completion import completed
 from .ends import Refusal, Signalled, refuse
+from .filling import Filling, make_folder
 from .files import locked, refuse_unwritable, write_file
 from .folder import Site, refuse_no_mains, site_of, take_mails
-from .importing import Import, folders_of, found_in
+from .importing import import_mails
 from .judge import Judge
 from .options import DESCRIPTION, SITE, STATUS, parsed, site_folder, wanted
 from .program import Program
+from .recognized import refuse_no_box
 from .record import record
+from .server import Server
 from .shown import look_of
 from .words import quoted
 
@@ -83,22 +87,39 @@ def run_lint(options: argparse.Namespace) -> int:
 
 def run_import(options: argparse.Namespace) -> int:
     """The command import."""
-    if len(options.folders) < 2:
+    *sources, site = [os.fsencode(word) for word in options.folders] or [b""]
+    serves = options.doveconf is not None or options.users is not None
+    if not site or not (sources or serves):
         refuse("mailboxes or files are wanted, and then the site; see --help")
-    *sources, site = [os.fsencode(word) for word in options.folders]
-    home = site if options.user is None else os.path.join(site, b"users", os.fsencode(options.user))
+    for source in sources:
+        refuse_no_box(source)
+    look, told = look_of(options.utf8), []
+    conf, pattern = (None if it is None else os.fsencode(it) for it in (options.doveconf, options.users))
+    server = Server(Filling(site, look), conf, pattern) if serves else None
+    if server:
+        make_folder(site)
+    folder = mails_of(site, options.user) if sources and not server else b""
+    with locked(site):
+        begins = is_new(site)
+        if server:
+            told += server.take()
+        if sources:
+            told += import_mails(sources, folder or mails_of(site, options.user), look)
+        if begins and has_begun(site):
+            told[:0] = ask_for(site, USUAL, look)
+    sys.stdout.write("".join(f"{line}\n" for line in told))
+    return 0
+
+
+def mails_of(site: bytes, user: Optional[str]) -> bytes:
+    """The folder of a site, or of a user of it, to which mails go."""
+    home = site if user is None else os.path.join(site, b"users", os.fsencode(user))
     folder = os.path.join(home, b"mails")
+    if user is not None and os.path.isdir(home):
+        make_folder(folder)
     if not os.path.isdir(folder):
         refuse(f"no folder {quoted(folder)}: mails go there")
-    with locked(site):
-        taking = Import(folder, look_of(options.utf8))
-        for source in sources:
-            for found in found_in(source):
-                taking.take(found)
-            for other in folders_of(source):
-                taking.pass_over(other)
-    sys.stdout.write("".join(f"{line}\n" for line in taking.lines()))
-    return 0
+    return folder
 
 
 def run_untested(options: argparse.Namespace) -> int:

@@ -5,12 +5,13 @@ from __future__ import annotations
 import collections
 import os
 import re
-from typing import Callable, Dict, Iterable, Iterator, List, NamedTuple, Optional, Set, Tuple
+from typing import Callable, Dict, Iterable, Iterator, List, NamedTuple, Optional, Tuple
 
 from .ends import refuse
 from .expected import Key
 from .files import files_in, is_plain, octets_of
 from .program import Place
+from .texts import text_of
 from .words import lines_of, quoted, unquoted, words_of
 
 SCRIPT_END = b".sieve"
@@ -187,6 +188,6 @@ def scripts_in(place: str, prefix: bytes, folder: bytes) -> List[Script]:
 
 def lines_in(path: bytes) -> Iterator[Tuple[int, bytes]]:
     """The lines of a file that aren't empty and no comments, each with its number."""
-    for number, line in enumerate(lines_of(octets_of(path)), 1):
+    for number, line in enumerate(lines_of(text_of(path)), 1):
         if line.strip() and words_of(line) != []:
             yield number, line

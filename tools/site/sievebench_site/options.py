@@ -9,6 +9,7 @@ from typing import List, NoReturn, Optional
 
 from .ends import refuse
 from .folder import Wanted
+from .import_words import IMPORT, add_import
 from .program import GIBIBYTE
 from .shown import Look
 
@@ -19,7 +20,7 @@ Commands:
   check     compares the verdicts on the mails with what is expected of them
   record    writes today's verdicts as what is expected
   lint      reports faults of scripts, and includes and actions that must fail
-  import    takes mails from mailboxes and files
+  import    takes mails from mailboxes and files, and scripts from a server of Dovecot's
   untested  reports changes of the scripts that no mail notices
   diff      reports the verdicts that an edit changes
   why       says which commands entered a verdict, and which branches were taken
@@ -40,13 +41,16 @@ Files of a site:
                            before/10-spam main after/90-lists: FOLDER/NAME is FOLDER/NAME.sieve of
                            the site. A name with blanks stands between quotes. A line may name
                            itself, as sales: before/10-spam main
-  with                     names for --with of sievebench, one a line; may be missing
+  with                     names for --with of sievebench, one a line; pigeonhole stands for all
+                           that Pigeonhole 0.5.19 knows by default, and all for all that there
+                           are. May be missing
   unjudged                 scripts that can't be judged yet and are skipped, one a line: a path, as
                            personal/old.sieve, or a user's name, and then why; may be missing
   mailboxes                if with has mailbox: the mailboxes that exist, one a line; may be missing
   clock                    if with has date: the current time, one line of seconds since 1970-01-01
-                           UTC and a zone, as 1783245600 +0200. The zone is also that of dates
-                           that are shown without :zone and :originalzone. May be missing
+                           UTC and a zone, as 1783245600 +0200; without a zone it is +0000. The
+                           zone is also that of dates that are shown without :zone and
+                           :originalzone. May be missing
   envelope                 two words, the sender and the recipient of mails without their own, as
                            eva@a.example ada@b.example; \"\" is an empty one. May be missing, and
                            then both are empty, as the sender of a bounce
@@ -61,9 +65,9 @@ Files of a site:
                            brackets, as [main], or its name, and the lines of the verdict. It may
                            be a folder with a file NAME of each user, as for more than 20 users
   mails/MAIL.eml.users     the users for whom the mail is judged; without it, all
-  users/NAME/              a user, if there are several: personal, and maybe mains and mails. The
-                           folders global and mails and the file mains at the top are everybody's.
-                           Expectations stand in blocks [NAME/main]
+  users/NAME/              a user, if there are several: personal, mains and mails, each of which may
+                           be missing. The folders global and mails and the file mains at the top
+                           are everybody's. Expectations stand in blocks [NAME/main]
 """
 STATUS = """\
 Exit status:
@@ -142,23 +146,19 @@ one record or import may write to a site at a time.""",
     "lint": """\
 Reports the first fault of each script, and what must fail: includes of scripts that are missing or
 have a fault, or that lead back; redirects to what isn't one address, responses from what isn't one,
-and stores into what no mailbox can be, if they have no variable.
+and stores into what no mailbox or special use can be, if they have no variable.
 
 A script that can't be judged, since it requires what isn't there, fails the run unless the file
-unjudged lists it. Also says which scripts no main script comes to, and where scripts ask for the
-current date if the site has no clock. These are no faults.
+unjudged lists it.
+
+Also says which scripts no main script comes to, where scripts ask for the current date or for
+mailboxes if the site has no clock or no mailboxes, where they store into a mailbox that isn't among
+these and isn't made, and where an answer is expected of a mail that no server answers. These are no
+faults.
 
 Of a script that can't be judged, or comes to one, sievec alone says something. What it complains of
 and compiles all the same isn't reported.""",
-    "import": """\
-Takes mails into a site's folder mails, as 0001.eml and on: those of Maildirs, mbox files, and files
-of one mail each.
-
-The octets stay as they are. Nothing is overwritten, and no mail is taken twice. A mail's envelope
-is written next to it if both addresses are known; the sender may be that of the mbox's From line.
-What is left out is reported with the reason: mails that are there already, or are too large, and
-folders inside a Maildir, which are mailboxes of their own. Only one record or import may write to
-a site at a time.""",
+    "import": IMPORT,
     "untested": """\
 Changes the scripts that some verdict looked up, one change after another, and reports each change
 that no mail's verdict notices.
@@ -189,6 +189,10 @@ can't be judged, before or now, is reported and not counted as changed.""",
 Says of one mail's verdict which script and line entered each action, which scripts were looked up,
 and which branches the run took, in order.
 
+Also says what a server may do otherwise: it doesn't store into a mailbox that isn't there, nor
+answer a mail whose sender is empty or that a list or a program sent. And it says where scripts ask
+for a clock or mailboxes that the site doesn't have.
+
 If the run ends in an error, the command that fails is taken out to find the branches, and that is
 said. If its script may be included more than once, the branches end where the run first comes to
 the command. A branch that is taken more than once is listed where it was taken first.""",
@@ -202,7 +206,7 @@ verdicts stay. A save counts once the files stay as they are for a twentieth of 
 a save touched is run, except main scripts that run one after another. All mails are held in memory,
 once for each line of mains.""",
 }
-PLACES = {"import": "MAILBOX.. SITE", "diff": "[OLD] SITE", "why": "SITE MAIL"}
+PLACES = {"import": "[MAILBOX..] SITE", "diff": "[OLD] SITE", "why": "SITE MAIL"}
 
 
 def parser_of(command: str) -> Parser:
@@ -317,11 +321,6 @@ def add_lint(parser: Parser) -> None:
         "also runs sievec, the compiler of Dovecot's Pigeonhole, over each script, and reports where the two disagree"
     )
     parser.add_argument("--sievec", action="store_true", help=runs)
-
-
-def add_import(parser: Parser) -> None:
-    """Adds the options of import."""
-    parser.add_argument("--user", metavar="NAME", help="the user who gets the mails")
 
 
 def add_format(parser: Parser) -> "argparse._MutuallyExclusiveGroup":

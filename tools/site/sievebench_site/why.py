@@ -4,9 +4,12 @@ from __future__ import annotations
 import functools
 from typing import Dict, Iterator, List, NamedTuple, Optional, Tuple
 
-from .chains import NOTHING, Bench, Flags, chained, step
+from . import cautions
+from .chains import Bench, Course, Flags, chained, step
 from .changes import ACTIONS, BRANCHES, Command, blank, commands, with_inserted
 from .ends import refuse
+from .files import octets_of
+from .findings import Finding
 from .folder import Site, User
 from .judge import Batch, Judge, why_unjudged
 from .mails import Mail
@@ -37,8 +40,8 @@ class Branch(NamedTuple):
 
 class Answer(NamedTuple):
     """Of a mail under a main script: the verdict, why it isn't judged if it isn't, the branches in the order in which they were taken
-    first, the commands that were taken out to find them, whether they are known then, and whether such a command may have been done
-    before it failed, in a script that is included again."""
+    first, the commands that were taken out to find them, whether they are known then, whether such a command may have been done before it
+    failed, in a script that is included again, and what a server may do otherwise."""
 
     user: User
     main: Main
@@ -49,6 +52,7 @@ class Answer(NamedTuple):
     left_out: List[Branch]
     known: bool
     again: bool
+    cautions: List[Finding]
 
 
 class Question:
@@ -160,8 +164,18 @@ def answers(site: Site, program: Program) -> List[Answer]:
                     branches = [branch for _, taken in asked for branch in taken]
                     left_out = [it.failing for it, _ in asked if it.failing]
                     known, again = all(it.known for it, _ in asked), any(it.again for it, _ in asked)
-                    found.append(Answer(user, main, mail, verdict, unjudged, branches, left_out, known, again))
+                    told = cautions_of(judge, user, mail, verdict)
+                    found.append(Answer(user, main, mail, verdict, unjudged, branches, left_out, known, again, told))
     return found
+
+
+def cautions_of(judge: Judge, user: User, mail: Mail, verdict: Verdict) -> List[Finding]:
+    """What a server may do otherwise with a mail, and what the site lacks for the scripts that were looked up."""
+    octets, seen = octets_of(mail.path), {place for place, _ in verdict.reads}
+    why = cautions.why_no_answer(judge.envelope_of(mail, octets), octets)
+    scripts = [script for script in user.scripts if script.at() in seen]
+    found = [*cautions.of_verdict(judge.site, user, verdict, why), *cautions.of_scripts(judge.site, scripts)]
+    return list(dict.fromkeys([*cautions.of_mail(mail.path, octets), *found]))
 
 
 def questions(bench: Bench, name: bytes, main: Main) -> Iterator[Question]:
@@ -172,7 +186,7 @@ def questions(bench: Bench, name: bytes, main: Main) -> Iterator[Question]:
             return
         yield Question(bench, name, place, flags)
         if number < len(main.scripts):
-            flags = step(bench, place, flags, {name}, {name: NOTHING}).get(name)
+            flags = step(bench, place, flags, {name}, Course([name])).get(name)
 
 
 def text_of(found: List[Answer], look: Look) -> str:
@@ -190,6 +204,10 @@ def lines_of(answer: Answer, look: Look) -> Iterator[str]:
     for line in answer.verdict.lines:
         at = f"  ({look.name(user.path_of(line.at[0]))}:{line.at[1]})" if line.at else ""
         yield f"    {look.line(line.text)}{at}"
+    if answer.cautions:
+        yield "  what a server may do otherwise:"
+    for it in answer.cautions:
+        yield f"    {look.name(it.path)}:{it.line}: {it.kind}: {look.line(it.text.encode('latin-1'))}"
     yield "  scripts that are looked up:"
     for place, there in answer.verdict.reads:
         yield f"    {look.name(user.path_of(place))}{'' if there else ': there is none'}"
@@ -197,10 +215,10 @@ def lines_of(answer: Answer, look: Look) -> Iterator[str]:
         yield "  the branches aren't known: the run fails, whatever is taken out"
         return
     yield "  branches that are taken:" if answer.branches else "  no branch is taken"
-    for it in answer.branches:
-        yield f"    {it.told(user, look)}"
-    for it in answer.left_out:
-        yield f"  taken out for this question, since it fails: {it.told(user, look)}"
+    for branch in answer.branches:
+        yield f"    {branch.told(user, look)}"
+    for branch in answer.left_out:
+        yield f"  taken out for this question, since it fails: {branch.told(user, look)}"
     if answer.again:
         yield "  a script is included again: the branches end where the run first comes to this command"
 

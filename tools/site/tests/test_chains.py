@@ -9,6 +9,9 @@ from sievebench_site.program import Line, Verdict
 from .room import Room
 
 FLAGGED = 'require "imap4flags"; addflag "$X";'
+KEEPS = 'require "imap4flags"; keep :flags "$%s";'
+ADDS_Y = 'require "imap4flags"; addflag "$Y";'
+HAS_Y = 'require ["imap4flags", "fileinto"]; if hasflag "$Y" { fileinto "HAD"; }'
 HAS_X = 'require ["imap4flags", "fileinto"]; if hasflag "$X" { fileinto "HAD"; }'
 ROWS: List[Tuple[str, List[str], List[str]]] = [
     ("the implicit keep goes on", ["", "discard;"], ["discard"]),
@@ -28,7 +31,17 @@ ROWS: List[Tuple[str, List[str], List[str]]] = [
     ("over a script that names none", [FLAGGED, "keep;", HAS_X], ['store "HAD" "$X"']),
     ("into the last keep", [FLAGGED, ""], ['implicit "INBOX" "$X"']),
     ("flags after a keep go on", ['require "imap4flags"; keep; addflag "$X";', HAS_X], ['store "HAD" "$X"']),
-    ("flags of a keep don't", ['require "imap4flags"; keep :flags "$X";', HAS_X], ['implicit "INBOX"']),
+    ("flags of a keep don't", [KEEPS % "Y", HAS_Y], ['implicit "INBOX" "$Y"']),
+    ("a keep has the flags of its time", ["keep;", FLAGGED], ['implicit "INBOX"']),
+    ("so it has over a script", [FLAGGED + " keep;", ADDS_Y, ADDS_Y], ['implicit "INBOX" "$X"']),
+    ("another keep has its own", [FLAGGED + " keep;", ADDS_Y + " keep;"], ['store "INBOX" "$X" "$Y"']),
+    ("the last keep counts", [KEEPS % "X", KEEPS % "Y", FLAGGED], ['implicit "INBOX" "$Y"']),
+    ("a discard after a keep", [FLAGGED + "keep;", "discard;"], ["discard"]),
+    (
+        "an error after a keep leaves no flags",
+        [FLAGGED + "keep;", 'redirect "";'],
+        ['implicit "INBOX"', 'error personal "1" line 1 bad-address'],
+    ),
     ("removed flags don't", [FLAGGED, 'require "imap4flags"; removeflag "$X";', HAS_X], ['implicit "INBOX"']),
     (
         "an error ends",

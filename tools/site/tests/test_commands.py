@@ -335,10 +335,10 @@ class Imports(Room):
             }
         )
         status, told, error = self.ran("import", "one", "box", "md", "two", "one", "site")
-        wanted = ["md/1.x", "md/.Sent", "two", "one"]
+        wanted = ["box, mail 3", "md/1.x", "md/.Sent", "two", "one"]
         self.assertEqual([line.split(": ")[0].replace("/new", "") for line in told[:-1]], wanted)
         self.assertEqual(
-            told[2:4],
+            told[3:5],
             ["two: left out: it is 0001.eml, octet by octet", "one: left out: it is 0002.eml, octet by octet"],
         )
         self.assertEqual((status, told[-1], error), (0, "8 mails, 5 written, 4 left out, 1 without an envelope", ""))
@@ -358,11 +358,12 @@ class Imports(Room):
     def test_a_mail_that_begins_as_a_mailbox(self) -> None:
         self.write({"one": "From: a@b\n\nx\n", "site/mails/z": ""})
         told = self.ran("import", "one", "site")
-        self.assertEqual(told, (0, ["1 mail, 1 written, 0 left out, 1 without an envelope"], ""))
+        wanted = ["site/with: new, with pigeonhole", "1 mail, 1 written, 0 left out, 1 without an envelope"]
+        self.assertEqual(told, (0, wanted, ""))
         self.assertEqual((self.room / "site/mails/0001.eml").read_text(), "From: a@b\n\nx\n")
 
     def test_refusals(self) -> None:
-        self.write({"x": "", "d/y": "", "site/mails/z": ""})
+        self.write({"x": "A: b\n", "d/y": "", "site/mails/z": ""})
         rows = [
             (("x",), "mailboxes or files are wanted, and then the site; see --help"),
             (("x", "d"), 'no folder "d/mails": mails go there'),

@@ -157,7 +157,7 @@ class Folders(Room):
     def test_users(self) -> None:
         for name, text in (("old", "keep;"), ("new", "discard;")):
             self.write({f"{name}/users/ada/personal/m.sieve": text, f"{name}/mails/1.eml": "", f"{name}/mains": "m"})
-        self.write({"new/users/eva/personal/m.sieve": "keep;", "new/with": "copy\n"})
+        self.write({"new/users/eva/personal/m.sieve": "keep;", "new/with": "date\n"})
         told = self.ran("diff", "old", "new")[1]
         self.assertEqual(
             told[:3],

@@ -157,7 +157,7 @@ class Looks(Room):
         self.assertEqual(self.saved({"mains": "second\nsecond main"})[-1], "0 of 4 verdicts changed, 2 new, 2 gone")
         self.assertEqual(len(CHILDREN.running), 2)
         self.assertEqual(
-            self.saved({"with": "regex\n", "personal/second.sieve": 'require "regex"; discard;'})[-1],
+            self.saved({"with": "date\n", "personal/second.sieve": 'require "date"; discard;'})[-1],
             "2 of 4 verdicts changed",
         )
         self.assertEqual(len(CHILDREN.running), 2)

@@ -1,0 +1,111 @@
+"""What `docs/FROM_SIEVE_TEST.md` says of scripts that come out otherwise: each is run by both programs, where sieve-test of Pigeonhole is installed, and
+has the two answers that are written here.
+"""
+import os
+import pathlib
+import re
+import shutil
+import subprocess
+import tempfile
+
+from .runs import SECONDS, LeftOut, Reading
+from .site_flags import configured
+
+NAMES = ["comparator-i;ascii-numeric", "encoded-character", "mailbox", "relational", "special-use"]
+REQUIRES = ["copy", "fileinto", "imap4flags", "include", "variables"]
+FAULT = "fault"
+MAIL = "From: a@b.example\nTo: {to}\nSubject: one\nX-Blank: \n next\n\ntext\n"
+# A script of one action, whose answer is its mailbox or the fault; what becomes of the mail here, and there.
+ROWS = [
+    ('set "a" "x"; set "a" "${a}"; fileinto "M${a}";', "Mx", "M"),
+    ('set "a" "x"; set "a" "${a}y"; fileinto "M${a}";', "Mxy", "Mxy"),
+    ('if header :matches "x-blank" "*" { fileinto "M${1}"; }', "Mnext", "M next"),
+    ("if false { foo; }", FAULT, "INBOX"),
+    ('if allof (false, header :foo "a" "b") { stop; }', FAULT, "INBOX"),
+    ('if header :value "GE" "subject" "a" { fileinto "M"; }', "M", FAULT),
+    ('if header :count "Gt" "subject" "0" { fileinto "M"; }', "M", FAULT),
+    ('if header :comparator "i;OCTET" "subject" "one" { fileinto "M"; }', FAULT, "M"),
+    ('if header :value "${hex:67}e" "subject" "a" { fileinto "M"; }', "M", FAULT),
+    ('set "${hex:61}" "x"; fileinto "M${a}";', "Mx", FAULT),
+    ('setflag "${hex:61}" "x"; fileinto "M${a}";', "Mx", FAULT),
+    ('global "${hex:61}"; set "a" "x"; fileinto "M${a}";', "Mx", FAULT),
+    ('addflag "a"; if hasflag :is "x a" { fileinto "M"; }', "M", "M"),
+    ('addflag "a"; if hasflag :contains "x a" { fileinto "M"; }', "M", "M"),
+    ('addflag "a"; if hasflag :matches "x a" { fileinto "M"; }', "M", "INBOX"),
+    ('addflag "b"; if hasflag :value "eq" "a b" { fileinto "M"; }', "M", "INBOX"),
+    ('addflag "a"; if hasflag :count "eq" :comparator "i;ascii-numeric" "3 1" { fileinto "M"; }', "M", "INBOX"),
+    ('fileinto :specialuse "\\\\Junk" "A"; fileinto :specialuse "\\\\Trash" "A";', "A \\Junk", "A \\Trash"),
+    ('if mailboxexists "" { fileinto "M"; }', "INBOX", "M"),
+    ('include :once :once "x";', FAULT, "INBOX"),
+    ('include :optional :optional "x";', FAULT, "INBOX"),
+    ('fileinto :copy :copy "M";', FAULT, FAULT),
+    *((f'if string :value "gt" "{it}" "a" {{ fileinto "M"; }}', "M", "INBOX") for it in ("[", "\\\\", "]", "^", "_", "`")),
+    *((f'if string :value "gt" "{it}" "a" {{ fileinto "M"; }}', there, there) for it, there in (("@", "INBOX"), ("{", "M"))),
+]
+# A field To, and what `address :all` has of it here and there; nothing where it has no value.
+ADDRESSES = [
+    ("undisclosed-recipients:;", "none", "undisclosed-recipients:;"),
+    ("foo bar (x)", "foobar", "foo bar (x)"),
+    ("Foo <foo>", "foo", "Foo <foo>"),
+    ("Foo <a@b.example>", "a@b.example", "a@b.example"),
+    ("", "none", ""),
+    ("(comment)", "none", "none"),
+]
+VALUE = 'if address :all :matches "to" "*" { fileinto "M${1}"; } else { fileinto "Mnone"; }'
+
+
+def cases():
+    """The scripts, each with its mail and its two answers."""
+    for script, one, other in ROWS:
+        yield script, MAIL.format(to="c@d.example"), one, other
+    for to, one, other in ADDRESSES:
+        yield VALUE, MAIL.format(to=to), f"M{one}", f"M{other}"
+
+
+def here(room, path):
+    """What becomes of a mail here."""
+    command = ["sievebench", "test", "--with", ",".join(NAMES), "--personal", "sieve", "main.sieve", "1.eml"]
+    told = subprocess.run(command, cwd=room, env={**os.environ, "PATH": path}, capture_output=True, text=True, timeout=SECONDS).stdout
+    if "invalid-script" in told:
+        return FAULT
+    box, use = re.search(r'^  (?:store|implicit) "((?:[^"\\]|\\.)*)".*?(?: special-use "(.*)")?$', told, re.M).groups()
+    return f"{box} {use[1:]}" if use else box
+
+
+def there(room):
+    """What becomes of it there."""
+    command = ["sieve-test", "-c", "conf", "-x", "+special-use", "main.sieve", "1.eml"]
+    done = subprocess.run(command, cwd=room, capture_output=True, text=True, timeout=SECONDS)
+    if done.returncode:
+        return FAULT
+    box, use = re.search(r"message in folder: (.*)\n(?: +\+ use mailbox with special-use flag `(.*)')?", done.stdout).groups()
+    return f"{box} {use}" if use else box
+
+
+class Compared(Reading):
+    """Whether both programs answer as it is written."""
+
+    title, command = "what docs/FROM_SIEVE_TEST.md says of both programs", "sieve-test"
+
+    def found(self, path):
+        """The answers that are others."""
+        wrong = []
+        with tempfile.TemporaryDirectory(dir="/tmp") as room:
+            room = pathlib.Path(room)
+            room.chmod(0o777)
+            (room / "sieve").mkdir()
+            (room / "sieve/x.sieve").write_text("keep;\n")
+            (room / "conf").write_bytes(configured(room) + f"plugin {{\n  sieve = file:{room}/sieve\n}}\n".encode())
+            names = ", ".join(f'"{name}"' for name in REQUIRES + NAMES)
+            for script, mail, one, other in cases():
+                (room / "main.sieve").write_text(f"require [{names}];\n{script}\n")
+                (room / "1.eml").write_text(mail)
+                answers = here(room, path), there(room)
+                self.looked += 1
+                wrong += [f"{script}: wanted {(one, other)}, got {answers}"] if answers != (one, other) else []
+        return wrong
+
+
+def of_differences(room):
+    """The comparison, where there is something to compare with."""
+    yield Compared() if shutil.which("sieve-test") else LeftOut(Compared.title, "since it isn't installed")
