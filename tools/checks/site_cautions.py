@@ -12,7 +12,7 @@ def of_sets(room):
     files = {**site({"1.eml": b"X: 10\n\n", "1.eml.expect": b"[main]\ndiscard\n"}, main=of_set), "with": b"pigeonhole\n"}
     write(room / "set", files)
     yield run("a set of names", room, "check --strict set", lines(counted(1, 1, 1, 1, 0, 0, 0, 0)))
-    write(room / "whole", {**files, "with": b"all", "personal/main.sieve": b'require ["special-use", "ereject", "none"]; discard;'})
+    write(room / "whole", {**files, "with": b"all", "personal/main.sieve": b'require ["special-use", "ereject", "regex"]; discard;'})
     yield run("all names", room, "check --strict whole", lines(counted(1, 1, 1, 1, 0, 0, 0, 0)))
 
 

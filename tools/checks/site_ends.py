@@ -69,7 +69,7 @@ def of_ends(room):
     for command in ("check", "record"):
         for number in (signal.SIGINT, signal.SIGTERM):
             yield Ended(f"sievebench-site: {command} is ended by signal {number:d}", room / "slow", f"{command} --program ./program .", number)
-    write(room / "held", site({"1.eml": b"", "1.eml.expect": DISCARDS}, main=b"discard;"))
+    write(room / "held", site({"1.eml": b"a: b\n\n", "1.eml.expect": DISCARDS}, main=b"discard;"))
     holds = f"python3 -c 'import fcntl, os, subprocess, sys; file = open(\"held/.sievebench-site.lock\", \"w\"); fcntl.flock(file, fcntl.LOCK_EX); file.write(\"process 1 of ada on mail\"); file.flush(); sys.exit(subprocess.run(sys.argv[1:]).returncode)' python3 {shlex.quote(str(TOOL))}"
     for words in ("record held", "import held/mails/1.eml held"):
         yield Run(f"sievebench-site: somebody holds the site: {words}", room, f"{holds} {words}", b"", told('"held" is being written by process 1 of ada on mail: "held/.sievebench-site.lock"'), 2)

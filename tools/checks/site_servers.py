@@ -57,9 +57,8 @@ def files(room):
 
 
 def expected():
-    """What is expected of the mail under each user's chain."""
-    chains = {name: f"{name}/before/10-one before/20-two before/spam {own} after/90-last" for name, (own, _) in EXPECTED.items()}
-    return lines(*(line for name, (_, told) in EXPECTED.items() for line in (f"[{chains[name]}]", *FIRST, *told)))
+    """What is expected of the mail under each user's own script, or the one in its place."""
+    return lines(*(line for name, (own, told) in EXPECTED.items() for line in (f"[{name}/{own}]", *FIRST, *told)))
 
 
 def of_servers(room):

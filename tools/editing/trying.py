@@ -84,10 +84,10 @@ def there(index, crate, file, line):
 
 
 def proved_by(index, crate, file):
-    """The functions for which a file of proofs has answers: its folders are their module, their type and their name."""
+    """The functions for which a file of proofs has answers: its folders end in their type, which may have more words, and their name."""
     *around, name, _ = file.split("/")
-    sources = [it for it in index.sources.values() if it.crate == crate and tuple(around[: len(it.module)]) == it.module]
-    return [it for source in sources for it in source.functions if it.name == name]
+    found = [it for source in index.sources.values() if source.crate == crate for it in source.functions if it.name == name]
+    return [it for it in found if not it.around or around and around[-1].startswith(it.around.owner)]
 
 
 def is_own(items, goals):

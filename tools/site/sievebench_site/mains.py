@@ -17,7 +17,9 @@ from .words import lines_of, quoted, unquoted, words_of
 SCRIPT_END = b".sieve"
 # Folders of a site that have no scripts to name in a line of main ones.
 OTHERS = (b"", b".", b"..", b"users", b"mails")
-PERSONAL, GLOBAL = b"personal/", b"global/"
+PERSONAL = b"personal/"
+# The folders of scripts that run before and after the main one.
+AROUND = (b"before/", b"after/")
 # A line that names itself before a colon.
 NAMED = re.compile(rb'[ \t]*("(?:[^"\\]|\\.)*"|[^\x00-\x20"\\\x7f:]+):[ \t]+(.*)', re.S)
 
@@ -47,10 +49,10 @@ class Line(NamedTuple):
         return f"{self.place}: " if self.place else ""
 
     def script(self) -> bytes:
-        """The main one of its scripts: the first of the user's own, or else of the folder global, or else the last."""
+        """The main one of its scripts: the first of the user's own, or else the first that is in no folder before or after, or else the last."""
         own = [name for name in self.names if b"/" not in name or name.startswith(PERSONAL)]
-        shared = [name for name in self.names if name.startswith(GLOBAL)]
-        found = [*own, *shared, self.names[-1]][0]
+        between = [name for name in self.names if not name.startswith(AROUND)]
+        found = [*own, *between, self.names[-1]][0]
         return found[len(PERSONAL) :] if found.startswith(PERSONAL) else found
 
 
