@@ -3,8 +3,8 @@
 An edit shows something that a proof alone doesn't say. Each has lines `shows: KIND WORD`:
 
 - `promise FUNCTION`: a function that a row of `docs/PROVED.md` names, and that the edit changes. Four edits are enough for a row.
-- `relation NAME`: a relation other than an equation. A clause of a function that the edit changes asserts it, and no other edit of the crate
-  changes such a function. Each relation that a public clause asserts has an edit of such a function, whatever that edit shows.
+- `relation NAME`: a relation other than an equation. A clause of a function that the edit changes asserts it, no other edit of the crate shows it,
+  and none changes such a function that shows anything but relations. Each relation that a public clause asserts has an edit of such a function.
 - `rule NAME`, `error NAME`, `column TYPE.FIELD`: a rule of the validator, a kind of error of a run, a column of the table. One edit shows each.
 - `crate`: nothing of these. A crate that has edits has two, and only then.
 
@@ -93,15 +93,14 @@ class Shown:
                 yield f"{kind} {word}: " + (f"{len(names)} edits show it: {', '.join(names)}" if names else "no edit shows it")
 
     def relations_not_once(self):
-        """The relations that an edit shows and another touches, and those of public clauses that none touches."""
+        """The relations that an edit shows and another one too, or touches; and those of public clauses that none touches."""
         touched = {}
         for edit in self.edits:
-            for function in changed(self.index, edit):
-                for word in self.asserted(function):
-                    touched.setdefault((edit.crate, word), {})[edit.place()] = True
+            for word in {word for function in changed(self.index, edit) for word in self.asserted(function)}:
+                touched.setdefault((edit.crate, word), []).append(edit)
         for edit in self.edits:
             for word in (word for kind, word in edit.shows if kind == "relation"):
-                others = [it for it in touched.get((edit.crate, word), {}) if it != edit.place()]
+                others = [it.place() for it in touched.get((edit.crate, word), []) if it is not edit and is_enough(it, word)]
                 if others:
                     yield f"{edit.place()}: it shows a relation {word} that others touch: {', '.join(others)}"
         for crate, word in sorted(self.asked() - set(touched)):
@@ -128,6 +127,11 @@ class Shown:
                 yield f"edits/{crate}: it has {len(found)}, and a crate that has edits has {LEAST}"
             elif alone and len(found) > LEAST:
                 yield f"edits/{crate}: there are {len(found)} edits, so those that show nothing else go: {', '.join(alone)}"
+
+
+def is_enough(edit, word):
+    """Whether an edit that touches a relation leaves no place for one that shows it: it shows it too, or something that is no relation."""
+    return ("relation", word) in edit.shows or any(kind != "relation" for kind, _ in edit.shows)
 
 
 def is_named(function, word):
