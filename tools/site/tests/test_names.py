@@ -76,7 +76,9 @@ class Names(Room):
         self.write({"with": "pigeonhole", "mails/1.eml.expect": "[main]\ndiscard\n"})
         self.assertEqual(self.ran("check", ".")[0], 0)
         self.write({"with": "ereject"})
-        self.assertIn("./personal/main.sieve:1: not judged: requires vacation: add it to the file with", self.ran("check", ".")[1])
+        self.assertIn(
+            "./personal/main.sieve:1: not judged: requires vacation: add it to the file with", self.ran("check", ".")[1]
+        )
 
     def test_no_name_is_always_known_or_a_set(self) -> None:
         self.assertEqual(set(NAMES) & set(SETS), set())
