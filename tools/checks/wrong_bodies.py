@@ -116,7 +116,7 @@ FILES = {
     "HANDLES": "Handles allowed: none.\n",
     "crates.txt": "low:\nmiddle: low smallvec\nhigh: middle\nother:\n",
     "docs/PROVED.md": "",
-    **{f"crates/{it}/src/lib.rt": f"pub fn {it}() -> u8 {{\n    1\n}}\n\npub fn calls() -> u8 {{\n    {it}()\n}}\n" for it in NAMES},
+    **{f"crates/{it}/src/lib.rt": f"#[cycle(turns)]\npub fn {it}() -> u8 {{\n    1\n}}\n\npub fn calls() -> u8 {{\n    {it}()\n}}\n" for it in NAMES},
     **{f"crates/{it}/specs/Lib.antt": "" for it in NAMES},
     **{
         f"edits/{it}/{name}.edit": f"shows: crate\nfile: src/lib.rt\nold:     1\nnew:     {number}\n"
@@ -182,7 +182,7 @@ assert "CI" not in os.environ
 for path in sorted(pathlib.Path("crates").glob("*/must-fail/*.edit")):
     assert "shows" not in path.read_text()
     name = f"{path.parts[1]}/{path.name}"
-    fate = fates.get(name, "refused, as it must be: note: src/lib.rt:2:5: it is not proved (`returns`)")
+    fate = fates.get(name, "refused, as it must be: note: src/lib.rt:3:5: it is not proved (`returns`)")
     if fate != "silent":
         print(f"rt: must-fail {name}: {fate}")
 print("1 passed, 0 failed")
@@ -199,7 +199,16 @@ REFUSED = "refused, as it must be"
 TRIES = {
     "of all crates": (["--all"], {}, "", "high, low, middle, other", 0, ""),
     "of one": (["low"], {}, "", "low", 0, ""),
-    "refused where it is called": (["low"], {"low/gives__two.edit": f"{REFUSED}: src/lib.rt:6:5: error: it is not proved"}, "", "low", 0, ""),
+    "refused where it is called": (["low"], {"low/gives__two.edit": f"{REFUSED}: src/lib.rt:7:5: error: it is not proved"}, "", "low", 0, ""),
+    "refused by an answer of a cycle": (["low"], {"low/gives__two.edit": f"{REFUSED}: ./proofs/+turns/Answers.antt:5:13: error: no proof"}, "", "low", 0, ""),
+    "refused by an answer of another cycle": (
+        ["low"],
+        {"low/gives__two.edit": f"{REFUSED}: ./proofs/+others/Answers.antt:5:13: error: no proof"},
+        "",
+        "low",
+        1,
+        "edits/low/gives__two.edit: it is refused at a goal of something else",
+    ),
     "refused by an answer": (["low"], {"low/gives__two.edit": f"{REFUSED}: ./proofs/low/Answers.antt:5:13: error: no proof"}, "", "low", 0, ""),
     "refused elsewhere": (
         ["low"],

@@ -84,10 +84,13 @@ def there(index, crate, file, line):
 
 
 def proved_by(index, crate, file):
-    """The functions for which a file of proofs has answers: its folders end in their type, which may have more words, and their name."""
+    """The functions for which a file of proofs has answers. Its folders end in their type, which may have more words, and their name; those that
+    call one another have one folder, which is named by their cycle."""
     *around, name, _ = file.split("/")
-    found = [it for source in index.sources.values() if source.crate == crate for it in source.functions if it.name == name]
-    return [it for it in found if not it.around or around and around[-1].startswith(it.around.owner)]
+    functions = [it for source in index.sources.values() if source.crate == crate for it in source.functions]
+    if name.startswith("+"):
+        return [it for it in functions if f"#[cycle({name[1:]})]" in it.source.text[it.start : it.head]]
+    return [it for it in functions if it.name == name and (not it.around or around and around[-1].startswith(it.around.owner))]
 
 
 def is_own(items, goals):
