@@ -13,7 +13,7 @@ import tempfile
 from .files import at, changed, end_of
 
 TOLD = re.compile(r"must-fail (\w+)/(\S+\.edit): (.*)")
-REFUSED = re.compile(r"refused, as it must be: (?:note: )?(?:\./)?(src|proofs)/(\S+?):(\d+):\d+: ")
+REFUSED = re.compile(r"refused, as it must be: (?:note: )?(?:\./)?(src|proofs)/(\S+?):(\d+):\d+: (?:error: `([^`]*)`)?")
 
 
 def copied(top, room, edits):
@@ -68,8 +68,8 @@ def fault(index, edit, told):
     it = REFUSED.match(told)
     if not it:
         return f"change one value and keep the names: {told}" if told.startswith("refused") else told
-    part, file, line = it[1], it[2], int(it[3])
-    goals = proved_by(index, edit.crate, file) if part == "proofs" else there(index, edit.crate, file, line)
+    part, file, line, goal = it[1], it[2], int(it[3]), it[4] or ""
+    goals = proved_by(index, edit.crate, file, goal) if part == "proofs" else there(index, edit.crate, file, line)
     return None if is_own(changed(index, edit), goals) else f"it is refused at a goal of something else: {told}"
 
 
@@ -83,13 +83,14 @@ def there(index, crate, file, line):
     return []
 
 
-def proved_by(index, crate, file):
-    """The functions for which a file of proofs has answers. Its folders end in their type, which may have more words, and their name; those that
-    call one another have one folder, which is named by their cycle."""
+def proved_by(index, crate, file, goal):
+    """The functions to which a goal in a file of proofs may belong. Its folders end in their type, which may have more words, and their name; those
+    that call one another have one folder, which is named by their cycle, and there the goal begins with the function."""
     *around, name, _ = file.split("/")
     functions = [it for source in index.sources.values() if source.crate == crate for it in source.functions]
     if name.startswith("+"):
-        return [it for it in functions if f"#[cycle({name[1:]})]" in it.source.text[it.start : it.head]]
+        cycle = f"#[cycle({name[1:]})]"
+        return [it for it in functions if cycle in it.source.text[it.start : it.head] and goal.startswith(f"{it.name}-")]
     return [it for it in functions if it.name == name and (not it.around or around and around[-1].startswith(it.around.owner))]
 
 
