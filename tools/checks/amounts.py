@@ -137,6 +137,10 @@ def of_mails(room):
         yield reported(room, f"a mail of {size} octets", script, [b"x" * size], [["discard"]])
     for size, script, verdict in [
         (1_024, b"if size :over 1K { discard; } if size :under 1K { discard; }", KEPT),
+        (1_023, b"if size :over 1K { discard; }", KEPT),
+        (1_023, b"if size :under 1K { discard; }", ["discard"]),
+        (1_025, b"if size :over 1K { discard; }", ["discard"]),
+        (1_025, b"if size :under 1K { discard; }", KEPT),
         (1_024, b"if size :over 1023 { discard; }", ["discard"]),
         (1_024, b"if size :under 1025 { discard; }", ["discard"]),
         (4_000, b"if anyof (size :over 4000, size :under 4000) { discard; }", KEPT),

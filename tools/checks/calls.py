@@ -74,6 +74,8 @@ MAIL = (
     b"From: Ann <ann@a.example>\r\nSubject: =?utf-8?q?caf=C3=A9_?=\r\n =?iso-8859-1?B?6Q==?= late\r\n"
     b"To: b@c.example,\r\n\td@e.example\r\nX-Plain: plain\r\n\r\nbody\r\n"
 )
+# Each address, its local part and its domain, and its user, which is its local part where there is no detail.
+ADDRESSES = [(local + b"@" + domain, local, domain, local) for local, domain in ((b"a b", b"b.example"), (b"c", b"d.example"), (b"e", b"f.example"))]
 TOKENS = lines(
     "Identifier 0 2 1",
     "Identifier 3 4 1",
@@ -169,7 +171,7 @@ CALLS = {
     "Message::value": Told(each(b"b@c.example,\td@e.example")),
     "Message::decoded": Told(each("café é late".encode())),
     "decoded_value": Told(each(b"a b c")),
-    "addresses": Told(each(b"a b@b.example", b"c@d.example", b"e@f.example")),
+    "addresses": Told(b"".join(each(*it) + lines("none") for it in ADDRESSES)),
     "entities_of": Told(each(b"before", b"after", b"\xc1", b"Subject: held\r\nContent-Transfer-Encoding: base64\r\n", b"aGVsZA==")),
     "TransferEncoding::octets_of": Told(each("café at ten".encode())),
     "Entity::text": Told(each("а".encode())),

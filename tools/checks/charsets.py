@@ -1,5 +1,5 @@
 """The charsets that `charsets` brings, octet by octet: each is decoded as Python's codecs have it, which are a second copy of the tables that
-Unicode publishes, and stays as written where these have nothing, or where the program isn't asked for it.
+Unicode publishes, and stays as written where these have nothing, or where the program is asked for other names.
 
 A session for each charset has one message, with a field for each octet: `v`, an encoded word of that octet alone, and `w`. Its script flags
 those whose value isn't what is wanted, so none may be flagged.
@@ -44,11 +44,11 @@ def of_charset(room, charset, is_asked):
     tests = [b'if %s { addflag "x%02x"; }\n' % (differs(charset, octet, is_asked), octet) for octet in OCTETS]
     fields = [b"X%02X: v%sw\n" % (octet, word(charset, octet)) for octet in OCTETS]
     octets = put(b"script personal main", b'require "imap4flags";\n' + b"".join(tests)) + put(b"message m", b"".join(fields)) + b"main personal main\nreport\n"
-    path = room / f"{charset}-{'asked' if is_asked else 'unasked'}.session"
+    path, names = room / f"{charset}-{'asked' if is_asked else 'unasked'}.session", ["charsets"] if is_asked else ["subaddress", "unused"]
     path.write_bytes(octets)
-    told = ['main personal "main"', SETTINGS, *["with charsets"] * is_asked, 'script personal "main" ok', 'message "m"', '  implicit "INBOX"', '  read personal "main"']
+    told = ['main personal "main"', SETTINGS, f"with {' '.join(names)}", 'script personal "main" ok', 'message "m"', '  implicit "INBOX"', '  read personal "main"']
     replies = lines(*["ok"] * 3, *told, "total 1 messages 0 errors")
-    return Run(f"{charset}, {'asked for' if is_asked else 'not asked for'}", room, f"sievebench session{' --with charsets' * is_asked} < {path.name}", replies)
+    return Run(f"{charset}, {'asked for' if is_asked else 'not asked for'}", room, f"sievebench session --with {','.join(names)} < {path.name}", replies)
 
 
 def of_charsets(room):

@@ -243,6 +243,7 @@ def of_order(room):
             ({**personal, "g/d.sieve": b"", **script}, ["p/a.sieve", "p/a-b.sieve"], "p/a-b.sieve"),
             (personal, [], "g/"),
             ({**personal, "g/d.sieve": b"", b"g/\xff.sieve": b""}, [], "g/\\xff.sieve"),
+            ({"p/x": b"", "g/x": b""}, [], "main.sieve"),
             ({"p/x": b"", "g/x": b"", **script}, [], "mail.txt"),
         ]
     ):

@@ -314,6 +314,10 @@ def of_lists():
     told = {f'{word} "PATH"' if of else word for of, word in re.findall(r'complain(_of)?\(\s*rt,\s*"([^"]*)"', sources)}
     told |= set(re.findall(r'=> Some\("([^"]*)"\)', sources))
     yield Same("what is said on standard error", HELP, sorted(said), {SAYS: sorted(told)})
+    # No run makes as many reads as there may be.
+    told = dict(re.findall(r'SessionEnd::(\w+) => Some\("([^"]*)"\)', sources))
+    wanted = {"Read": "cannot read standard input", "Write": "cannot write", "TurnLimit": "too many reads", "NoMemory": "out of memory"}
+    yield Same("what is said of each end of a session", "the statuses of the help", wanted, {SAYS: told})
     names = [row[0].strip("`") for row in rows(LANGUAGE, "\n## Extensions")]
     known = words("crates/sieve_profile/src/extension.rt")
     yield Same("the names that are asked for", LANGUAGE, names, {"the sources": known})

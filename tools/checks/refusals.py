@@ -104,9 +104,10 @@ class Refusals:
             return [f"only {count} requests"]
         wrong, refused = [], 0
         for number in range(1, count + 1):
-            found = answered(octets, path, LD_PRELOAD=str(self.library), REFUSE=str(number))
+            done = served(octets, path, LD_PRELOAD=str(self.library), REFUSE=str(number))
+            found = done.stdout, done.returncode
             refused += found != whole
-            if found not in told and found != (b"", 4):
+            if found not in told and (done.stdout, done.stderr, done.returncode) != Words.OUT:
                 wrong.append(f"request {number} of {count} refused: got {found!r:.2000}")
         return wrong[:3] + ([] if refused else [f"none of {count} refusals is reported"])
 

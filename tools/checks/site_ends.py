@@ -16,6 +16,8 @@ from .site import PACK, TOOL, counted, run, site, told, write
 
 DISCARDS = b"[main]\ndiscard\n"
 SERVERS = TOOL.parent.parent / "examples/ci"
+# A step of a file for servers that runs the tool.
+STEP = r"^ *- (?:run: )?(bin/sievebench-site (?:lint|check) .*)"
 # A program that says that it sleeps, in a file, before it answers anything.
 SLOW = b'#!/bin/sh\n[ "$1" = --version ] || { : > asleep; exec sleep 30; }\nexec sievebench "$@"\n'
 MEBIBYTE = 1 << 20
@@ -179,7 +181,8 @@ def of_completion(room):
         ("why of", ["offers"]),
         ("check offers --ut", ["--utf8"]),
         ("check offers --no", ["--no-utf8"]),
-        ("check offers --me", ["--memory"]),
+        ("check offers --mem", ["--memory"]),
+        ("check offers --mer", ["--merge"]),
         ("import offers --me", []),
         ("record offers --", ["--help", "--utf8", "--no-utf8", "--user", "--main", "--clock", "--program", "--memory", "--quiet", "--only", "--jobs", "--force", "--prune"]),
         ("check nowhere --user ''", []),
@@ -197,9 +200,10 @@ def of_servers(room):
     agree = lines(counted(1, 1, 1, 1, 0, 0, 0, 0))
     yield Run("examples for servers: check.sh", room, f"{found} ./check.sh && head -c 5 results.xml", agree + b"<?xml")
     for form in ("github", "gitlab"):
-        steps = re.findall(r"^ *- (?:run: )?(bin/sievebench-site (?:lint|check) .*)", (SERVERS / f"{form}.yml").read_text(encoding="utf-8"), re.M)
+        steps = re.findall(STEP, (SERVERS / f"{form}.yml").read_text(encoding="utf-8"), re.M)
         assert steps, f"examples for servers: {form}.yml has no step"
         yield Run(f"examples for servers: {form}.yml", room, f"{found} {' && '.join(steps)}", agree if form == "gitlab" else b"")
+    yield from of_parts(room, found, agree)
     if not shutil.which("git"):
         yield LeftOut("examples for servers: hooks", "since git isn't installed")
         return
@@ -217,6 +221,23 @@ def of_servers(room):
     yield Run("examples for servers: its hook finds faults that no mail comes to", room, lint, lines("1"), [b"site/personal/other.sieve:1: bad-address: This isn't one address."])
     bare = f"{found} git rm -qr site && git commit -qnm five && git push -q ../server HEAD:pages; echo $?; git -C ../server log --format=%s -n 1 pages"
     yield Run("examples for servers: its hook passes a branch without a site", room, bare, lines("0", "five"), [b"refs/heads/pages has no folder site: no filters are checked"])
+
+
+def of_parts(room, found, agree):
+    """What is there for servers on which several jobs share a site: each of them, and then the one that makes one result of theirs."""
+    for form, jobs in (("github", "shard: [1, 2, 3, 4]"), ("gitlab", "parallel: 4\n")):
+        text = (SERVERS / f"{form}-shards.yml").read_text(encoding="utf-8")
+        shared, *rest = re.findall(STEP, text, re.M)
+        assert jobs in text and " --shard " in shared and len(rest) == 2, f"examples for servers: {form}-shards.yml"
+        parts = [f"{{ CI_NODE_INDEX={number}; CI_NODE_TOTAL=4; {shared.replace('${{ matrix.shard }}', str(number))}; }}" for number in range(1, 5)]
+        steps = " && ".join([*parts, *rest])
+        copied = f"{found} mkdir parts && cp -R bin site parts && cd parts"
+        yield Run(f"examples for servers: {form}-shards.yml", room, f"{copied} && {steps}", agree if form == "gitlab" else b"")
+        place, store = "site/mails/1.eml under main", '+ store "INBOX"  (site/personal/main.sieve:1)'
+        wrong = lines(f"::error file=site/mails/1.eml.expect,line=1,title=disagrees::{place}%0A- discard%0A{store}")
+        wrong = wrong if form == "github" else lines(place, "  - discard", f"  {store}", counted(1, 1, 1, 0, 1, 0, 0, 0))
+        changed = "cd parts && printf 'keep;' > site/personal/main.sieve"
+        yield Run(f"examples for servers: {form}-shards.yml, where a verdict disagrees", room, f"{changed}; {steps}; status=$?; cd .. && rm -r parts; exit $status", wrong, status=1)
 
 
 def of_sites(room):

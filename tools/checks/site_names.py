@@ -17,6 +17,7 @@ sys.path.insert(0, "site")
 from sievebench_site.names import NAMES
 print(*(f"{name.decode()} {int(there)}" for name, there in NAMES.items()))
 """
+SETS = ("all", "pigeonhole")
 # A charset of those that `charsets` adds, which is no extension that a script may require: this is its letter.
 CHARSET = b"Subject: =?windows-1252?Q?=80?=\n\n"
 DECODES = 'require "fileinto"; if header :is "subject" "\u20ac" { fileinto "decoded"; }'.encode()
@@ -44,7 +45,26 @@ class Taken(Reading):
         done = subprocess.run(["sievebench", "dump", "--with", "none", "script"], env=env, capture_output=True, text=True, timeout=SECONDS)
         (listed,) = re.findall(r"\[possible values: (.*)\]", done.stderr)
         self.looked = len(ours())
-        return [f"only one has {name}" for name in sorted(set(listed.split(", ")) ^ set(ours()))]
+        return [f"only one has {name}" for name in sorted(set(listed.split(", ")) ^ {*ours(), *SETS})]
+
+
+class Stands(Reading):
+    """Whether a set stands for the same names in the program and in the file `with`."""
+
+    title, command = "sievebench-site: the sets of the file with are the program's", "sievebench session --with"
+
+    def found(self, path):
+        """The names that only one of them has."""
+        env = {**os.environ, "PATH": path}
+        names = ours()
+        wrong = []
+        for it in SETS:
+            done = subprocess.run(["sievebench", "session", "--with", it], env=env, input="report\n", capture_output=True, text=True, timeout=SECONDS)
+            (listed,) = re.findall(r"(?m)^with (.*)$", done.stdout)
+            wanted = {name for name, there in names.items() if there or it == "all"}
+            self.looked += len(wanted)
+            wrong += [f"only one has {name} in {it}" for name in sorted(set(listed.split()) ^ wanted)]
+        return wrong
 
 
 class KnownThere(Reading):
@@ -81,4 +101,5 @@ def decodes(room):
 def of_names(room):
     """Both comparisons, the second where there is something to compare with."""
     yield Taken()
+    yield Stands()
     yield KnownThere() if shutil.which("sievec") else LeftOut(KnownThere.title, "since it isn't installed")

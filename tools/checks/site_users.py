@@ -1,6 +1,8 @@
 """Sites as servers have them: users, scripts that run one after another, envelopes, and what can't be judged."""
-from .runs import lines, some
-from .site import LEFT, NOBODY, STALE, counted, run, site, told, write
+import shlex
+
+from .runs import Run, lines, some
+from .site import LEFT, NOBODY, STALE, TOOL, counted, run, site, told, write
 
 DISCARDS = b"[main]\ndiscard\n"
 
@@ -190,9 +192,31 @@ def of_groups(room):
     yield run("characters that turn text around, and octets that are no UTF-8", room, "check --utf8 turned", lines(*(f"turned/mails/{name} under main: nothing is expected" for name in names), counted(3, 1, 3, 0, 0, 3, 0, 0)), status=1)
 
 
+def of_parts(room):
+    """Parts of a site that are judged apart: one result of theirs is that of the whole, in each form."""
+    files = {"mains": b"main\nlate: before/10 second\n", "before/10.sieve": b"", "global/g.sieve": b"discard;", "global/old.sieve": b'require "regex";', "unjudged": b"global/old.sieve it waits\n", "mails/x.EML": b"", "mails/9.eml.expect": b""}
+    scripts = [b'require "include"; include :global "g";', b"keep;", b"\nkep;", b'require "include"; include "gone";', b'require "include"; include :global "old";']
+    for number, script in enumerate(scripts):
+        files.update({f"users/u{number}/personal/main.sieve": script, f"users/u{number}/personal/second.sieve": scripts[number - 1], f"users/u{number}/mails/own.eml": b"Subject: own\n\n"})
+        files[f"users/u{number}/mails/own.eml.expect"] = b"[u%d/main]\ndiscard\n[u%d/gone]\ndiscard\n" % (number, number)
+    for number in range(4):
+        files.update({f"mails/{number}.eml": b"Return-Path: <a@b.example>\nDelivered-To: c@d.example\n\n", f"mails/{number}.eml.expect": b"".join(b'[u%d/main]\nstore "INBOX"\n' % it for it in range(number, 5))})
+    write(room / "parted", files)
+    tool = f"python3 {shlex.quote(str(TOOL))} check"
+    parts = f"for number in 1 2 3; do {tool} --shard $number/3 --json parted > part$number.json; echo $?; done"
+    yield Run("sievebench-site: the parts of a site", room, parts, lines(1, 1, 1))
+    for words in ("", "--lax --all --utf8", "--json", "--format github", "--format sarif", "--format junit"):
+        both = f"{tool} {words} parted > whole; echo $?; {tool} {words} --merge part3.json part1.json part2.json > merged; echo $?"
+        yield Run(f"sievebench-site: one result of its parts {words}", room, f"{both}; sed -i 's/ time=\"[0-9.]*\"//' whole merged; cmp whole merged && test -s whole", lines(1, 1))
+    # Each of five users has the 4 mails of all and an own one, under two lines.
+    yield Run("sievebench-site: how much there is of it", room, f"{tool} --merge part?.json | tail -n 1 | cut -d, -f -3", lines("9 mails, 10 mains, 50 verdicts"))
+    yield Run("sievebench-site: a part that is missing", room, f"{tool} --merge part1.json part3.json", b"", told("shard 2/3 missing: all 3 make one result"), 2)
+    yield Run("sievebench-site: a site that changed", room, f"printf 'stop;' > parted/global/g.sieve; {tool} -q --shard 2/3 --json parted > part2.json; {tool} --merge part?.json", b"", told('"part1.json" and "part2.json" are of different sites, or of one that changed'), 2)
+
+
 def of_sites(room):
     """All of them."""
     room = room / "users of sites"
     room.mkdir()
-    for part in (of_users, of_chains, of_envelopes, of_unjudged, of_capabilities, of_expectations, of_groups):
+    for part in (of_users, of_parts, of_chains, of_envelopes, of_unjudged, of_capabilities, of_expectations, of_groups):
         yield from some(part.__name__, part(room))

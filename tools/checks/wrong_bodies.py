@@ -114,7 +114,7 @@ class Lock(Reading):
 NAMES = ["high", "low", "middle", "other"]
 FILES = {
     "HANDLES": "Handles allowed: none.\n",
-    "crates.txt": "low:\nmiddle: low smallvec\nhigh: middle\nother:\n",
+    "crates.txt": "low:\nmiddle: low smallvec\nhigh: low middle\nother:\n",
     "docs/PROVED.md": "",
     **{f"crates/{it}/src/lib.rt": f"#[cycle(turns)]\npub fn {it}() -> u8 {{\n    1\n}}\n\npub fn calls() -> u8 {{\n    {it}()\n}}\n" for it in NAMES},
     **{f"crates/{it}/specs/Lib.antt": "" for it in NAMES},
@@ -179,6 +179,12 @@ if sys.argv[1:] == ["version"]:
     sys.exit(0)
 fates = dict(line.split(" ", 1) for line in pathlib.Path(os.environ["FATES"]).read_text().splitlines())
 assert "CI" not in os.environ
+if "kit" in fates:
+    if len(sys.argv) > 2:
+        print("usage")
+        sys.exit(2)
+    there = sorted(it.split(":")[0] for it in pathlib.Path("crates.txt").read_text().splitlines())
+    assert there == fates["kit"].split() == sorted(os.listdir("crates"))
 for path in sorted(pathlib.Path("crates").glob("*/must-fail/*.edit")):
     assert "shows" not in path.read_text()
     name = f"{path.parts[1]}/{path.name}"
@@ -239,6 +245,9 @@ TRIES = {
     "that was killed": (["low"], {"low/gives__two.edit": "NOT TRIED: it was killed"}, "", "low", 1, "edits/low/gives__two.edit: NOT TRIED"),
     "of which nothing is said": (["low"], {"low/gives__two.edit": "silent"}, "", "low", 1, "edits/low/gives__two.edit: it wasn't tried"),
     "of a crate that isn't proved": (["low"], {"status": "1"}, "", "low", 1, "edits/low: rt ci failed"),
+    "by a kit whose rt ci takes no crates": (["middle"], {"kit": "low middle"}, "", "middle", 0, ""),
+    "by a kit whose rt ci takes no crates, of one that is above another twice": (["high"], {"kit": "high low middle"}, "", "high", 0, ""),
+    "by a kit whose rt ci takes no crates, and of all": (["--all"], {"kit": "high low middle other"}, "", "high, low, middle, other", 0, ""),
     "of a crate without edits": (["none"], {}, "", None, 0, "none has no edits"),
     "one drawn": ([], {}, "", "high", 0, ""),
     "one drawn whose line is false": ([], {f"{it}/gives__two.edit": "NOT REFUSED" for it in NAMES}, "", "high", 1, "edits/high/gives__two.edit: NOT REFUSED"),

@@ -1,7 +1,8 @@
 """`edits.lock`: for each crate with edits, a sum over all that a try of them reads, and how many were refused.
 
-The sum is over the kit's line, `HANDLES`, the crate's edits without what they show, and the sources, definitions and proofs of the crate and of
-those below it. So a line says that the edits of a crate were refused on exactly these octets.
+The sum is over the logic that the kit's line names, `HANDLES`, the crate's edits without what they show, and the sources, definitions and proofs
+of the crate and of those below it. So a line says that the edits of a crate were refused on exactly these octets. Machines have kits of several
+numbers and of one logic: a line made by one of them stands on the others, and the crate that is drawn is tried by each.
 """
 import hashlib
 
@@ -33,7 +34,13 @@ def sums(top, kit):
             known[crate] = digest(head, uses, list(files_of(top, crate)), [of(it) for it in sorted(libraries)])
         return known[crate]
 
-    return {crate: digest(kit, handles, of(crate), found) for crate, found in edits.items() if crate in crates}
+    return {crate: digest(logic_of(kit), handles, of(crate), found) for crate, found in edits.items() if crate in crates}
+
+
+def logic_of(kit):
+    """The logic that a kit's line names, as `logic 0123` in `a-kit-1 logic 0123`; of a line without one, all of it."""
+    _, word, name = kit.partition(" logic ")
+    return f"logic {name}" if word else kit
 
 
 def files_of(top, crate):

@@ -1,6 +1,7 @@
-"""Tries edits in a copy of the checkout, where `rt ci` begins with the libraries that an earlier run on this machine proved.
+"""Tries edits in a copy of the checkout, by `rt ci`: some kits take crates there, and begin with the libraries that an earlier run on this machine
+proved; for others the copy has just these crates and those below them, which are proved once more, side by side.
 
-(`rt must-fail` would prove all libraries below once more, since it takes nothing from `rt ci`.)
+(`rt must-fail` would prove all libraries below once more under each kit, one after the other.)
 """
 import os
 import pathlib
@@ -10,9 +11,12 @@ import subprocess
 import sys
 import tempfile
 
+from . import lock
 from .files import at, changed, end_of
 
 TOLD = re.compile(r"must-fail (\w+)/(\S+\.edit): (.*)")
+# The status of `rt` where it can't take its words.
+MISUSE = 2
 REFUSED = re.compile(r"refused, as it must be: (?:note: )?(?:\./)?(src|proofs)/(\S+?):(\d+):\d+: (?:error: `([^`]*)`)?")
 
 
@@ -33,7 +37,7 @@ def tried(index, top, edits):
     """Tries edits, and gives what is wrong with each crate's, by crate: sentences, none where all its edits are refused at their own goals."""
     with tempfile.TemporaryDirectory(prefix="sievebench-edits-") as room:
         copied(top, pathlib.Path(room), edits)
-        told, whole = run(room, sorted({it.crate for it in edits}))
+        told, whole = run(pathlib.Path(room), sorted({it.crate for it in edits}))
     found = {edit.crate: [] for edit in edits}
     for edit in edits:
         why = fault(index, edit, told.get((edit.crate, edit.name)))
@@ -44,11 +48,43 @@ def tried(index, top, edits):
 
 
 def run(room, crates):
-    """Runs `rt ci` over crates in a folder, shows what it says of its own, and gives what it says of each edit, and whether it passed."""
+    """Runs `rt ci` over crates in a folder, and gives what it says of each edit, and whether it passed."""
+    told, status = told_by(["rt", "ci", *crates], room)
+    if status == MISUSE and not told:
+        leave(room, crates)
+        told, status = told_by(["rt", "ci"], room)
+    if status:
+        print(f"edits: rt ci ended with status {status}", file=sys.stderr)
+    return told, not status
+
+
+def leave(room, crates):
+    """Leaves only these crates in a folder, and those below them."""
+    rows = lock.below(room)
+    wanted = with_below(rows, crates)
+    (room / "crates.txt").write_text("".join(f"{rows[it][0]}: {' '.join(rows[it][1])}\n" for it in wanted), encoding="utf-8")
+    for path in (room / "crates").iterdir():
+        if path.name not in wanted:
+            shutil.rmtree(path)
+
+
+def with_below(rows, crates):
+    """These crates and those of this repository below them, each once, by the rows of `crates.txt`."""
+    found, waiting = [], list(crates)
+    while waiting:
+        crate = waiting.pop()
+        if crate not in found:
+            found.append(crate)
+            waiting += rows[crate][2]
+    return found
+
+
+def told_by(words, room):
+    """Runs a command of `rt` in a folder, shows what it says of its own, and gives what it says of each edit, and its status."""
     env = {name: value for name, value in os.environ.items() if name != "CI"}
     told = {}
     with subprocess.Popen(
-        ["rt", "ci", *crates], cwd=room, env=env, stdin=subprocess.DEVNULL, stdout=subprocess.PIPE, stderr=subprocess.STDOUT, text=True, errors="replace"
+        words, cwd=room, env=env, stdin=subprocess.DEVNULL, stdout=subprocess.PIPE, stderr=subprocess.STDOUT, text=True, errors="replace"
     ) as ran:
         for line in ran.stdout:
             it = TOLD.search(line)
@@ -56,9 +92,7 @@ def run(room, crates):
                 told[it[1], it[2]] = it[3]
             if line.startswith("rt: "):
                 print(line.rstrip("\n"), flush=True)
-    if ran.returncode:
-        print(f"edits: rt ci ended with status {ran.returncode}", file=sys.stderr)
-    return told, not ran.returncode
+    return told, ran.returncode
 
 
 def fault(index, edit, told):

@@ -6,8 +6,10 @@ use Rattle.date_text.specs.Zone.{east}
 use Rattle.script_names.specs.declared.location.Location.TheVariants.{Personal, Global}
 use Rattle.script_names.specs.declared.name.ScriptName.{ScriptName}
 use Rattle.sieve_profile.specs.Profile.{Profile}
-use Rattle.bench.specs.Content.{Content, new_content, put_script, put_message, set_main, set_envelope, set_mailbox, set_expected, set_mailboxes, set_message_envelope, set_clock}
+use Rattle.bench.specs.Content.{Content, put_script, put_message, set_for_all, set_for_one}
 use Rattle.bench.specs.Edits.{AreDistinct, AreOrdered, rebuild}
+use Rattle.bench.specs.declared.setting.MessageSetting.TheVariants as own
+use Rattle.bench.specs.declared.setting.Setting.TheVariants as common
 
 abbrev a : ScriptName
 a = record { location = Personal; name = codes "a" }
@@ -30,16 +32,13 @@ held profile = record {
 }
 
 -- the edits that make the content above anew, in their order
-rebuild_row : (profile : Profile) → rebuild (held profile) ≡ put_script b (codes "keep;") ∷ put_script shared (codes "stop;") ∷ put_message (codes "2") (codes "two") ∷ set_expected (codes "2") (codes "discard\n")
-    ∷ set_message_envelope (codes "2") (codes "a@b") [] ∷ put_message (codes "1") (codes "one") ∷ set_envelope (codes "x@y") [] ∷ set_mailbox (codes "INBOX") ∷ set_mailboxes (codes "Lists\n")
-    ∷ set_clock (record { seconds = 1783245600; zone = east 120 }) ∷ set_main shared ∷ []
+rebuild_row : (profile : Profile) → rebuild (held profile) ≡ put_script b (codes "keep;") ∷ put_script shared (codes "stop;")
+    ∷ put_message (codes "2") (codes "two") ∷ set_for_one (codes "2") (own.Expected (Some (codes "discard\n"))) ∷ set_for_one (codes "2") (own.Addresses (Some (record { from = codes "a@b"; to = [] })))
+    ∷ put_message (codes "1") (codes "one") ∷ set_for_one (codes "1") (own.Expected None) ∷ set_for_one (codes "1") (own.Addresses None)
+    ∷ set_for_all (common.Addresses (record { from = codes "x@y"; to = [] })) ∷ set_for_all (common.Mailbox (codes "INBOX")) ∷ set_for_all (common.Mailboxes (codes "Lists\n"))
+    ∷ set_for_all (common.Clock (Some (record { seconds = 1783245600; zone = east 120 }))) ∷ set_for_all (common.Main (Some shared)) ∷ []
 unfolding rebuild
 rebuild_row profile = refl
-
--- no edit names a main script where there is none, nor sets a clock
-no_main_row : (profile : Profile) → rebuild (new_content profile) ≡ set_envelope [] [] ∷ set_mailbox (codes "INBOX") ∷ set_mailboxes [] ∷ []
-unfolding rebuild
-no_main_row profile = refl
 
 -- a personal script comes before a shared one, and no name stands twice
 turned_row : AreOrdered ((shared, []) ∷ (b, []) ∷ []) → ⊥

@@ -7,10 +7,11 @@ use Rattle.std.specs.Option.{option_map}
 use lib.Pointwise.{pointwise}
 use Rattle.indexmap.specs.IndexMap as ordered
 use Rattle.indexmap.specs.Layout.{set_value_at}
-use Rattle.sieve_actions.specs.declared.envelope.Addresses.{Addresses}
-use Rattle.bench.specs.Content.{Sample, changed, put_over, with_addresses, with_expected, with_message}
+use Rattle.bench.specs.Content.{Sample, changed, put_over, with_message, sample_with}
 use Rattle.bench.specs.declared.entry.Entry.{Entry}
-use Rattle.bench.specs.view.Entry.{expecting, fresh_entry, messages_of, put_entry, readdressed, renewed, sample_in, sample_of}
+use Rattle.bench.specs.declared.setting.MessageSetting.{MessageSetting}
+use Rattle.bench.specs.declared.setting.MessageSetting.TheVariants as own
+use Rattle.bench.specs.view.Entry.{fresh_entry, messages_of, put_entry, renewed, sample_in, sample_of, entry_with}
 
 -- there are as many messages as entries
 pub length-messages : (es : List (List ℕ × Entry)) → length (messages_of es) ≡ length es
@@ -95,11 +96,12 @@ messages-changed id change to alike (e ∷ es) = by (pointwise nat_eq id e.0) (m
     by true rest = ap (λ sample. (e.0, sample) ∷ messages_of es) (alike e.1)
     by false rest = ap (λ l. (e.0, sample_of e.1) ∷ l) rest
 
-pub messages-expecting : (es : List (List ℕ × Entry)) (id : List ℕ) (expected : Option (List ℕ)) → messages_of (changed id (expecting expected) es) ≡ with_expected id expected (messages_of es)
-messages-expecting es id expected = messages-changed id (expecting expected) (λ sample. record sample { expected = expected }) (λ entry. refl) es
-
-pub messages-readdressed : (es : List (List ℕ × Entry)) (id : List ℕ) (addresses : Option Addresses) → messages_of (changed id (readdressed addresses) es) ≡ with_addresses id addresses (messages_of es)
-messages-readdressed es id addresses = messages-changed id (readdressed addresses) (λ sample. record sample { addresses = addresses }) (λ entry. refl) es
+pub messages-set : (es : List (List ℕ × Entry)) (id : List ℕ) (setting : MessageSetting) → messages_of (changed id (entry_with setting) es) ≡ changed id (sample_with setting) (messages_of es)
+messages-set es id setting = messages-changed id (entry_with setting) (sample_with setting) (alike setting) es
+  where
+    alike : (s : MessageSetting) (entry : Entry) → sample_of (entry_with s entry) ≡ sample_with s (sample_of entry)
+    alike (own.Expected expected) entry = refl
+    alike (own.Addresses addresses) entry = refl
 
 -- where no entry has the id nothing changes
 pub changed_absent : (id : List ℕ) (change : Entry → Entry) (es : List (List ℕ × Entry)) → is_some (lookup (pointwise nat_eq id) es) ≡ false → changed id change es ≡ es
@@ -151,4 +153,4 @@ one_turn change es now new i made is = by (slice_get (values_of now) i) refl mad
     by (Some entry) at made = made ∙ ap (λ l. set_value_at l i (change entry)) is ∙ one_further change es i entry (sym (ap (λ l. slice_get (values_of l) i) is) ∙ at)
 
 -- the rules that functions' attributes name
-pub ruleset entries = (length-messages, is_some-messages, messages-put, messages-expecting, messages-readdressed, messages-remove_entry)
+pub ruleset entries = (length-messages, is_some-messages, messages-put, messages-set, messages-remove_entry)

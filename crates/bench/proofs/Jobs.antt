@@ -2,14 +2,16 @@
 use Rattle.octets.specs.Octet.{is_among}
 use Rattle.std.proofs.Common.{◌≡◌, ℕ, ◌+◌, ◌<◌, Bool, true, false, ◌||◌, if◌then◌else◌, List, [], ◌∷◌, length, drop, get_or, map, fold, Option, None, Some, Result, Ok, Err, IfOk, OnOk, refl, sym, ap, ◌∙◌, subst}
 use Rattle.std.proofs.lemmas.List.{drop_more}
-use Rattle.date_text.specs.Clock.{Clock}
+use Rattle.sieve_actions.specs.declared.envelope.Envelope.{Envelope}
 use Rattle.script_names.specs.declared.name.ScriptName.{ScriptName}
 use Rattle.bench.specs.Bench.{BenchState, Makes}
-use Rattle.bench.specs.Content.{Content, Edit, Sample, after, put_message, set_main, set_envelope, set_mailbox, set_mailboxes, Refuses, unless, script_refusal, message_refusal, main_refusal, envelope_refusal, mailbox_refusal, mailboxes_refusal, with_message}
-use Rattle.bench.specs.Edits.{clock_edits}
+use Rattle.bench.specs.Content.{Content, Edit, Sample, after, put_message, Refuses, unless, script_refusal, message_refusal, with_message, set_for_all, setting_refusal}
+use Rattle.bench.specs.Edits.{envelope_edits}
 use Rattle.bench.specs.Stale.{ids_where, touches}
 use Rattle.bench.specs.Test.{after_all, put_of, then_edit}
 use Rattle.bench.specs.declared.fault.EditFault.{EditFault}
+use Rattle.bench.specs.declared.setting.Setting.{Setting}
+use Rattle.bench.specs.declared.setting.Setting.TheVariants as common
 use Rattle.bench.specs.declared.fault.EditFault.TheVariants.{TooLarge, NoSuchScript, NameTaken, NoSuchMessage, Full, NoMemory}
 use Rattle.bench.specs.declared.test_job.TestScript.{TestScript}
 use Rattle.bench.specs.view.Refused.{Refused}
@@ -77,17 +79,9 @@ kept_none None content none = none
 kept_none (Some fault) content none = tt
 
 -- edits of settings and of scripts leave no message where there was none
-none_set : (made : Result Content EditFault) (from to : List ℕ) → LeavesNone made → LeavesNone (then_edit made (set_envelope from to))
-none_set (Ok content) from to none = kept_none (envelope_refusal from to) _ none
-none_set (Err refusal) from to none = tt
-
-none_boxed : (made : Result Content EditFault) (mailbox : List ℕ) → LeavesNone made → LeavesNone (then_edit made (set_mailbox mailbox))
-none_boxed (Ok content) mailbox none = kept_none (mailbox_refusal mailbox) _ none
-none_boxed (Err refusal) mailbox none = tt
-
-none_listed : (made : Result Content EditFault) (text : List ℕ) → LeavesNone made → LeavesNone (then_edit made (set_mailboxes text))
-none_listed (Ok content) text none = kept_none (mailboxes_refusal text) _ none
-none_listed (Err refusal) text none = tt
+none_set : (made : Result Content EditFault) (setting : Setting) → LeavesNone made → LeavesNone (then_edit made (set_for_all setting))
+none_set (Ok content) setting none = kept_none (setting_refusal setting) _ none
+none_set (Err refusal) setting none = tt
 
 none_put : (made : Result Content EditFault) (script : TestScript) → LeavesNone made → LeavesNone (then_edit made (put_of script))
 none_put (Ok content) script none = kept_none (script_refusal content.scripts script.name script.text) _ none
@@ -97,19 +91,25 @@ none_all_put : (made : Result Content EditFault) (scripts : List TestScript) →
 none_all_put made [] none = none
 none_all_put made (script ∷ scripts) none = none_all_put (then_edit made (put_of script)) scripts (none_put made script none)
 
-pub settings_leave_none : (from to mailbox mailboxes : List ℕ) (old new : Content) → old.messages ≡ [] → after_all old (set_envelope from to ∷ set_mailbox mailbox ∷ set_mailboxes mailboxes ∷ []) ≡ Ok new → new.messages ≡ []
-settings_leave_none from to mailbox mailboxes old new none made = subst LeavesNone made (none_listed _ mailboxes (none_boxed _ mailbox (none_set (Ok old) from to none)))
+none_all_set : (made : Result Content EditFault) (settings : List Setting) → LeavesNone made → LeavesNone (fold then_edit made (map set_for_all settings))
+none_all_set made [] none = none
+none_all_set made (setting ∷ settings) none = none_all_set (then_edit made (set_for_all setting)) settings (none_set made setting none)
 
-pub clock_leaves_none : (clock : Option Clock) (old new : Content) → old.messages ≡ [] → after_all old (clock_edits clock) ≡ Ok new → new.messages ≡ []
-clock_leaves_none None old new none made = subst LeavesNone made none
-clock_leaves_none (Some clock) old new none made = subst LeavesNone made none
+-- the settings that an envelope is
+abbrev settings_of : Envelope → List Setting
+settings_of envelope =
+    common.Addresses (record { from = envelope.from; to = envelope.to }) ∷ common.Mailbox envelope.mailbox
+    ∷ common.Mailboxes envelope.mailboxes ∷ common.Clock envelope.clock ∷ []
+
+pub settings_leave_none : (envelope : Envelope) (old new : Content) → old.messages ≡ [] → after_all old (envelope_edits envelope) ≡ Ok new → new.messages ≡ []
+settings_leave_none envelope old new none made = subst LeavesNone made (none_all_set (Ok old) (settings_of envelope) none)
 
 pub scripts_leave_none : (scripts : List TestScript) (old new : Content) → old.messages ≡ [] → after_all old (map put_of scripts) ≡ Ok new → new.messages ≡ []
 scripts_leave_none scripts old new none made = subst LeavesNone made (none_all_put (Ok old) scripts none)
 
 -- the edit that names a main script leaves no message where there was none
-pub main_leaves_none : (name : ScriptName) (old new : Content) → old.messages ≡ [] → after old (set_main name) ≡ Ok new → new.messages ≡ []
-main_leaves_none name old new none made = ap (λ c. c.messages) (sym (made_is (main_refusal name) (record old { main = Some name }) new made)) ∙ none
+pub main_leaves_none : (main : Option ScriptName) (old new : Content) → old.messages ≡ [] → after old (set_for_all (common.Main main)) ≡ Ok new → new.messages ≡ []
+main_leaves_none main old new none made = ap (λ c. c.messages) (sym (made_is (setting_refusal (common.Main main)) (record old { main = main }) new made)) ∙ none
 
 -- where the only message passes a test, the ids of the messages that pass are its id alone
 one_id : (test : List ℕ × Sample → Bool) (id : List ℕ) (sample : Sample) → test (id, sample) ≡ true → ids_where test ((id, sample) ∷ []) ≡ id ∷ []

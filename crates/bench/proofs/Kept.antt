@@ -15,7 +15,7 @@ use Rattle.script_names.specs.declared.location.Location.{Location}
 use Rattle.script_names.specs.declared.location.Location.TheVariants.{Personal, Global}
 use Rattle.script_names.specs.Name.{name_cmp, location_cmp}
 use Rattle.script_names.specs.declared.name.ScriptName.{ScriptName}
-use Rattle.bench.specs.Content.{Content, Edit, Sample, after, new_content, put_script, put_message, set_main, rename_script, remove_script, remove_message, clear_main, set_envelope, set_mailbox, set_expected, clear_expected, set_mailboxes, set_message_envelope, clear_message_envelope, set_clock, clear_clock, unless, text_at, message_at, put_over, with_script, changed, with_renamed}
+use Rattle.bench.specs.Content.{Content, Edit, Sample, after, new_content, put_script, put_message, rename_script, remove_script, remove_message, unless, text_at, message_at, put_over, with_script, changed, with_renamed, set_for_all, set_for_one, sample_with}
 use Rattle.bench.specs.Edits.{IsInOrder, AreOrdered, AreDistinct, made_or_old, content_after}
 use Rattle.sieve_profile.specs.Profile.{Profile}
 use Rattle.bench.specs.declared.fault.EditFault.{EditFault}
@@ -247,8 +247,6 @@ order_kept content (put_script name text) new order made =
     subst IsInOrder (accepted _ _ new made).1 (record { scripts = sorted_inserted name_total name text content.scripts order.scripts; ids = order.ids })
 order_kept content (put_message id bytes) new order made =
     subst IsInOrder (accepted _ _ new made).1 (record { scripts = order.scripts; ids = distinct_put id (put_over bytes (message_at content.messages id)) content.messages order.ids })
-order_kept content (set_main name) new order made =
-    subst IsInOrder (accepted _ _ new made).1 (record { scripts = order.scripts; ids = order.ids })
 order_kept content (rename_script from to) new order made =
     subst IsInOrder (accepted _ _ new made).1 (record { scripts = by (text_at content.scripts from); ids = order.ids })
   where
@@ -259,27 +257,10 @@ order_kept content (remove_script name) new order made =
     subst IsInOrder (accepted _ _ new made).1 (record { scripts = sorted_removed (tree.is_at (name_cmp name)) name_cmp content.scripts order.scripts; ids = order.ids })
 order_kept content (remove_message id) new order made =
     subst IsInOrder (accepted _ _ new made).1 (record { scripts = order.scripts; ids = distinct_removed (pointwise nat_eq id) (pointwise nat_eq) content.messages order.ids })
-order_kept content clear_main new order made =
-    subst IsInOrder (accepted None _ new made).1 (record { scripts = order.scripts; ids = order.ids })
-order_kept content (set_envelope from to) new order made =
+order_kept content (set_for_all setting) new order made =
     subst IsInOrder (accepted _ _ new made).1 (record { scripts = order.scripts; ids = order.ids })
-order_kept content (set_mailbox mailbox) new order made =
-    subst IsInOrder (accepted _ _ new made).1 (record { scripts = order.scripts; ids = order.ids })
-order_kept content (set_expected id text) new order made =
-    subst IsInOrder (accepted _ _ new made).1 (record { scripts = order.scripts; ids = distinct_changed id (λ (sample : Sample). record sample { expected = Some text }) content.messages order.ids })
-order_kept content (clear_expected id) new order made =
-    subst IsInOrder (accepted _ _ new made).1 (record { scripts = order.scripts; ids = distinct_changed id (λ (sample : Sample). record sample { expected = None }) content.messages order.ids })
-order_kept content (set_mailboxes text) new order made =
-    subst IsInOrder (accepted _ _ new made).1 (record { scripts = order.scripts; ids = order.ids })
-order_kept content (set_message_envelope id from to) new order made =
-    subst IsInOrder (accepted _ _ new made).1
-    (record { scripts = order.scripts; ids = distinct_changed id (λ (sample : Sample). record sample { addresses = Some (record { from = from; to = to }) }) content.messages order.ids })
-order_kept content (clear_message_envelope id) new order made =
-    subst IsInOrder (accepted _ _ new made).1 (record { scripts = order.scripts; ids = distinct_changed id (λ (sample : Sample). record sample { addresses = None }) content.messages order.ids })
-order_kept content (set_clock clock) new order made =
-    subst IsInOrder (accepted None _ new made).1 (record { scripts = order.scripts; ids = order.ids })
-order_kept content clear_clock new order made =
-    subst IsInOrder (accepted None _ new made).1 (record { scripts = order.scripts; ids = order.ids })
+order_kept content (set_for_one id setting) new order made =
+    subst IsInOrder (accepted _ _ new made).1 (record { scripts = order.scripts; ids = distinct_changed id (sample_with setting) content.messages order.ids })
 
 -- EDITS IN TURN
 
@@ -302,20 +283,11 @@ stays_in_order content (edit ∷ edits) order = stays_in_order (made_or_old cont
 pub profile_kept : (content : Content) (edit : Edit) (new : Content) → after content edit ≡ Ok new → new.profile ≡ content.profile
 profile_kept content (put_script name text) new made = sym (ap (λ (c : Content). c.profile) (accepted _ _ new made).1)
 profile_kept content (put_message id bytes) new made = sym (ap (λ (c : Content). c.profile) (accepted _ _ new made).1)
-profile_kept content (set_main name) new made = sym (ap (λ (c : Content). c.profile) (accepted _ _ new made).1)
 profile_kept content (rename_script from to) new made = sym (ap (λ (c : Content). c.profile) (accepted _ _ new made).1)
 profile_kept content (remove_script name) new made = sym (ap (λ (c : Content). c.profile) (accepted _ _ new made).1)
 profile_kept content (remove_message id) new made = sym (ap (λ (c : Content). c.profile) (accepted _ _ new made).1)
-profile_kept content clear_main new made = sym (ap (λ (c : Content). c.profile) (accepted None _ new made).1)
-profile_kept content (set_envelope from to) new made = sym (ap (λ (c : Content). c.profile) (accepted _ _ new made).1)
-profile_kept content (set_mailbox mailbox) new made = sym (ap (λ (c : Content). c.profile) (accepted _ _ new made).1)
-profile_kept content (set_expected id text) new made = sym (ap (λ (c : Content). c.profile) (accepted _ _ new made).1)
-profile_kept content (clear_expected id) new made = sym (ap (λ (c : Content). c.profile) (accepted _ _ new made).1)
-profile_kept content (set_mailboxes text) new made = sym (ap (λ (c : Content). c.profile) (accepted _ _ new made).1)
-profile_kept content (set_message_envelope id from to) new made = sym (ap (λ (c : Content). c.profile) (accepted _ _ new made).1)
-profile_kept content (clear_message_envelope id) new made = sym (ap (λ (c : Content). c.profile) (accepted _ _ new made).1)
-profile_kept content (set_clock clock) new made = sym (ap (λ (c : Content). c.profile) (accepted None _ new made).1)
-profile_kept content clear_clock new made = sym (ap (λ (c : Content). c.profile) (accepted None _ new made).1)
+profile_kept content (set_for_all setting) new made = sym (ap (λ (c : Content). c.profile) (accepted _ _ new made).1)
+profile_kept content (set_for_one id setting) new made = sym (ap (λ (c : Content). c.profile) (accepted _ _ new made).1)
 
 profile_after : (content : Content) (edit : Edit) → (made_or_old content (after content edit)).profile ≡ content.profile
 profile_after content edit = by (after content edit) refl

@@ -8,7 +8,6 @@ pub mod Lines
 pub mod Marks
 pub mod Names
 pub mod Others
-pub mod Pairs
 pub mod Rebuilt
 pub mod Refreshing
 pub mod Stales

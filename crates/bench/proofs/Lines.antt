@@ -2,12 +2,13 @@
 use Rattle.std.proofs.Common.{◌≡◌, ℕ, ◌+◌, ◌<◌, length, get_or, drop, List, [], ◌∷◌, ◌++◌, map, filter, Bool, true, false, ◌||◌, cond, refl, sym, ap, ◌∙◌, append_assoc, append-nil, Option, None, Some, codes, decimal}
 use Rattle.std.proofs.lemmas.Grind.{flat_map-append}
 use Rattle.std.proofs.lemmas.List.{at_drop_more}
-use Rattle.std.specs.List.{flat_map, list_any, zip}
+use Rattle.std.specs.List.{flat_map, list_any}
 use Rattle.devices.specs.Writers.{name_text, quoted}
 use Rattle.sieve_check.specs.Judgement.{Judgement, sound, faulty, fault_of, fault_word, judgement_of}
 use Rattle.sieve_check.specs.declared.judged.FaultKind.{FaultKind}
-use Rattle.sieve_actions.specs.declared.action.Action.{Action}
-use Rattle.sieve_actions.specs.declared.action.Origin.{Origin}
+use Rattle.sieve_actions.specs.State.{Entered, actions_in}
+use Rattle.sieve_actions.specs.declared.action.Entry.{Entry}
+use Rattle.sieve_actions.specs.view.Actions.{entered_of, entries_as}
 use Rattle.sieve_actions.specs.declared.envelope.Addresses.{Addresses}
 use Rattle.sieve_actions.specs.declared.envelope.Envelope.{Envelope}
 use Rattle.script_names.specs.declared.name.ScriptName.{ScriptName}
@@ -18,7 +19,7 @@ use Rattle.sieve_profile.specs.declared.extension.Extension.TheVariants.{Lines}
 use Rattle.sieve_run.specs.Lines.{action_line, error_line, error_lines, implicit_line, implicit_lines, origin_line, lookup_line, lookup_lines}
 use Rattle.sieve_run.specs.Verdict.{Verdict}
 use Rattle.bench.specs.Report.{addresses_line, indent, judgement_text, envelope_line, extension_text, extensions_line, indented, script_line, told_lines, total_line, traced_lines, verdict_text}
-use Rattle.bench.specs.view.Lines.{action_text, action_texts, error_text, implicit_text, lookup_text, traced_text, verdict_texts}
+use Rattle.bench.specs.view.Lines.{action_text, error_text, implicit_text, lookup_text, told_text, verdict_texts}
 
 -- the line of the envelope
 pub envelope_pieces : (envelope : Envelope) (from to mailbox : List ℕ) → from ≡ envelope.from → to ≡ envelope.to → mailbox ≡ envelope.mailbox
@@ -132,20 +133,31 @@ rest_is : (mailbox : List ℕ) (verdict : Verdict) → flat_map indented (implic
 rest_is mailbox verdict =
     flat_map-append indented (implicit_lines mailbox verdict.implicit) (error_lines verdict.error) ∙ rw (implicit_is mailbox verdict.implicit, error_is verdict.error) refl
 
--- the lines of an action and of where it comes from, one after the other
-traced_is : (pairs : List (Action × Origin)) → flat_map indented (flat_map traced_lines pairs) ≡ flat_map traced_text pairs
-traced_is [] = refl
-traced_is (e ∷ pairs) =
-    flat_map-append indented (traced_lines e) (flat_map traced_lines pairs)
-    ∙ rw (traced_is pairs) (ap (λ l. (action_text e.0 ++ l) ++ flat_map traced_text pairs) (append-nil (indented (origin_line e.1))))
+-- the lines of the actions, one after the other, with those of where they come from and without
+untold_is : (entries : List Entered) → flat_map indented (map action_line (actions_in entries)) ≡ flat_map (told_text false) entries
+untold_is [] = refl
+untold_is (entry ∷ entries) = ap (λ l. action_text entry.action ++ l) (untold_is entries)
 
-told_is : (traced : Bool) (mailbox : List ℕ) (verdict : Verdict) → flat_map indented (told_lines traced mailbox verdict) ≡ action_texts traced verdict ++ (implicit_text mailbox verdict.implicit ++ error_text verdict.error)
+traced_is : (entries : List Entered) → flat_map indented (flat_map traced_lines entries) ≡ flat_map (told_text true) entries
+traced_is [] = refl
+traced_is (entry ∷ entries) =
+    flat_map-append indented (traced_lines entry) (flat_map traced_lines entries)
+    ∙ rw (traced_is entries) (ap (λ l. (action_text entry.action ++ l) ++ flat_map (told_text true) entries) (append-nil (indented (origin_line entry.origin))))
+
+-- the lines that code writes of an entry, and of several
+abbrev pub entry_text : (traced : Bool) → Entry → List ℕ
+entry_text traced entry = told_text traced (entered_of entry)
+
+pub entries_text : (traced : Bool) (entries : List Entry) (seen : List Entered) → entries_as entries ≡ seen → flat_map (entry_text traced) entries ≡ flat_map (told_text traced) seen
+entries_text traced entries seen are = sym (flat_map-map (told_text traced) entered_of entries) ∙ ap (flat_map (told_text traced)) are
+
+told_is : (traced : Bool) (mailbox : List ℕ) (verdict : Verdict) → flat_map indented (told_lines traced mailbox verdict) ≡ flat_map (told_text traced) verdict.entries ++ (implicit_text mailbox verdict.implicit ++ error_text verdict.error)
 told_is false mailbox verdict =
-    flat_map-append indented (map action_line verdict.actions) (implicit_lines mailbox verdict.implicit ++ error_lines verdict.error)
-    ∙ rw (flat_map-map indented action_line verdict.actions, rest_is mailbox verdict) refl
+    flat_map-append indented (map action_line (actions_in verdict.entries)) (implicit_lines mailbox verdict.implicit ++ error_lines verdict.error)
+    ∙ rw (untold_is verdict.entries, rest_is mailbox verdict) refl
 told_is true mailbox verdict =
-    flat_map-append indented (flat_map traced_lines (zip verdict.actions verdict.origins)) (implicit_lines mailbox verdict.implicit ++ error_lines verdict.error)
-    ∙ rw (traced_is (zip verdict.actions verdict.origins), rest_is mailbox verdict) refl
+    flat_map-append indented (flat_map traced_lines verdict.entries) (implicit_lines mailbox verdict.implicit ++ error_lines verdict.error)
+    ∙ rw (traced_is verdict.entries, rest_is mailbox verdict) refl
 
 -- the lines of a verdict in a report are those that are written in turn
 pub verdict_in_turn : (profile : Profile) (mailbox : List ℕ) (verdict : Verdict) → verdict_text profile mailbox verdict ≡ verdict_texts (has profile Lines) mailbox verdict
@@ -153,5 +165,5 @@ unfolding verdict_texts
 verdict_in_turn profile mailbox verdict =
     flat_map-append indented (told_lines (has profile Lines) mailbox verdict) (lookup_lines verdict)
     ∙ rw (told_is (has profile Lines) mailbox verdict, flat_map-map indented lookup_line verdict.lookups)
-    (append_assoc (action_texts (has profile Lines) verdict) (implicit_text mailbox verdict.implicit ++ error_text verdict.error) (flat_map lookup_text verdict.lookups)
-    ∙ ap (λ l. action_texts (has profile Lines) verdict ++ l) (append_assoc (implicit_text mailbox verdict.implicit) (error_text verdict.error) (flat_map lookup_text verdict.lookups)))
+    (append_assoc (flat_map (told_text (has profile Lines)) verdict.entries) (implicit_text mailbox verdict.implicit ++ error_text verdict.error) (flat_map lookup_text verdict.lookups)
+    ∙ ap (λ l. flat_map (told_text (has profile Lines)) verdict.entries ++ l) (append_assoc (implicit_text mailbox verdict.implicit) (error_text verdict.error) (flat_map lookup_text verdict.lookups)))

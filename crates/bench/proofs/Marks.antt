@@ -1,6 +1,6 @@
 -- What the marks of the entries say of the stale messages, and which verdicts stay due.
 use Rattle.octets.specs.Octet.{is_among}
-use Rattle.std.proofs.Common.{◌≡◌, ℕ, List, [], ◌∷◌, map, filter, Bool, true, false, cond, ◌||◌, if◌then◌else◌, Option, None, Some, IfSome, is_none, nat_eq, refl, sym, ap, subst, ◌∙◌}
+use Rattle.std.proofs.Common.{◌≡◌, ℕ, List, [], ◌∷◌, map, filter, Bool, true, false, cond, ◌&&◌, ◌||◌, if◌then◌else◌, Option, None, Some, IfSome, is_none, nat_eq, refl, sym, ap, subst, ◌∙◌}
 use Rattle.std.proofs.lemmas.Map.Keys.{IsDistinct-head, IsDistinct-tail}
 use Rattle.std.specs.List.{AllByRecursion, IsDistinct}
 use Rattle.std.specs.Map.{keys_of, lookup, remove_entry}
@@ -16,9 +16,11 @@ use Rattle.sieve_run.specs.Run.{is_looked_up}
 use Rattle.sieve_run.specs.Verdict.{Verdict}
 use Rattle.bench.specs.Content.{Sample, changed, text_at}
 use Rattle.bench.specs.Report.{Site, verdict_by}
-use Rattle.bench.specs.Stale.{ids_where}
+use Rattle.bench.specs.Stale.{ids_where, is_seen}
 use Rattle.bench.specs.declared.entry.Entry.{Entry}
-use Rattle.bench.specs.view.Entry.{is_stale, messages_of, sample_of, stale_of, KeepsDue, expecting, forgotten, fresh_entry, kept_without, readdressed, unread}
+use Rattle.bench.specs.declared.setting.MessageSetting.{MessageSetting}
+use Rattle.bench.specs.declared.setting.MessageSetting.TheVariants as own
+use Rattle.bench.specs.view.Entry.{is_stale, messages_of, sample_of, stale_of, KeepsDue, forgotten, fresh_entry, kept_without, unread, entry_with}
 use Rattle.bench.specs.view.Site.{with_scripts}
 use Rattle.bench.proofs.Names.{is_id, is_name, other_id, same_id}
 
@@ -224,7 +226,10 @@ due-removed due at (e ∷ es) kept = by (at e.0) (due-removed due at es kept.1)
 
 -- AN ENTRY OF WHICH A TEXT IS EXPECTED
 
-pub tells-expecting : (id : List ℕ) (expected : Option (List ℕ)) (ids : List (List ℕ)) (es : List (List ℕ × Entry)) → Tells (λ m. is_among m.0 ids) es → Tells (λ m. false || is_among m.0 ids) (changed id (expecting expected) es)
+abbrev expecting : Option (List ℕ) → Entry → Entry
+expecting expected = entry_with (own.Expected expected)
+
+tells-expecting : (id : List ℕ) (expected : Option (List ℕ)) (ids : List (List ℕ)) (es : List (List ℕ × Entry)) → Tells (λ m. is_among m.0 ids) es → Tells (λ m. false || is_among m.0 ids) (changed id (expecting expected) es)
 tells-expecting id expected ids [] tells = tt
 tells-expecting id expected ids (e ∷ es) tells = by (pointwise nat_eq id e.0) (tells-expecting id expected ids es tells.1)
   where
@@ -236,7 +241,7 @@ tells-expecting id expected ids (e ∷ es) tells = by (pointwise nat_eq id e.0) 
 abbrev pub IsBlind : (Sample → Verdict) → Type 0
 IsBlind due = (sample : Sample) (expected : Option (List ℕ)) → due (record sample { expected = expected }) ≡ due sample
 
-pub due-expecting : (due : Sample → Verdict) → IsBlind due → (id : List ℕ) (expected : Option (List ℕ)) (es : List (List ℕ × Entry)) → KeepsDue due es → KeepsDue due (changed id (expecting expected) es)
+due-expecting : (due : Sample → Verdict) → IsBlind due → (id : List ℕ) (expected : Option (List ℕ)) (es : List (List ℕ × Entry)) → KeepsDue due es → KeepsDue due (changed id (expecting expected) es)
 unfolding KeepsDue
 due-expecting due blind id expected [] kept = tt
 due-expecting due blind id expected (e ∷ es) kept = by (pointwise nat_eq id e.0) (due-expecting due blind id expected es kept.1)
@@ -247,7 +252,10 @@ due-expecting due blind id expected (e ∷ es) kept = by (pointwise nat_eq id e.
 
 -- AN ENTRY WITH OTHER ADDRESSES OF ITS OWN
 
-pub tells-readdressed : (id : List ℕ) (addresses : Option Addresses) (test : List ℕ × Sample → Bool) (es : List (List ℕ × Entry)) → IsDistinct (pointwise nat_eq) (keys_of es) → Tells test es
+abbrev readdressed : Option Addresses → Entry → Entry
+readdressed addresses = entry_with (own.Addresses addresses)
+
+tells-readdressed : (id : List ℕ) (addresses : Option Addresses) (test : List ℕ × Sample → Bool) (es : List (List ℕ × Entry)) → IsDistinct (pointwise nat_eq) (keys_of es) → Tells test es
     → Tells (λ m. pointwise nat_eq id m.0 || test m) (changed id (readdressed addresses) es)
 tells-readdressed id addresses test [] distinct tells = tt
 tells-readdressed id addresses test (e ∷ es) distinct tells =
@@ -258,7 +266,7 @@ tells-readdressed id addresses test (e ∷ es) distinct tells =
     by true is apart rest = (or_true (pointwise nat_eq id e.0) (test (e.0, sample_of (readdressed addresses e.1))) is, apart_from id e.0 test es is apart tells.1)
     by false is apart rest = (or_false (pointwise nat_eq id e.0) (test (e.0, sample_of e.1)) is ∙ tells.0, rest)
 
-pub due-readdressed : (due : Sample → Verdict) (id : List ℕ) (addresses : Option Addresses) (es : List (List ℕ × Entry)) → KeepsDue due es → KeepsDue due (changed id (readdressed addresses) es)
+due-readdressed : (due : Sample → Verdict) (id : List ℕ) (addresses : Option Addresses) (es : List (List ℕ × Entry)) → KeepsDue due es → KeepsDue due (changed id (readdressed addresses) es)
 unfolding KeepsDue
 due-readdressed due id addresses [] kept = tt
 due-readdressed due id addresses (e ∷ es) kept = by (pointwise nat_eq id e.0) (due-readdressed due id addresses es kept.1)
@@ -266,6 +274,12 @@ due-readdressed due id addresses (e ∷ es) kept = by (pointwise nat_eq id e.0) 
     by : (b : Bool) → KeepsDue due (changed id (readdressed addresses) es) → KeepsDue due (if b then (e.0, readdressed addresses e.1) ∷ es else e ∷ changed id (readdressed addresses) es)
     by true rest = (tt, kept.1)
     by false rest = (kept.0, rest)
+
+-- AN ENTRY WITH A SETTING
+
+pub due-set : (due : Sample → Verdict) → IsBlind due → (id : List ℕ) (setting : MessageSetting) (es : List (List ℕ × Entry)) → KeepsDue due es → KeepsDue due (changed id (entry_with setting) es)
+due-set due blind id (own.Expected expected) es kept = due-expecting due blind id expected es kept
+due-set due blind id (own.Addresses addresses) es kept = due-readdressed due id addresses es kept
 
 -- WHAT IS KEPT
 
@@ -331,10 +345,7 @@ pub stale-removed : (at : List ℕ → Bool) (es : List (List ℕ × Entry)) →
     → stale_of (remove_entry at es) ≡ ids_where (λ m. false || is_among m.0 (stale_of es)) (messages_of (remove_entry at es))
 stale-removed at es distinct = passing _ (remove_entry at es) (tells-removed at (λ m. is_among m.0 (stale_of es)) es (told es distinct))
 
-pub stale-expecting : (id : List ℕ) (expected : Option (List ℕ)) (es : List (List ℕ × Entry)) → IsDistinct (pointwise nat_eq) (keys_of es)
-    → stale_of (changed id (expecting expected) es) ≡ ids_where (λ m. false || is_among m.0 (stale_of es)) (messages_of (changed id (expecting expected) es))
-stale-expecting id expected es distinct = passing _ (changed id (expecting expected) es) (tells-expecting id expected (stale_of es) es (told es distinct))
-
-pub stale-readdressed : (id : List ℕ) (addresses : Option Addresses) (es : List (List ℕ × Entry)) → IsDistinct (pointwise nat_eq) (keys_of es)
-    → stale_of (changed id (readdressed addresses) es) ≡ ids_where (λ m. pointwise nat_eq id m.0 || is_among m.0 (stale_of es)) (messages_of (changed id (readdressed addresses) es))
-stale-readdressed id addresses es distinct = passing _ (changed id (readdressed addresses) es) (tells-readdressed id addresses (λ m. is_among m.0 (stale_of es)) es distinct (told es distinct))
+pub stale-set : (id : List ℕ) (setting : MessageSetting) (es : List (List ℕ × Entry)) → IsDistinct (pointwise nat_eq) (keys_of es)
+    → stale_of (changed id (entry_with setting) es) ≡ ids_where (λ m. (is_seen setting && pointwise nat_eq id m.0) || is_among m.0 (stale_of es)) (messages_of (changed id (entry_with setting) es))
+stale-set id (own.Expected expected) es distinct = passing _ (changed id (expecting expected) es) (tells-expecting id expected (stale_of es) es (told es distinct))
+stale-set id (own.Addresses addresses) es distinct = passing _ (changed id (readdressed addresses) es) (tells-readdressed id addresses (λ m. is_among m.0 (stale_of es)) es distinct (told es distinct))

@@ -10,16 +10,19 @@ use Rattle.std.specs.Ordering.{match_ordering}
 use Rattle.std.specs.declared.cmp.Ordering.TheVariants.{Less, Greater}
 use lib.Pointwise.{pointwise}
 use Rattle.indexmap.specs.IndexMap as ordered
-use Rattle.date_text.specs.Clock.{Clock}
 use Rattle.sieve_limits.specs.Limits.{address_limit, expected_limit, id_limit, mailbox_limit, mailboxes_limit, message_count_limit, message_limit, name_limit, script_count_limit, text_limit}
 use Rattle.script_names.specs.Name.{name_cmp}
 use Rattle.script_names.specs.declared.name.ScriptName.{ScriptName}
 use Rattle.sieve_actions.specs.declared.envelope.Addresses.{Addresses}
-use Rattle.bench.specs.Content.{Content, Edit, Sample, after, new_content, put_script, put_message, set_envelope, set_mailbox, set_mailboxes, unless, text_at, message_at, put_over, with_script, with_message, changed, with_expected, with_addresses, are_long, is_long, is_long_id, script_refusal, message_refusal}
-use Rattle.bench.specs.Edits.{IsInOrder, IsWithinLimits, AreAddressesWithin, AreOrdered, AreDistinct, addresses_edits, made_or_old, clock_edits, content_after, expected_edits, main_edits, message_edits, rebuild}
+use Rattle.bench.specs.Content.{Content, Edit, Sample, after, new_content, put_script, put_message, unless, text_at, message_at, put_over, with_script, with_message, changed, are_long, is_long, is_long_id, script_refusal, message_refusal, set_for_all, set_for_one, sample_with, is_large, is_large_for_one, main_with, envelope_with}
+use Rattle.bench.specs.Edits.{IsInOrder, IsWithinLimits, AreAddressesWithin, AreOrdered, AreDistinct, made_or_old, content_after, message_edits, rebuild, envelope_edits}
 use Rattle.bench.specs.Test.{after_all, then_edit}
 use Rattle.sieve_profile.specs.Profile.{Profile}
 use Rattle.bench.specs.declared.fault.EditFault.{EditFault}
+use Rattle.bench.specs.declared.setting.MessageSetting.{MessageSetting}
+use Rattle.bench.specs.declared.setting.MessageSetting.TheVariants as own
+use Rattle.bench.specs.declared.setting.Setting.{Setting}
+use Rattle.bench.specs.declared.setting.Setting.TheVariants as common
 use Rattle.bench.specs.declared.fault.EditFault.TheVariants.{TooLarge, Full, NoSuchMessage}
 use Rattle.bench.proofs.Jobs.{refusal_stays}
 use Rattle.bench.proofs.Names.{other_id, same_id}
@@ -119,12 +122,9 @@ ids_before (first ∷ done) message rest distinct = (at done distinct.0, ids_bef
     at [] all = all.0
     at (one ∷ done) all = at done all.1
 
--- a message of these octets, of which nothing is expected, and which has no addresses of its own; and one of which a text is expected
+-- a message of these octets, of which nothing is expected, and which has no addresses of its own
 abbrev plain : List ℕ → Sample
 plain octets = put_over octets None
-
-abbrev awaited : List ℕ → Option (List ℕ) → Sample
-awaited octets expected = record { octets = octets; expected = expected; addresses = None }
 
 -- an id that is none of the messages' ids has no message
 none_there : (id : List ℕ) (messages : List (List ℕ × Sample)) → AllByRecursion (λ other. pointwise nat_eq other id ≡ false) (keys_of messages) → message_at messages id ≡ None
@@ -161,43 +161,42 @@ there_passes false true missing short small there = absurd cc
 there_passes false false true short small there = absurd cc
 there_passes false false false short small there = refl
 
--- what is expected of a message is set where the message stands last
-expected_again : (content : Content) (done : List (List ℕ × Sample)) (id octets : List ℕ) (expected : Option (List ℕ)) → AllByRecursion (λ other. pointwise nat_eq other id ≡ false) (keys_of done)
-    → length id ≤ id_limit → IfSome expected (λ text. length text ≤ expected_limit)
-    → after_all (record content { messages = done ++ (id, plain octets) ∷ [] }) (expected_edits id expected) ≡ Ok (record content { messages = done ++ (id, awaited octets expected) ∷ [] })
-expected_again content done id octets None apart short small = refl
-expected_again content done id octets (Some text) apart short small =
-    ap (λ refusal. unless refusal (record content { messages = with_expected id (Some text) (done ++ (id, plain octets) ∷ []) }))
-    (there_passes (is_long_id id) (nat_lt expected_limit (length text)) (is_none (message_at (done ++ (id, plain octets) ∷ []) id))
-    (within_limit id_limit (length id) short) (within_limit expected_limit (length text) small) (ap is_none (there_after id (plain octets) done apart)))
-    ∙ ap (λ messages. Ok (record content { messages = messages })) (changed_last id (λ sample. record sample { expected = Some text }) (plain octets) done apart)
+-- a setting is made of a message that stands last
+one_again : (content : Content) (done : List (List ℕ × Sample)) (id : List ℕ) (sample : Sample) (setting : MessageSetting) → AllByRecursion (λ other. pointwise nat_eq other id ≡ false) (keys_of done)
+    → length id ≤ id_limit → is_large_for_one setting ≡ false
+    → after (record content { messages = done ++ (id, sample) ∷ [] }) (set_for_one id setting) ≡ Ok (record content { messages = done ++ (id, sample_with setting sample) ∷ [] })
+one_again content done id sample setting apart short small =
+    ap (λ refusal. unless refusal (record content { messages = changed id (sample_with setting) (done ++ (id, sample) ∷ []) }))
+    (there_passes (is_long_id id) (is_large_for_one setting) (is_none (message_at (done ++ (id, sample) ∷ []) id))
+    (within_limit id_limit (length id) short) small (ap is_none (there_after id sample done apart)))
+    ∙ ap (λ messages. Ok (record content { messages = messages })) (changed_last id (sample_with setting) sample done apart)
 
--- and so are the addresses that it has of its own
-addresses_again : (content : Content) (done : List (List ℕ × Sample)) (id octets : List ℕ) (expected : Option (List ℕ)) (addresses : Option Addresses) → AllByRecursion (λ other. pointwise nat_eq other id ≡ false) (keys_of done)
-    → length id ≤ id_limit → IfSome addresses AreAddressesWithin
-    → after_all (record content { messages = done ++ (id, awaited octets expected) ∷ [] }) (addresses_edits id addresses)
-    ≡ Ok (record content { messages = done ++ (id, record { octets = octets; expected = expected; addresses = addresses }) ∷ [] })
-addresses_again content done id octets expected None apart short small = refl
-addresses_again content done id octets expected (Some own) apart short small =
-    ap (λ refusal. unless refusal (record content { messages = with_addresses id (Some own) (done ++ (id, awaited octets expected) ∷ []) }))
-    (there_passes (is_long_id id) (are_long own.from own.to) (is_none (message_at (done ++ (id, awaited octets expected) ∷ []) id))
-    (within_limit id_limit (length id) short)
-    (neither (nat_lt address_limit (length own.from)) (nat_lt address_limit (length own.to)) (within_limit address_limit (length own.from) small.from) (within_limit address_limit (length own.to) small.to))
-    (ap is_none (there_after id (awaited octets expected) done apart)))
-    ∙ ap (λ messages. Ok (record content { messages = messages })) (changed_last id (λ sample. record sample { addresses = Some own }) (awaited octets expected) done apart)
+-- settings within their limits aren't too large
+short_addresses : (addresses : Addresses) → AreAddressesWithin addresses → are_long addresses.from addresses.to ≡ false
+short_addresses addresses within =
+    neither (nat_lt address_limit (length addresses.from)) (nat_lt address_limit (length addresses.to))
+    (within_limit address_limit (length addresses.from) within.from) (within_limit address_limit (length addresses.to) within.to)
+
+short_expected : (expected : Option (List ℕ)) → IfSome expected (λ text. length text ≤ expected_limit) → is_large_for_one (own.Expected expected) ≡ false
+short_expected None within = refl
+short_expected (Some text) within = within_limit expected_limit (length text) within
+
+short_own : (addresses : Option Addresses) → IfSome addresses AreAddressesWithin → is_large_for_one (own.Addresses addresses) ≡ false
+short_own None within = refl
+short_own (Some addresses) within = short_addresses addresses within
 
 -- putting messages in their order puts each after those before it
 messages_again : (content : Content) (done rest : List (List ℕ × Sample)) → AreDistinct (keys_of (done ++ rest)) → length (done ++ rest) ≤ message_count_limit
     → All (λ id. length id ≤ id_limit) (keys_of rest) → All (λ sample. length sample.octets ≤ message_limit) (values_of rest) → All (λ sample. IfSome sample.expected (λ text. length text ≤ expected_limit)) (values_of rest)
     → All (λ sample. IfSome sample.addresses AreAddressesWithin) (values_of rest)
     → after_all (record content { messages = done }) (flat_map message_edits rest) ≡ Ok (record content { messages = done ++ rest })
-messages_again content done [] distinct few ids octets texts own = ap (λ messages. Ok (record content { messages = messages })) (sym (append-nil done))
-messages_again content done (message ∷ rest) distinct few ids octets texts own =
+messages_again content done [] distinct few ids octets texts own_ones = ap (λ messages. Ok (record content { messages = messages })) (sym (append-nil done))
+messages_again content done (message ∷ rest) distinct few ids octets texts own_ones =
     fold-append then_edit (Ok (record content { messages = done })) (message_edits message) (flat_map message_edits rest)
     ∙ ap (λ made. fold then_edit made (flat_map message_edits rest)) first
     ∙ messages_again content (done ++ message ∷ []) rest (subst (λ messages. AreDistinct (keys_of messages)) (sym again) distinct) (subst (λ messages. length messages ≤ message_count_limit) (sym again) few)
     (All-tail (λ id. length id ≤ id_limit) message.0 (keys_of rest) ids) (All-tail (λ s. length s.octets ≤ message_limit) message.1 (values_of rest) octets)
-    (All-tail (λ s. IfSome s.expected (λ text. length text ≤ expected_limit)) message.1 (values_of rest) texts) (All-tail (λ s. IfSome s.addresses AreAddressesWithin) message.1 (values_of rest) own)
+    (All-tail (λ s. IfSome s.expected (λ text. length text ≤ expected_limit)) message.1 (values_of rest) texts) (All-tail (λ s. IfSome s.addresses AreAddressesWithin) message.1 (values_of rest) own_ones)
     ∙ ap (λ messages. Ok (record content { messages = messages })) again
   where
     again : (done ++ message ∷ []) ++ rest ≡ done ++ message ∷ rest
@@ -224,35 +223,40 @@ messages_again content done (message ∷ rest) distinct few ids octets texts own
         ap (λ refusal. unless refusal (record content { messages = with_message message.0 message.1.octets done })) none
         ∙ ap (λ messages. Ok (record content { messages = messages })) (put_after message.0 message.1.octets done apart)
 
+    expects : Edit
+    expects = set_for_one message.0 (own.Expected message.1.expected)
+
+    readdresses : Edit
+    readdresses = set_for_one message.0 (own.Addresses message.1.addresses)
+
+    awaited : Sample
+    awaited = sample_with (own.Expected message.1.expected) (plain message.1.octets)
+
     first : after_all (record content { messages = done }) (message_edits message) ≡ Ok (record content { messages = done ++ message ∷ [] })
     first =
-        ap (λ made. fold then_edit made (expected_edits message.0 message.1.expected ++ addresses_edits message.0 message.1.addresses)) put
-        ∙ fold-append then_edit (Ok (record content { messages = done ++ (message.0, plain message.1.octets) ∷ [] })) (expected_edits message.0 message.1.expected) (addresses_edits message.0 message.1.addresses)
-        ∙ ap (λ made. fold then_edit made (addresses_edits message.0 message.1.addresses))
-        (expected_again content done message.0 message.1.octets message.1.expected apart short (All-head (λ s. IfSome s.expected (λ text. length text ≤ expected_limit)) message.1 (values_of rest) texts))
-        ∙ addresses_again content done message.0 message.1.octets message.1.expected message.1.addresses apart short (All-head (λ s. IfSome s.addresses AreAddressesWithin) message.1 (values_of rest) own)
+        ap (λ made. then_edit (then_edit made expects) readdresses) put
+        ∙ ap (λ made. then_edit made readdresses)
+        (one_again content done message.0 (plain message.1.octets) (own.Expected message.1.expected) apart short
+        (short_expected message.1.expected (All-head (λ s. IfSome s.expected (λ text. length text ≤ expected_limit)) message.1 (values_of rest) texts)))
+        ∙ one_again content done message.0 awaited (own.Addresses message.1.addresses) apart short
+        (short_own message.1.addresses (All-head (λ s. IfSome s.addresses AreAddressesWithin) message.1 (values_of rest) own_ones))
 
 -- SETTINGS
-
-envelope_passes : (large other : Bool) → large ≡ false → other ≡ false → (if large || other then Some TooLarge else None) ≡ None
-envelope_passes true other small short = absurd cc
-envelope_passes false true small short = absurd cc
-envelope_passes false false small short = refl
 
 size_passes : (large : Bool) → large ≡ false → (if large then Some TooLarge else None) ≡ None
 size_passes true small = absurd cc
 size_passes false small = refl
 
--- naming the main script of a content that has none
-main_again : (content : Content) (main : Option ScriptName) → IfSome main (λ name. length name.name ≤ name_limit) → after_all (record content { main = None }) (main_edits main) ≡ Ok (record content { main = main })
-main_again content None short = refl
-main_again content (Some name) short = ap (λ refusal. unless refusal (record content { main = Some name })) (size_passes (is_long name.name) (within_limit name_limit (length name.name) short))
+-- a setting that isn't too large is made
+abbrev with_setting : Setting → Content → Content
+with_setting setting content = record content { main = main_with setting content.main; envelope = envelope_with setting content.envelope }
 
--- setting the clock of a content that has none, before other edits
-clock_again : (content : Content) (clock : Option Clock) (edits : List Edit)
-    → after_all (record content { envelope = record content.envelope { clock = None } }) (clock_edits clock ++ edits) ≡ after_all (record content { envelope = record content.envelope { clock = clock } }) edits
-clock_again content None edits = refl
-clock_again content (Some clock) edits = refl
+setting_again : (content : Content) (setting : Setting) → is_large setting ≡ false → after content (set_for_all setting) ≡ Ok (with_setting setting content)
+setting_again content setting small = ap (λ refusal. unless refusal (with_setting setting content)) (size_passes (is_large setting) small)
+
+short_main : (main : Option ScriptName) → IfSome main (λ name. length name.name ≤ name_limit) → is_large (common.Main main) ≡ false
+short_main None within = refl
+short_main (Some name) within = within_limit name_limit (length name.name) within
 
 -- THE WHOLE CONTENT
 
@@ -264,29 +268,33 @@ module _ (content : Content) (order : IsInOrder content) (limits : IsWithinLimit
   abbrev messages_there : Content
   messages_there = record scripts_there { messages = content.messages }
 
-  abbrev further : List Edit
-  further = clock_edits content.envelope.clock ++ main_edits content.main
+  abbrev addresses : Setting
+  addresses = common.Addresses (record { from = content.envelope.from; to = content.envelope.to })
+
+  abbrev mailbox : Setting
+  mailbox = common.Mailbox content.envelope.mailbox
+
+  abbrev mailboxes : Setting
+  mailboxes = common.Mailboxes content.envelope.mailboxes
+
+  abbrev clock : Setting
+  clock = common.Clock content.envelope.clock
 
   abbrev settings : List Edit
-  settings = set_envelope content.envelope.from content.envelope.to ∷ set_mailbox content.envelope.mailbox ∷ set_mailboxes content.envelope.mailboxes ∷ further
+  settings = envelope_edits content.envelope ++ set_for_all (common.Main content.main) ∷ []
 
   set_again : after_all messages_there settings ≡ Ok content
   set_again =
-      ap (λ refusal. fold then_edit (then_edit (then_edit (unless refusal envelope_there) (set_mailbox content.envelope.mailbox)) (set_mailboxes content.envelope.mailboxes)) further)
-      (envelope_passes (nat_lt address_limit (length content.envelope.from)) (nat_lt address_limit (length content.envelope.to))
-      (within_limit address_limit (length content.envelope.from) limits.envelope.from) (within_limit address_limit (length content.envelope.to) limits.envelope.to))
-      ∙ ap (λ refusal. fold then_edit (then_edit (unless refusal mailbox_there) (set_mailboxes content.envelope.mailboxes)) further)
-      (size_passes (nat_lt mailbox_limit (length content.envelope.mailbox)) (within_limit mailbox_limit (length content.envelope.mailbox) limits.envelope.mailbox))
-      ∙ ap (λ refusal. fold then_edit (unless refusal (record content { main = None; envelope = record content.envelope { clock = None } })) further)
-      (size_passes (nat_lt mailboxes_limit (length content.envelope.mailboxes)) (within_limit mailboxes_limit (length content.envelope.mailboxes) limits.envelope.mailboxes))
-      ∙ clock_again (record content { main = None }) content.envelope.clock (main_edits content.main)
-      ∙ main_again content content.main limits.main
-    where
-      envelope_there : Content
-      envelope_there = record messages_there { envelope = record messages_there.envelope { from = content.envelope.from; to = content.envelope.to } }
-
-      mailbox_there : Content
-      mailbox_there = record messages_there { envelope = record content.envelope { mailboxes = []; clock = None } }
+      ap (λ made. then_edit (then_edit (then_edit (then_edit made (set_for_all mailbox)) (set_for_all mailboxes)) (set_for_all clock)) (set_for_all (common.Main content.main)))
+      (setting_again messages_there addresses (neither (nat_lt address_limit (length content.envelope.from)) (nat_lt address_limit (length content.envelope.to))
+      (within_limit address_limit (length content.envelope.from) limits.envelope.from) (within_limit address_limit (length content.envelope.to) limits.envelope.to)))
+      ∙ ap (λ made. then_edit (then_edit (then_edit made (set_for_all mailboxes)) (set_for_all clock)) (set_for_all (common.Main content.main)))
+      (setting_again (with_setting addresses messages_there) mailbox (within_limit mailbox_limit (length content.envelope.mailbox) limits.envelope.mailbox))
+      ∙ ap (λ made. then_edit (then_edit made (set_for_all clock)) (set_for_all (common.Main content.main)))
+      (setting_again (with_setting mailbox (with_setting addresses messages_there)) mailboxes (within_limit mailboxes_limit (length content.envelope.mailboxes) limits.envelope.mailboxes))
+      ∙ ap (λ made. then_edit made (set_for_all (common.Main content.main)))
+      (setting_again (with_setting mailboxes (with_setting mailbox (with_setting addresses messages_there))) clock refl)
+      ∙ setting_again (with_setting clock (with_setting mailboxes (with_setting mailbox (with_setting addresses messages_there)))) (common.Main content.main) (short_main content.main limits.main)
 
   -- none of the edits that make the content anew is refused, and they make it
   pub made_again : after_all (new_content content.profile) (rebuild content) ≡ Ok content

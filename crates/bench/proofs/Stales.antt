@@ -12,9 +12,11 @@ use Rattle.sieve_run.specs.Run.{outcome_of, exec}
 use Rattle.script_names.specs.declared.name.ScriptName.{ScriptName}
 use Rattle.sieve_profile.specs.Profile.{Profile}
 use Rattle.bench.specs.Bench.{RefusedAmong}
-use Rattle.bench.specs.Content.{Content, Edit, Sample, after, put_script, put_message, set_main, rename_script, remove_script, remove_message, clear_main, set_envelope, set_mailbox, set_expected, clear_expected, set_mailboxes, set_message_envelope, clear_message_envelope, set_clock, clear_clock}
+use Rattle.bench.specs.Content.{Content, Edit, Sample, after, put_script, put_message, rename_script, remove_script, remove_message, set_for_all, set_for_one}
 use Rattle.bench.specs.Stale.{ids_where, stale_after, verdict_on}
 use Rattle.bench.specs.declared.fault.EditFault.{EditFault}
+use Rattle.bench.specs.declared.setting.MessageSetting.TheVariants as own
+use Rattle.bench.specs.declared.setting.Setting.TheVariants as common
 
 abbrev personal : List ℕ → ScriptName
 personal name = record { location = Personal; name = name }
@@ -181,68 +183,68 @@ module _ (profile : Profile) where
     remove_other_message_row = refl
 
     -- an edit of the settings touches all messages
-    mailbox_row : touched (present text) (set_mailbox (codes "Inbox2")) ≡ both
+    mailbox_row : touched (present text) (set_for_all (common.Mailbox (codes "Inbox2"))) ≡ both
     unfolding ids_where
     mailbox_row = refl
 
-    envelope_row : touched (present text) (set_envelope (codes "a@b.example") []) ≡ both
+    envelope_row : touched (present text) (set_for_all (common.Addresses (record { from = codes "a@b.example"; to = [] }))) ≡ both
     unfolding ids_where
     envelope_row = refl
 
-    set_main_row : touched (present text) (set_main y) ≡ both
+    set_main_row : touched (present text) (set_for_all (common.Main (Some y))) ≡ both
     unfolding ids_where
     set_main_row = refl
 
     -- the edit that names the main script touches all messages even where the main script stays
-    same_main_row : touched (present text) (set_main main) ≡ both
+    same_main_row : touched (present text) (set_for_all (common.Main (Some main))) ≡ both
     unfolding ids_where
     same_main_row = refl
 
-    clear_main_row : touched (present text) clear_main ≡ both
+    clear_main_row : touched (present text) (set_for_all (common.Main None)) ≡ both
     unfolding ids_where
     clear_main_row = refl
 
     -- an edit of what is expected touches no message, and leaves the stale messages
-    expected_row : touched (present text) (set_expected (codes "m1") (codes "discard\n")) ≡ []
+    expected_row : touched (present text) (set_for_one (codes "m1") (own.Expected (Some (codes "discard\n")))) ≡ []
     unfolding ids_where
     expected_row = refl
 
-    expected_stays_row : marks (present text) (set_expected (codes "m1") (codes "discard\n")) first ≡ first
+    expected_stays_row : marks (present text) (set_for_one (codes "m1") (own.Expected (Some (codes "discard\n")))) first ≡ first
     unfolding ids_where
     expected_stays_row = refl
 
-    not_expected_row : touched (present text) (clear_expected (codes "m2")) ≡ []
+    not_expected_row : touched (present text) (set_for_one (codes "m2") (own.Expected None)) ≡ []
     unfolding ids_where
     not_expected_row = refl
 
     -- an edit of the list of mailboxes touches all messages
-    mailboxes_row : touched (present text) (set_mailboxes (codes "Lists\n")) ≡ both
+    mailboxes_row : touched (present text) (set_for_all (common.Mailboxes (codes "Lists\n"))) ≡ both
     unfolding ids_where
     mailboxes_row = refl
 
     -- an edit of the clock touches all messages, also where it leaves no clock to a bench that had none
-    clock_row : touched (present text) (set_clock (record { seconds = 0; zone = west 0 })) ≡ both
+    clock_row : touched (present text) (set_for_all (common.Clock (Some (record { seconds = 0; zone = west 0 })))) ≡ both
     unfolding ids_where
     clock_row = refl
 
-    no_clock_row : touched (present text) clear_clock ≡ both
+    no_clock_row : touched (present text) (set_for_all (common.Clock None)) ≡ both
     unfolding ids_where
     no_clock_row = refl
 
     -- an edit of a message's own addresses touches that message alone, also where it had none and has none then
-    own_row : touched (present text) (set_message_envelope (codes "m2") (codes "a@b.example") []) ≡ codes "m2" ∷ []
+    own_row : touched (present text) (set_for_one (codes "m2") (own.Addresses (Some (record { from = codes "a@b.example"; to = [] })))) ≡ codes "m2" ∷ []
     unfolding ids_where
     own_row = refl
 
-    no_own_row : touched (present text) (clear_message_envelope (codes "m1")) ≡ first
+    no_own_row : touched (present text) (set_for_one (codes "m1") (own.Addresses None)) ≡ first
     unfolding ids_where
     no_own_row = refl
 
-    own_stays_row : marks (present text) (set_message_envelope (codes "m2") [] []) first ≡ both
+    own_stays_row : marks (present text) (set_for_one (codes "m2") (own.Addresses (Some (record { from = []; to = [] })))) first ≡ both
     unfolding ids_where
     own_stays_row = refl
 
-    refused_own_row : marks (present text) (set_message_envelope (codes "m3") [] []) first ≡ first
+    refused_own_row : marks (present text) (set_for_one (codes "m3") (own.Addresses (Some (record { from = []; to = [] })))) first ≡ first
     unfolding ids_where
     refused_own_row = refl
 

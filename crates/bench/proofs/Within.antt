@@ -11,10 +11,15 @@ use Rattle.sieve_limits.specs.Limits.{address_limit, expected_limit, id_limit, m
 use Rattle.script_names.specs.Name.{name_cmp, name_eq}
 use Rattle.script_names.specs.declared.name.ScriptName.{ScriptName}
 use Rattle.sieve_actions.specs.declared.envelope.Addresses.{Addresses}
-use Rattle.bench.specs.Content.{Content, Edit, Sample, after, new_content, put_script, put_message, set_main, rename_script, remove_script, remove_message, clear_main, set_envelope, set_mailbox, set_expected, clear_expected, set_mailboxes, set_message_envelope, clear_message_envelope, set_clock, clear_clock, text_at, message_at, put_over, with_script, with_message, changed, with_expected, with_addresses, with_renamed, without_script, without_message, is_long, is_long_id, script_refusal, message_refusal, main_refusal, rename_refusal, remove_script_refusal, absent_refusal, expected_refusal, addresses_refusal, envelope_refusal, mailbox_refusal, mailboxes_refusal, are_long}
-use Rattle.bench.specs.Edits.{IsInOrder, IsWithinLimits, AreScriptsWithin, AreMessagesWithin, AreAddressesWithin, AreOrdered, made_or_old, content_after}
+use Rattle.sieve_actions.specs.declared.envelope.Envelope.{Envelope}
+use Rattle.bench.specs.Content.{Content, Edit, Sample, after, new_content, put_script, put_message, rename_script, remove_script, remove_message, text_at, message_at, put_over, with_script, with_message, changed, with_renamed, without_script, without_message, is_long, is_long_id, script_refusal, message_refusal, rename_refusal, remove_script_refusal, absent_refusal, are_long, set_for_all, set_for_one, setting_refusal, one_refusal, is_large, is_large_for_one, main_with, envelope_with, sample_with}
+use Rattle.bench.specs.Edits.{IsInOrder, IsWithinLimits, AreScriptsWithin, AreMessagesWithin, AreAddressesWithin, AreOrdered, made_or_old, content_after, IsEnvelopeWithin}
 use Rattle.sieve_profile.specs.Profile.{Profile}
 use Rattle.bench.specs.declared.fault.EditFault.{EditFault}
+use Rattle.bench.specs.declared.setting.MessageSetting.{MessageSetting}
+use Rattle.bench.specs.declared.setting.MessageSetting.TheVariants as own
+use Rattle.bench.specs.declared.setting.Setting.{Setting}
+use Rattle.bench.specs.declared.setting.Setting.TheVariants as common
 use Rattle.bench.specs.declared.fault.EditFault.TheVariants.{TooLarge, Full, NoSuchScript, NameTaken, NoSuchMessage}
 use Rattle.bench.proofs.Names.{is_name, text-with_script}
 use Rattle.bench.proofs.Kept.{accepted, all_changed, all_put, all_values_put, keys_changed, length_changed, name_total, none_inserted, none_more, none_put, one_inserted, one_put, one_removed, order_stays}
@@ -53,11 +58,6 @@ found_passes false false missing is = refl
 one_passes : (large : Bool) (fault : EditFault) → (if large then Some fault else None) ≡ None → large ≡ false
 one_passes true fault is = absurd cc
 one_passes false fault is = refl
-
-two_pass : (large other : Bool) (fault : EditFault) → (if large || other then Some fault else None) ≡ None → (large ≡ false) × (other ≡ false)
-two_pass true other fault is = absurd cc
-two_pass false true fault is = absurd cc
-two_pass false false fault is = (refl, refl)
 
 both_false : (a b : Bool) → (a || b) ≡ false → (a ≡ false) × (b ≡ false)
 both_false true b is = absurd cc
@@ -179,6 +179,40 @@ module _ (messages : List (List ℕ × Sample)) (limits : AreMessagesWithin mess
     addresses = All-map-remove_entry (pointwise nat_eq id) (λ e. e.1) (λ s. AreOwnWithin s.addresses) messages limits.addresses;
   }
 
+-- a setting that isn't past its limit keeps what it sets within it
+main_within : (setting : Setting) (main : Option ScriptName) → IfSome main (λ name. length name.name ≤ name_limit) → is_large setting ≡ false → IfSome (main_with setting main) (λ name. length name.name ≤ name_limit)
+main_within (common.Main None) main within small = tt
+main_within (common.Main (Some name)) main within small = not_past name_limit (length name.name) small
+main_within other main within small = within
+
+addresses_within : (from to : List ℕ) → are_long from to ≡ false → (length from ≤ address_limit) × (length to ≤ address_limit)
+addresses_within from to small =
+    let short = both_false (nat_lt address_limit (length from)) (nat_lt address_limit (length to)) small in
+    (not_past address_limit (length from) short.0, not_past address_limit (length to) short.1)
+
+envelope_within : (setting : Setting) (envelope : Envelope) → IsEnvelopeWithin envelope → is_large setting ≡ false → IsEnvelopeWithin (envelope_with setting envelope)
+envelope_within (common.Main name) envelope within small = within
+envelope_within (common.Addresses addresses) envelope within small =
+    let short = addresses_within addresses.from addresses.to small in
+    record { from = short.0; to = short.1; mailbox = within.mailbox; mailboxes = within.mailboxes }
+envelope_within (common.Mailbox mailbox) envelope within small = record { from = within.from; to = within.to; mailbox = not_past mailbox_limit (length mailbox) small; mailboxes = within.mailboxes }
+envelope_within (common.Mailboxes text) envelope within small = record { from = within.from; to = within.to; mailbox = within.mailbox; mailboxes = not_past mailboxes_limit (length text) small }
+envelope_within (common.Clock clock) envelope within small = record { from = within.from; to = within.to; mailbox = within.mailbox; mailboxes = within.mailboxes }
+
+octets_within : (setting : MessageSetting) (s : Sample) → length s.octets ≤ message_limit → length (sample_with setting s).octets ≤ message_limit
+octets_within (own.Expected expected) s within = within
+octets_within (own.Addresses addresses) s within = within
+
+expected_within : (setting : MessageSetting) → is_large_for_one setting ≡ false → (s : Sample) → IsTextWithin s.expected → IsTextWithin (sample_with setting s).expected
+expected_within (own.Expected None) small s within = tt
+expected_within (own.Expected (Some text)) small s within = not_past expected_limit (length text) small
+expected_within (own.Addresses addresses) small s within = within
+
+own_within : (setting : MessageSetting) → is_large_for_one setting ≡ false → (s : Sample) → AreOwnWithin s.addresses → AreOwnWithin (sample_with setting s).addresses
+own_within (own.Expected expected) small s within = within
+own_within (own.Addresses None) small s within = tt
+own_within (own.Addresses (Some addresses)) small s within = let short = addresses_within addresses.from addresses.to small in record { from = short.0; to = short.1 }
+
 -- an edit that is made keeps a content within its limits
 limits_kept : (content : Content) (edit : Edit) (new : Content) → IsInOrder content → IsWithinLimits content → after content edit ≡ Ok new → IsWithinLimits new
 limits_kept content (put_script name text) new order limits made =
@@ -187,9 +221,6 @@ limits_kept content (put_script name text) new order limits made =
 limits_kept content (put_message id bytes) new order limits made =
     let is = accepted (message_refusal content.messages id bytes) (record content { messages = with_message id bytes content.messages }) new made in
     subst IsWithinLimits is.1 (record { main = limits.main; envelope = limits.envelope; scripts = limits.scripts; messages = messages_put content.messages limits.messages id bytes is.0 })
-limits_kept content (set_main name) new order limits made =
-    let is = accepted (main_refusal name) (record content { main = Some name }) new made in
-    subst IsWithinLimits is.1 (record { main = not_past name_limit (length name.name) (one_passes (is_long name.name) TooLarge is.0); envelope = limits.envelope; scripts = limits.scripts; messages = limits.messages })
 limits_kept content (rename_script from to) new order limits made =
     let is = accepted (rename_refusal content.scripts from to) (record content { scripts = with_renamed from (text_at content.scripts from) to content.scripts }) new made in
     subst IsWithinLimits is.1
@@ -200,89 +231,18 @@ limits_kept content (remove_script name) new order limits made =
 limits_kept content (remove_message id) new order limits made =
     let is = accepted (absent_refusal content.messages id) (record content { messages = without_message id content.messages }) new made in
     subst IsWithinLimits is.1 (record { main = limits.main; envelope = limits.envelope; scripts = limits.scripts; messages = messages_removed content.messages limits.messages id })
-limits_kept content clear_main new order limits made =
-    let is = accepted None (record content { main = None }) new made in
-    subst IsWithinLimits is.1 (record { main = tt; envelope = limits.envelope; scripts = limits.scripts; messages = limits.messages })
-limits_kept content (set_envelope from to) new order limits made =
-    let is = accepted (envelope_refusal from to) (record content { envelope = record content.envelope { from = from; to = to } }) new made in
-    let passed = two_pass (nat_lt address_limit (length from)) (nat_lt address_limit (length to)) TooLarge is.0 in
-    subst IsWithinLimits is.1 (record {
-      main = limits.main;
-      envelope = record { from = not_past address_limit (length from) passed.0; to = not_past address_limit (length to) passed.1; mailbox = limits.envelope.mailbox; mailboxes = limits.envelope.mailboxes };
-      scripts = limits.scripts;
-      messages = limits.messages;
-    })
-limits_kept content (set_mailbox mailbox) new order limits made =
-    let is = accepted (mailbox_refusal mailbox) (record content { envelope = record content.envelope { mailbox = mailbox } }) new made in
-    let passed = one_passes (nat_lt mailbox_limit (length mailbox)) TooLarge is.0 in
-    subst IsWithinLimits is.1 (record {
-      main = limits.main;
-      envelope = record { from = limits.envelope.from; to = limits.envelope.to; mailbox = not_past mailbox_limit (length mailbox) passed; mailboxes = limits.envelope.mailboxes };
-      scripts = limits.scripts;
-      messages = limits.messages;
-    })
-limits_kept content (set_expected id text) new order limits made =
-    let is = accepted (expected_refusal content.messages id text) (record content { messages = with_expected id (Some text) content.messages }) new made in
-    let passed = found_passes (is_long_id id) (nat_lt expected_limit (length text)) (is_none (message_at content.messages id)) is.0 in
-    let within = not_past expected_limit (length text) passed in
+limits_kept content (set_for_all setting) new order limits made =
+    let is = accepted (setting_refusal setting) (record content { main = main_with setting content.main; envelope = envelope_with setting content.envelope }) new made in
+    let small = one_passes (is_large setting) TooLarge is.0 in
+    subst IsWithinLimits is.1 (record { main = main_within setting content.main limits.main small; envelope = envelope_within setting content.envelope limits.envelope small; scripts = limits.scripts; messages = limits.messages })
+limits_kept content (set_for_one id setting) new order limits made =
+    let is = accepted (one_refusal content.messages id setting) (record content { messages = changed id (sample_with setting) content.messages }) new made in
+    let small = found_passes (is_long_id id) (is_large_for_one setting) (is_none (message_at content.messages id)) is.0 in
     subst IsWithinLimits is.1 (record {
       main = limits.main;
       envelope = limits.envelope;
       scripts = limits.scripts;
-      messages = messages_changed content.messages limits.messages id (λ sample. record sample { expected = Some text }) (λ s h. h) (λ s h. within) (λ s h. h);
-    })
-limits_kept content (clear_expected id) new order limits made =
-    let is = accepted (absent_refusal content.messages id) (record content { messages = with_expected id None content.messages }) new made in
-    subst IsWithinLimits is.1 (record {
-      main = limits.main;
-      envelope = limits.envelope;
-      scripts = limits.scripts;
-      messages = messages_changed content.messages limits.messages id (λ sample. record sample { expected = None }) (λ s h. h) (λ s h. tt) (λ s h. h);
-    })
-limits_kept content (set_mailboxes text) new order limits made =
-    let is = accepted (mailboxes_refusal text) (record content { envelope = record content.envelope { mailboxes = text } }) new made in
-    let passed = one_passes (nat_lt mailboxes_limit (length text)) TooLarge is.0 in
-    subst IsWithinLimits is.1 (record {
-      main = limits.main;
-      envelope = record { from = limits.envelope.from; to = limits.envelope.to; mailbox = limits.envelope.mailbox; mailboxes = not_past mailboxes_limit (length text) passed };
-      scripts = limits.scripts;
-      messages = limits.messages;
-    })
-limits_kept content (set_message_envelope id from to) new order limits made =
-    let own : Option Addresses = Some (record { from = from; to = to }) in
-    let is = accepted (addresses_refusal content.messages id from to) (record content { messages = with_addresses id own content.messages }) new made in
-    let passed = found_passes (is_long_id id) (are_long from to) (is_none (message_at content.messages id)) is.0 in
-    let short = both_false (nat_lt address_limit (length from)) (nat_lt address_limit (length to)) passed in
-    let within : AreOwnWithin own = record { from = not_past address_limit (length from) short.0; to = not_past address_limit (length to) short.1 } in
-    subst IsWithinLimits is.1 (record {
-      main = limits.main;
-      envelope = limits.envelope;
-      scripts = limits.scripts;
-      messages = messages_changed content.messages limits.messages id (λ sample. record sample { addresses = own }) (λ s h. h) (λ s h. h) (λ s h. within);
-    })
-limits_kept content (clear_message_envelope id) new order limits made =
-    let is = accepted (absent_refusal content.messages id) (record content { messages = with_addresses id None content.messages }) new made in
-    subst IsWithinLimits is.1 (record {
-      main = limits.main;
-      envelope = limits.envelope;
-      scripts = limits.scripts;
-      messages = messages_changed content.messages limits.messages id (λ sample. record sample { addresses = None }) (λ s h. h) (λ s h. h) (λ s h. tt);
-    })
-limits_kept content (set_clock clock) new order limits made =
-    let is = accepted None (record content { envelope = record content.envelope { clock = Some clock } }) new made in
-    subst IsWithinLimits is.1 (record {
-      main = limits.main;
-      envelope = record { from = limits.envelope.from; to = limits.envelope.to; mailbox = limits.envelope.mailbox; mailboxes = limits.envelope.mailboxes };
-      scripts = limits.scripts;
-      messages = limits.messages;
-    })
-limits_kept content clear_clock new order limits made =
-    let is = accepted None (record content { envelope = record content.envelope { clock = None } }) new made in
-    subst IsWithinLimits is.1 (record {
-      main = limits.main;
-      envelope = record { from = limits.envelope.from; to = limits.envelope.to; mailbox = limits.envelope.mailbox; mailboxes = limits.envelope.mailboxes };
-      scripts = limits.scripts;
-      messages = limits.messages;
+      messages = messages_changed content.messages limits.messages id (sample_with setting) (octets_within setting) (expected_within setting small) (own_within setting small);
     })
 
 -- EDITS IN TURN

@@ -1,10 +1,9 @@
 -- What a bench holds, and what an edit makes of it.
-use Rattle.std.specs.Prelude.{◌≡◌, ⊤, ℕ, Bool, List, [], ◌∷◌, length, Option, None, Some, Result, Ok, Err, if◌then◌else◌, ◌||◌, ◌&&◌, is_none, is_some, nat_lt, nat_le, nat_eq, codes}
+use Rattle.std.specs.Prelude.{◌≡◌, ⊤, ℕ, Bool, false, List, [], ◌∷◌, length, Option, None, Some, Result, Ok, Err, if◌then◌else◌, ◌||◌, ◌&&◌, is_none, is_some, nat_lt, nat_le, nat_eq, codes}
 use Rattle.std.specs.Map.{lookup, remove_entry}
 use Rattle.std.specs.BTreeMap as tree
 use Rattle.indexmap.specs.IndexMap as ordered
 use lib.Pointwise.{pointwise}
-use Rattle.date_text.specs.Clock.{Clock}
 use Rattle.sieve_limits.specs.Limits.{address_limit, expected_limit, id_limit, mailbox_limit, mailboxes_limit, message_count_limit, message_limit, name_limit, script_count_limit, text_limit}
 use Rattle.script_names.specs.declared.name.ScriptName.{ScriptName}
 use Rattle.sieve_actions.specs.declared.envelope.Addresses.{Addresses}
@@ -13,6 +12,10 @@ use Rattle.script_names.specs.Name.{name_cmp}
 use Rattle.sieve_profile.specs.Profile.{Profile}
 use Rattle.bench.specs.declared.fault.EditFault.{EditFault}
 use Rattle.bench.specs.declared.fault.EditFault.TheVariants.{TooLarge, NoSuchScript, NameTaken, NoSuchMessage, Full, NoMemory}
+use Rattle.bench.specs.declared.setting.MessageSetting.{MessageSetting}
+use Rattle.bench.specs.declared.setting.MessageSetting.TheVariants as own
+use Rattle.bench.specs.declared.setting.Setting.{Setting}
+use Rattle.bench.specs.declared.setting.Setting.TheVariants as common
 
 -- a message's octets, the text that its verdict is expected to have, where there is one, and the addresses that the message has of its own, where
 -- it has some
@@ -34,23 +37,15 @@ pub record Content : Type 0 where
 abbrev pub new_content : Profile → Content
 new_content profile = record { profile = profile; main = None; envelope = record { from = []; to = []; mailbox = codes "INBOX"; mailboxes = []; clock = None }; scripts = []; messages = [] }
 
+-- An edit: of a script, of a message, of a setting that all messages are judged with, or of one that a message has beside its octets.
 pub data Edit : Type 0 where
   put_script : (name : ScriptName) (text : List ℕ) → Edit
   put_message : (id bytes : List ℕ) → Edit
-  set_main : (name : ScriptName) → Edit
   rename_script : (from to : ScriptName) → Edit
   remove_script : (name : ScriptName) → Edit
   remove_message : (id : List ℕ) → Edit
-  clear_main : Edit
-  set_envelope : (from to : List ℕ) → Edit
-  set_mailbox : (mailbox : List ℕ) → Edit
-  set_expected : (id text : List ℕ) → Edit
-  clear_expected : (id : List ℕ) → Edit
-  set_mailboxes : (text : List ℕ) → Edit
-  set_message_envelope : (id from to : List ℕ) → Edit
-  clear_message_envelope : (id : List ℕ) → Edit
-  set_clock : (clock : Clock) → Edit
-  clear_clock : Edit
+  set_for_all : (setting : Setting) → Edit
+  set_for_one : (id : List ℕ) (setting : MessageSetting) → Edit
 
 -- the text of the script of that name
 abbrev pub text_at : List (ScriptName × List ℕ) → ScriptName → Option (List ℕ)
@@ -78,13 +73,10 @@ abbrev pub changed : {X : Type 0} → List ℕ → (X → X) → List (List ℕ 
 changed id change [] = []
 changed id change (m ∷ ms) = if pointwise nat_eq id m.0 then (m.0, change m.1) ∷ ms else m ∷ changed id change ms
 
--- the messages with this text expected of the one at the id, or with none
-abbrev pub with_expected : List ℕ → Option (List ℕ) → List (List ℕ × Sample) → List (List ℕ × Sample)
-with_expected id expected messages = changed id (λ sample. record sample { expected = expected }) messages
-
--- the messages with these addresses as those that the one at the id has of its own, or with none
-abbrev pub with_addresses : List ℕ → Option Addresses → List (List ℕ × Sample) → List (List ℕ × Sample)
-with_addresses id addresses messages = changed id (λ sample. record sample { addresses = addresses }) messages
+-- a message with a setting
+abbrev pub sample_with : MessageSetting → Sample → Sample
+sample_with (own.Expected expected) sample = record sample { expected = expected }
+sample_with (own.Addresses addresses) sample = record sample { addresses = addresses }
 
 -- the scripts without the one at the name
 abbrev pub without_script : ScriptName → List (ScriptName × List ℕ) → List (ScriptName × List ℕ)
@@ -121,9 +113,6 @@ message_refusal messages id bytes =
     else if is_none (message_at messages id) && nat_le message_count_limit (length messages) then Some Full
     else None
 
-abbrev pub main_refusal : ScriptName → Option EditFault
-main_refusal name = if is_long name.name then Some TooLarge else None
-
 -- the name to rename must be there, and the new one must not; they may not be the same
 abbrev pub rename_refusal : List (ScriptName × List ℕ) → ScriptName → ScriptName → Option EditFault
 rename_refusal scripts from to =
@@ -145,35 +134,47 @@ absent_refusal messages id =
     else if is_none (message_at messages id) then Some NoSuchMessage
     else None
 
--- the id and the text have their limits, and the message must be there
-abbrev pub expected_refusal : List (List ℕ × Sample) → List ℕ → List ℕ → Option EditFault
-expected_refusal messages id text =
-    if is_long_id id || nat_lt expected_limit (length text) then Some TooLarge
-    else if is_none (message_at messages id) then Some NoSuchMessage
-    else None
-
 -- whether one of two addresses has too many octets
 abbrev pub are_long : List ℕ → List ℕ → Bool
 are_long from to = nat_lt address_limit (length from) || nat_lt address_limit (length to)
 
--- the id and the addresses have their limits, and the message must be there
-abbrev pub addresses_refusal : List (List ℕ × Sample) → (id from to : List ℕ) → Option EditFault
-addresses_refusal messages id from to =
-    if is_long_id id || are_long from to then Some TooLarge
+-- whether a setting has too many octets: the name of the main script, an address, a mailbox or the text of the list of mailboxes
+abbrev pub is_large : Setting → Bool
+is_large (common.Main None) = false
+is_large (common.Main (Some name)) = is_long name.name
+is_large (common.Addresses addresses) = are_long addresses.from addresses.to
+is_large (common.Mailbox mailbox) = nat_lt mailbox_limit (length mailbox)
+is_large (common.Mailboxes text) = nat_lt mailboxes_limit (length text)
+is_large (common.Clock clock) = false
+
+abbrev pub setting_refusal : Setting → Option EditFault
+setting_refusal setting = if is_large setting then Some TooLarge else None
+
+-- whether a setting of a message has too many octets: the text that is expected, or an address
+abbrev pub is_large_for_one : MessageSetting → Bool
+is_large_for_one (own.Expected None) = false
+is_large_for_one (own.Expected (Some text)) = nat_lt expected_limit (length text)
+is_large_for_one (own.Addresses None) = false
+is_large_for_one (own.Addresses (Some addresses)) = are_long addresses.from addresses.to
+
+-- the id and the setting have their limits, and the message must be there
+abbrev pub one_refusal : List (List ℕ × Sample) → List ℕ → MessageSetting → Option EditFault
+one_refusal messages id setting =
+    if is_long_id id || is_large_for_one setting then Some TooLarge
     else if is_none (message_at messages id) then Some NoSuchMessage
     else None
 
--- each address of the envelope has a limit
-abbrev pub envelope_refusal : List ℕ → List ℕ → Option EditFault
-envelope_refusal from to = if are_long from to then Some TooLarge else None
+-- the main script, and the envelope, with a setting
+abbrev pub main_with : Setting → Option ScriptName → Option ScriptName
+main_with (common.Main name) main = name
+main_with other main = main
 
--- a mailbox's name has a limit
-abbrev pub mailbox_refusal : List ℕ → Option EditFault
-mailbox_refusal mailbox = if nat_lt mailbox_limit (length mailbox) then Some TooLarge else None
-
--- the text of the list of mailboxes has one
-abbrev pub mailboxes_refusal : List ℕ → Option EditFault
-mailboxes_refusal text = if nat_lt mailboxes_limit (length text) then Some TooLarge else None
+abbrev pub envelope_with : Setting → Envelope → Envelope
+envelope_with (common.Main name) envelope = envelope
+envelope_with (common.Addresses addresses) envelope = record envelope { from = addresses.from; to = addresses.to }
+envelope_with (common.Mailbox mailbox) envelope = record envelope { mailbox = mailbox }
+envelope_with (common.Mailboxes text) envelope = record envelope { mailboxes = text }
+envelope_with (common.Clock clock) envelope = record envelope { clock = clock }
 
 -- the first refusal, or else the content
 abbrev pub unless : Option EditFault → Content → Result Content EditFault
@@ -184,20 +185,11 @@ unless (Some fault) content = Err fault
 abbrev pub after : Content → Edit → Result Content EditFault
 after content (put_script name text) = unless (script_refusal content.scripts name text) (record content { scripts = with_script name text content.scripts })
 after content (put_message id bytes) = unless (message_refusal content.messages id bytes) (record content { messages = with_message id bytes content.messages })
-after content (set_main name) = unless (main_refusal name) (record content { main = Some name })
 after content (rename_script from to) = unless (rename_refusal content.scripts from to) (record content { scripts = with_renamed from (text_at content.scripts from) to content.scripts })
 after content (remove_script name) = unless (remove_script_refusal content.scripts name) (record content { scripts = without_script name content.scripts })
 after content (remove_message id) = unless (absent_refusal content.messages id) (record content { messages = without_message id content.messages })
-after content clear_main = Ok (record content { main = None })
-after content (set_envelope from to) = unless (envelope_refusal from to) (record content { envelope = record content.envelope { from = from; to = to } })
-after content (set_mailbox mailbox) = unless (mailbox_refusal mailbox) (record content { envelope = record content.envelope { mailbox = mailbox } })
-after content (set_expected id text) = unless (expected_refusal content.messages id text) (record content { messages = with_expected id (Some text) content.messages })
-after content (clear_expected id) = unless (absent_refusal content.messages id) (record content { messages = with_expected id None content.messages })
-after content (set_mailboxes text) = unless (mailboxes_refusal text) (record content { envelope = record content.envelope { mailboxes = text } })
-after content (set_message_envelope id from to) = unless (addresses_refusal content.messages id from to) (record content { messages = with_addresses id (Some (record { from = from; to = to })) content.messages })
-after content (clear_message_envelope id) = unless (absent_refusal content.messages id) (record content { messages = with_addresses id None content.messages })
-after content (set_clock clock) = Ok (record content { envelope = record content.envelope { clock = Some clock } })
-after content clear_clock = Ok (record content { envelope = record content.envelope { clock = None } })
+after content (set_for_all setting) = unless (setting_refusal setting) (record content { main = main_with setting content.main; envelope = envelope_with setting content.envelope })
+after content (set_for_one id setting) = unless (one_refusal content.messages id setting) (record content { messages = changed id (sample_with setting) content.messages })
 
 -- what was found of a refusal: there is none, or it is this one
 abbrev pub Finds : Option EditFault → Result Unit EditFault → Type 0

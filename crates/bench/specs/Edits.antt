@@ -1,17 +1,18 @@
 -- What edits in turn make of a content, what holds of each content that they make of a new bench's, and which edits make a content anew.
-use Rattle.std.specs.Prelude.{ℕ, ◌≤◌, List, [], ◌∷◌, ◌++◌, length, map, Option, None, Some, IfSome, Result, Ok, Err, nat_eq}
+use Rattle.std.specs.Prelude.{ℕ, ◌≤◌, List, [], ◌∷◌, ◌++◌, length, map, IfSome, Result, Ok, Err, nat_eq}
 use Rattle.std.specs.List.{All, IsDistinct, flat_map}
 use Rattle.std.specs.List.Sorted.{IsStrictlySortedBy}
 use Rattle.std.specs.Map.{keys_of, values_of}
 use lib.Pointwise.{pointwise}
-use Rattle.date_text.specs.Clock.{Clock}
 use Rattle.sieve_limits.specs.Limits.{address_limit, expected_limit, id_limit, mailbox_limit, mailboxes_limit, message_count_limit, message_limit, name_limit, script_count_limit, text_limit}
 use Rattle.script_names.specs.Name.{name_cmp}
 use Rattle.sieve_actions.specs.declared.envelope.Addresses.{Addresses}
 use Rattle.sieve_actions.specs.declared.envelope.Envelope.{Envelope}
 use Rattle.script_names.specs.declared.name.ScriptName.{ScriptName}
-use Rattle.bench.specs.Content.{Content, Edit, Sample, after, put_script, put_message, set_main, set_envelope, set_mailbox, set_expected, set_mailboxes, set_message_envelope, set_clock}
+use Rattle.bench.specs.Content.{Content, Edit, Sample, after, put_script, put_message, set_for_all, set_for_one}
 use Rattle.bench.specs.declared.fault.EditFault.{EditFault}
+use Rattle.bench.specs.declared.setting.MessageSetting.TheVariants as own
+use Rattle.bench.specs.declared.setting.Setting.TheVariants as common
 
 -- EDITS IN TURN
 
@@ -76,34 +77,20 @@ pub record IsWithinLimits (content : Content) : Type 0 where
 
 -- EDITS THAT MAKE A CONTENT ANEW
 
--- the edit that names the main script, where there is one
-abbrev pub main_edits : Option ScriptName → List Edit
-main_edits None = []
-main_edits (Some name) = set_main name ∷ []
-
--- the edit that sets the clock, where there is one
-abbrev pub clock_edits : Option Clock → List Edit
-clock_edits None = []
-clock_edits (Some clock) = set_clock clock ∷ []
-
--- the edit that says what is expected of a message, where anything is
-abbrev pub expected_edits : List ℕ → Option (List ℕ) → List Edit
-expected_edits id None = []
-expected_edits id (Some text) = set_expected id text ∷ []
-
--- the edit that sets the addresses that a message has of its own, where it has some
-abbrev pub addresses_edits : List ℕ → Option Addresses → List Edit
-addresses_edits id None = []
-addresses_edits id (Some addresses) = set_message_envelope id addresses.from addresses.to ∷ []
-
 -- a message is put, and then what is expected of it, and its own addresses
 abbrev pub message_edits : List ℕ × Sample → List Edit
-message_edits message = put_message message.0 message.1.octets ∷ (expected_edits message.0 message.1.expected ++ addresses_edits message.0 message.1.addresses)
+message_edits message = put_message message.0 message.1.octets ∷ set_for_one message.0 (own.Expected message.1.expected) ∷ set_for_one message.0 (own.Addresses message.1.addresses) ∷ []
 
--- all that a content has, as edits of a new bench: the scripts in their order, the messages in theirs, the envelope, the mailbox, the list of
+-- the edits that set an envelope
+abbrev pub envelope_edits : Envelope → List Edit
+envelope_edits envelope =
+    set_for_all (common.Addresses (record { from = envelope.from; to = envelope.to })) ∷ set_for_all (common.Mailbox envelope.mailbox)
+    ∷ set_for_all (common.Mailboxes envelope.mailboxes) ∷ set_for_all (common.Clock envelope.clock) ∷ []
+
+-- all that a content has, as edits of a new bench: the scripts in their order, the messages in theirs, the addresses, the mailbox, the list of
 -- mailboxes, the clock and the main script
 unfoldable pub rebuild : Content → List Edit
 rebuild content =
     map (λ script. put_script script.0 script.1) content.scripts
     ++ (flat_map message_edits content.messages
-    ++ (set_envelope content.envelope.from content.envelope.to ∷ set_mailbox content.envelope.mailbox ∷ set_mailboxes content.envelope.mailboxes ∷ (clock_edits content.envelope.clock ++ main_edits content.main)))
+    ++ (envelope_edits content.envelope ++ set_for_all (common.Main content.main) ∷ []))

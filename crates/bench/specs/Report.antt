@@ -1,14 +1,13 @@
 -- The text of a report.
 use Rattle.std.specs.Prelude.{ℕ, Bool, true, false, not, List, [], ◌∷◌, ◌++◌, length, map, filter, Option, None, Some, is_some, if◌then◌else◌, count_by, codes, decimal}
-use Rattle.std.specs.List.{flat_map, list_any, zip}
+use Rattle.std.specs.List.{flat_map, list_any}
 use Rattle.date_text.specs.Clock.{Clock}
 use Rattle.date_text.specs.Zone.{zone_text}
 use Rattle.devices.specs.Writers.{name_text, quoted}
 use Rattle.sieve_check.specs.Judgement.{Judgement, judgement_of, sound, faulty, fault_word}
 use Rattle.script_names.specs.declared.name.ScriptName.{ScriptName}
 use Rattle.sieve_actions.specs.Delivery.{mailbox_count}
-use Rattle.sieve_actions.specs.declared.action.Action.{Action}
-use Rattle.sieve_actions.specs.declared.action.Origin.{Origin}
+use Rattle.sieve_actions.specs.State.{Entered}
 use Rattle.sieve_actions.specs.declared.envelope.Addresses.{Addresses}
 use Rattle.sieve_actions.specs.declared.envelope.Envelope.{Envelope}
 use Rattle.sieve_run.specs.Library.{library_of}
@@ -74,13 +73,13 @@ abbrev pub indented : List ℕ → List ℕ
 indented line = indent ++ line ++ codes "\n"
 
 -- the line of an action, and that of the command that entered it first
-abbrev pub traced_lines : Action × Origin → List (List ℕ)
-traced_lines e = action_line e.0 ∷ origin_line e.1 ∷ []
+abbrev pub traced_lines : Entered → List (List ℕ)
+traced_lines entry = action_line entry.action ∷ origin_line entry.origin ∷ []
 
 -- the lines of what becomes of a message, as they are expected, or told line by line where each action comes from
 abbrev pub told_lines : (traced : Bool) → (mailbox : List ℕ) → Verdict → List (List ℕ)
 told_lines false mailbox verdict = verdict_lines mailbox verdict
-told_lines true mailbox verdict = flat_map traced_lines (zip verdict.actions verdict.origins) ++ (implicit_lines mailbox verdict.implicit ++ error_lines verdict.error)
+told_lines true mailbox verdict = flat_map traced_lines verdict.entries ++ (implicit_lines mailbox verdict.implicit ++ error_lines verdict.error)
 
 -- the lines of a verdict, with `lines` also of where each action comes from, and of the names that were looked up
 abbrev pub verdict_text : Profile → (mailbox : List ℕ) → Verdict → List ℕ

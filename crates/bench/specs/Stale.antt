@@ -1,12 +1,14 @@
 -- Which messages are stale: the next report runs these. An edit makes those stale whose verdict it may change.
 use Rattle.octets.specs.Octet.{is_among}
-use Rattle.std.specs.Prelude.{ℕ, Bool, true, false, ◌||◌, List, map, filter, nat_eq, Option}
+use Rattle.std.specs.Prelude.{ℕ, Bool, true, false, ◌&&◌, ◌||◌, List, map, filter, nat_eq, Option}
 use Rattle.std.specs.Option.{option_map}
 use lib.Pointwise.{pointwise}
 use Rattle.script_names.specs.declared.name.ScriptName.{ScriptName}
 use Rattle.sieve_run.specs.Run.{is_looked_up}
 use Rattle.sieve_run.specs.Verdict.{Verdict}
-use Rattle.bench.specs.Content.{Content, Edit, Sample, message_at, put_script, put_message, set_main, rename_script, remove_script, remove_message, clear_main, set_envelope, set_mailbox, set_expected, clear_expected, set_mailboxes, set_message_envelope, clear_message_envelope, set_clock, clear_clock}
+use Rattle.bench.specs.Content.{Content, Edit, Sample, message_at, put_script, put_message, rename_script, remove_script, remove_message, set_for_all, set_for_one}
+use Rattle.bench.specs.declared.setting.MessageSetting.{MessageSetting}
+use Rattle.bench.specs.declared.setting.MessageSetting.TheVariants as own
 use Rattle.bench.specs.Report.{site_of, verdict_by}
 
 -- the verdict on a message of a content
@@ -21,24 +23,20 @@ verdict_of content id = option_map (verdict_on content) (message_at content.mess
 abbrev pub looks_up : Content → ScriptName → Sample → Bool
 looks_up content name sample = is_looked_up name (verdict_on content sample).lookups
 
--- whether an edit of a content touches a message; what is expected of one is no part of the run
+-- whether a run sees a setting of its message; what is expected of it is no part of the run
+abbrev pub is_seen : MessageSetting → Bool
+is_seen (own.Expected expected) = false
+is_seen (own.Addresses addresses) = true
+
+-- whether an edit of a content touches a message
 abbrev pub touches : Content → Edit → List ℕ × Sample → Bool
 touches content (put_script name text) message = looks_up content name message.1
 touches content (put_message id bytes) message = pointwise nat_eq id message.0
-touches content (set_main name) message = true
 touches content (rename_script from to) message = looks_up content from message.1 || looks_up content to message.1
 touches content (remove_script name) message = looks_up content name message.1
 touches content (remove_message id) message = false
-touches content clear_main message = true
-touches content (set_envelope from to) message = true
-touches content (set_mailbox mailbox) message = true
-touches content (set_expected id text) message = false
-touches content (clear_expected id) message = false
-touches content (set_mailboxes text) message = true
-touches content (set_message_envelope id from to) message = pointwise nat_eq id message.0
-touches content (clear_message_envelope id) message = pointwise nat_eq id message.0
-touches content (set_clock clock) message = true
-touches content clear_clock message = true
+touches content (set_for_all setting) message = true
+touches content (set_for_one id setting) message = is_seen setting && pointwise nat_eq id message.0
 
 -- the ids of the messages that pass a test, in their order
 unfoldable pub ids_where : (List ℕ × Sample → Bool) → List (List ℕ × Sample) → List (List ℕ)

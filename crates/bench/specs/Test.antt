@@ -1,13 +1,15 @@
 -- The test of a message: the edits that a job makes of a new bench, and how the report of that bench ends.
-use Rattle.std.specs.Prelude.{◌≡◌, ◌⊎◌, ℕ, Bool, true, false, ◌&&◌, ◌==◌, if◌then◌else◌, List, [], ◌∷◌, ◌++◌, map, fold, Result, Ok, Err, IsOkAnd}
+use Rattle.std.specs.Prelude.{◌≡◌, ◌⊎◌, ℕ, Bool, true, false, ◌&&◌, ◌==◌, if◌then◌else◌, List, [], ◌∷◌, ◌++◌, map, fold, Some, Result, Ok, Err, IsOkAnd}
 use Rattle.std.specs.List.{list_all}
 use Rattle.sieve_check.specs.Judgement.{Judgement, judgement_of, sound, faulty}
+use Rattle.sieve_actions.specs.declared.envelope.Envelope.{Envelope}
 use Rattle.sieve_run.specs.Meter.{next_run}
-use Rattle.bench.specs.Content.{Content, Edit, after, new_content, put_script, put_message, set_main, set_envelope, set_mailbox, set_mailboxes}
-use Rattle.bench.specs.Edits.{clock_edits}
+use Rattle.bench.specs.Content.{Content, Edit, after, new_content, put_script, put_message, set_for_all}
+use Rattle.bench.specs.Edits.{envelope_edits}
 use Rattle.bench.specs.Report.{Judged, Site, error_count, report_text, site_of, verdicts}
 use Rattle.bench.specs.declared.fault.EditFault.{EditFault}
 use Rattle.bench.specs.declared.fault.EditFault.TheVariants as edit
+use Rattle.bench.specs.declared.setting.Setting.TheVariants as common
 use Rattle.bench.specs.declared.test_end.TestEnd.{TestEnd}
 use Rattle.bench.specs.declared.test_end.TestEnd.TheVariants as test
 use Rattle.bench.specs.declared.test_job.TestJob.{TestJob}
@@ -19,10 +21,13 @@ use Rattle.bench.specs.declared.test_job.TestScript.{TestScript}
 abbrev pub put_of : TestScript → Edit
 put_of script = put_script script.name script.text
 
+-- the envelope of a job
+abbrev pub envelope_of : TestJob → Envelope
+envelope_of job = record { from = job.from; to = job.to; mailbox = job.mailbox; mailboxes = job.mailboxes; clock = job.clock }
+
 -- the edits of a job, in the order in which they are made
 abbrev pub edits_of : TestJob → List Edit
-edits_of job =
-    set_envelope job.from job.to ∷ set_mailbox job.mailbox ∷ set_mailboxes job.mailboxes ∷ (clock_edits job.clock ++ (map put_of job.scripts.items ++ set_main job.main ∷ put_message job.id job.message ∷ []))
+edits_of job = envelope_edits (envelope_of job) ++ (map put_of job.scripts.items ++ set_for_all (common.Main (Some job.main)) ∷ put_message job.id job.message ∷ [])
 
 -- what comes of one edit more, unless one before it was refused
 abbrev pub then_edit : Result Content EditFault → Edit → Result Content EditFault

@@ -3,7 +3,7 @@ ghost use Rattle.octets.specs.Octet.{is_among};
 ghost use Rattle.std.specs.Prelude.{◌≡◌, ⊤, [], IfOk, OnOk, IfErr, length};
 ghost use Rattle.std.specs.Map as map;
 ghost use Rattle.std.specs.Option.{option_copied};
-ghost use Rattle.bench.specs.Bench.{Makes, RefusedAmong, Tries, TriesInPlace, verdict_at};
+ghost use Rattle.bench.specs.Bench.{RefusedAmong, Tries, TriesInPlace, verdict_at};
 ghost use Rattle.bench.specs.Edits.{AreDistinct};
 ghost use Rattle.bench.specs.Stale.{ids_where};
 ghost use Rattle.devices.specs.Writers.{Wrote, WroteFront};
@@ -19,12 +19,11 @@ ghost use Rattle.bench.specs.Content as edit;
 
 use crate::entry::EntryBox;
 use crate::fault::{EditFault, ReportFault};
-use crate::marking::{forget_all, forget_readers};
+use crate::marking::forget_readers;
 use crate::message::message_of;
-use crate::messages::{expect, put};
+use crate::messages::put;
 use crate::refusal::{
-    refuse_absent, refuse_expected, refuse_main, refuse_message, refuse_remove_script,
-    refuse_rename, refuse_script,
+    refuse_absent, refuse_message, refuse_remove_script, refuse_rename, refuse_script,
 };
 use crate::report::{is_clean, run_stale, write_report};
 use crate::scripts::Scripts;
@@ -44,7 +43,7 @@ use std::marker::Model;
 #[derive(Drop)]
 pub struct Bench {
     pub(crate) alloc: Global,
-    main: Option<ScriptName>,
+    pub(crate) main: Option<ScriptName>,
     pub(crate) envelope: Envelope,
     scripts: Scripts,
     pub(crate) messages: NamedList<EntryBox>,
@@ -137,16 +136,6 @@ impl Bench {
         Ok(())
     }
 
-    /// Makes a script main, whether or not it is there. Takes no memory.
-    pub fn set_main(&mut self, name: ScriptName) -> Result<(), EditFault>
-        ensures { TriesInPlace (edit.set_main name) result self.old self.new }
-    {
-        refuse_main(&name)?;
-        self.main = Some(name);
-        forget_all(&mut self.messages);
-        Ok(())
-    }
-
     /// Renames a script to a name that no script has. The main script's name stays as it is.
     pub fn rename_script(&mut self, from: &ScriptName, to: ScriptName) -> Result<(), EditFault>
         ensures { Tries (edit.rename_script from.now to) result self.old self.new }
@@ -177,37 +166,6 @@ impl Bench {
         refuse_absent(&self.messages, id)?;
         self.messages.remove(id);
         Ok(())
-    }
-
-    /// Expects a text of a message's verdict, in place of what was expected. Each report says whether
-    /// the verdict's lines are those of the text, as `Outcome::agrees` does. Makes no message stale.
-    /// Takes no memory.
-    #[tactic(auto, using(crate::proofs::Entries::entries))]
-    pub fn set_expected(&mut self, id: &[u8], text: Octets) -> Result<(), EditFault>
-        ensures { TriesInPlace (edit.set_expected id.now text) result self.old self.new }
-    {
-        refuse_expected(&self.messages, id, text.as_slice())?;
-        expect(&mut self.messages, id, Some(text));
-        Ok(())
-    }
-
-    /// Expects no text of a message's verdict any more, also where none was expected. Makes no message
-    /// stale. Takes no memory.
-    #[tactic(auto, using(crate::proofs::Entries::entries))]
-    pub fn clear_expected(&mut self, id: &[u8]) -> Result<(), EditFault>
-        ensures { TriesInPlace (edit.clear_expected id.now) result self.old self.new }
-    {
-        refuse_absent(&self.messages, id)?;
-        expect(&mut self.messages, id, None);
-        Ok(())
-    }
-
-    /// Leaves no script main. Takes no memory.
-    pub fn clear_main(&mut self)
-        ensures { Makes edit.clear_main self.old self.new }
-    {
-        self.main = None;
-        forget_all(&mut self.messages);
     }
 
     /// The verdict on the message of an id, as a report found it; none exactly where there is no such message or it is stale. Takes no

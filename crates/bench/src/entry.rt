@@ -4,9 +4,10 @@ ghost use Rattle.std.specs.Option.{option_copied};
 ghost use Rattle.sieve_run.specs.Meter.{next_run};
 ghost use Rattle.sieve_run.specs.Run.{is_looked_up};
 ghost use Rattle.bench.specs.Report.{is_unlike, verdict_by};
-ghost use Rattle.bench.specs.view.Entry.{disagrees, expecting, forgotten, has_error, readdressed, refreshed, renewed, runs_at, unread};
+ghost use Rattle.bench.specs.view.Entry.{disagrees, entry_with, forgotten, has_error, refreshed, renewed, runs_at, unread};
 ghost use Rattle.bench.specs.view.Site.{site_as};
 
+use crate::setting::MessageSetting;
 use crate::site::Site;
 use octets::Octets;
 use script_names::ScriptName;
@@ -101,19 +102,17 @@ impl EntryBox {
         self.entry.kept = None;
     }
 
-    /// Expects this text of the message's verdict, or none. What is kept stays.
-    pub(crate) fn expect(&mut self, text: Option<Octets>)
-        ensures { self.new ≡ expecting text self.old }
+    /// Takes a setting of the message. It is stale where a run sees that.
+    pub(crate) fn take(&mut self, setting: MessageSetting)
+        ensures { self.new ≡ entry_with setting self.old }
     {
-        self.entry.expected = text;
-    }
-
-    /// Gives the message these addresses of its own, or none. It is stale.
-    pub(crate) fn readdress(&mut self, addresses: Option<Addresses>)
-        ensures { self.new ≡ readdressed addresses self.old }
-    {
-        self.entry.addresses = addresses;
-        self.entry.kept = None;
+        match setting {
+            MessageSetting::Expected(text) => self.entry.expected = text,
+            MessageSetting::Addresses(addresses) => {
+                self.entry.addresses = addresses;
+                self.entry.kept = None;
+            }
+        }
     }
 
     /// Marks the message stale if its run looked the name up.

@@ -3,7 +3,7 @@
 ghost use Rattle.std.specs.Prelude.{◌≡◌, ℕ, List, ◌∷◌, ◌++◌, Ok, Err, false, nat_eq};
 ghost use Rattle.std.specs.List.{flat_map};
 ghost use lib.Pointwise.{pointwise};
-ghost use Rattle.bench.specs.Content.{Content, Edit, after, clear_message_envelope, new_content, set_message_envelope};
+ghost use Rattle.bench.specs.Content.{Content, Edit, after, new_content, set_for_one};
 ghost use Rattle.bench.specs.Edits.{IsInOrder, IsWithinLimits, content_after, rebuild};
 ghost use Rattle.bench.specs.Report.{indented, report_text, verdict_text};
 ghost use Rattle.bench.specs.Stale.{verdict_of};
@@ -13,6 +13,7 @@ ghost use Rattle.sieve_profile.specs.declared.extension.Extension.TheVariants.{L
 ghost use Rattle.sieve_run.specs.Lines.{lookup_lines, verdict_lines};
 ghost use Rattle.sieve_run.specs.Verdict.{Verdict};
 ghost use Rattle.bench.specs.declared.fault.EditFault as faults;
+ghost use Rattle.bench.specs.declared.setting.MessageSetting.{MessageSetting};
 
 /// A refused edit leaves a content as it was, and those after it are made of that. Where none is refused, each is made of what the one
 /// before it made.
@@ -62,14 +63,11 @@ pub fn a_content_is_made_anew()
         ≡ report_text (content_after (new_content profile) edits) }
 {}
 
-/// No other message is judged otherwise where one is given addresses of its own, or is left none.
-pub fn own_addresses_are_one_messages()
-    ensures given { (content : Content) (id from to other : List ℕ) (new : Content)
-        → after content (set_message_envelope id from to) ≡ Ok new
+/// No other message is judged otherwise where one is given a setting.
+pub fn settings_of_one_message_leave_the_others()
+    ensures { (content : Content) (id other : List ℕ) (setting : MessageSetting) (new : Content)
+        → after content (set_for_one id setting) ≡ Ok new
         → pointwise nat_eq id other ≡ false → verdict_of new other ≡ verdict_of content other }
-    ensures cleared { (content : Content) (id other : List ℕ) (new : Content)
-        → after content (clear_message_envelope id) ≡ Ok new → pointwise nat_eq id other ≡ false
-        → verdict_of new other ≡ verdict_of content other }
 {}
 
 /// Where it isn't asked for by `lines`, a report has of a verdict the lines that are expected of it, and those of the names that it looked up.

@@ -2,12 +2,13 @@
 ghost use Rattle.std.specs.Prelude.{◌≡◌, OnOk, OnErr};
 ghost use Rattle.named_list.specs.Named.{IsUnique};
 ghost use Rattle.bench.specs.Content.{changed};
-ghost use Rattle.bench.specs.view.Entry.{expecting, put_entry, readdressed, renewed};
+ghost use Rattle.bench.specs.view.Entry.{entry_with, put_entry, renewed};
 
 use crate::entry::{Entry, EntryBox};
+use crate::setting::MessageSetting;
 use named_list::NamedList;
 use octets::Octets;
-use sieve_run::{Addresses, Message};
+use sieve_run::Message;
 use std::alloc::{AllocError, Global};
 
 /// Puts a message in the place of the one of its id. Takes no memory.
@@ -45,24 +46,13 @@ pub(crate) fn put(
     messages.insert(id, EntryBox::new(alloc, entry)?)
 }
 
-/// Expects a text of the verdict on the message of an id, or none. Takes no memory.
-pub(crate) fn expect(messages: &mut NamedList<EntryBox>, id: &[u8], text: Option<Octets>)
+/// Gives the message of an id a setting. Takes no memory.
+pub(crate) fn give(messages: &mut NamedList<EntryBox>, id: &[u8], setting: MessageSetting)
     ensures entries { messages.new.entries
-        ≡ changed id.now (expecting text) messages.old.entries }
+        ≡ changed id.now (entry_with setting) messages.old.entries }
     ensures unique { IsUnique messages.new }
 {
     if let Some(entry) = messages.get_mut(id) {
-        entry.expect(text);
-    }
-}
-
-/// Gives the message of an id these addresses of its own, or none. It is stale. Takes no memory.
-pub(crate) fn readdress(messages: &mut NamedList<EntryBox>, id: &[u8], addresses: Option<Addresses>)
-    ensures entries { messages.new.entries
-        ≡ changed id.now (readdressed addresses) messages.old.entries }
-    ensures unique { IsUnique messages.new }
-{
-    if let Some(entry) = messages.get_mut(id) {
-        entry.readdress(addresses);
+        entry.take(setting);
     }
 }

@@ -6,12 +6,12 @@ ghost use Rattle.bench.specs.view.Entry.{messages_of};
 use crate::entry::EntryBox;
 use crate::fault::EditFault;
 use crate::scripts::Scripts;
+use crate::setting::{MessageSetting, Setting};
 use named_list::NamedList;
 use octets::Octets;
 use script_names::ScriptName;
 use sieve_limits::{
-    MAX_ADDRESS, MAX_EXPECTED, MAX_ID, MAX_MAILBOX, MAX_MAILBOXES, MAX_MESSAGE, MAX_MESSAGES,
-    MAX_NAME, MAX_SCRIPTS, MAX_TEXT,
+    MAX_ADDRESS, MAX_ID, MAX_MESSAGE, MAX_MESSAGES, MAX_NAME, MAX_SCRIPTS, MAX_TEXT,
 };
 
 /// Whether a script's name is past its limit.
@@ -57,7 +57,7 @@ pub(crate) fn refuse_message(
     Ok(())
 }
 
-/// Why a message isn't removed, or why what is expected of it or its own addresses aren't.
+/// Why a message isn't removed.
 #[tactic(auto, using(crate::proofs::Entries::entries))]
 pub(crate) fn refuse_absent(messages: &NamedList<EntryBox>, id: &[u8]) -> Result<(), EditFault>
     ensures { spec.Finds (spec.absent_refusal (messages_of messages.now.entries) id.now) result }
@@ -66,36 +66,6 @@ pub(crate) fn refuse_absent(messages: &NamedList<EntryBox>, id: &[u8]) -> Result
         Err(EditFault::TooLarge)
     } else if !messages.contains(id) {
         Err(EditFault::NoSuchMessage)
-    } else {
-        Ok(())
-    }
-}
-
-/// Why a text isn't expected of a message, apart from memory.
-#[tactic(auto, using(crate::proofs::Entries::entries))]
-pub(crate) fn refuse_expected(
-    messages: &NamedList<EntryBox>,
-    id: &[u8],
-    text: &[u8],
-) -> Result<(), EditFault>
-    ensures { spec.Finds
-        (spec.expected_refusal (messages_of messages.now.entries) id.now text.now) result }
-{
-    if id.len() > MAX_ID || text.len() > MAX_EXPECTED {
-        Err(EditFault::TooLarge)
-    } else if !messages.contains(id) {
-        Err(EditFault::NoSuchMessage)
-    } else {
-        Ok(())
-    }
-}
-
-/// Why a main script's name isn't taken, apart from memory.
-pub(crate) fn refuse_main(name: &ScriptName) -> Result<(), EditFault>
-    ensures { spec.Finds (spec.main_refusal name.now) result }
-{
-    if is_long(&name.name) {
-        Err(EditFault::TooLarge)
     } else {
         Ok(())
     }
@@ -134,60 +104,37 @@ pub(crate) fn refuse_remove_script(scripts: &Scripts, name: &ScriptName) -> Resu
 }
 
 /// Whether one of two addresses is past its limit.
-fn are_long(from: &[u8], to: &[u8]) -> bool
+pub(crate) fn are_long(from: &[u8], to: &[u8]) -> bool
     ensures { result ≡ spec.are_long from.now to.now }
 {
     from.len() > MAX_ADDRESS || to.len() > MAX_ADDRESS
 }
 
-/// Why a message isn't given addresses of its own, apart from memory.
+/// Why a setting isn't taken.
+pub(crate) fn refuse_setting(setting: &Setting) -> Result<(), EditFault>
+    ensures { spec.Finds (spec.setting_refusal setting.now) result }
+{
+    if setting.is_large() {
+        Err(EditFault::TooLarge)
+    } else {
+        Ok(())
+    }
+}
+
+/// Why a setting of a message isn't taken.
 #[tactic(auto, using(crate::proofs::Entries::entries))]
-pub(crate) fn refuse_addresses(
+pub(crate) fn refuse_for_one(
     messages: &NamedList<EntryBox>,
     id: &[u8],
-    from: &[u8],
-    to: &[u8],
+    setting: &MessageSetting,
 ) -> Result<(), EditFault>
     ensures { spec.Finds
-        (spec.addresses_refusal (messages_of messages.now.entries) id.now from.now to.now) result }
+        (spec.one_refusal (messages_of messages.now.entries) id.now setting.now) result }
 {
-    if id.len() > MAX_ID || are_long(from, to) {
+    if id.len() > MAX_ID || setting.is_large() {
         Err(EditFault::TooLarge)
     } else if !messages.contains(id) {
         Err(EditFault::NoSuchMessage)
-    } else {
-        Ok(())
-    }
-}
-
-/// Why an envelope isn't taken, apart from memory.
-pub(crate) fn refuse_envelope(from: &[u8], to: &[u8]) -> Result<(), EditFault>
-    ensures { spec.Finds (spec.envelope_refusal from.now to.now) result }
-{
-    if are_long(from, to) {
-        Err(EditFault::TooLarge)
-    } else {
-        Ok(())
-    }
-}
-
-/// Why a mailbox isn't taken, apart from memory.
-pub(crate) fn refuse_mailbox(mailbox: &[u8]) -> Result<(), EditFault>
-    ensures { spec.Finds (spec.mailbox_refusal mailbox.now) result }
-{
-    if mailbox.len() > MAX_MAILBOX {
-        Err(EditFault::TooLarge)
-    } else {
-        Ok(())
-    }
-}
-
-/// Why a list of mailboxes isn't taken, apart from memory.
-pub(crate) fn refuse_mailboxes(text: &[u8]) -> Result<(), EditFault>
-    ensures { spec.Finds (spec.mailboxes_refusal text.now) result }
-{
-    if text.len() > MAX_MAILBOXES {
-        Err(EditFault::TooLarge)
     } else {
         Ok(())
     }

@@ -1,11 +1,11 @@
 //! What a report runs, and what it writes (docs/FORMATS.md).
 ghost use Rattle.std.specs.Prelude.{◌≡◌, [], ◌∷◌, OnOk, OnErr, count_by, is_some, length};
-ghost use Rattle.std.specs.List.{flat_map, list_any, zip};
+ghost use Rattle.std.specs.List.{flat_map, list_any};
 ghost use Rattle.named_list.specs.Named.{IsUnique};
 ghost use Rattle.devices.specs.Writers.{Writes};
 ghost use Rattle.bench.specs.Bench.{RefusedAmong};
 ghost use Rattle.bench.specs.Report.{script_line, verdict_by, message_lines, error_count, profile_lines, unexpected_count, site_lines, total_line, report_with};
-ghost use Rattle.bench.specs.view.Lines.{action_text, action_texts, lookup_text, traced_text, verdict_texts};
+ghost use Rattle.bench.specs.view.Lines.{lookup_text, told_text, verdict_texts};
 ghost use Rattle.bench.specs.view.Site.{site_as};
 ghost use Rattle.sieve_run.specs.Meter.{runs_after};
 ghost use Rattle.bench.specs.Test.{is_clean_with};
@@ -14,9 +14,9 @@ ghost use Rattle.bench.specs.view.Entry.{KeepsDue, disagrees, judged_of, message
 use crate::clock_line::write_clock_line;
 use crate::entry::EntryBox;
 use crate::report_lines::{
-    write_action_line, write_addresses, write_envelope, write_error_line, write_expectation,
-    write_implicit_line, write_mailboxes, write_main, write_message, write_profile,
-    write_read_line, write_script, write_total, write_traced_line,
+    write_addresses, write_envelope, write_error_line, write_expectation, write_implicit_line,
+    write_mailboxes, write_main, write_message, write_profile, write_read_line, write_script,
+    write_told_entry, write_total,
 };
 use crate::scripts::Scripts;
 use crate::site::Site;
@@ -24,7 +24,7 @@ use devices::{Sink, WriteFault};
 use named_list::NamedList;
 use octets::Octets;
 use sieve_profile::Profile;
-use sieve_run::{Action, Envelope, Meter, Origin, Outcome};
+use sieve_run::{Envelope, Meter, Outcome};
 use std::alloc::{AllocError, Global};
 
 /// Runs the main script on the stale messages, in their order.
@@ -53,48 +53,21 @@ pub(crate) fn run_stale(
     Ok(())
 }
 
-/// Writes the lines of the actions.
-#[tactic(auto, using(crate::proofs::Writing::writing))]
-fn write_actions<W: Sink>(outcome: &Outcome, writer: &mut W) -> Result<(), WriteFault>
-    ensures { Writes W.contents W.fault_count result writer.old writer.new
-        (flat_map action_text outcome.now.actions) }
-{
-    let actions = outcome.actions();
-    for action in actions {
-        write_action_line(action, writer)?;
-    }
-    Ok(())
-}
-
-/// Writes the lines of the actions, each with that of where it comes from.
-fn write_traced_actions<W: Sink>(
-    actions: &[Action],
-    origins: &[Origin],
-    writer: &mut W,
-) -> Result<(), WriteFault>
-    ensures { Writes W.contents W.fault_count result writer.old writer.new
-        (flat_map traced_text (zip actions.now origins.now)) }
-{
-    for (action, origin) in actions.iter().zip(origins) {
-        write_traced_line(action, origin, writer)?;
-    }
-    Ok(())
-}
-
 /// Writes the lines of the actions, and of where each comes from if that is printed.
+#[tactic(auto, using(crate::proofs::Writing::writing))]
 fn write_told_actions<W: Sink>(
     traced: bool,
     outcome: &Outcome,
     writer: &mut W,
 ) -> Result<(), WriteFault>
     ensures { Writes W.contents W.fault_count result writer.old writer.new
-        (action_texts traced outcome.now) }
+        (flat_map (told_text traced) outcome.now.entries) }
 {
-    if traced {
-        write_traced_actions(outcome.actions(), outcome.origins(), writer)
-    } else {
-        write_actions(outcome, writer)
+    let entries = outcome.entries();
+    for entry in entries {
+        write_told_entry(traced, entry, writer)?;
     }
+    Ok(())
 }
 
 /// Writes the lines of the looked-up names.

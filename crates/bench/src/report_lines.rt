@@ -4,7 +4,8 @@ ghost use Rattle.std.specs.List.{flat_map, list_any};
 ghost use Rattle.std.specs.Option.{option_copied};
 ghost use Rattle.devices.specs.Writers.{Writes};
 ghost use Rattle.bench.specs.Report.{addresses_line, addresses_text, main_line, envelope_line, extension_text, mailboxes_line, profile_line, script_line, indent, indented, message_line, expectation_line, expectation_text, total_line};
-ghost use Rattle.bench.specs.view.Lines.{action_text, error_text, implicit_text, lookup_text, traced_text};
+ghost use Rattle.bench.specs.view.Lines.{action_text, error_text, implicit_text, lookup_text, told_text};
+ghost use Rattle.sieve_actions.specs.view.Actions.{entered_of};
 ghost use Rattle.sieve_profile.specs.Extension.{extensions};
 ghost use Rattle.sieve_profile.specs.Profile.{has};
 ghost use Rattle.sieve_run.specs.Lines.{error_line, implicit_line, origin_line};
@@ -14,7 +15,7 @@ use octets::Octets;
 use script_names::ScriptName;
 use sieve_profile::{EXTENSIONS, Extension, Profile};
 use sieve_run::{
-    Action, Addresses, Envelope, FlagList, Origin, Outcome, RunError, Script, mailbox_count,
+    Action, Addresses, Entry, Envelope, FlagList, Origin, Outcome, RunError, Script, mailbox_count,
     write_action, write_error, write_implicit, write_lookup, write_origin,
 };
 
@@ -227,7 +228,7 @@ fn write_indent<W: Sink>(writer: &mut W) -> Result<(), WriteFault>
 
 /// Writes the line of an action.
 #[tactic(auto, using(crate::proofs::Writing::lines))]
-pub(crate) fn write_action_line<W: Sink>(action: &Action, writer: &mut W) -> Result<(), WriteFault>
+fn write_action_line<W: Sink>(action: &Action, writer: &mut W) -> Result<(), WriteFault>
     ensures { Writes W.contents W.fault_count result writer.old writer.new
         (action_text action.now) }
 {
@@ -247,18 +248,21 @@ fn write_origin_line<W: Sink>(origin: &Origin, writer: &mut W) -> Result<(), Wri
     write_out(b"\n", writer)
 }
 
-/// Writes the line of an action, and that of where it comes from.
+/// Writes the line of an action, and that of where it comes from if that is printed.
 #[tactic(auto, using(devices::proofs::Writing::writing))]
-pub(crate) fn write_traced_line<W: Sink>(
-    action: &Action,
-    origin: &Origin,
+pub(crate) fn write_told_entry<W: Sink>(
+    traced: bool,
+    entry: &Entry,
     writer: &mut W,
 ) -> Result<(), WriteFault>
     ensures { Writes W.contents W.fault_count result writer.old writer.new
-        (traced_text (action.now, origin.now)) }
+        (told_text traced (entered_of entry.now)) }
 {
-    write_action_line(action, writer)?;
-    write_origin_line(origin, writer)
+    if !traced {
+        return write_action_line(&entry.action, writer);
+    }
+    write_action_line(&entry.action, writer)?;
+    write_origin_line(&entry.origin, writer)
 }
 
 /// Writes the line of the implicit keep with its flags.

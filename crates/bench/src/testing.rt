@@ -1,47 +1,50 @@
 //! Tests a message by a bench that is made for it.
-ghost use Rattle.std.specs.Prelude.{◌≡◌, [], ◌∷◌, ◌++◌, IfErr, IfOk, Ok, OnOk, length, map};
+ghost use Rattle.std.specs.Prelude.{◌≡◌, [], ◌∷◌, ◌++◌, IfErr, IfOk, Ok, OnOk, Some, length, map};
 ghost use Rattle.devices.specs.Writers.{Wrote, WroteFront};
 ghost use Rattle.sieve_run.specs.Meter.{next_run};
-ghost use Rattle.bench.specs.Content.{after, put_message, set_envelope, set_mailbox, set_mailboxes, set_main};
-ghost use Rattle.bench.specs.Edits.{clock_edits};
-ghost use Rattle.bench.specs.Test.{TestEnds, TestRuns, after_all, edits_of, made_by, put_of};
+ghost use Rattle.bench.specs.Content.{after, put_message, set_for_all};
+ghost use Rattle.bench.specs.Edits.{envelope_edits};
+ghost use Rattle.bench.specs.Test.{TestEnds, TestRuns, after_all, edits_of, envelope_of, made_by, put_of};
+ghost use Rattle.bench.specs.declared.setting.Setting.TheVariants as common;
 ghost use Rattle.bench.specs.view.Refused.{Refused};
 ghost use Rattle.bench.specs.view.Tested.{ReportEnds};
 
 use crate::bench::Bench;
 use crate::fault::{EditFault, ReportFault};
+use crate::setting::Setting;
 use crate::test_end::TestEnd;
 use crate::test_job::{TestJob, TestScript};
+use date_text::Clock;
 use devices::Sink;
 use octets::Octets;
-use sieve_run::Meter;
+use sieve_run::{Addresses, Meter};
 use std::alloc::Global;
 
-/// Makes the settings of a job: the addresses, then the mailbox, then the list of mailboxes.
+/// Makes the settings of a job: the addresses, then the mailbox, then the list of mailboxes, then the clock.
 fn set_delivery(bench: &mut Bench, job: &TestJob) -> Result<(), EditFault>
-    ensures ok { OnOk result (after_all bench.old.content (set_envelope job.now.from job.now.to
-        ∷ set_mailbox job.now.mailbox ∷ set_mailboxes job.now.mailboxes ∷ [])
+    ensures ok { OnOk result (after_all bench.old.content (envelope_edits (envelope_of job.now))
         ≡ Ok bench.new.content) }
-    ensures err { IfErr result
-        (λ fault. Refused fault (after_all bench.old.content (set_envelope job.now.from job.now.to
-        ∷ set_mailbox job.now.mailbox ∷ set_mailboxes job.now.mailboxes ∷ []))) }
+    ensures err { IfErr result (λ fault. Refused fault
+        (after_all bench.old.content (envelope_edits (envelope_of job.now)))) }
 {
     let alloc = bench.allocator();
     let from = Octets::copied(alloc, job.from.as_slice())?;
     let to = Octets::copied(alloc, job.to.as_slice())?;
-    bench.set_envelope(from, to)?;
+    bench.set(Setting::Addresses(Addresses { from, to }))?;
     let mailbox = Octets::copied(alloc, job.mailbox.as_slice())?;
-    bench.set_mailbox(mailbox)?;
+    bench.set(Setting::Mailbox(mailbox))?;
     let mailboxes = Octets::copied(alloc, job.mailboxes.as_slice())?;
-    bench.set_mailboxes(mailboxes)
+    bench.set(Setting::Mailboxes(mailboxes))?;
+    bench.set(Setting::Clock(copied_clock(&job.clock)))
 }
 
-/// Sets the clock of a job, where it has one.
-fn set_time(bench: &mut Bench, job: &TestJob)
-    ensures { after_all bench.old.content (clock_edits job.now.clock) ≡ Ok bench.new.content }
+/// A copy of the clock, where there is one.
+fn copied_clock(clock: &Option<Clock>) -> Option<Clock>
+    ensures { result ≡ clock.now }
 {
-    if let Some(clock) = &job.clock {
-        bench.set_clock(clock.copied());
+    match clock {
+        Some(clock) => Some(clock.copied()),
+        None => None,
     }
 }
 
@@ -72,16 +75,18 @@ fn put_scripts(bench: &mut Bench, scripts: &[TestScript]) -> Result<(), EditFaul
 
 /// Names the script of a job that is run, then puts its message.
 fn put_sample(bench: &mut Bench, job: &TestJob) -> Result<(), EditFault>
-    ensures ok { OnOk result (after_all bench.old.content (set_main job.now.main
+    ensures ok { OnOk result (after_all bench.old.content
+        (set_for_all (common.Main (Some job.now.main))
         ∷ put_message job.now.id job.now.message ∷ []) ≡ Ok bench.new.content) }
     ensures err { IfErr result (λ fault. Refused fault (after_all bench.old.content
-        (set_main job.now.main ∷ put_message job.now.id job.now.message ∷ []))) }
+        (set_for_all (common.Main (Some job.now.main))
+        ∷ put_message job.now.id job.now.message ∷ []))) }
     ensures stale { bench.old.content.messages ≡ []
         → OnOk result (bench.new.stale ≡ job.now.id ∷ []) }
 {
     let alloc = bench.allocator();
     let main = job.main.copy(alloc)?;
-    bench.set_main(main)?;
+    bench.set(Setting::Main(Some(main)))?;
     let id = Octets::copied(alloc, job.id.as_slice())?;
     let message = Octets::copied(alloc, job.message.as_slice())?;
     bench.put_message(id, message)
@@ -97,7 +102,6 @@ fn make_edits(bench: &mut Bench, job: &TestJob) -> Result<(), EditFault>
         → OnOk result (bench.new.stale ≡ job.now.id ∷ []) }
 {
     set_delivery(bench, job)?;
-    set_time(bench, job);
     put_scripts(bench, &job.scripts)?;
     put_sample(bench, job)
 }

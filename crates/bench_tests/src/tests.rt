@@ -8,7 +8,6 @@ mod failing_writes;
 mod faults;
 mod kept;
 mod limits;
-mod memory;
 mod meters;
 mod readers;
 mod test_jobs;
@@ -62,11 +61,6 @@ fn check_report(
 /// A personal script's name.
 fn personal(alloc: Global, name: &[u8]) -> Result<ScriptName, AllocError> {
     Ok(ScriptName::new(Location::Personal, Vec::from_slice(alloc, name)?))
-}
-
-/// Puts a personal script.
-fn put_script(alloc: Global, bench: &mut Bench, name: &[u8], text: &[u8]) -> Result<(), Fail> {
-    Ok(bench.put_script(personal(alloc, name)?, Octets::copied(alloc, text)?)?)
 }
 
 /// Puts a message of no octets.

@@ -146,11 +146,9 @@ said_profile words = profile_met (subcommand_of the_app words)
 
 -- whether a job needs a name: a test with a list of mailboxes needs `mailbox`, and one with a clock `date`
 abbrev pub name_needed : Job → Extension → Bool
-name_needed job.Session name = false
-name_needed (job.Dump script) name = false
 name_needed (job.Test words) extension.Mailbox = is_some words.mailboxes
 name_needed (job.Test words) extension.Date = is_some words.clock
-name_needed (job.Test words) name = false
+name_needed other name = false
 
 -- whether a profile lacks a name that a job needs
 abbrev pub is_lacking : Profile → Job → Extension → Bool
@@ -212,11 +210,8 @@ is_help _ = false
 -- the fault for an answer of this kind
 abbrev pub IsFaultFor : ErrorKind → UsageFault → Type 0
 IsFaultFor kind NoMemory = Unit {0}
-IsFaultFor kind (UnknownName name) = ⊥
-IsFaultFor kind NeedsMailbox = ⊥
-IsFaultFor kind NeedsDate = ⊥
-IsFaultFor kind (BadClock word) = ⊥
 IsFaultFor kind (Usage help text) = (kind ≢ OutOfMemory) × (help ≡ is_help kind)
+IsFaultFor kind other = ⊥
 
 -- The refusal is for one of these mistakes, or is the help that was asked for. Where there is none, it is for the name that is said in place of a
 -- profile; and where one is said, because it lacks a name that the job needs, or for the word that names no clock.
@@ -232,29 +227,20 @@ IsRefusalFor kinds said asked (Usage help text) = (kind : ErrorKind) × IsAmong 
 abbrev pub IsUnknown : Text → UsageFault → Type 0
 IsUnknown unknown NoMemory = Unit {0}
 IsUnknown unknown (UnknownName name) = name ≡ unknown
-IsUnknown unknown NeedsMailbox = ⊥
-IsUnknown unknown NeedsDate = ⊥
-IsUnknown unknown (BadClock word) = ⊥
-IsUnknown unknown (Usage help text) = ⊥
+IsUnknown unknown other = ⊥
 
 -- the fault for a word that names no clock
 abbrev pub IsBadClock : Text → UsageFault → Type 0
 IsBadClock bad NoMemory = Unit {0}
-IsBadClock bad (UnknownName name) = ⊥
-IsBadClock bad NeedsMailbox = ⊥
-IsBadClock bad NeedsDate = ⊥
 IsBadClock bad (BadClock word) = word ≡ bad
-IsBadClock bad (Usage help text) = ⊥
+IsBadClock bad other = ⊥
 
 -- the answer is that clock, or is for the word that names none
 abbrev pub SaysClock : Result (Option Clock) Text → Result (Option Clock) UsageFault → Type 0
 SaysClock said (Ok clock) = said ≡ Ok clock
 SaysClock said (Err NoMemory) = Unit {0}
-SaysClock said (Err (UnknownName name)) = ⊥
-SaysClock said (Err NeedsMailbox) = ⊥
-SaysClock said (Err NeedsDate) = ⊥
 SaysClock said (Err (BadClock word)) = said ≡ Err word
-SaysClock said (Err (Usage help text)) = ⊥
+SaysClock said (Err other) = ⊥
 
 -- the answer has the profile that is said, which has each name that the job needs, and the clock that the job says; or is for the name that is said
 -- in place of a profile, for one that it lacks, or for the word that names no clock

@@ -4,9 +4,7 @@ use Prim.Native.Char.{code}
 use Rattle.std.specs.Borrow.{Bor}
 use Rattle.std.specs.List.{slice_split}
 use Rattle.clap.specs.Walk.{Row, Text, all_of}
-use Rattle.sieve_profile.specs.Extension.{extension_named}
-use Rattle.sieve_profile.specs.Profile.{Profile, empty_profile, with_extension}
-use Rattle.sieve_profile.specs.declared.extension.Extension.{Extension}
+use Rattle.sieve_profile.specs.Profile.{Profile, empty_profile, with_named}
 use Rattle.sieve_profile.specs.declared.profile.Profile as profiles
 use Rattle.sieve_profile.specs.view.Profile.{profile_as}
 
@@ -18,17 +16,17 @@ parts_of word = slice_split (λ c. c == code ",") word
 abbrev pub names_in : List Text → List Text
 names_in words = flat_map parts_of words
 
--- what comes of an extension, or the name where there is none of that name
-abbrev pub where_known : Text → Option Extension → (Extension → Result Profile Text) → Result Profile Text
+-- what comes of a profile, or the name where it asks for nothing
+abbrev pub where_known : Text → Option Profile → (Profile → Result Profile Text) → Result Profile Text
 where_known name None known = Err name
-where_known name (Some extension) known = known extension
+where_known name (Some profile) known = known profile
 
--- a profile with what is known by these names, or the first of them by which nothing is known
+-- a profile with what these names ask for, or the first of them that asks for nothing
 abbrev pub with_names : Profile → List Text → Result Profile Text
 with_names profile [] = Ok profile
-with_names profile (name ∷ names) = where_known name (extension_named name) (λ extension. with_names (with_extension profile extension) names)
+with_names profile (name ∷ names) = where_known name (with_named profile name) (λ more. with_names more names)
 
--- the profile that a subcommand's matches say, or the first name by which nothing is known
+-- the profile that a subcommand's matches say, or the first name that asks for nothing
 abbrev pub profile_in : List Row → Result Profile Text
 profile_in rows = with_names empty_profile (names_in (unwrap_or (all_of (codes "with") rows) []))
 

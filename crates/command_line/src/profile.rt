@@ -7,7 +7,7 @@ ghost use Rattle.sieve_profile.specs.Profile.{empty_profile};
 ghost use Rattle.sieve_profile.specs.view.Profile.{profile_as};
 
 use clap::ArgMatches;
-use sieve_profile::{EXTENSIONS, Extension, Profile};
+use sieve_profile::{ALL, EXTENSIONS, Extension, PIGEONHOLE, Profile};
 use std::alloc::{AllocError, Global};
 use std::fmt;
 
@@ -16,18 +16,19 @@ pub(crate) struct Names;
 
 impl fmt::Display for Names {
     fn fmt<W: fmt::Write>(&self, f: &mut fmt::Formatter<W>) -> fmt::Result {
-        for (place, extension) in EXTENSIONS.iter().copied().enumerate() {
-            let between = if place == 0 { "" } else { ", " };
-            let name = name_text(extension);
-            write!(f, "{between}{name}")?;
+        for extension in EXTENSIONS.iter().copied() {
+            let name = text_of(extension.name());
+            write!(f, "{name}, ")?;
         }
-        Ok(())
+        let all = text_of(ALL);
+        let pigeonhole = text_of(PIGEONHOLE);
+        write!(f, "{all}, {pigeonhole}")
     }
 }
 
-/// An extension's name as text.
-fn name_text(extension: Extension) -> &'static str {
-    std::str::from_utf8(extension.name()).unwrap_or("")
+/// A name as text.
+fn text_of(name: &'static [u8]) -> &'static str {
+    std::str::from_utf8(name).unwrap_or("")
 }
 
 /// What an extension brings, in a few words for help.
@@ -52,6 +53,17 @@ fn brings(extension: Extension) -> &'static str {
     }
 }
 
+/// Adds the line of a name.
+fn push_name(
+    alloc: Global,
+    text: &mut String,
+    name: &'static [u8],
+    few_words: &str,
+) -> Result<(), AllocError> {
+    let name = text_of(name);
+    text.push_str(format!(in alloc; "\n  {name:<26}  {few_words}")?.as_str())
+}
+
 /// What help says of the option: a line for each name.
 pub(crate) fn names_help(alloc: Global) -> Result<String, AllocError> {
     let mut text = String::from_str(
@@ -59,28 +71,33 @@ pub(crate) fn names_help(alloc: Global) -> Result<String, AllocError> {
         "What a bench knows beyond what it always does (commas between several):",
     )?;
     for extension in EXTENSIONS.iter().copied() {
-        let name = name_text(extension);
-        let few_words = brings(extension);
-        text.push_str(format!(in alloc; "\n  {name:<26}  {few_words}")?.as_str())?;
+        push_name(alloc, &mut text, extension.name(), brings(extension))?;
     }
+    push_name(alloc, &mut text, ALL, "all of these")?;
+    push_name(
+        alloc,
+        &mut text,
+        PIGEONHOLE,
+        "those that Pigeonhole 0.5.19 knows by default",
+    )?;
     Ok(text)
 }
 
-/// A profile with what is known by the names in a word, or the first of them by which nothing is known.
+/// A profile with what the names in a word ask for, or the first of them that asks for nothing.
 fn with_word<'a>(before: Profile, word: &'a str) -> Result<Profile, &'a str>
     ensures { Says (with_names (profile_as before) (parts_of word.now)) result }
 {
     let mut profile = before;
     for name in word.split(',') {
-        match Extension::named(name.as_bytes()) {
-            Some(extension) => profile = profile.with(extension),
+        match profile.with_named(name.as_bytes()) {
+            Some(more) => profile = more,
             None => return Err(name),
         }
     }
     Ok(profile)
 }
 
-/// The profile that the words of all `--with` say, or the first name by which nothing is known.
+/// The profile that the words of all `--with` say, or the first name that asks for nothing.
 fn profile_by<'a>(words: &[&'a str]) -> Result<Profile, &'a str>
     ensures { Says (with_names empty_profile (names_in (map (λ word. word.now) words.now))) result }
 {
@@ -94,7 +111,7 @@ fn profile_by<'a>(words: &[&'a str]) -> Result<Profile, &'a str>
     Ok(profile)
 }
 
-/// The profile that a subcommand's matches say, or the first name by which nothing is known.
+/// The profile that a subcommand's matches say, or the first name that asks for nothing.
 pub(crate) fn profile_in<'a>(matches: &ArgMatches<'a>) -> Result<Profile, &'a str>
     ensures { Says (profile_in (rows_of (found_of matches.now))) result }
 {

@@ -2,9 +2,7 @@
 //!
 //! What scripts and mails alone tell stands in `examples/rows` and is made in `tools/checks`.
 
-mod agreement;
 mod caller;
-mod codes;
 mod faults;
 mod judging;
 mod runs;

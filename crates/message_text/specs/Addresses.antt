@@ -97,16 +97,12 @@ inside_after inside.DomainLiteral b = if b == octet_of "]" then inside.Nothing e
 -- whether a backslash protects the next octet there: not outside of quoted strings, comments and literals (RFC 5322, section 3.2.1)
 abbrev pub is_protecting : Inside → Bool
 is_protecting inside.Nothing = false
-is_protecting inside.QuotedString = true
-is_protecting (inside.Comment depth) = true
-is_protecting inside.DomainLiteral = true
+is_protecting other = true
 
 -- whether an angle is open after an octet; one in a quoted string, a comment or a literal opens and closes none
 abbrev pub angle_after : Inside → (in_angle : Bool) → ℕ → Bool
 angle_after inside.Nothing in_angle b = if b == octet_of "<" then true else if b == octet_of ">" then false else in_angle
-angle_after inside.QuotedString in_angle b = in_angle
-angle_after (inside.Comment depth) in_angle b = in_angle
-angle_after inside.DomainLiteral in_angle b = in_angle
+angle_after other in_angle b = in_angle
 
 -- what is open after an octet; one that is protected opens and closes nothing
 abbrev pub surroundings_after : Surroundings → ℕ → Surroundings
@@ -130,12 +126,7 @@ marks_of value = marks_from value_start value
 -- neither in a quoted string, a comment or a literal, nor a sign of one, nor of an angle
 abbrev pub is_mark_plain : Mark → Bool
 is_mark_plain mark.Plain = true
-is_mark_plain mark.AngleOpen = false
-is_mark_plain mark.AngleClose = false
-is_mark_plain mark.QuoteSign = false
-is_mark_plain mark.Quoted = false
-is_mark_plain mark.Comment = false
-is_mark_plain mark.Literal = false
+is_mark_plain other = false
 
 -- whether a marked octet is this one, outside of quoted strings, comments and literals, and no sign of these or of an angle
 abbrev pub is_free : ℕ → Marked → Bool
@@ -155,43 +146,23 @@ without_group piece = after_last (is_bare (octet_of ":")) piece
 
 -- not in a comment, nor one of its signs
 abbrev pub is_uncommented : Mark → Bool
-is_uncommented mark.Plain = true
-is_uncommented mark.AngleOpen = true
-is_uncommented mark.AngleClose = true
-is_uncommented mark.QuoteSign = true
-is_uncommented mark.Quoted = true
 is_uncommented mark.Comment = false
-is_uncommented mark.Literal = true
+is_uncommented other = true
 
 abbrev pub without_comments : List Marked → List Marked
 without_comments piece = filter (λ m. is_uncommented m.mark) piece
 
 abbrev pub opens_angle : Mark → Bool
-opens_angle mark.Plain = false
 opens_angle mark.AngleOpen = true
-opens_angle mark.AngleClose = false
-opens_angle mark.QuoteSign = false
-opens_angle mark.Quoted = false
-opens_angle mark.Comment = false
-opens_angle mark.Literal = false
+opens_angle other = false
 
 abbrev pub closes_angle : Mark → Bool
-closes_angle mark.Plain = false
-closes_angle mark.AngleOpen = false
 closes_angle mark.AngleClose = true
-closes_angle mark.QuoteSign = false
-closes_angle mark.Quoted = false
-closes_angle mark.Comment = false
-closes_angle mark.Literal = false
+closes_angle other = false
 
 abbrev pub is_quoted : Mark → Bool
-is_quoted mark.Plain = false
-is_quoted mark.AngleOpen = false
-is_quoted mark.AngleClose = false
-is_quoted mark.QuoteSign = false
 is_quoted mark.Quoted = true
-is_quoted mark.Comment = false
-is_quoted mark.Literal = false
+is_quoted other = false
 
 -- white space outside of quoted strings (RFC 5322, section 3.2.2)
 abbrev pub is_gap : Marked → Bool
@@ -215,13 +186,8 @@ in_first_angle piece =
     else piece
 
 abbrev pub is_sign : Mark → Bool
-is_sign mark.Plain = false
-is_sign mark.AngleOpen = false
-is_sign mark.AngleClose = false
 is_sign mark.QuoteSign = true
-is_sign mark.Quoted = false
-is_sign mark.Comment = false
-is_sign mark.Literal = false
+is_sign other = false
 
 -- neither white space outside of quoted strings nor a sign of one (RFC 5322, section 3.2.4: these are no part of its content)
 abbrev pub stays : Marked → Bool

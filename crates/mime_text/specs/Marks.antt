@@ -34,10 +34,7 @@ marks_from spot (c ∷ rest) = marks_at spot c ++ marks_from (after_octet spot c
 
 abbrev pub is_outside : Spot → Bool
 is_outside Outside = true
-is_outside InString = false
-is_outside EscapedInString = false
-is_outside (InComment others) = false
-is_outside (EscapedInComment others) = false
+is_outside other = false
 
 -- whether each comment and each quoted string of a text is closed
 unfoldable pub is_closed : Spot → List ℕ → Bool

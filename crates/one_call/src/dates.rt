@@ -1,7 +1,7 @@
 //! Dates and clocks: what a part of one shows in a zone.
 
 use crate::telling::{Host, mark, tell, tell_refused};
-use date_text::{DatePart, Moment, clock_named, date_in, shown, zone_named};
+use date_text::{DatePart, Moment, Zone, clock_named, date_in, shown, zone_named};
 use devices::Piece;
 use std::io;
 use std::io::ErrorKind;
@@ -25,10 +25,11 @@ pub(crate) fn call(rt: &impl Host, word: &str, given: [&[u8]; 3]) -> io::Result<
     }
 }
 
-/// Prints a part of the date of a field's value, as a zone shows it, or `none`.
+/// Prints a part of the date of a field's value, as a zone or its own shows it, or `none`.
 pub(crate) fn show_date(rt: &impl Host, [value, zone, part]: [&[u8]; 3]) -> io::Result<()> {
     match date_in(value) {
-        Some(moment) => show(rt, &moment, zone, part),
+        Some(moment) if zone == b"own".as_slice() => show(rt, &moment, Some(moment.zone), part),
+        Some(moment) => show(rt, &moment, zone_named(zone), part),
         None => println!(rt; "none"),
     }
 }
@@ -36,14 +37,14 @@ pub(crate) fn show_date(rt: &impl Host, [value, zone, part]: [&[u8]; 3]) -> io::
 /// Prints a part of what a clock shows in its zone, or `none`.
 pub(crate) fn show_clock(rt: &impl Host, [digits, zone, part]: [&[u8]; 3]) -> io::Result<()> {
     match clock_named(digits, zone) {
-        Some(clock) => show(rt, &clock.moment(), zone, part),
+        Some(clock) => show(rt, &clock.moment(), zone_named(zone), part),
         None => println!(rt; "none"),
     }
 }
 
-/// Prints a part of a moment, where the words name a zone and a part.
-fn show(rt: &impl Host, moment: &Moment, zone: &[u8], part: &[u8]) -> io::Result<()> {
-    let (Some(zone), Some(part)) = (zone_named(zone), DatePart::named(part)) else {
+/// Prints a part of a moment in a zone, where there is one and the word names a part.
+fn show(rt: &impl Host, moment: &Moment, zone: Option<Zone>, part: &[u8]) -> io::Result<()> {
+    let (Some(zone), Some(part)) = (zone, DatePart::named(part)) else {
         return println!(rt; "none");
     };
     mark(rt);

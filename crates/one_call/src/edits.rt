@@ -54,18 +54,17 @@ fn edit(rt: &impl Host, word: &str, bench: &mut Bench) -> Edited {
         "put_message/new" => put_message(rt, bench, b"new"),
         "rename_script" => rename_script(rt, bench),
         "set_main" => set_main(rt, bench),
-        "set_envelope" => set_envelope(rt, bench),
-        "set_mailbox" => set_mailbox(rt, bench),
-        "set_mailboxes" => set_mailboxes(rt, bench),
-        "set_message_envelope" => set_message_envelope(rt, bench),
-        "set_expected" => set_expected(rt, bench),
+        "set_envelope" | "set_message_envelope" => set_addresses(rt, word, bench),
+        "set_mailbox" => set_text(rt, word, bench, b"Box"),
+        "set_mailboxes" => set_text(rt, word, bench, BOXES),
+        "set_expected" => set_text(rt, word, bench, IMPLICIT),
         "remove_script" => remove_script(rt, bench),
-        "remove_message" => remove_message(rt, bench),
-        "clear_main" => clear_main(rt, bench),
-        "clear_expected" => clear_expected(rt, bench),
-        "clear_message_envelope" => clear_message_envelope(rt, bench),
+        "remove_message"
+        | "clear_main"
+        | "clear_expected"
+        | "clear_message_envelope"
+        | "clear_clock" => Ok(clear(rt, word, bench)),
         "set_clock" => set_clock(rt, bench),
-        "clear_clock" => clear_clock(rt, bench),
         _ => Err(io::Error::from(ErrorKind::InvalidInput)),
     }
 }
@@ -107,44 +106,28 @@ fn set_main(rt: &impl Host, bench: &mut Bench) -> Edited {
     Ok(answer)
 }
 
-fn set_envelope(rt: &impl Host, bench: &mut Bench) -> Edited {
+/// Sets the envelope of the bench or of its message.
+fn set_addresses(rt: &impl Host, word: &str, bench: &mut Bench) -> Edited {
     let from = Octets::copied(rt.alloc(), b"a@b.example")?;
     let to = Octets::copied(rt.alloc(), b"c@d.example")?;
     mark(rt);
-    let answer = bench.set_envelope(from, to);
+    let answer = match word {
+        "set_envelope" => bench.set_envelope(from, to),
+        _ => bench.set_message_envelope(ID, from, to),
+    };
     mark(rt);
     Ok(answer)
 }
 
-fn set_mailbox(rt: &impl Host, bench: &mut Bench) -> Edited {
-    let mailbox = Octets::copied(rt.alloc(), b"Box")?;
+/// Sets the mailbox, the list of mailboxes, or what is expected of the message.
+fn set_text(rt: &impl Host, word: &str, bench: &mut Bench, text: &[u8]) -> Edited {
+    let text = Octets::copied(rt.alloc(), text)?;
     mark(rt);
-    let answer = bench.set_mailbox(mailbox);
-    mark(rt);
-    Ok(answer)
-}
-
-fn set_mailboxes(rt: &impl Host, bench: &mut Bench) -> Edited {
-    let text = Octets::copied(rt.alloc(), BOXES)?;
-    mark(rt);
-    let answer = bench.set_mailboxes(text);
-    mark(rt);
-    Ok(answer)
-}
-
-fn set_message_envelope(rt: &impl Host, bench: &mut Bench) -> Edited {
-    let from = Octets::copied(rt.alloc(), b"a@b.example")?;
-    let to = Octets::copied(rt.alloc(), b"c@d.example")?;
-    mark(rt);
-    let answer = bench.set_message_envelope(ID, from, to);
-    mark(rt);
-    Ok(answer)
-}
-
-fn set_expected(rt: &impl Host, bench: &mut Bench) -> Edited {
-    let text = Octets::copied(rt.alloc(), IMPLICIT)?;
-    mark(rt);
-    let answer = bench.set_expected(ID, text);
+    let answer = match word {
+        "set_mailbox" => bench.set_mailbox(text),
+        "set_mailboxes" => bench.set_mailboxes(text),
+        _ => bench.set_expected(ID, text),
+    };
     mark(rt);
     Ok(answer)
 }
@@ -157,32 +140,24 @@ fn remove_script(rt: &impl Host, bench: &mut Bench) -> Edited {
     Ok(answer)
 }
 
-fn remove_message(rt: &impl Host, bench: &mut Bench) -> Edited {
+/// Takes back what needs no words.
+fn clear(rt: &impl Host, word: &str, bench: &mut Bench) -> Result<(), EditFault> {
     mark(rt);
-    let answer = bench.remove_message(ID);
+    let answer = match word {
+        "remove_message" => bench.remove_message(ID),
+        "clear_main" => {
+            bench.clear_main();
+            Ok(())
+        }
+        "clear_expected" => bench.clear_expected(ID),
+        "clear_message_envelope" => bench.clear_message_envelope(ID),
+        _ => {
+            bench.clear_clock();
+            Ok(())
+        }
+    };
     mark(rt);
-    Ok(answer)
-}
-
-fn clear_main(rt: &impl Host, bench: &mut Bench) -> Edited {
-    mark(rt);
-    bench.clear_main();
-    mark(rt);
-    Ok(Ok(()))
-}
-
-fn clear_expected(rt: &impl Host, bench: &mut Bench) -> Edited {
-    mark(rt);
-    let answer = bench.clear_expected(ID);
-    mark(rt);
-    Ok(answer)
-}
-
-fn clear_message_envelope(rt: &impl Host, bench: &mut Bench) -> Edited {
-    mark(rt);
-    let answer = bench.clear_message_envelope(ID);
-    mark(rt);
-    Ok(answer)
+    answer
 }
 
 fn set_clock(rt: &impl Host, bench: &mut Bench) -> Edited {
@@ -191,13 +166,6 @@ fn set_clock(rt: &impl Host, bench: &mut Bench) -> Edited {
     };
     mark(rt);
     bench.set_clock(clock);
-    mark(rt);
-    Ok(Ok(()))
-}
-
-fn clear_clock(rt: &impl Host, bench: &mut Bench) -> Edited {
-    mark(rt);
-    bench.clear_clock();
     mark(rt);
     Ok(Ok(()))
 }

@@ -36,20 +36,15 @@ fn tell_flags(rt: &impl Print, flags: &FlagList) -> io::Result<()> {
     Ok(())
 }
 
-pub(crate) fn join(rt: &impl Host) -> io::Result<()> {
+/// Joins two lists, or takes those of one from the other.
+pub(crate) fn combine(rt: &impl Host, word: &str) -> io::Result<()> {
     let first = flags_of(rt.alloc(), FIRST)?;
     let second = flags_of(rt.alloc(), SECOND)?;
     mark(rt);
-    let answer = union(rt.alloc(), &first, &second);
-    mark(rt);
-    tell_list(rt, answer)
-}
-
-pub(crate) fn take_away(rt: &impl Host) -> io::Result<()> {
-    let first = flags_of(rt.alloc(), FIRST)?;
-    let second = flags_of(rt.alloc(), SECOND)?;
-    mark(rt);
-    let answer = without(rt.alloc(), &first, &second);
+    let answer = match word {
+        "union" => union(rt.alloc(), &first, &second),
+        _ => without(rt.alloc(), &first, &second),
+    };
     mark(rt);
     tell_list(rt, answer)
 }

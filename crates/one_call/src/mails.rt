@@ -3,7 +3,7 @@
 use crate::telling::{Host, mark, prepared, tell_octets, tell_refused, tell_value};
 use encoded_words::decoded_value;
 use message_text::{Address, AddressPart, FieldName, Message, addresses};
-use sieve_profile::Profile;
+use sieve_profile::{Extension, Profile};
 use std::borrow::CowSlice;
 use std::io;
 
@@ -27,7 +27,7 @@ pub(crate) const TO: usize = 2;
 pub(crate) const PLAIN: usize = 3;
 
 /// A group with an address in angles, an address beside a comment, and one with a source route.
-const ADDRESSES: &[u8] =
+pub(crate) const ADDRESSES: &[u8] =
     b"Team: \"A. B\" <\"a b\"@b.example>, (note) c@d.example; <@r.example:e@f.example>";
 
 /// The names of the fields, or the octets that come back.
@@ -58,7 +58,11 @@ fn mail_of(rt: &impl Host) -> io::Result<Message> {
 }
 
 pub(crate) fn ask_value(rt: &impl Host, place: usize) -> io::Result<()> {
-    let mail = mail_of(rt)?;
+    tell_field(rt, &mail_of(rt)?, place)
+}
+
+/// Prints a field's value.
+fn tell_field(rt: &impl Host, mail: &Message, place: usize) -> io::Result<()> {
     if place < mail.fields() {
         mark(rt);
         let value = mail.value(rt.alloc(), place);
@@ -69,12 +73,29 @@ pub(crate) fn ask_value(rt: &impl Host, place: usize) -> io::Result<()> {
 }
 
 pub(crate) fn ask_decoded(rt: &impl Host, place: usize) -> io::Result<()> {
-    let mail = mail_of(rt)?;
+    tell_decoded(rt, &mail_of(rt)?, Profile::new(), place)
+}
+
+/// Prints a field's value with its encoded words decoded.
+fn tell_decoded(rt: &impl Host, mail: &Message, profile: Profile, place: usize) -> io::Result<()> {
     if place < mail.fields() {
         mark(rt);
-        let value = mail.decoded(rt.alloc(), Profile::new(), place);
+        let value = mail.decoded(rt.alloc(), profile, place);
         mark(rt);
         tell_value(rt, value)?;
+    }
+    Ok(())
+}
+
+/// The name of each field, its value, and that decoded without `charsets` and with it.
+pub(crate) fn read_fields(rt: &impl Host, octets: &[u8]) -> io::Result<()> {
+    let octets = Vec::from_slice(rt.alloc(), octets)?;
+    let mail = prepared(Message::new(rt.alloc(), octets))?;
+    for i in 0..mail.fields() {
+        tell_octets(rt, mail.name(i))?;
+        tell_field(rt, &mail, i)?;
+        tell_decoded(rt, &mail, Profile::new(), i)?;
+        tell_decoded(rt, &mail, Profile::new().with(Extension::Charsets), i)?;
     }
     Ok(())
 }
@@ -98,9 +119,9 @@ pub(crate) fn decode(rt: &impl Host, octets: &[u8]) -> io::Result<()> {
     tell_value(rt, answer)
 }
 
-pub(crate) fn read_addresses(rt: &impl Host) -> io::Result<()> {
+pub(crate) fn read_addresses(rt: &impl Host, value: &[u8]) -> io::Result<()> {
     mark(rt);
-    let answer = addresses(rt.alloc(), ADDRESSES);
+    let answer = addresses(rt.alloc(), value);
     mark(rt);
     match answer {
         Ok(found) => tell_addresses(rt, &found),
@@ -111,6 +132,10 @@ pub(crate) fn read_addresses(rt: &impl Host) -> io::Result<()> {
 fn tell_addresses(rt: &impl Print, found: &[Address]) -> io::Result<()> {
     for address in found {
         tell_part(rt, address.part(AddressPart::All))?;
+        tell_part(rt, address.part(AddressPart::Local))?;
+        tell_part(rt, address.part(AddressPart::Domain))?;
+        tell_part(rt, address.part(AddressPart::User))?;
+        tell_part(rt, address.part(AddressPart::Detail))?;
     }
     Ok(())
 }

@@ -2,8 +2,8 @@
 //!
 //! The first word names the call: a function or a method, with what it is made on after a `/` where several words name it, or a type, for
 //! what is asked of it without taking memory. Without a word all of them are printed. `tools/check` refuses each request for memory in turn. After
-//! `date` a field's value, a zone and a part may stand, after `clock` its seconds, its zone and a part, and after `tokens` a text as
-//! pairs of hexadecimal digits, in place of the fixed input.
+//! `date` a field's value, a zone, which may be its `own`, and a part may stand, after `clock` its seconds, its zone and a part, and after some
+//! words a text as pairs of hexadecimal digits, in place of the fixed input.
 #![tactic(auto)]
 
 mod benches;
@@ -11,6 +11,7 @@ mod dates;
 mod edits;
 mod entities;
 mod flags;
+mod given;
 mod mails;
 mod reports;
 mod runs;
@@ -49,7 +50,7 @@ fn call_named(rt: &(impl Env + Host)) -> io::Result<()> {
             let given = [first.as_bytes(), second.as_bytes(), third.as_bytes()];
             dates::call(rt, word.as_str(), given)
         }
-        [_, word, text] => scripts::call(rt, word.as_str(), text.as_bytes()),
+        [_, word, text] => given::call(rt, word.as_str(), text.as_bytes()),
         [_, word] => words::call(rt, word.as_str()),
         _ => words::tell(rt),
     }

@@ -155,7 +155,7 @@ fn outcome_of(rt: &impl Host) -> io::Result<Outcome> {
 pub(crate) fn ask_outcome(rt: &impl Host) -> io::Result<()> {
     let outcome = outcome_of(rt)?;
     mark(rt);
-    let (actions, names) = (outcome.actions().len(), outcome.lookups().len());
+    let (actions, names) = (outcome.entries().len(), outcome.lookups().len());
     let (keeps, fails) = (outcome.implicit().is_some(), outcome.error().is_some());
     let agrees = outcome.agrees(b"Box", b"implicit \"Box\"\n");
     mark(rt);

@@ -3,16 +3,17 @@
 use crate::telling::{Host, end_line, mark, personal, prepared, tell, tell_refused, written};
 use bench::{TestEnd, dump_text, write_code};
 use devices::{Counted, Piece, write_quoted};
-use octets::hex_octet;
 use sieve_check::{CheckFault, Checked, JudgeFault, Judged, check, judge};
 use sieve_code::{Code, compile};
 use sieve_profile::Profile;
 use sieve_syntax::{Command, ParsedScript, SyntaxFault, Tests, Token, parse, tokens};
 use std::io;
-use std::io::ErrorKind;
+
+/// Octets that stand for themselves between quotes, and others.
+pub(crate) const QUOTED: &[u8] = b"a \"\\\x00\xff";
 
 /// A token of each kind, the last of which is no token of Sieve.
-const TOKENS: &[u8] = b"if x(\n[\"a\", text:\n.\n]) { keep :t 2K; } #\n'";
+pub(crate) const TOKENS: &[u8] = b"if x(\n[\"a\", text:\n.\n]) { keep :t 2K; } #\n'";
 
 /// Names, strings and lists that are short and long, tests in tests, and blocks in blocks.
 pub(crate) const TEXT: &[u8] =
@@ -36,37 +37,11 @@ pub(crate) const BREACH: &[u8] = b"require \"variables\";\nset \"a\" \"${b}\";\n
 
 pub(crate) const NO_SCRIPT: &[u8] = b"if true {\n keep }";
 
-pub(crate) fn cut(rt: &impl Host) -> io::Result<()> {
+pub(crate) fn cut(rt: &impl Host, text: &[u8]) -> io::Result<()> {
     mark(rt);
-    let answer = tokens(rt.alloc(), TOKENS);
+    let answer = tokens(rt.alloc(), text);
     mark(rt);
     match answer {
-        Ok(found) => tell_tokens(rt, &found),
-        Err(_) => tell_refused(rt),
-    }
-}
-
-/// Makes the call that a word names, on a text that is given as pairs of hexadecimal digits.
-pub(crate) fn call(rt: &impl Host, word: &str, digits: &[u8]) -> io::Result<()> {
-    match word {
-        "tokens" => cut_text(rt, digits),
-        _ => Err(io::Error::from(ErrorKind::InvalidInput)),
-    }
-}
-
-fn cut_text(rt: &impl Host, digits: &[u8]) -> io::Result<()> {
-    let mut text = Vec::new(rt.alloc());
-    let mut high = None;
-    for digit in digits {
-        match high {
-            None => high = Some(*digit),
-            Some(first) => {
-                text.push(hex_octet(first, *digit).unwrap_or(0))?;
-                high = None;
-            }
-        }
-    }
-    match tokens(rt.alloc(), &text) {
         Ok(found) => tell_tokens(rt, &found),
         Err(_) => tell_refused(rt),
     }
@@ -222,10 +197,10 @@ pub(crate) fn ask_code(rt: &impl Host) -> io::Result<()> {
     println!(rt; "{count}")
 }
 
-pub(crate) fn quote(rt: &impl Host) -> io::Result<()> {
+pub(crate) fn quote(rt: &impl Host, octets: &[u8]) -> io::Result<()> {
     let mut writer = Counted::new(io::writer(rt));
     mark(rt);
-    let done = write_quoted(b"a \"\\\x00\xff", &mut writer);
+    let done = write_quoted(octets, &mut writer);
     mark(rt);
     end_line(rt, done)
 }

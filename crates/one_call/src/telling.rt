@@ -85,8 +85,8 @@ pub(crate) fn tell_value(
 /// Prints a verdict as a report does, but for the spaces before its lines.
 pub(crate) fn tell_outcome(rt: &impl Print, outcome: &Outcome) -> io::Result<()> {
     let mut writer = Counted::new(io::writer(rt));
-    for action in outcome.actions() {
-        end_line(rt, write_action(action, &mut writer))?;
+    for entry in outcome.entries() {
+        end_line(rt, write_action(&entry.action, &mut writer))?;
     }
     if let Some(flags) = outcome.implicit() {
         end_line(rt, write_implicit(b"INBOX", flags, &mut writer))?;

@@ -31,9 +31,13 @@ pub(crate) const SEQUENCES: &[u8] = b"${hex:c3 a9}, ${unicode:20ac} and ${hex:4"
 
 pub(crate) const NO_SEQUENCE: &[u8] = b"${hex:400}";
 
-pub(crate) fn compare(rt: &impl Host) -> io::Result<()> {
+/// Whether the value is the key, or contains it.
+pub(crate) fn compare(rt: &impl Host, word: &str) -> io::Result<()> {
     mark(rt);
-    let answer = is::<AsciiCasemap>(KEY, VALUE);
+    let answer = match word {
+        "is" => is::<AsciiCasemap>(VALUE, KEY),
+        _ => contains::<AsciiCasemap>(VALUE, KEY),
+    };
     mark(rt);
     println!(rt; "{answer}")
 }
@@ -58,13 +62,6 @@ pub(crate) fn replace(rt: &impl Host, text: &[u8]) -> io::Result<()> {
         Ok(None) => println!(rt; "no character"),
         Err(_) => tell_refused(rt),
     }
-}
-
-pub(crate) fn search(rt: &impl Host) -> io::Result<()> {
-    mark(rt);
-    let answer = contains::<AsciiCasemap>(VALUE, KEY);
-    mark(rt);
-    println!(rt; "{answer}")
 }
 
 pub(crate) fn search_in(rt: &impl Host, key: &[u8]) -> io::Result<()> {

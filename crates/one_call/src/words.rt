@@ -39,9 +39,8 @@ pub(crate) fn call(rt: &impl Host, word: &str) -> io::Result<()> {
 /// Texts, flags and mails.
 fn call_texts(rt: &impl Host, word: &str) -> Option<io::Result<()>> {
     Some(match word {
-        "is" => texts::compare(rt),
+        "is" | "contains" => texts::compare(rt, word),
         "stands" => texts::compare_numbers(rt),
-        "contains" => texts::search(rt),
         "contains_in" => texts::search_in(rt, texts::KEY),
         "contains_in/short" => texts::search_in(rt, texts::SHORT_KEY),
         "SearchedValue::contains" => texts::search_twice(rt, texts::KEY),
@@ -51,8 +50,7 @@ fn call_texts(rt: &impl Host, word: &str) -> Option<io::Result<()>> {
         "replaced" => texts::replace(rt, texts::SEQUENCES),
         "replaced/plain" => texts::replace(rt, texts::NO_SEQUENCE),
         "flags_of" => flags::read(rt),
-        "union" => flags::join(rt),
-        "without" => flags::take_away(rt),
+        "union" | "without" => flags::combine(rt, word),
         "FlagList::add" => flags::add(rt, flags::SECOND),
         "FlagList::add/held" => flags::add(rt, flags::HELD),
         "FlagList::add_text" => flags::add_text(rt, flags::SECOND),
@@ -64,7 +62,7 @@ fn call_texts(rt: &impl Host, word: &str) -> Option<io::Result<()>> {
         "Message::decoded" => mails::ask_decoded(rt, mails::SUBJECT),
         "decoded_value" => mails::decode(rt, mails::WORD),
         "decoded_value/unknown" => mails::decode(rt, mails::UNKNOWN),
-        "addresses" => mails::read_addresses(rt),
+        "addresses" => mails::read_addresses(rt, mails::ADDRESSES),
         "Message" => mails::ask(rt),
         "Message::value/unfolded" => mails::ask_value(rt, mails::PLAIN),
         "Message::decoded/plain" => mails::ask_decoded(rt, mails::PLAIN),
@@ -82,7 +80,7 @@ fn call_texts(rt: &impl Host, word: &str) -> Option<io::Result<()>> {
 /// Scripts and runs.
 fn call_scripts(rt: &impl Host, word: &str) -> Option<io::Result<()>> {
     Some(match word {
-        "tokens" => scripts::cut(rt),
+        "tokens" => scripts::cut(rt, scripts::TOKENS),
         "parse" => scripts::read(rt, scripts::TEXT),
         "parse/faulty" => scripts::read(rt, scripts::NO_SCRIPT),
         "check" => scripts::check_script(rt),
@@ -92,7 +90,7 @@ fn call_scripts(rt: &impl Host, word: &str) -> Option<io::Result<()>> {
         "dump_text" => scripts::dump(rt),
         "Checked" => scripts::ask_checked(rt),
         "Code" => scripts::ask_code(rt),
-        "write_quoted" => scripts::quote(rt),
+        "write_quoted" => scripts::quote(rt, scripts::QUOTED),
         "parts_of_text" => values::cut(rt),
         "Values::set" => values::set(rt),
         "Values::expanded_string" => values::expand(rt),

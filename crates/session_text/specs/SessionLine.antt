@@ -176,10 +176,8 @@ named location name = option_and_then (λ p. option_map (λ n. (p, n)) (word_val
 
 -- a location and a name that are the last words
 abbrev pub last_name : List (List ℕ) → Option (Location × List ℕ)
-last_name [] = None
-last_name (location ∷ []) = None
 last_name (location ∷ name ∷ []) = named location name
-last_name (location ∷ name ∷ more ∷ rest) = None
+last_name other = None
 
 -- what the last word stands for
 abbrev pub last_value : List (List ℕ) → Option (List ℕ)
@@ -230,10 +228,8 @@ alone command (more ∷ rest) = None
 
 -- a clock that is the last two words, both bare: its seconds in digits, and its zone
 abbrev pub last_clock : List (List ℕ) → Option Clock
-last_clock [] = None
-last_clock (seconds ∷ []) = None
 last_clock (seconds ∷ zone ∷ []) = clock_named seconds zone
-last_clock (seconds ∷ zone ∷ more ∷ rest) = None
+last_clock other = None
 
 -- the first words of lines
 abbrev pub line_word : LineKind → List ℕ

@@ -23,7 +23,7 @@ use Rattle.sieve_actions.specs.declared.error.RunError.{RunError}
 use Rattle.sieve_actions.specs.declared.error.ErrorKind.{ErrorKind}
 use Rattle.sieve_actions.specs.declared.error.ErrorKind.TheVariants.{BadAddress, TooManyActions, TooManyGlobals, BadMailbox, SecondVacation, ConflictingActions}
 use Rattle.sieve_actions.specs.Delivery.{Delivery}
-use Rattle.sieve_actions.specs.State.{RunState}
+use Rattle.sieve_actions.specs.State.{Entered, RunState, actions_in}
 use Rattle.sieve_variables.specs.Modifier.{modified}
 use Rattle.sieve_variables.specs.declared.modifier.Modifiers.{Modifiers}
 use Rattle.sieve_variables.specs.Part.{Part}
@@ -72,6 +72,10 @@ brought_by action other = other
 abbrev pub joined_with : Action → Action → Action
 joined_with action there = if same_action action there then brought_by action there else there
 
+-- the same with its command, which stays the one that entered it first
+abbrev pub joined_entry : Action → Entered → Entered
+joined_entry action there = record there { action = joined_with action there.action }
+
 -- WHICH ACTIONS STAND IN EACH OTHER'S WAY
 
 abbrev pub is_response : Action → Bool
@@ -101,11 +105,9 @@ abbrev pub conflict_among : Action → List Action → Option ErrorKind
 conflict_among performed [] = None
 conflict_among performed (there ∷ actions) = option_or (conflict_of performed there) (conflict_among performed actions)
 
--- what becomes of the actions of a run where one is performed: they are then these, the last of which is the new one, or they are these,
--- which it joined, or it isn't performed, for this error
+-- what becomes of the actions of a run where one is performed: they are then these, or it isn't performed, for this error
 pub data Performed : Type 0 where
-  entered : (actions : List Action) → Performed
-  joined : (actions : List Action) → Performed
+  accepted : (entries : List Entered) → Performed
   refused : (kind : ErrorKind) → Performed
 
 abbrev pub unless : Option ErrorKind → Performed → Performed
@@ -114,14 +116,14 @@ unless (Some kind) performed = refused kind
 
 -- an action that is there already adds no entry, and none is taken away (RFC 5228, sections 2.10.1 and 2.10.3); past so many there is one
 -- too many (section 2.10.4)
-abbrev pub with_room : Action → List Action → Performed
-with_room action actions =
-    if list_any (same_action action) actions then joined (map (joined_with action) actions) else
-    if nat_lt (length actions) action_limit then entered (actions ++ action ∷ []) else refused TooManyActions
+abbrev pub with_room : Entered → List Entered → Performed
+with_room entry entries =
+    if list_any (same_action entry.action) (actions_in entries) then accepted (map (joined_entry entry.action) entries) else
+    if nat_lt (length entries) action_limit then accepted (entries ++ entry ∷ []) else refused TooManyActions
 
 -- where nothing stands in its way (RFC 5228, sections 2.10.1, 2.10.3 and 2.10.4)
-abbrev pub with_action : Action → List Action → Performed
-with_action action actions = unless (conflict_among action actions) (with_room action actions)
+abbrev pub with_entry : Entered → List Entered → Performed
+with_entry entry entries = unless (conflict_among entry.action (actions_in entries)) (with_room entry entries)
 
 -- WHAT COMMANDS DO
 
@@ -137,21 +139,23 @@ deed_of action copy = record { action = action; leaves_keep = copy }
 abbrev pub origin_at : Delivery → ℕ → Origin
 origin_at delivery line = record { script = delivery.script; line = line }
 
+-- an action as that command enters it
+abbrev pub entry_at : Delivery → ℕ → Action → Entered
+entry_at delivery line action = record { action = action; origin = origin_at delivery line }
+
 -- an action takes the place of the implicit keep (RFC 5228, section 2.10.2), but for a copy (RFC 3894, section 3) and a response (RFC 5230,
 -- section 4.7)
 abbrev pub cancelled_by : Deed → RunState → Bool
 cancelled_by deed state = not deed.leaves_keep || state.cancelled
 
--- a new action is entered by its command; one that joined others leaves them with the commands that entered them
--- (RFC 5228, section 2.10.2; RFC 3894, section 3; RFC 5230, section 4.7)
+-- how a command ends by what became of the actions (RFC 5228, section 2.10.2; RFC 3894, section 3; RFC 5230, section 4.7)
 abbrev pub ends_with : Delivery → ℕ → Deed → Performed → RunState → Ending
-ends_with delivery line deed (entered actions) state = goes_on (record state { actions = actions; origins = state.origins ++ origin_at delivery line ∷ []; cancelled = cancelled_by deed state })
-ends_with delivery line deed (joined actions) state = goes_on (record state { actions = actions; cancelled = cancelled_by deed state })
+ends_with delivery line deed (accepted entries) state = goes_on (record state { entries = entries; cancelled = cancelled_by deed state })
 ends_with delivery line deed (refused kind) state = fails_at delivery line kind state
 
 -- a command performs an action
 abbrev pub performs : Delivery → ℕ → Deed → RunState → Ending
-performs delivery line deed state = ends_with delivery line deed (with_action deed.action state.actions) state
+performs delivery line deed state = ends_with delivery line deed (with_entry (entry_at delivery line deed.action) state.entries) state
 
 -- no control character of ASCII
 abbrev pub is_no_control : ℕ → Bool

@@ -14,7 +14,7 @@ ghost use Rattle.sieve_actions.specs.view.State.{state_of};
 ghost use Rattle.sieve_variables.specs.Modifier.{modified};
 ghost use Rattle.sieve_variables.specs.Value.{text_value};
 
-use crate::action::{Action, Deed, Filing, Origin};
+use crate::action::{Action, Deed, Filing};
 use crate::actions::Added;
 use crate::delivery::Delivery;
 use crate::error::ErrorKind;
@@ -41,11 +41,11 @@ pub(crate) fn perform(
     ensures { IfOk result (λ flow. ending_by flow (state_of state.new)
         ≡ spec.performs (delivery_as delivery.now) line deed (state_of state.old)) }
 {
-    let added = state.actions.add(delivery.alloc, deed.action)?;
+    let added = state.actions.add(delivery, line, deed.action)?;
     end_with(delivery, added, deed.leaves_keep, line, state)
 }
 
-/// Ends a command by what became of the action that it performed. One that is new is entered by the command.
+/// Ends a command by what became of the action that it performed.
 fn end_with(
     delivery: &Delivery<'_>,
     added: Added,
@@ -54,16 +54,12 @@ fn end_with(
     state: &mut State,
 ) -> Result<Flow, AllocError>
     ensures { (performed : spec.Performed) (deed : deeds.Deed)
-        → performed_as added (state_of state.old).actions ≡ performed
+        → performed_as added (state_of state.old).entries ≡ performed
         → deed.leaves_keep ≡ leaves_keep → IfOk result (λ flow. ending_by flow (state_of state.new)
         ≡ spec.ends_with (delivery_as delivery.now) line deed performed (state_of state.old)) }
 {
     match added {
-        Added::Entered => {
-            let script = delivery.script.copy(delivery.alloc)?;
-            state.origins.push(Origin { script, line })?;
-        }
-        Added::Joined => {}
+        Added::Accepted => {}
         Added::Refused(kind) => return fail(delivery, line, kind),
     }
     state.cancelled = !leaves_keep || state.cancelled;
@@ -119,7 +115,7 @@ fn store(
             )
         }
         None => {
-            let added = state.actions.store(delivery.alloc, mailbox, filing)?;
+            let added = state.actions.store(delivery, line, mailbox, filing)?;
             end_with(delivery, added, leaves_keep, line, state)
         }
     }

@@ -52,6 +52,18 @@ pub struct Origin {
     pub line: u64,
 }
 
+/// An action of a run, with what belongs to it.
+#[derive(Drop)]
+pub struct Entry {
+    /// The action.
+    pub action: Action,
+    /// The command that entered it first.
+    pub origin: Origin,
+    /// How many of the internal flags, from the first on, are known to be among the action's own. So a store that is joined again takes only
+    /// those that came since.
+    pub(crate) known: usize,
+}
+
 /// An action that a command performs, and what the command says of it.
 #[derive(Drop)]
 pub struct Deed {

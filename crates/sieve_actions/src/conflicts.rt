@@ -2,8 +2,10 @@
 ghost use Rattle.std.specs.Prelude.{◌≡◌};
 ghost use Rattle.std.specs.List.{list_any};
 ghost use Rattle.sieve_actions.specs.Act as spec;
+ghost use Rattle.sieve_actions.specs.State.{actions_in};
+ghost use Rattle.sieve_actions.specs.view.Actions.{entries_as};
 
-use crate::action::Action;
+use crate::action::{Action, Entry};
 use crate::error::ErrorKind;
 
 /// Whether an action answers the sender.
@@ -43,11 +45,12 @@ fn conflict_of(performed: &Action, there: &Action) -> Option<ErrorKind>
 }
 
 /// The error of an action that is performed where some are there.
-pub(crate) fn conflict_among(performed: &Action, actions: &[Action]) -> Option<ErrorKind>
-    ensures { result ≡ spec.conflict_among performed.now actions.now }
+pub(crate) fn conflict_among(performed: &Action, entries: &[Entry]) -> Option<ErrorKind>
+    ensures { result
+        ≡ spec.conflict_among performed.now (actions_in (entries_as entries.now)) }
 {
-    for there in actions {
-        if let Some(kind) = conflict_of(performed, there) {
+    for there in entries {
+        if let Some(kind) = conflict_of(performed, &there.action) {
             return Some(kind);
         }
     }
@@ -55,8 +58,13 @@ pub(crate) fn conflict_among(performed: &Action, actions: &[Action]) -> Option<E
 }
 
 /// Whether one of some actions rejects the message.
-pub(crate) fn has_rejection(actions: &[Action]) -> bool
-    ensures { result ≡ list_any spec.is_rejection actions.now }
+pub(crate) fn has_rejection(entries: &[Entry]) -> bool
+    ensures { result ≡ list_any spec.is_rejection (actions_in (entries_as entries.now)) }
 {
-    actions.iter().any(is_rejection)
+    for entry in entries {
+        if is_rejection(&entry.action) {
+            return true;
+        }
+    }
+    false
 }

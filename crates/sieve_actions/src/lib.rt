@@ -7,6 +7,7 @@ mod action;
 mod actions;
 mod conflicts;
 mod delivery;
+mod entries;
 mod envelope;
 mod error;
 mod flagging;
@@ -15,7 +16,7 @@ mod response;
 mod state;
 
 pub use acting::{discard, file_into, keep, redirect, set};
-pub use action::{Action, Filing, Origin};
+pub use action::{Action, Entry, Filing, Origin};
 pub use actions::Actions;
 pub use delivery::{Arrival, Delivery};
 pub use envelope::{Addresses, Envelope};

@@ -1,6 +1,5 @@
 //! The state of a run (RFC 5228, section 2.10; RFC 5229; RFC 5232, section 2; RFC 6609).
 
-use crate::action::Origin;
 use crate::actions::Actions;
 use indexmap::IndexMap;
 use script_names::ScriptName;
@@ -9,10 +8,9 @@ use sieve_variables::Values;
 /// The state of a run. Where a call that may change it fails, it is of no further use.
 #[derive(Drop)]
 pub struct State {
-    /// The actions in their order (RFC 5228, section 2.10), and the internal flags (RFC 5232, section 2).
+    /// The actions in their order (RFC 5228, section 2.10), each with the command that entered it first, and the internal flags (RFC 5232,
+    /// section 2).
     pub actions: Actions,
-    /// Of each action the command that entered it first.
-    pub origins: Vec<Origin>,
     /// Whether an action took the place of the implicit keep (RFC 5228, section 2.10.2).
     pub cancelled: bool,
     /// The names looked up so far, and whether each was there.

@@ -1,11 +1,11 @@
 -- A row gives what the reading of its command or test asks for, and the reading goes by nothing else.
-use Rattle.std.proofs.Common.{◌≡◌, true, List, refl, ap, ◌∙◌}
+use Rattle.std.proofs.Common.{◌≡◌, true, List, None, Some, refl, ap, ◌∙◌}
 use Rattle.match_text.specs.Comparator.{collation_named}
 use Rattle.match_text.specs.Relation.{relation_named}
 use Rattle.sieve_check.specs.Asked.{AreAlike, asked_by_command, asked_by_test, changing_flags, comparing, gives_all}
 use Rattle.sieve_reading.specs.CommandReading as commands
 use Rattle.sieve_reading.specs.Given.{address_part_of, collation_or_casemap, given_text, given_texts, has_tag, in_role, match_type_of, relation_or_eq, tags_of}
-use Rattle.sieve_reading.specs.Reading.{ValueSource, address_values, body_values, clock_values, compares, date_values, envelope_values, exists_ask, fileinto_leaf, flag_leaf, flag_values, header_values, include_leaf, keep_leaf, mailboxes_ask, reads_act, reads_ask, redirect_leaf, reject_leaf, set_leaf, string_values, vacation_leaf}
+use Rattle.sieve_reading.specs.Reading.{ValueSource, body_values, clock_values, compares, date_values, envelope_values, exists_ask, field_values, fileinto_leaf, flag_leaf, flag_values, include_leaf, keep_leaf, mailboxes_ask, reads_act, reads_ask, redirect_leaf, reject_leaf, set_leaf, string_values, vacation_leaf}
 use Rattle.sieve_reading.specs.TestReading as tests
 use Rattle.sieve_reading.specs.Tree.{Argument}
 use Rattle.sieve_reading.specs.declared.label.Label.{Label}
@@ -45,8 +45,8 @@ module _ (labels others : List Label) (args arguments : List Argument) (same_tag
   zone_alike named = two (λ zone t. tests.zone_of t zone) named same_tags
 
   pub tests_alike : (kind : TestKind) → AreAlike (asked_by_test kind) labels others args arguments → tests.test_reading_by kind labels args ≡ tests.test_reading_by kind others arguments
-  tests_alike test.Header alike = compare_alike _ _ (ap header_values alike.0) alike.1
-  tests_alike test.Address alike = compare_alike _ _ (two (λ t names. address_values (address_part_of t) names) same_tags alike.0) alike.1
+  tests_alike test.Header alike = compare_alike _ _ (ap (field_values None) alike.0) alike.1
+  tests_alike test.Address alike = compare_alike _ _ (two (λ t names. field_values (Some (address_part_of t)) names) same_tags alike.0) alike.1
   tests_alike test.Envelope alike = compare_alike _ _ (two (λ t names. envelope_values (address_part_of t) names) same_tags alike.0) alike.1
   tests_alike test.Exists alike = ap (λ names. reads_ask (exists_ask names)) alike.0
   tests_alike test.Size alike = two (λ t limit. reads_ask (tests.bound_ask t limit)) same_tags alike.0

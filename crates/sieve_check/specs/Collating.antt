@@ -31,10 +31,8 @@ known_collation profile name = option_and_then (only_if (λ collation. is_known 
 
 -- a comparator without substrings (RFC 4790, section 9.1)
 abbrev pub lacks_substrings : Option Collation → Bool
-lacks_substrings None = false
-lacks_substrings (Some Octet) = false
-lacks_substrings (Some Casemap) = false
 lacks_substrings (Some Numeric) = true
+lacks_substrings other = false
 
 -- A COMPARATOR THAT HAS TO BE REQUIRED, AND ISN'T
 

@@ -11,7 +11,7 @@ use Rattle.sieve_reading.specs.Shape.{known_labels, known_shapes}
 use Rattle.sieve_table.specs.Table.{Row, command_row, same_tag, test_row}
 use Rattle.sieve_check.specs.Use.{is_well_used, has_block}
 use Rattle.sieve_reading.specs.declared.label.Label.{Label}
-use Rattle.sieve_reading.specs.declared.label.Label.TheVariants.{Tagged, OtherTag, Own, InSlot, Unfit}
+use Rattle.sieve_reading.specs.declared.label.Label.TheVariants.{Tagged}
 use Rattle.sieve_table.specs.declared.row.Role.{Role}
 use Rattle.sieve_table.specs.declared.table.CommandKind.{CommandKind}
 use Rattle.sieve_table.specs.declared.table.Tag.TheVariants.{Contains, Matches}
@@ -49,10 +49,7 @@ judged_labels false labels = []
 -- a tag by which parts of values are found (RFC 5228, section 2.7.1)
 abbrev pub finds_parts : Label → Bool
 finds_parts (Tagged taken) = same_tag taken Contains || same_tag taken Matches
-finds_parts OtherTag = false
-finds_parts (Own slot) = false
-finds_parts (InSlot slot) = false
-finds_parts Unfit = false
+finds_parts other = false
 
 -- the context of the strings among arguments of these labels
 abbrev pub among : Context → List Label → Context

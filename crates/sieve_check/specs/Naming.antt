@@ -64,18 +64,14 @@ set_by (declares name ∷ rest) = without_name name (set_by rest)
 -- the names that are written by the commands among elements
 abbrev pub element_mentions : Element → List Mention
 element_mentions (the_command context name line args ts ending) = command_mentions context.profile context.required (known_command context.profile name) args
-element_mentions (the_test context name line args ts) = []
-element_mentions (the_text context role text) = []
-element_mentions (the_number value line) = []
+element_mentions other = []
 
 abbrev pub mentions_in : List Element → List Mention
 mentions_in elements = flat_map element_mentions elements
 
 abbrev pub is_command : Element → Bool
 is_command (the_command context name line args ts ending) = true
-is_command (the_test context name line args ts) = false
-is_command (the_text context role text) = false
-is_command (the_number value line) = false
+is_command other = false
 
 -- BEFORE A PLACE
 

@@ -78,14 +78,9 @@ Stands follows_if (Some r) ts ending = (tests_fit (needs_of r).tests ts ≡ true
 
 -- whether a branch may go on after it
 abbrev pub may_go_on : Option CommandReading → Bool
-may_go_on None = false
 may_go_on (Some reading.reads_if) = true
 may_go_on (Some reading.reads_elsif) = true
-may_go_on (Some reading.reads_else) = false
-may_go_on (Some reading.reads_stop) = false
-may_go_on (Some reading.reads_return) = false
-may_go_on (Some reading.reads_nothing) = false
-may_go_on (Some (reading.reads_act leaf)) = false
+may_go_on other = false
 
 unfoldable mutual
   pub ReadsNode : (follows_if : Bool) → Node → Type 0

@@ -42,18 +42,13 @@ lacks_required required row labels = list_any (is_lacking required) row.needs ||
 
 -- a tag that isn't taken
 abbrev pub is_other_tag : Label → Bool
-is_other_tag (Tagged taken) = false
 is_other_tag OtherTag = true
-is_other_tag (Own slot) = false
-is_other_tag (InSlot slot) = false
-is_other_tag Unfit = false
+is_other_tag other = false
 
 abbrev pub is_tag : Label → Bool
 is_tag (Tagged taken) = true
 is_tag OtherTag = true
-is_tag (Own slot) = false
-is_tag (InSlot slot) = false
-is_tag Unfit = false
+is_tag other = false
 
 -- a tag stands after a positional argument, and so after the first of these
 abbrev pub has_late_tag : List Label → Bool
@@ -63,10 +58,7 @@ has_late_tag (label ∷ labels) = if is_positional_label label then list_any is_
 -- a tag of the kind of the first stands after it
 abbrev pub is_repeated : Label → List Label → Bool
 is_repeated (Tagged taken) labels = list_any (is_of_kind (tag_row taken).kind) labels
-is_repeated OtherTag labels = false
-is_repeated (Own slot) labels = false
-is_repeated (InSlot slot) labels = false
-is_repeated Unfit labels = false
+is_repeated other labels = false
 
 -- two tags of one kind
 abbrev pub has_repeated : List Label → Bool
@@ -82,18 +74,11 @@ has_bad_tag labels = list_any is_other_tag labels || (has_repeated labels || has
 -- a tag that takes an argument itself
 abbrev pub awaits : Label → Bool
 awaits (Tagged taken) = is_some (tag_row taken).takes
-awaits OtherTag = false
-awaits (Own slot) = false
-awaits (InSlot slot) = false
-awaits Unfit = false
+awaits other = false
 
 abbrev pub begins_own : List Label → Bool
-begins_own [] = false
-begins_own (Tagged taken ∷ labels) = false
-begins_own (OtherTag ∷ labels) = false
 begins_own (Own slot ∷ labels) = true
-begins_own (InSlot slot ∷ labels) = false
-begins_own (Unfit ∷ labels) = false
+begins_own other = false
 
 -- a tag lacks the argument that it takes itself
 abbrev pub lacks_own : List Label → Bool

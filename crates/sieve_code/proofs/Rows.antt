@@ -1,14 +1,14 @@
 -- Worked rows of walks, of which the laws speak.
 use Rattle.std.proofs.Common.{◌≡◌, true, false, List, [], ◌∷◌, None, refl, codes}
 use Rattle.match_text.specs.declared.comparators.Collation.TheVariants.{Casemap}
-use Rattle.sieve_reading.specs.Reading.{Ask, header_values, compares, over_ask, keep_leaf, discard_leaf}
+use Rattle.sieve_reading.specs.Reading.{Ask, field_values, compares, over_ask, keep_leaf, discard_leaf}
 use Rattle.sieve_reading.specs.declared.reading.MatchType.TheVariants.{Contains}
 use Rattle.sieve_variables.specs.Part.{literal}
 use Rattle.sieve_code.specs.Operation.{Operation, test_op, jump_op, jump_if_op, act_op, stop_op, return_op}
 use Rattle.sieve_code.specs.Walk.{Walk, at_end, by_stop, by_return, cut_off, asked, acted, code_walk, walk_from, gone, met_ask, met_leaf, ended, unanswered}
 
 abbrev list_ask : Ask
-list_ask = compares (header_values ((literal (codes "Subject") ∷ []) ∷ [])) (record { match_type = Contains; collation = Casemap }) ((literal (codes "[list]") ∷ []) ∷ [])
+list_ask = compares (field_values None ((literal (codes "Subject") ∷ []) ∷ [])) (record { match_type = Contains; collation = Casemap }) ((literal (codes "[list]") ∷ []) ∷ [])
 
 -- if anyof (header :contains "Subject" "[list]", size :over 1M) { keep; } else { discard; }
 abbrev worked_code : List Operation

@@ -9,7 +9,7 @@ use Rattle.devices.specs.Writers.{quoted}
 use Rattle.script_names.specs.declared.location.Location.{Location}
 use Rattle.message_text.specs.declared.addressing.AddressPart.{AddressPart}
 use Rattle.message_text.specs.declared.addressing.AddressPart.TheVariants as address_part
-use Rattle.sieve_reading.specs.Reading.{BodyTransform, raw_transform, content_transform, text_transform, DateZone, local_zone, original_zone, named_zone, header_values, address_values, envelope_values, string_values, flag_values, date_values, clock_values, body_values, ValueSource, Ask, compares, exists_ask, over_ask, under_ask, mailboxes_ask, duplicate_ask, Settings, Vacation, Leaf, keep_leaf, fileinto_leaf, redirect_leaf, discard_leaf, set_leaf, flag_leaf, include_leaf, vacation_leaf, reject_leaf, rejection_word}
+use Rattle.sieve_reading.specs.Reading.{BodyTransform, raw_transform, content_transform, text_transform, DateZone, local_zone, original_zone, named_zone, field_values, envelope_values, string_values, flag_values, date_values, clock_values, body_values, ValueSource, Ask, compares, exists_ask, over_ask, under_ask, mailboxes_ask, duplicate_ask, Settings, Vacation, Leaf, keep_leaf, fileinto_leaf, redirect_leaf, discard_leaf, set_leaf, flag_leaf, include_leaf, vacation_leaf, reject_leaf, rejection_word}
 use Rattle.sieve_reading.specs.declared.reading.Comparison.{Comparison}
 use Rattle.sieve_reading.specs.declared.reading.FlagChange.{FlagChange}
 use Rattle.sieve_reading.specs.declared.reading.FlagChange.TheVariants as change
@@ -110,8 +110,8 @@ transform_words text_transform = codes " text"
 
 -- how a test compares, and its values
 unfoldable pub source_text : ValueSource → Comparison → List ℕ
-source_text (header_values names) comparison = comparing_words (codes "header") comparison ++ further_list names
-source_text (address_values part names) comparison = address_words (codes "address") comparison part ++ further_list names
+source_text (field_values None names) comparison = comparing_words (codes "header") comparison ++ further_list names
+source_text (field_values (Some part) names) comparison = address_words (codes "address") comparison part ++ further_list names
 source_text (envelope_values part names) comparison = address_words (codes "envelope") comparison part ++ further_list names
 source_text (string_values texts) comparison = comparing_words (codes "string") comparison ++ further_list texts
 source_text (flag_values variables) comparison = comparing_words (codes "hasflag") comparison ++ internal_list variables

@@ -27,11 +27,6 @@ targeting f return_op = return_op
 
 -- the target of a jump
 abbrev pub target_of : Operation → Option ℕ
-target_of (set_op truth) = None
-target_of invert_op = None
-target_of (test_op ask) = None
 target_of (jump_op target) = Some target
 target_of (jump_if_op truth target) = Some target
-target_of (act_op leaf line) = None
-target_of stop_op = None
-target_of return_op = None
+target_of other = None

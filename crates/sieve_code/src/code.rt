@@ -176,10 +176,7 @@ impl Code {
         ensures { source_op_as result ≡ source_in (pool_of self.now) source }
     {
         match source {
-            PackedSource::Header { names } => SourceOp::Header {
-                names: self.names(names),
-            },
-            PackedSource::Address { part, names } => SourceOp::Address {
+            PackedSource::Fields { part, names } => SourceOp::Fields {
                 part,
                 names: self.names(names),
             },

@@ -313,12 +313,13 @@ fn write_source<W: Sink>(
         (source_text (source_op_as source.now) comparison) }
 {
     match source {
-        SourceOp::Header { names } => {
+        SourceOp::Fields { part: None, names } => {
             write_values(b"header", comparison, names.strings(), writer)
         }
-        SourceOp::Address { part, names } => {
-            write_address(b"address", comparison, *part, names.strings(), writer)
-        }
+        SourceOp::Fields {
+            part: Some(part),
+            names,
+        } => write_address(b"address", comparison, *part, names.strings(), writer),
         SourceOp::Envelope { part, names } => {
             write_address(b"envelope", comparison, *part, names, writer)
         }

@@ -70,13 +70,9 @@ impl Pools {
             (λ p. source_in p kept) (source_as source)) }
     {
         match source {
-            ValueSource::Header { names } => {
+            ValueSource::Fields { part, names } => {
                 let names = self.add_names(names)?;
-                Ok(ValueSource::Header { names })
-            }
-            ValueSource::Address { part, names } => {
-                let names = self.add_names(names)?;
-                Ok(ValueSource::Address { part, names })
+                Ok(ValueSource::Fields { part, names })
             }
             ValueSource::Envelope { part, names } => {
                 let names = self.add_list(names)?;

@@ -10,7 +10,7 @@ use Rattle.sieve_profile.specs.Profile.{Profile}
 use Rattle.message_text.specs.Addresses.{AddrSpec, addresses_of, part_of_address, part_of_path}
 use Rattle.message_text.specs.Fields.{Field, IsNextNamed, fields_of, is_field_named}
 use Rattle.message_text.specs.declared.addressing.AddressPart.{AddressPart}
-use Rattle.sieve_reading.specs.Reading.{ValueSource, address_values, body_values, clock_values, date_values, envelope_values, flag_values, header_values, string_values}
+use Rattle.sieve_reading.specs.Reading.{ValueSource, body_values, clock_values, date_values, envelope_values, field_values, flag_values, string_values}
 use Rattle.sieve_variables.specs.Part.{Part}
 use Rattle.sieve_variables.specs.Value.{text_value}
 use Rattle.sieve_reading.specs.declared.reading.Comparison.{Comparison}
@@ -19,7 +19,7 @@ use Rattle.sieve_actions.specs.Delivery.{Delivery, envelope_of}
 use Rattle.match_text.specs.Flags.{flag_keys_of_texts, flag_list}
 use Rattle.sieve_actions.specs.State.{RunState}
 use Rattle.sieve_matching.specs.Matching.{compared_of, envelope_named, envelope_text, first_match, first_some, match_found, match_of, pairs_with, address_parts, decoded_named, parts_named, parts_of_envelope, parts_of_value, values_named, values_of, keys_from, keys_of}
-use Rattle.sieve_matching.specs.view.FieldTests.{cut_key, cuts_keys, field_found, field_source, name_found, part_found, path_found, path_name_found, value_found}
+use Rattle.sieve_matching.specs.view.FieldTests.{cut_key, cuts_keys, field_found, name_found, part_found, path_found, path_name_found, value_found}
 
 -- a function of what is made of an element in two steps
 pub get-mapped-twice : {W X Y Z : Type 0} (g : W → X) (h : X → Y) (k : Y → Z) (ws : List W) (i : ℕ) (y : Y) → slice_get (map h (map g ws)) i ≡ Some y → slice_get (map (λ w. k (h (g w))) ws) i ≡ Some (k y)
@@ -201,7 +201,7 @@ module _ (find : List ℕ → Option (List (List ℕ))) where
   first_decoded_named : (profile : Profile) (name : List ℕ) (fields : List Field) → first_some find (decoded_named profile fields name) ≡ name_found find profile None fields name
   first_decoded_named profile name fields = first_map find (decoded_of profile) (values_named fields name) ∙ first_named (value_found find profile None) name fields
 
-  pub first_of_names : (part : Option AddressPart) (delivery : Delivery) (state : RunState) (names : List (List Part)) → first_some find (values_of delivery state (field_source part names)) ≡ first_some (name_found find delivery.arrival.profile part (fields_of delivery.arrival.message)) (map (text_value state.values) names)
+  pub first_of_names : (part : Option AddressPart) (delivery : Delivery) (state : RunState) (names : List (List Part)) → first_some find (values_of delivery state (field_values part names)) ≡ first_some (name_found find delivery.arrival.profile part (fields_of delivery.arrival.message)) (map (text_value state.values) names)
   first_of_names None delivery state names =
       first_flat find (decoded_named delivery.arrival.profile (fields_of delivery.arrival.message)) (map (text_value state.values) names)
       ∙ first_same (λ name. first_some find (decoded_named delivery.arrival.profile (fields_of delivery.arrival.message) name)) (name_found find delivery.arrival.profile None (fields_of delivery.arrival.message)) (λ name. first_decoded_named delivery.arrival.profile name (fields_of delivery.arrival.message)) (map (text_value state.values) names)
@@ -249,8 +249,7 @@ pub cut_as_source : (source : ValueSource) (texts : List (List ℕ)) (cut : Bool
 cut_as_source source texts cut is = ap (λ b. flat_map (cut_key b) texts) is ∙ by source
   where
     by : (s : ValueSource) → flat_map (cut_key (cuts_keys s)) texts ≡ keys_from s texts
-    by (header_values names) = each_alone texts
-    by (address_values part names) = each_alone texts
+    by (field_values part names) = each_alone texts
     by (envelope_values part names) = each_alone texts
     by (string_values strings) = each_alone texts
     by (flag_values variables) = each_cut texts

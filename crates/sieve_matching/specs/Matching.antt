@@ -19,7 +19,7 @@ use Rattle.message_text.specs.Fields.{Field, fields_of, is_field_named}
 use Rattle.message_text.specs.declared.addressing.AddressPart.{AddressPart}
 use Rattle.message_text.specs.declared.addressing.AddressPart.TheVariants.{All}
 use Rattle.octets.specs.Octet.{is_filled}
-use Rattle.sieve_reading.specs.Reading.{ValueSource, header_values, address_values, envelope_values, string_values, flag_values, date_values, clock_values, body_values, Ask, compares, exists_ask, over_ask, under_ask, mailboxes_ask, duplicate_ask}
+use Rattle.sieve_reading.specs.Reading.{ValueSource, field_values, envelope_values, string_values, flag_values, date_values, clock_values, body_values, Ask, compares, exists_ask, over_ask, under_ask, mailboxes_ask, duplicate_ask}
 use Rattle.sieve_reading.specs.declared.reading.Comparison.{Comparison}
 use Rattle.sieve_reading.specs.declared.reading.MatchType.{MatchType}
 use Rattle.sieve_reading.specs.declared.reading.MatchType.TheVariants.{Is, Contains, Matches, Value, Count}
@@ -96,8 +96,8 @@ envelope_named part envelope name = parts_of_envelope part (envelope_text envelo
 -- The values of a test, by names, then by fields, then by addresses, and of a body by its entities, outer before inner ones; an absent
 -- field gives nothing. A test of dates has one value at most. Strings stand for what they do when the test begins.
 abbrev pub values_of : Delivery → RunState → ValueSource → List (List ℕ)
-values_of delivery state (header_values names) = flat_map (decoded_named delivery.arrival.profile (fields_of delivery.arrival.message)) (map (text_value state.values) names)
-values_of delivery state (address_values part names) = flat_map (parts_named part (fields_of delivery.arrival.message)) (map (text_value state.values) names)
+values_of delivery state (field_values None names) = flat_map (decoded_named delivery.arrival.profile (fields_of delivery.arrival.message)) (map (text_value state.values) names)
+values_of delivery state (field_values (Some part) names) = flat_map (parts_named part (fields_of delivery.arrival.message)) (map (text_value state.values) names)
 values_of delivery state (envelope_values part names) = flat_map (envelope_named part (envelope_of delivery.arrival)) (map (text_value state.values) names)
 values_of delivery state (string_values texts) = map (text_value state.values) texts
 values_of delivery state (flag_values None) = state.flags
@@ -112,8 +112,7 @@ values_of delivery state (body_values transform) = body_texts state.values deliv
 -- isn't empty, each string that isn't empty (RFC 5229, section 5), and each flag (RFC 5232, section 4). An address counts whatever part of
 -- it the test names, and whether it has that part or not. A test of dates or of a body counts its values.
 abbrev pub counted_of : Delivery → RunState → ValueSource → List (List ℕ)
-counted_of delivery state (header_values names) = values_of delivery state (header_values names)
-counted_of delivery state (address_values part names) = values_of delivery state (address_values All names)
+counted_of delivery state (field_values part names) = values_of delivery state (field_values (option_map (λ one. All) part) names)
 counted_of delivery state (envelope_values part names) = filter is_filled (values_of delivery state (envelope_values All names))
 counted_of delivery state (string_values texts) = filter is_filled (values_of delivery state (string_values texts))
 counted_of delivery state (flag_values variables) = values_of delivery state (flag_values variables)
@@ -123,22 +122,13 @@ counted_of delivery state (body_values transform) = values_of delivery state (bo
 
 -- what a test compares with its keys by its match type: under `:count` the number of the values alone, in decimal (RFC 5231, section 4.2)
 abbrev pub compared_of : MatchType → Delivery → RunState → ValueSource → List (List ℕ)
-compared_of Is delivery state source = values_of delivery state source
-compared_of Contains delivery state source = values_of delivery state source
-compared_of Matches delivery state source = values_of delivery state source
-compared_of (Value relation) delivery state source = values_of delivery state source
 compared_of (Count relation) delivery state source = decimal (length (counted_of delivery state source)) ∷ []
+compared_of other delivery state source = values_of delivery state source
 
 -- what a test compares values with: its keys; those of flags are cut at spaces (RFC 5232, section 4)
 abbrev pub keys_from : ValueSource → List (List ℕ) → List (List ℕ)
-keys_from (header_values names) texts = texts
-keys_from (address_values part names) texts = texts
-keys_from (envelope_values part names) texts = texts
-keys_from (string_values strings) texts = texts
 keys_from (flag_values variables) texts = flag_keys_of_texts texts
-keys_from (date_values zone field part) texts = texts
-keys_from (clock_values zone part) texts = texts
-keys_from (body_values transform) texts = texts
+keys_from other texts = texts
 
 abbrev pub keys_of : RunState → ValueSource → List (List Part) → List (List ℕ)
 keys_of state source keys = keys_from source (map (text_value state.values) keys)
@@ -188,22 +178,12 @@ truth_of delivery state duplicate_ask = false
 -- types, they stay (RFC 5229, section 3.2).
 abbrev pub with_found : MatchType → Option (List (List ℕ)) → Values → Values
 with_found Matches (Some matched) values = with_matched matched values
-with_found Matches None values = values
-with_found Is found values = values
-with_found Contains found values = values
-with_found (Value relation) found values = values
-with_found (Count relation) found values = values
+with_found other another values = values
 
 -- whether what a test finds sets match variables, which that of a body doesn't (RFC 5173, section 6)
 abbrev pub sets_matched : ValueSource → Bool
-sets_matched (header_values names) = true
-sets_matched (address_values part names) = true
-sets_matched (envelope_values part names) = true
-sets_matched (string_values texts) = true
-sets_matched (flag_values variables) = true
-sets_matched (date_values zone field part) = true
-sets_matched (clock_values zone part) = true
 sets_matched (body_values transform) = false
+sets_matched other = true
 
 -- the variables after what a test finds
 abbrev pub with_found_in : ValueSource → MatchType → Option (List (List ℕ)) → Values → Values
@@ -212,11 +192,7 @@ with_found_in source match_type found values = if sets_matched source then with_
 -- the variables after what a test asks (RFC 5229, section 3.2)
 unfoldable pub values_after : Delivery → RunState → Ask → Values
 values_after delivery state (compares source comparison keys) = with_found_in source comparison.match_type (match_found delivery state source comparison keys) state.values
-values_after delivery state (exists_ask names) = state.values
-values_after delivery state (over_ask limit) = state.values
-values_after delivery state (under_ask limit) = state.values
-values_after delivery state (mailboxes_ask names) = state.values
-values_after delivery state duplicate_ask = state.values
+values_after delivery state other = state.values
 
 -- the state after what a test asks: match variables are set at most
 abbrev pub after_test : Delivery → Ask → RunState → RunState

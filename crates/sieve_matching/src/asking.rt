@@ -36,11 +36,8 @@ fn find_in_source(
         (values_of (delivery_as delivery.now) (state_of state.now) (source_op_as source.now))) }
 {
     match source {
-        SourceOp::Header { names } => {
-            find_in_named(delivery, fields, state, None, names, matcher)
-        }
-        SourceOp::Address { part, names } => {
-            find_in_named(delivery, fields, state, Some(*part), names, matcher)
+        SourceOp::Fields { part, names } => {
+            find_in_named(delivery, fields, state, *part, names, matcher)
         }
         SourceOp::Envelope { part, names } => {
             find_in_paths(delivery, state, *part, names, matcher)
@@ -106,13 +103,7 @@ fn cuts_keys(source: &SourceOp<'_>) -> bool
 {
     match source {
         SourceOp::Flags { .. } => true,
-        SourceOp::Header { .. }
-        | SourceOp::Address { .. }
-        | SourceOp::Envelope { .. }
-        | SourceOp::String { .. }
-        | SourceOp::Date { .. }
-        | SourceOp::CurrentDate { .. }
-        | SourceOp::Body { .. } => false,
+        _ => false,
     }
 }
 
@@ -145,13 +136,7 @@ fn sets_matched(source: &SourceOp<'_>) -> bool
 {
     match source {
         SourceOp::Body { .. } => false,
-        SourceOp::Header { .. }
-        | SourceOp::Address { .. }
-        | SourceOp::Envelope { .. }
-        | SourceOp::String { .. }
-        | SourceOp::Flags { .. }
-        | SourceOp::Date { .. }
-        | SourceOp::CurrentDate { .. } => true,
+        _ => true,
     }
 }
 

@@ -5,7 +5,7 @@ ghost use Rattle.match_text.specs.Flags.{flag_list};
 ghost use Rattle.message_text.specs.Fields.{fields_of};
 ghost use Rattle.message_text.specs.declared.addressing.AddressPart.TheVariants.{All};
 ghost use Rattle.octets.specs.Octet.{is_filled};
-ghost use Rattle.sieve_reading.specs.Reading.{address_values, envelope_values, flag_values, header_values};
+ghost use Rattle.sieve_reading.specs.Reading.{envelope_values, field_values, flag_values};
 ghost use Rattle.sieve_actions.specs.Delivery.{envelope_of};
 ghost use Rattle.sieve_matching.specs.Matching.{counted_of, envelope_named, parts_named, parts_of_envelope, parts_of_value, values_named, values_of};
 ghost use Rattle.sieve_actions.specs.view.Delivery.{arrival_as, delivery_as};
@@ -19,7 +19,7 @@ use crate::date_values::{count_clock, count_date};
 use crate::field_cache::FieldCache;
 use crate::path_values::{envelope_text, is_null_path};
 use match_text::flags_of;
-use message_text::{FieldName, Message};
+use message_text::{AddressPart, FieldName, Message};
 use sieve_actions::{Arrival, Delivery, State};
 use sieve_operations::{FieldNames, SourceOp, Strings};
 use sieve_table::is_address_field;
@@ -79,7 +79,7 @@ fn count_fields(
     names: &FieldNames<'_>,
 ) -> Result<usize, AllocError>
     ensures { IfOk result (λ count. count ≡ length
-        (values_of (delivery_as delivery.now) (state_of state.now) (header_values names.now))) }
+        (values_of (delivery_as delivery.now) (state_of state.now) (field_values None names.now))) }
 {
     let message = delivery.arrival.message;
     fields_by_names(delivery.alloc, message, &state.values, names)
@@ -168,9 +168,28 @@ fn count_addresses(
     requires { fields.old ≡ (delivery_as delivery.now).arrival }
     ensures arrival { fields.new ≡ fields.old }
     ensures count { IfOk result (λ count. count ≡ length (values_of (delivery_as delivery.now)
-        (state_of state.now) (address_values All names.now))) }
+        (state_of state.now) (field_values (Some All) names.now))) }
 {
     addresses_by_names(delivery.alloc, fields, &state.values, names)
+}
+
+/// How many values there are for a test of some fields, or how many addresses in them, whatever part of them it names.
+fn count_in_named(
+    delivery: &Delivery<'_>,
+    fields: &mut FieldCache<'_>,
+    state: &State,
+    part: Option<AddressPart>,
+    names: &FieldNames<'_>,
+) -> Result<usize, AllocError>
+    requires { fields.old ≡ (delivery_as delivery.now).arrival }
+    ensures arrival { fields.new ≡ fields.old }
+    ensures count { IfOk result (λ count. count ≡ length (counted_of (delivery_as delivery.now)
+        (state_of state.now) (field_values part names.now))) }
+{
+    match part {
+        None => count_fields(delivery, state, names),
+        Some(_) => count_addresses(delivery, fields, state, names),
+    }
 }
 
 /// How many addresses there are in the envelope's part of this text: none in a null path, and one in each other text.
@@ -292,8 +311,7 @@ pub(crate) fn count_in_source(
         (counted_of (delivery_as delivery.now) (state_of state.now) (source_op_as source.now))) }
 {
     match source {
-        SourceOp::Header { names } => count_fields(delivery, state, names),
-        SourceOp::Address { names, .. } => count_addresses(delivery, fields, state, names),
+        SourceOp::Fields { part, names } => count_in_named(delivery, fields, state, *part, names),
         SourceOp::Envelope { names, .. } => count_paths(delivery, state, names),
         SourceOp::String { texts } => { filled_strings(delivery.alloc, &state.values, texts) }
         SourceOp::Flags { variables } => count_flags(delivery, state, variables),

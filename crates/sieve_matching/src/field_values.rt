@@ -5,7 +5,8 @@ ghost use Rattle.std.specs.Option.{option_and_then, option_map};
 ghost use Rattle.message_text.specs.Fields.{fields_of};
 ghost use Rattle.sieve_matching.specs.Matching.{first_some, has_field, match_of, values_of};
 ghost use Rattle.sieve_actions.specs.view.Delivery.{delivery_as};
-ghost use Rattle.sieve_matching.specs.view.FieldTests.{field_found, field_source, found_with, is_looked_at, name_found, part_found, value_found};
+ghost use Rattle.sieve_matching.specs.view.FieldTests.{field_found, found_with, is_looked_at, name_found, part_found, value_found};
+ghost use Rattle.sieve_reading.specs.Reading.{field_values};
 ghost use Rattle.sieve_actions.specs.view.State.{state_of};
 ghost use Rattle.sieve_variables.specs.Value.{text_value};
 
@@ -287,7 +288,7 @@ pub(crate) fn find_in_named(
     requires { fields.old ≡ (delivery_as delivery.now).arrival }
     ensures arrival { fields.new ≡ fields.old }
     ensures found { IfOk result (λ found. found ≡ first_some (found_with matcher.now)
-        (values_of (delivery_as delivery.now) (state_of state.now) (field_source part names.now))) }
+        (values_of (delivery_as delivery.now) (state_of state.now) (field_values part names.now))) }
 {
     find_by_names(delivery.alloc, fields, part, &state.values, names, matcher)
 }

@@ -1,3 +1,5 @@
+mod Asked
 pub mod Each
+pub mod Flags
 mod Names
 pub mod Sets

@@ -1,33 +1,18 @@
 -- Profiles as sets.
-use Rattle.std.proofs.Common.{◌≡◌, Bool, true, false, ◌||◌, not, refl, sym}
-use Rattle.sieve_profile.specs.Extension.{same_extension}
-use Rattle.sieve_profile.specs.Profile.{Profile, empty_profile, has, with_extension}
-use Rattle.sieve_profile.specs.contracts.extension.Extension.{enum}
+use Rattle.std.proofs.Common.{◌≡◌, Bool, false, ◌||◌}
+use denote.Enum.Declared.{tag_of}
+use Rattle.sieve_profile.specs.Extension.{extensions, same_extension}
+use Rattle.sieve_profile.specs.Profile.{Profile, empty_profile, has, profile_of, with_extension}
+use Rattle.sieve_profile.specs.contracts.extension.Extension.{enum, the_type}
 use Rattle.sieve_profile.specs.declared.extension.Extension.{Extension}
-use Rattle.sieve_profile.specs.declared.extension.Extension.TheVariants.{AsciiNumeric, Body, Charsets, Date, Duplicate, EncodedCharacter, Envelopes, Ereject, Lines, Mailbox, Reject, Relational, SpecialUse, Subaddress, Unused, Vacation}
-use Rattle.sieve_profile.proofs.Each.{of_each}
+use Rattle.sieve_profile.proofs.Each.{value_at}
+use Rattle.sieve_profile.proofs.Flags.{flag_at}
 
-not_false : (b : Bool) → not b ≡ true → b ≡ false
-not_false true e = sym e
-not_false false e = refl
+has_those : (is_in : Extension → Bool) (extension : Extension) → has (profile_of is_in) extension ≡ is_in extension
+has_those is_in extension = flag_at is_in extensions (tag_of the_type extension) extension (value_at enum tt extension)
 
 pub empty_has_none : (extension : Extension) → has empty_profile extension ≡ false
-empty_has_none extension = not_false (has empty_profile extension) (of_each enum tt (λ e. not (has empty_profile e)) refl extension)
+empty_has_none extension = has_those (λ other. false) extension
 
 pub with_has_more : (profile : Profile) (extension other : Extension) → has (with_extension profile extension) other ≡ (has profile other || same_extension extension other)
-with_has_more profile extension Body = refl
-with_has_more profile extension Charsets = refl
-with_has_more profile extension AsciiNumeric = refl
-with_has_more profile extension Date = refl
-with_has_more profile extension Duplicate = refl
-with_has_more profile extension EncodedCharacter = refl
-with_has_more profile extension Envelopes = refl
-with_has_more profile extension Ereject = refl
-with_has_more profile extension Lines = refl
-with_has_more profile extension Mailbox = refl
-with_has_more profile extension Reject = refl
-with_has_more profile extension Relational = refl
-with_has_more profile extension SpecialUse = refl
-with_has_more profile extension Subaddress = refl
-with_has_more profile extension Unused = refl
-with_has_more profile extension Vacation = refl
+with_has_more profile extension other = has_those (λ one. has profile one || same_extension extension one) other

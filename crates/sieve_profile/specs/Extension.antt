@@ -1,5 +1,5 @@
 -- What a bench may know beyond what it always does, by the names that are asked for.
-use Rattle.std.specs.Prelude.{ℕ, Bool, List, Option, find, nat_eq, codes}
+use Rattle.std.specs.Prelude.{ℕ, Bool, true, false, ◌&&◌, ◌||◌, List, Option, filter, find, nat_eq, codes}
 use denote.Enum.Bare.{sameb}
 use lib.Pointwise.{pointwise}
 use Rattle.sieve_profile.specs.Every.{every}
@@ -39,3 +39,30 @@ is_name_of name extension = pointwise nat_eq (extension_name extension) name
 -- the one of a name
 abbrev pub extension_named : List ℕ → Option Extension
 extension_named name = find (is_name_of name) extensions
+
+-- whether it is among what Pigeonhole 0.5.19 knows by default, which decodes words of all charsets
+abbrev pub is_of_pigeonhole : Extension → Bool
+is_of_pigeonhole Body = true
+is_of_pigeonhole Charsets = true
+is_of_pigeonhole AsciiNumeric = true
+is_of_pigeonhole Date = true
+is_of_pigeonhole Duplicate = true
+is_of_pigeonhole EncodedCharacter = true
+is_of_pigeonhole Envelopes = false
+is_of_pigeonhole Ereject = false
+is_of_pigeonhole Lines = false
+is_of_pigeonhole Mailbox = true
+is_of_pigeonhole Reject = true
+is_of_pigeonhole Relational = true
+is_of_pigeonhole SpecialUse = false
+is_of_pigeonhole Subaddress = true
+is_of_pigeonhole Unused = false
+is_of_pigeonhole Vacation = true
+
+-- whether a name asks for it: its own, `all`, or `pigeonhole`
+abbrev pub asks_for : List ℕ → Extension → Bool
+asks_for name extension = is_name_of name extension || pointwise nat_eq (codes "all") name || (is_of_pigeonhole extension && pointwise nat_eq (codes "pigeonhole") name)
+
+-- what a name asks for
+abbrev pub asked_by : List ℕ → List Extension
+asked_by name = filter (asks_for name) extensions

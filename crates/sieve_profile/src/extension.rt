@@ -1,6 +1,6 @@
 //! The names that may be asked for.
 ghost use Rattle.std.specs.Prelude.{◌≡◌};
-ghost use Rattle.sieve_profile.specs.Extension.{extension_name, extension_named, extensions, is_name_of};
+ghost use Rattle.sieve_profile.specs.Extension.{asks_for, extension_name, extension_named, extensions, is_name_of, is_of_pigeonhole};
 
 /// What a bench knows where it is asked for by its name.
 #[derive(Clone, Copy, Debug, PartialEq, Eq)]
@@ -66,6 +66,21 @@ fn is_name_of(name: &[u8], extension: Extension) -> bool
     extension.name() == name
 }
 
+/// The name of the set of all.
+pub const ALL: &[u8] = b"all";
+
+/// The name of the set of what Pigeonhole 0.5.19 knows by default.
+pub const PIGEONHOLE: &[u8] = b"pigeonhole";
+
+/// Whether a name asks for it: its own, or that of a set that it is in.
+pub(crate) fn asks_for(name: &[u8], extension: Extension) -> bool
+    ensures { result ≡ asks_for name.now extension }
+{
+    is_name_of(name, extension)
+        || name == ALL
+        || (extension.is_of_pigeonhole() && name == PIGEONHOLE)
+}
+
 impl Extension {
     /// The name by which it is asked for.
     pub fn name(self) -> &'static [u8]
@@ -88,6 +103,30 @@ impl Extension {
             Extension::Subaddress => b"subaddress",
             Extension::Unused => b"unused",
             Extension::Vacation => b"vacation",
+        }
+    }
+
+    /// Whether it is among what Pigeonhole 0.5.19 knows by default.
+    fn is_of_pigeonhole(self) -> bool
+        ensures { result ≡ is_of_pigeonhole self }
+    {
+        match self {
+            Extension::Envelopes
+            | Extension::Ereject
+            | Extension::Lines
+            | Extension::SpecialUse
+            | Extension::Unused => false,
+            Extension::Body
+            | Extension::Charsets
+            | Extension::AsciiNumeric
+            | Extension::Date
+            | Extension::Duplicate
+            | Extension::EncodedCharacter
+            | Extension::Mailbox
+            | Extension::Reject
+            | Extension::Relational
+            | Extension::Subaddress
+            | Extension::Vacation => true,
         }
     }
 

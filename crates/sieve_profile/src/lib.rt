@@ -5,5 +5,5 @@ mod extension;
 pub mod laws;
 mod profile;
 
-pub use extension::{EXTENSIONS, Extension};
+pub use extension::{ALL, EXTENSIONS, Extension, PIGEONHOLE};
 pub use profile::Profile;

@@ -1,29 +1,27 @@
 //! Sets of names.
 ghost use Rattle.std.specs.Prelude.{◌≡◌};
-ghost use Rattle.sieve_profile.specs.Profile.{empty_profile, has, with_extension};
+ghost use Rattle.std.specs.List.{list_any};
+ghost use Rattle.std.specs.Option.{option_map};
+ghost use Rattle.sieve_profile.specs.Profile.{empty_profile, has, with_each, with_extension, with_named};
+ghost use Rattle.sieve_profile.specs.Extension.{asked_by, asks_for, extensions};
 ghost use Rattle.sieve_profile.specs.view.Profile.{profile_as};
 
-use crate::extension::Extension;
+use crate::extension::{EXTENSIONS, Extension, asks_for};
 
-/// What a bench knows beyond what it always does: whether it was asked for each extension. It is copied, and takes no memory.
+/// What a bench knows beyond what it always does: a set of extensions. It is copied, and takes no memory.
 #[derive(Clone, Copy)]
 pub struct Profile {
-    pub body: bool,
-    pub charsets: bool,
-    pub ascii_numeric: bool,
-    pub date: bool,
-    pub duplicate: bool,
-    pub encoded_character: bool,
-    pub envelopes: bool,
-    pub ereject: bool,
-    pub lines: bool,
-    pub mailbox: bool,
-    pub reject: bool,
-    pub relational: bool,
-    pub special_use: bool,
-    pub subaddress: bool,
-    pub unused: bool,
-    pub vacation: bool,
+    /// Whether each extension was asked for, in their order.
+    asked: [bool; EXTENSIONS.len()],
+}
+
+/// Whether a name asks for something.
+fn is_asking(name: &[u8]) -> bool
+    ensures { result ≡ list_any (asks_for name.now) extensions }
+{
+    EXTENSIONS
+        .iter()
+        .any(|extension| asks_for(name, *extension))
 }
 
 impl Profile {
@@ -32,22 +30,7 @@ impl Profile {
         ensures { profile_as result ≡ empty_profile }
     {
         Profile {
-            body: false,
-            charsets: false,
-            ascii_numeric: false,
-            date: false,
-            duplicate: false,
-            encoded_character: false,
-            envelopes: false,
-            ereject: false,
-            lines: false,
-            mailbox: false,
-            reject: false,
-            relational: false,
-            special_use: false,
-            subaddress: false,
-            unused: false,
-            vacation: false,
+            asked: [false; EXTENSIONS.len()],
         }
     }
 
@@ -55,47 +38,39 @@ impl Profile {
     pub fn has(self, extension: Extension) -> bool
         ensures { result ≡ has (profile_as self) extension }
     {
-        match extension {
-            Extension::Body => self.body,
-            Extension::Charsets => self.charsets,
-            Extension::AsciiNumeric => self.ascii_numeric,
-            Extension::Date => self.date,
-            Extension::Duplicate => self.duplicate,
-            Extension::EncodedCharacter => self.encoded_character,
-            Extension::Envelopes => self.envelopes,
-            Extension::Ereject => self.ereject,
-            Extension::Lines => self.lines,
-            Extension::Mailbox => self.mailbox,
-            Extension::Reject => self.reject,
-            Extension::Relational => self.relational,
-            Extension::SpecialUse => self.special_use,
-            Extension::Subaddress => self.subaddress,
-            Extension::Unused => self.unused,
-            Extension::Vacation => self.vacation,
-        }
+        self.asked[extension as usize]
     }
 
     /// The profile with an extension, which may be in it already.
     pub fn with(self, extension: Extension) -> Profile
         ensures { profile_as result ≡ with_extension (profile_as self) extension }
     {
-        Profile {
-            body: self.body | (extension == Extension::Body),
-            charsets: self.charsets | (extension == Extension::Charsets),
-            ascii_numeric: self.ascii_numeric | (extension == Extension::AsciiNumeric),
-            date: self.date | (extension == Extension::Date),
-            duplicate: self.duplicate | (extension == Extension::Duplicate),
-            encoded_character: self.encoded_character | (extension == Extension::EncodedCharacter),
-            envelopes: self.envelopes | (extension == Extension::Envelopes),
-            ereject: self.ereject | (extension == Extension::Ereject),
-            lines: self.lines | (extension == Extension::Lines),
-            mailbox: self.mailbox | (extension == Extension::Mailbox),
-            reject: self.reject | (extension == Extension::Reject),
-            relational: self.relational | (extension == Extension::Relational),
-            special_use: self.special_use | (extension == Extension::SpecialUse),
-            subaddress: self.subaddress | (extension == Extension::Subaddress),
-            unused: self.unused | (extension == Extension::Unused),
-            vacation: self.vacation | (extension == Extension::Vacation),
+        let mut profile = self;
+        profile.asked[extension as usize] = true;
+        profile
+    }
+
+    /// The profile with all that a name asks for: an extension, or a set of them. A name that asks for nothing gives none.
+    pub fn with_named(self, name: &[u8]) -> Option<Profile>
+        ensures { option_map profile_as result ≡ with_named (profile_as self) name.now }
+    {
+        if is_asking(name) {
+            Some(self.with_each(name))
+        } else {
+            None
         }
+    }
+
+    /// The profile with each extension that a name asks for.
+    fn with_each(self, name: &[u8]) -> Profile
+        ensures { profile_as result ≡ with_each (profile_as self) (asked_by name.now) }
+    {
+        let mut profile = self;
+        for extension in EXTENSIONS {
+            if asks_for(name, extension) {
+                profile = profile.with(extension);
+            }
+        }
+        profile
     }
 }

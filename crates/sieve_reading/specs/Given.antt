@@ -14,7 +14,7 @@ use Rattle.sieve_table.specs.Role.{has_role}
 use Rattle.sieve_table.specs.Table.{same_kind, tag_row}
 use Rattle.sieve_reading.specs.Tree.{Argument, strings, number, tag}
 use Rattle.sieve_reading.specs.declared.label.Label.{Label}
-use Rattle.sieve_reading.specs.declared.label.Label.TheVariants.{Tagged, OtherTag, Own, InSlot, Unfit}
+use Rattle.sieve_reading.specs.declared.label.Label.TheVariants.{Tagged}
 use Rattle.sieve_reading.specs.declared.reading.MatchType.{MatchType}
 use Rattle.sieve_reading.specs.declared.reading.MatchType.TheVariants.{Is, Contains, Matches, Value, Count}
 use Rattle.sieve_syntax.specs.view.Tree.{octets_of}
@@ -23,7 +23,7 @@ use Rattle.sieve_table.specs.declared.row.TagKind.{TagKind}
 use Rattle.sieve_table.specs.declared.row.TagKind.TheVariants as kind
 use Rattle.sieve_table.specs.declared.table.Tag.{Tag}
 use Rattle.sieve_table.specs.declared.table.Tag.TheVariants as tag
-use Rattle.sieve_variables.specs.Part.{Part, literal, variable_part, match_part}
+use Rattle.sieve_variables.specs.Part.{Part, literal, variable_part}
 use Rattle.sieve_variables.specs.Variable.{Variable, local_variable}
 
 -- ARGUMENTS
@@ -35,10 +35,8 @@ in_role wanted labels (a ∷ args) = if has_role wanted (first_role labels) then
 
 -- the strings of an argument, each as its parts
 abbrev pub texts_in : Option Argument → List (List Part)
-texts_in None = []
 texts_in (Some (strings items bracketed)) = map (λ t. t.string) items
-texts_in (Some (number value line)) = []
-texts_in (Some (tag name line)) = []
+texts_in other = []
 
 -- the strings of an argument that may be left out
 abbrev pub given_texts : Option Argument → Option (List (List Part))
@@ -61,11 +59,8 @@ given_text (Some a) = Some (text_in (Some a))
 -- The variable that parts name. What is set is such a variable, and no match variable (RFC 5229, section 4; RFC 5232, section 3). Other
 -- parts name the one without a name, which no script has.
 abbrev pub variable_in_parts : List Part → Variable
-variable_in_parts [] = local_variable []
-variable_in_parts (literal octets ∷ parts) = local_variable []
 variable_in_parts (variable_part variable ∷ []) = variable
-variable_in_parts (variable_part variable ∷ part ∷ parts) = local_variable []
-variable_in_parts (match_part index ∷ parts) = local_variable []
+variable_in_parts other = local_variable []
 
 -- the variable that an argument names
 abbrev pub variable_in : Option Argument → Variable
@@ -78,11 +73,8 @@ given_variable (Some a) = Some (variable_in (Some a))
 
 -- the octets of parts that are one literal, where they are
 abbrev pub literal_in_parts : List Part → Option (List ℕ)
-literal_in_parts [] = None
 literal_in_parts (literal octets ∷ []) = Some octets
-literal_in_parts (literal octets ∷ part ∷ parts) = None
-literal_in_parts (variable_part variable ∷ parts) = None
-literal_in_parts (match_part index ∷ parts) = None
+literal_in_parts other = None
 
 -- the octets of an argument whose string stands for itself
 abbrev pub literal_in : Option Argument → List ℕ
@@ -90,11 +82,8 @@ literal_in argument = octets_of (text_in argument)
 
 -- the number that an argument is
 abbrev pub number_in : Option Argument → ℕ
-number_in None = 0
-number_in (Some (strings items bracketed)) = 0
-number_in (Some (number None line)) = 0
 number_in (Some (number (Some value) line)) = value
-number_in (Some (tag name line)) = 0
+number_in other = 0
 
 -- the number that an argument is that may be left out
 abbrev pub given_number : Option Argument → Option ℕ
@@ -124,18 +113,12 @@ relation_by argument = relation_or_eq (relation_named (literal_in argument))
 -- a tag of that kind
 abbrev pub is_of_kind : TagKind → Label → Bool
 is_of_kind k (Tagged taken) = same_kind k (tag_row taken).kind
-is_of_kind k OtherTag = false
-is_of_kind k (Own slot) = false
-is_of_kind k (InSlot slot) = false
-is_of_kind k Unfit = false
+is_of_kind k other = false
 
 -- the tag that a label is, where it is of that kind
 abbrev pub tag_at : TagKind → Label → Option Tag
 tag_at k (Tagged taken) = if same_kind k (tag_row taken).kind then Some taken else None
-tag_at k OtherTag = None
-tag_at k (Own slot) = None
-tag_at k (InSlot slot) = None
-tag_at k Unfit = None
+tag_at k other = None
 
 -- the one that is there, or the other
 abbrev pub first_or : {A : Type 0} → Option A → Option A → Option A

@@ -14,17 +14,10 @@ use Rattle.sieve_table.specs.declared.row.Slot.{Slot}
 -- whether an argument of that shape can stand where that form is taken; a list may be one string (RFC 5228, section 2.4.2.1)
 abbrev pub fits : Form → Shape → Bool
 fits form.One shape.Text = true
-fits form.One shape.Texts = false
-fits form.One shape.Number = false
-fits form.One (shape.Tag taken) = false
 fits form.List shape.Text = true
 fits form.List shape.Texts = true
-fits form.List shape.Number = false
-fits form.List (shape.Tag taken) = false
-fits form.Number shape.Text = false
-fits form.Number shape.Texts = false
 fits form.Number shape.Number = true
-fits form.Number (shape.Tag taken) = false
+fits other another = false
 
 -- what is expected at an argument: the one that the tag before it takes itself, and the positional ones still to come
 pub record Expected : Type 0 where
@@ -72,11 +65,8 @@ slots_left expected [] = expected.slots
 slots_left expected (looks ∷ shapes) = slots_left (expected_after expected looks) shapes
 
 abbrev pub is_unfit : Label → Bool
-is_unfit (Tagged taken) = false
-is_unfit OtherTag = false
-is_unfit (Own slot) = false
-is_unfit (InSlot slot) = false
 is_unfit Unfit = true
+is_unfit other = false
 
 abbrev pub no_slots : List Slot → Bool
 no_slots [] = true

@@ -5,7 +5,7 @@ use lib.Pointwise.{pointwise}
 use Rattle.sieve_table.specs.Table.{tag_row}
 use Rattle.sieve_reading.specs.Label.{fits}
 use Rattle.sieve_reading.specs.declared.label.Label.{Label}
-use Rattle.sieve_reading.specs.declared.label.Label.TheVariants.{Tagged, OtherTag, Own, InSlot, Unfit}
+use Rattle.sieve_reading.specs.declared.label.Label.TheVariants.{InSlot, Unfit}
 use Rattle.sieve_reading.specs.declared.label.Shape.{Shape}
 use Rattle.sieve_reading.specs.declared.label.Shape.TheVariants as shape
 use Rattle.sieve_table.specs.declared.row.Slot.{Slot}
@@ -42,9 +42,7 @@ fits_taken (Some slot) looks = fits slot.form looks
 
 abbrev pub is_tag_shape : Shape → Bool
 is_tag_shape (shape.Tag taken) = true
-is_tag_shape shape.Text = false
-is_tag_shape shape.Texts = false
-is_tag_shape shape.Number = false
+is_tag_shape other = false
 
 -- an argument that is no tag, and not what the one right before it takes (RFC 5228, section 2.6.1)
 abbrev pub is_positional : (before : Option Shape) → Shape → Bool
@@ -65,11 +63,9 @@ positional_of shapes = positional_after None shapes
 
 -- whether a label is that of a positional argument
 abbrev pub is_positional_label : Label → Bool
-is_positional_label (Tagged tag) = false
-is_positional_label OtherTag = false
-is_positional_label (Own slot) = false
 is_positional_label (InSlot slot) = true
 is_positional_label Unfit = true
+is_positional_label other = false
 
 -- the label of a positional argument, by the slot at its place among them, where there is one
 abbrev pub at_slot : Option Slot → Shape → Label

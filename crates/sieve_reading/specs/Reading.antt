@@ -22,13 +22,12 @@ pub data BodyTransform : Type 0 where
   content_transform : (entries : List (List Part)) → BodyTransform
   text_transform : BodyTransform
 
--- Where a test takes values from: the fields of some names (RFC 5228, section 5.7), a part of the addresses in such fields
--- (section 5.1), a part of an envelope's addresses (section 5.4), strings themselves (RFC 5229, section 5), flags: those that
+-- Where a test takes values from: the fields of some names (RFC 5228, section 5.7), or a part of the addresses in such fields
+-- (section 5.1); a part of an envelope's addresses (section 5.4), strings themselves (RFC 5229, section 5), flags: those that
 -- some variables hold, or else the internal ones (RFC 5232, section 4), a part of the date of a field (RFC 5260, section 4), or of
 -- the current date (section 5), or the body of the message (RFC 5173, section 4). A string is its parts.
 pub data ValueSource : Type 0 where
-  header_values : (names : List (List Part)) → ValueSource
-  address_values : (part : AddressPart) (names : List (List Part)) → ValueSource
+  field_values : (part : Option AddressPart) (names : List (List Part)) → ValueSource
   envelope_values : (part : AddressPart) (names : List (List Part)) → ValueSource
   string_values : (texts : List (List Part)) → ValueSource
   flag_values : (variables : Option (List (List Part))) → ValueSource

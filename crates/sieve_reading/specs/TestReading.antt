@@ -15,7 +15,7 @@ use Rattle.sieve_table.specs.declared.table.TestKind.{TestKind}
 use Rattle.sieve_table.specs.declared.table.TestKind.TheVariants as test_kind
 use Rattle.sieve_reading.specs.Given.{Tags, tags_of, in_role, texts_in, text_in, given_text, given_texts, number_in, collation_by, relation_by, match_type_of, address_part_of}
 use Rattle.sieve_reading.specs.Shape.{row_labels}
-use Rattle.sieve_reading.specs.Reading.{BodyTransform, raw_transform, content_transform, text_transform, DateZone, local_zone, original_zone, named_zone, ValueSource, header_values, address_values, envelope_values, string_values, flag_values, date_values, clock_values, body_values, Ask, compares, exists_ask, over_ask, under_ask, mailboxes_ask, duplicate_ask, TestReading, reads_always, reads_never, reads_ask, reads_all, reads_any, reads_not}
+use Rattle.sieve_reading.specs.Reading.{BodyTransform, raw_transform, content_transform, text_transform, DateZone, local_zone, original_zone, named_zone, ValueSource, field_values, envelope_values, string_values, flag_values, date_values, clock_values, body_values, Ask, compares, exists_ask, over_ask, under_ask, mailboxes_ask, duplicate_ask, TestReading, reads_always, reads_never, reads_ask, reads_all, reads_any, reads_not}
 
 -- how a test compares (RFC 5228, section 2.7; RFC 5231, section 4)
 abbrev pub comparison_by : List Label → List Argument → Comparison
@@ -30,11 +30,11 @@ compares_by source labels args = compares source (comparison_by labels args) (te
 
 -- where a `header` test takes its values from (RFC 5228, section 5.7)
 abbrev pub header_source : List Label → List Argument → ValueSource
-header_source labels args = header_values (texts_in (in_role role.FieldNames labels args))
+header_source labels args = field_values None (texts_in (in_role role.FieldNames labels args))
 
 -- an `address` test (RFC 5228, section 5.1)
 abbrev pub address_source : List Label → List Argument → ValueSource
-address_source labels args = address_values (address_part_of (tags_of labels)) (texts_in (in_role role.AddressFields labels args))
+address_source labels args = field_values (Some (address_part_of (tags_of labels))) (texts_in (in_role role.AddressFields labels args))
 
 -- an `envelope` test (RFC 5228, section 5.4)
 abbrev pub envelope_source : List Label → List Argument → ValueSource

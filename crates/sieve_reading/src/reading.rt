@@ -62,15 +62,10 @@ pub enum BodyTransform<L> {
 /// Where a test takes values from.
 #[derive(Clone, Copy, Drop)]
 pub enum ValueSource<N, L, S> {
-    /// From the fields of some names (RFC 5228, section 5.7).
-    Header {
-        /// The names of fields.
-        names: N,
-    },
-    /// From the addresses in the fields of some names (RFC 5228, section 5.1).
-    Address {
-        /// Which part of an address.
-        part: AddressPart,
+    /// From the fields of some names (RFC 5228, section 5.7), or from the addresses in them (section 5.1).
+    Fields {
+        /// Which part of an address, where the values are addresses.
+        part: Option<AddressPart>,
         /// The names of fields.
         names: N,
     },

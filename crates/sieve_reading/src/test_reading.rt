@@ -40,7 +40,8 @@ fn header_ask(alloc: Global, row: &Row, args: Vec<Argument>) -> Ask
     let comparison = comparison_of(Tags::among(row, &args), row, &args);
     let (names, keys) = into_arguments(row, Role::FieldNames, Role::Keys, args);
     Ask::Compares {
-        source: ValueSource::Header {
+        source: ValueSource::Fields {
+            part: None,
             names: texts_in(alloc, names),
         },
         comparison,
@@ -58,8 +59,8 @@ fn address_ask(alloc: Global, row: &Row, args: Vec<Argument>) -> Ask
     let comparison = comparison_of(tags, row, &args);
     let (names, keys) = into_arguments(row, Role::AddressFields, Role::Keys, args);
     Ask::Compares {
-        source: ValueSource::Address {
-            part: address_part_of(tags),
+        source: ValueSource::Fields {
+            part: Some(address_part_of(tags)),
             names: texts_in(alloc, names),
         },
         comparison,

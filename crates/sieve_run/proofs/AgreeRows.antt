@@ -4,7 +4,7 @@ use Rattle.sieve_run.specs.Lines.{agrees}
 use Rattle.sieve_run.specs.Verdict.{Verdict}
 
 abbrev no_lines : Verdict
-no_lines = record { actions = []; origins = []; implicit = None; error = None; lookups = [] }
+no_lines = record { entries = []; implicit = None; error = None; lookups = [] }
 
 -- the empty text agrees with no verdict, and a lone LF is a line too many for this one
 nothing_row : agrees [] no_lines [] ≡ false

@@ -4,6 +4,7 @@ use Rattle.std.specs.Prelude.{⊤, if◌then◌else◌}
 use Rattle.std.specs.List.{AllByRecursion, list_any}
 use Rattle.std.specs.Option.{option_or}
 use Rattle.sieve_actions.specs.Delivery.{Arrival}
+use Rattle.sieve_actions.specs.State.{RunState, actions_in}
 use Rattle.sieve_actions.specs.declared.action.Action.{Action}
 use Rattle.sieve_actions.specs.declared.action.Action.TheVariants.{Store, Discard, Respond, Reject}
 use Rattle.sieve_actions.specs.declared.error.ErrorKind.{ErrorKind}
@@ -11,7 +12,8 @@ use Rattle.script_names.specs.declared.name.ScriptName.{ScriptName}
 use Rattle.sieve_actions.specs.Act.{brought_by, conflict_among, conflict_of, goes_with_rejections, is_rejection, is_response, joined_with, same_action}
 use Rattle.sieve_run.specs.Library.{Lookup}
 use Rattle.sieve_run.specs.Run.{outcome_of}
-use Rattle.sieve_run.proofs.Bounds.{IsKept, outcome_holds, performed_holds}
+use Rattle.sieve_run.specs.Verdict.{actions_of}
+use Rattle.sieve_run.proofs.Bounds.{IsKept, of_actions, outcome_holds}
 
 -- two actions of which the second is performed where the first is there, and nothing is in its way
 abbrev GoesAfter : (there performed : Action) → Type 0
@@ -77,17 +79,11 @@ peace_entered action (a ∷ actions) none peace =
 
 -- RUNS
 
-at_peace : IsKept (λ s. AreAtPeace s.actions)
-at_peace = record {
-  values = λ s values h. h;
-  flags = λ s flags h. h;
-  lookups = λ s lookups h. h;
-  acts = λ delivery line deed s h. performed_holds (λ t. AreAtPeace t.actions) delivery line deed s h (λ none. peace_joined deed.action s.actions h) (λ none apart room. peace_entered deed.action s.actions none h);
-  enters = λ name s few h. h;
-}
+at_peace : IsKept (λ s. AreAtPeace (actions_in s.entries))
+at_peace = of_actions AreAtPeace peace_joined (λ action actions none apart room h. peace_entered action actions none h)
 
-outcome_peace : (find : ScriptName → Lookup) (main : Option ScriptName) (arrival : Arrival) → AreAtPeace (outcome_of find main arrival).actions
-outcome_peace find main arrival = outcome_holds (λ origins actions. AreAtPeace actions) tt at_peace find main arrival
+outcome_peace : (find : ScriptName → Lookup) (main : Option ScriptName) (arrival : Arrival) → AreAtPeace (actions_of (outcome_of find main arrival))
+outcome_peace find main arrival = outcome_holds AreAtPeace tt at_peace find main arrival
 
 -- RESPONSES
 
@@ -110,8 +106,8 @@ few_responses (a ∷ actions) peace = by (is_response a) refl (few_responses act
     by false is rest = rest
 
 -- a verdict has one response at most
-pub outcome_responses : (find : ScriptName → Lookup) (main : Option ScriptName) (arrival : Arrival) → length (filter is_response (outcome_of find main arrival).actions) ≤ 1
-outcome_responses find main arrival = few_responses (outcome_of find main arrival).actions (outcome_peace find main arrival)
+pub outcome_responses : (find : ScriptName → Lookup) (main : Option ScriptName) (arrival : Arrival) → length (filter is_response (actions_of (outcome_of find main arrival))) ≤ 1
+outcome_responses find main arrival = few_responses (actions_of (outcome_of find main arrival)) (outcome_peace find main arrival)
 
 -- REJECTIONS
 
@@ -154,6 +150,6 @@ one_rejection (a ∷ actions) peace any = by (is_rejection a) refl any (one_reje
     by false is any rest = ap (λ t. length (cond (not t) (a ∷ others) others)) (goes_before_all a actions peace.0 any) ∙ rest any
 
 -- a verdict that rejects the message does nothing else than discard it, and rejects it once
-pub outcome_rejections : (find : ScriptName → Lookup) (main : Option ScriptName) (arrival : Arrival) → list_any is_rejection (outcome_of find main arrival).actions ≡ true
-    → length (filter (λ a. not (goes_with_rejections a)) (outcome_of find main arrival).actions) ≡ 1
-outcome_rejections find main arrival any = one_rejection (outcome_of find main arrival).actions (outcome_peace find main arrival) any
+pub outcome_rejections : (find : ScriptName → Lookup) (main : Option ScriptName) (arrival : Arrival) → list_any is_rejection (actions_of (outcome_of find main arrival)) ≡ true
+    → length (filter (λ a. not (goes_with_rejections a)) (actions_of (outcome_of find main arrival))) ≡ 1
+outcome_rejections find main arrival any = one_rejection (actions_of (outcome_of find main arrival)) (outcome_peace find main arrival) any

@@ -1,7 +1,7 @@
 -- What holds of the state of a run from its start to its end: it has no more actions, and no more scripts were entered, than there may be.
-use Rattle.std.proofs.Common.{◌≡◌, ℕ, zero, suc, ◌+◌, ◌≤◌, Bool, true, false, ◌&&◌, Option, None, Some, List, [], ◌∷◌, ◌++◌, length, map, nat_lt, refl, ap, subst, sym, ◌∙◌, append-nil, append_assoc, arith}
+use Rattle.std.proofs.Common.{◌≡◌, ◌⊎◌, inl, inr, ℕ, zero, suc, ◌+◌, ◌≤◌, Bool, true, false, ◌&&◌, Option, None, Some, List, [], ◌∷◌, ◌++◌, length, map, nat_lt, refl, ap, subst, sym, ◌∙◌, append-nil, append_assoc, arith}
 use Rattle.std.proofs.lemmas.Bool.Decides.{nat_tests}
-use Rattle.std.proofs.lemmas.List.{length_push, length-map}
+use Rattle.std.proofs.lemmas.List.{length_push, length-map, map-append}
 use Rattle.std.specs.Prelude.{if◌then◌else◌}
 use Rattle.std.specs.List.{list_any}
 use Rattle.message_text.specs.Addresses.{addresses_of}
@@ -12,17 +12,18 @@ use Rattle.sieve_reading.specs.Script.{script_of}
 use Rattle.sieve_reading.specs.Tree.{Node}
 use Rattle.sieve_code.specs.Walk.{Walk, at_end, by_stop, by_return, cut_off, asked, acted, tree_walk}
 use Rattle.sieve_actions.specs.Delivery.{Arrival, Delivery, inside}
+use Rattle.sieve_run.specs.Origin.{ComesOf}
 use Rattle.sieve_run.specs.Library.{Lookup, missing, invalid, present, found_at}
+use Rattle.sieve_run.specs.Verdict.{actions_of}
 use Rattle.sieve_matching.specs.Matching.{after_test, truth_of}
 use Rattle.sieve_run.specs.Perform.{perform}
-use Rattle.sieve_actions.specs.Act.{deed_of, store_deed, Ending, goes_on, returned, stopped, failed, Performed, entered, joined, refused, unless, conflict_among, same_action, joined_with, changes, ends_with, gives, origin_at, performs, fails_at, filing_of, is_mailbox, may_be_from, may_be_used, only_address, redirects, response_of, held_flags, changed_flags, flags_named, state_after}
+use Rattle.sieve_actions.specs.Act.{deed_of, store_deed, Ending, goes_on, returned, stopped, failed, Performed, accepted, refused, unless, conflict_among, entry_at, same_action, joined_entry, joined_with, changes, ends_with, gives, performs, fails_at, filing_of, is_mailbox, may_be_from, may_be_used, only_address, redirects, response_of, held_flags, changed_flags, flags_named, state_after}
 use Rattle.sieve_run.specs.Run.{entering, included, include_of, includes, is_running, is_script, is_there, looked_up, act_of, and_then, answer_of, begun, chosen, delivery_to, exec, resumed, run_of, running, verdict_at, verdict_of, outcome_of, with_found_script, with_lookup}
-use Rattle.sieve_actions.specs.State.{RunState}
+use Rattle.sieve_actions.specs.State.{Entered, RunState, actions_in}
 use Rattle.sieve_actions.specs.declared.flow.Flow.{Flow}
 use Rattle.sieve_actions.specs.declared.flow.Flow.TheVariants as flow
 use Rattle.script_names.specs.declared.name.ScriptName.{ScriptName}
 use Rattle.sieve_actions.specs.declared.action.Deed.{Deed}
-use Rattle.sieve_actions.specs.declared.action.Origin.{Origin}
 use Rattle.sieve_actions.specs.declared.action.Action.{Action}
 use Rattle.sieve_actions.specs.declared.action.Action.TheVariants.{Redirect, Discard, Respond, Reject}
 use Rattle.sieve_actions.specs.declared.error.ErrorKind.{ErrorKind}
@@ -44,16 +45,17 @@ module _ (Holds : RunState → Type 0) (delivery : Delivery) (line : ℕ) (deed 
   Becomes performed = Holds (state_after (ends_with delivery line deed performed s))
 
   pub performed_holds : Holds s
-      → (conflict_among deed.action s.actions ≡ None → Becomes (joined (map (joined_with deed.action) s.actions)))
-      → (conflict_among deed.action s.actions ≡ None → list_any (same_action deed.action) s.actions ≡ false → nat_lt (length s.actions) action_limit ≡ true → Becomes (entered (s.actions ++ deed.action ∷ [])))
+      → (conflict_among deed.action (actions_in s.entries) ≡ None → Becomes (accepted (map (joined_entry deed.action) s.entries)))
+      → (conflict_among deed.action (actions_in s.entries) ≡ None → list_any (same_action deed.action) (actions_in s.entries) ≡ false → nat_lt (length s.entries) action_limit ≡ true
+      → Becomes (accepted (s.entries ++ entry_at delivery line deed.action ∷ [])))
       → Holds (state_after (performs delivery line deed s))
   performed_holds h joins enters =
-      by (conflict_among deed.action s.actions) (list_any (same_action deed.action) s.actions) (nat_lt (length s.actions) action_limit) joins enters
+      by (conflict_among deed.action (actions_in s.entries)) (list_any (same_action deed.action) (actions_in s.entries)) (nat_lt (length s.entries) action_limit) joins enters
     where
       by : (conflict : Option ErrorKind) (there room : Bool)
-          → (conflict ≡ None → Becomes (joined (map (joined_with deed.action) s.actions)))
-          → (conflict ≡ None → there ≡ false → room ≡ true → Becomes (entered (s.actions ++ deed.action ∷ [])))
-          → Becomes (unless conflict (if there then joined (map (joined_with deed.action) s.actions) else if room then entered (s.actions ++ deed.action ∷ []) else refused TooManyActions))
+          → (conflict ≡ None → Becomes (accepted (map (joined_entry deed.action) s.entries)))
+          → (conflict ≡ None → there ≡ false → room ≡ true → Becomes (accepted (s.entries ++ entry_at delivery line deed.action ∷ [])))
+          → Becomes (unless conflict (if there then accepted (map (joined_entry deed.action) s.entries) else if room then accepted (s.entries ++ entry_at delivery line deed.action ∷ []) else refused TooManyActions))
       by (Some kind) there room joins enters = h
       by None true room joins enters = joins refl
       by None false true joins enters = enters refl refl refl
@@ -196,42 +198,63 @@ module _ (Holds : RunState → Type 0) (kept : IsKept Holds) where
 
 -- VERDICTS
 
--- what holds of no actions, and throughout a run of the actions with the commands that entered them, holds of those of a verdict
-module _ (Holds : List Origin → List Action → Type 0) (none : Holds [] []) (kept : IsKept (λ s. Holds s.origins s.actions)) where
-  verdict_holds : (e : Ending) → Holds (state_after e).origins (state_after e).actions → Holds (verdict_of e).origins (verdict_of e).actions
+-- what holds of no actions, and of the actions throughout a run, holds of those of a verdict
+module _ (Holds : List Action → Type 0) (none : Holds []) (kept : IsKept (λ s. Holds (actions_in s.entries))) where
+  verdict_holds : (e : Ending) → Holds (actions_in (state_after e).entries) → Holds (actions_of (verdict_of e))
   verdict_holds (goes_on s) h = h
   verdict_holds (returned s) h = h
   verdict_holds (stopped s) h = h
   verdict_holds (failed error s) h = none
 
-  found_holds_of : (find : ScriptName → Lookup) (arrival : Arrival) (main : ScriptName) (lookup : Lookup) → Holds (verdict_at find arrival main lookup).origins (verdict_at find arrival main lookup).actions
+  found_holds_of : (find : ScriptName → Lookup) (arrival : Arrival) (main : ScriptName) (lookup : Lookup) → Holds (actions_of (verdict_at find arrival main lookup))
   found_holds_of find arrival main missing = none
   found_holds_of find arrival main invalid = none
   found_holds_of find arrival main (present tree) =
-      verdict_holds (run_of find arrival main tree) (running_holds (λ s. Holds s.origins s.actions) kept find include_depth (delivery_to arrival main) tree (begun main) none)
+      verdict_holds (run_of find arrival main tree) (running_holds (λ s. Holds (actions_in s.entries)) kept find include_depth (delivery_to arrival main) tree (begun main) none)
 
-  pub outcome_holds : (find : ScriptName → Lookup) (main : Option ScriptName) (arrival : Arrival) → Holds (outcome_of find main arrival).origins (outcome_of find main arrival).actions
+  pub outcome_holds : (find : ScriptName → Lookup) (main : Option ScriptName) (arrival : Arrival) → Holds (actions_of (outcome_of find main arrival))
   unfolding outcome_of
   outcome_holds find None arrival = none
   outcome_holds find (Some main) arrival = found_holds_of find arrival main (found_at find main)
 
 -- ACTIONS
 
--- a state has no more actions than it may
-abbrev pub IsBounded : RunState → Type 0
-IsBounded state = length state.actions ≤ action_limit
+joined_actions : (action : Action) (entries : List Entered) → actions_in (map (joined_entry action) entries) ≡ map (joined_with action) (actions_in entries)
+joined_actions action [] = refl
+joined_actions action (entry ∷ entries) = ap (λ l. joined_with action entry.action ∷ l) (joined_actions action entries)
 
-one_has_room : (action : Action) (actions : List Action) → nat_lt (length actions) action_limit ≡ true → length (actions ++ action ∷ []) ≤ action_limit
-one_has_room action actions room = grind (arith, nat_tests, length_push actions action)
+entered_actions : (entries : List Entered) (entry : Entered) → actions_in (entries ++ entry ∷ []) ≡ actions_in entries ++ entry.action ∷ []
+entered_actions entries entry = map-append (λ (e : Entered). e.action) entries (entry ∷ [])
 
-bounded : IsKept IsBounded
-bounded = record {
+-- a fact on the actions is kept where joining and entering an action keep it
+pub of_actions : (Holds : List Action → Type 0)
+    → ((action : Action) (actions : List Action) → Holds actions → Holds (map (joined_with action) actions))
+    → ((action : Action) (actions : List Action) → conflict_among action actions ≡ None → list_any (same_action action) actions ≡ false → nat_lt (length actions) action_limit ≡ true → Holds actions → Holds (actions ++ action ∷ []))
+    → IsKept (λ s. Holds (actions_in s.entries))
+of_actions Holds joins enters = record {
   values = λ s values h. h;
   flags = λ s flags h. h;
   lookups = λ s lookups h. h;
-  acts = λ delivery line deed s h. performed_holds IsBounded delivery line deed s h (λ none. subst (λ n. n ≤ action_limit) (sym (length-map s.actions (joined_with deed.action))) h) (λ none apart room. one_has_room deed.action s.actions room);
+  acts = λ delivery line deed s h. performed_holds (λ t. Holds (actions_in t.entries)) delivery line deed s h
+      (λ none. subst Holds (sym (joined_actions deed.action s.entries)) (joins deed.action (actions_in s.entries) h))
+      (λ none apart room. subst Holds (sym (entered_actions s.entries (entry_at delivery line deed.action)))
+      (enters deed.action (actions_in s.entries) none apart (subst (λ n. nat_lt n action_limit ≡ true) (sym (length-map s.entries (λ (e : Entered). e.action))) room) h));
   enters = λ name s few h. h;
 }
+
+-- no more actions than there may be
+abbrev AreFew : List Action → Type 0
+AreFew actions = length actions ≤ action_limit
+
+one_has_room : (action : Action) (actions : List Action) → nat_lt (length actions) action_limit ≡ true → AreFew (actions ++ action ∷ [])
+one_has_room action actions room = grind (arith, nat_tests, length_push actions action)
+
+bounded : IsKept (λ s. AreFew (actions_in s.entries))
+bounded = of_actions AreFew (λ action actions h. subst (λ n. n ≤ action_limit) (sym (length-map actions (joined_with action))) h) (λ action actions none apart room h. one_has_room action actions room)
+
+-- as many entries as actions
+few_entries : (entries : List Entered) → AreFew (actions_in entries) → length entries ≤ action_limit
+few_entries entries few = subst (λ n. n ≤ action_limit) (length-map entries (λ (e : Entered). e.action)) few
 
 ending_state : (f : Flow) (s : RunState) → state_after (ending_by f s) ≡ s
 ending_state flow.GoesOn s = refl
@@ -240,33 +263,22 @@ ending_state flow.Stopped s = refl
 ending_state (flow.Failed error) s = refl
 
 -- the interpreter ends a walk that it begins without an action in a state with no more actions than it may have
-pub run_bounded : (find : ScriptName → Lookup) (depth : ℕ) (delivery : Delivery) (w : Walk) (f : Flow) (old new : RunState) → old.actions ≡ [] → doing (act_of find depth delivery) delivery w old ≡ ending_by f new → length new.actions ≤ action_limit
+pub run_bounded : (find : ScriptName → Lookup) (depth : ℕ) (delivery : Delivery) (w : Walk) (f : Flow) (old new : RunState) → old.entries ≡ [] → doing (act_of find depth delivery) delivery w old ≡ ending_by f new → length new.entries ≤ action_limit
 run_bounded find depth delivery w f old new none does =
-    subst IsBounded (ending_state f new)
-    (subst (λ e. IsBounded (state_after e)) does
-    (running_walk_holds IsBounded bounded find depth delivery w old (subst (λ actions. length actions ≤ action_limit) (sym none) (omega arith))))
+    few_entries new.entries
+    (subst (λ (s : RunState). AreFew (actions_in s.entries)) (ending_state f new)
+    (subst (λ e. AreFew (actions_in (state_after e).entries)) does
+    (running_walk_holds (λ s. AreFew (actions_in s.entries)) bounded find depth delivery w old (subst (λ entries. AreFew (actions_in entries)) (sym none) (omega arith)))))
 
-pub outcome_bounded : (find : ScriptName → Lookup) (main : Option ScriptName) (arrival : Arrival) → length (outcome_of find main arrival).actions ≤ action_limit
-outcome_bounded find main arrival = outcome_holds (λ origins actions. length actions ≤ action_limit) (omega arith) bounded find main arrival
+pub outcome_bounded : (find : ScriptName → Lookup) (main : Option ScriptName) (arrival : Arrival) → length (outcome_of find main arrival).entries ≤ action_limit
+outcome_bounded find main arrival = few_entries (outcome_of find main arrival).entries (outcome_holds AreFew (omega arith) bounded find main arrival)
 
 -- WHO ENTERED THEM
 
--- each action of a state has the command that entered it
-abbrev IsOriginated : RunState → Type 0
-IsOriginated state = length state.origins ≡ length state.actions
-
-originated : IsKept IsOriginated
-originated = record {
-  values = λ s values h. h;
-  flags = λ s flags h. h;
-  lookups = λ s lookups h. h;
-  acts = λ delivery line deed s h. performed_holds IsOriginated delivery line deed s h (λ none. h ∙ sym (length-map s.actions (joined_with deed.action)))
-      (λ none apart room. length_push s.origins (origin_at delivery line) ∙ ap (λ n. n + 1) h ∙ sym (length_push s.actions deed.action));
-  enters = λ name s few h. h;
-}
-
-pub outcome_originated : (find : ScriptName → Lookup) (main : Option ScriptName) (arrival : Arrival) → length (outcome_of find main arrival).origins ≡ length (outcome_of find main arrival).actions
-outcome_originated find main arrival = outcome_holds (λ origins actions. length origins ≡ length actions) refl originated find main arrival
+-- Where a command performs an action, there is then what there was, or that with the action joined to it, or that and the action with its command.
+pub performed_entries : (delivery : Delivery) (line : ℕ) (deed : Deed) (s : RunState) → ComesOf delivery line deed s.entries (state_after (performs delivery line deed s)).entries
+performed_entries delivery line deed s =
+    performed_holds (λ t. ComesOf delivery line deed s.entries t.entries) delivery line deed s (inl refl) (λ none. inr (inl refl)) (λ none apart room. inr (inr refl))
 
 -- INCLUDES
 

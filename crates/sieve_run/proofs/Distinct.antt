@@ -6,7 +6,7 @@ use Rattle.std.specs.Cmp.Lexicographic.{nat_list_eq_equiv}
 use Rattle.std.specs.List.{AllByRecursion, IsDistinct}
 use Rattle.std.specs.Prelude.{if◌then◌else◌}
 use Rattle.sieve_actions.specs.Delivery.{Arrival}
-use Rattle.sieve_actions.specs.State.{RunState}
+use Rattle.sieve_actions.specs.State.{RunState, actions_in}
 use Rattle.sieve_actions.specs.declared.action.Action.{Action}
 use Rattle.sieve_actions.specs.declared.action.Action.TheVariants.{Store, Redirect, Discard, Respond, Reject}
 use Rattle.script_names.specs.declared.name.ScriptName.{ScriptName}
@@ -14,7 +14,8 @@ use Rattle.sieve_actions.specs.Act.{brought_by, joined_with, same_action}
 use Rattle.sieve_run.specs.Distinct.{AreDistinct}
 use Rattle.sieve_run.specs.Library.{Lookup}
 use Rattle.sieve_run.specs.Run.{outcome_of}
-use Rattle.sieve_run.proofs.Bounds.{IsKept, outcome_holds, performed_holds}
+use Rattle.sieve_run.specs.Verdict.{actions_of}
+use Rattle.sieve_run.proofs.Bounds.{IsKept, of_actions, outcome_holds}
 
 -- WHEN TWO ACTIONS ARE ONE
 
@@ -77,22 +78,13 @@ module _ (action : Action) where
 -- RUNS
 
 -- the actions so far are distinct
-abbrev ActsApart : RunState → Type 0
-ActsApart state = AreDistinct state.actions
-
-apart : IsKept ActsApart
-apart = record {
-  values = λ s values h. h;
-  flags = λ s flags h. h;
-  lookups = λ s lookups h. h;
-  acts = λ delivery line deed s h. performed_holds ActsApart delivery line deed s h (λ none. distinct_joined deed.action s.actions h) (λ none apart room. IsDistinct-push same_equiv s.actions deed.action h apart);
-  enters = λ name s few h. h;
-}
+apart : IsKept (λ s. AreDistinct (actions_in s.entries))
+apart = of_actions AreDistinct distinct_joined (λ action actions none apart room h. IsDistinct-push same_equiv actions action h apart)
 
 none_distinct : AreDistinct []
 unfolding IsDistinct
 none_distinct = tt
 
 -- the actions of a verdict are distinct
-pub outcome_distinct : (find : ScriptName → Lookup) (main : Option ScriptName) (arrival : Arrival) → AreDistinct (outcome_of find main arrival).actions
-outcome_distinct find main arrival = outcome_holds (λ origins actions. AreDistinct actions) none_distinct apart find main arrival
+pub outcome_distinct : (find : ScriptName → Lookup) (main : Option ScriptName) (arrival : Arrival) → AreDistinct (actions_of (outcome_of find main arrival))
+outcome_distinct find main arrival = outcome_holds AreDistinct none_distinct apart find main arrival

@@ -1,6 +1,7 @@
 mod AgreeRows
 mod AtPeace
 mod Bounds
+pub mod Compared
 mod Depth
 mod Distinct
 pub mod Entries

@@ -43,7 +43,7 @@ having name tree asked = if name_eq name asked then present tree else missing
 
 -- the state of a run that has entered "a" too
 abbrev entered_a : RunState
-entered_a = record { actions = []; origins = []; cancelled = false; lookups = (main, true) ∷ (script_a, true) ∷ []; entered = main ∷ script_a ∷ []; values = no_values; flags = [] }
+entered_a = record { entries = []; cancelled = false; lookups = (main, true) ∷ (script_a, true) ∷ []; entered = main ∷ script_a ∷ []; values = no_values; flags = [] }
 
 -- a delivery in a script that these scripts include
 abbrev under : List ScriptName → Delivery
@@ -68,7 +68,7 @@ long_include_row : (find : ScriptName → Lookup) (name : ScriptName) → length
 long_include_row find name is = ap (λ n. if nat_lt name_limit n then missing else find name) is
 
 long_name_row : (find : ScriptName → Lookup) (name : ScriptName) (arrival : Arrival) → length name.name ≡ 1025 → outcome_of find (Some name) arrival
-    ≡ record { actions = []; origins = []; implicit = Some []; error = Some (record { script = name; line = 0; kind = MissingScript }); lookups = (name, false) ∷ [] }
+    ≡ record { entries = []; implicit = Some []; error = Some (record { script = name; line = 0; kind = MissingScript }); lookups = (name, false) ∷ [] }
 unfolding outcome_of
 long_name_row find name arrival is = ap (λ n. verdict_at find arrival name (if nat_lt name_limit n then missing else find name)) is
 

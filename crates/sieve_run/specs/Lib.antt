@@ -4,6 +4,7 @@ pub mod Frame
 pub mod Library
 pub mod Lines
 pub mod Meter
+pub mod Origin
 pub mod Perform
 pub mod Run
 pub mod Script

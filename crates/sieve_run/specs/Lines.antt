@@ -13,7 +13,7 @@ use Rattle.sieve_actions.specs.declared.action.Origin.{Origin}
 use Rattle.sieve_actions.specs.declared.error.RunError.{RunError}
 use Rattle.sieve_actions.specs.declared.response.Response.{Response}
 use Rattle.sieve_reading.specs.Reading.{rejection_word}
-use Rattle.sieve_run.specs.Verdict.{Verdict}
+use Rattle.sieve_run.specs.Verdict.{Verdict, actions_of}
 
 -- a text after a space, and texts so
 abbrev pub spaced_word : List ℕ → List ℕ
@@ -109,7 +109,7 @@ error_lines (Some error) = error_line error ∷ []
 
 -- the lines of what becomes of a message: the actions in order, the implicit keep where it stands, and the error where there is one
 abbrev pub verdict_lines : (mailbox : List ℕ) → Verdict → List (List ℕ)
-verdict_lines mailbox verdict = map action_line verdict.actions ++ (implicit_lines mailbox verdict.implicit ++ error_lines verdict.error)
+verdict_lines mailbox verdict = map action_line (actions_of verdict) ++ (implicit_lines mailbox verdict.implicit ++ error_lines verdict.error)
 
 -- the lines of the names that were looked up
 abbrev pub lookup_lines : Verdict → List (List ℕ)

@@ -164,14 +164,14 @@ implicit_of state = if state.cancelled then None else Some state.flags
 -- In the main script a return is the end (RFC 6609, section 3.3). After an error no action is taken, and the implicit keep stands
 -- (RFC 5228, sections 2.10.2 and 2.10.6), without flags.
 abbrev pub verdict_of : Ending → Verdict
-verdict_of (goes_on state) = record { actions = state.actions; origins = state.origins; implicit = implicit_of state; error = None; lookups = state.lookups }
-verdict_of (returned state) = record { actions = state.actions; origins = state.origins; implicit = implicit_of state; error = None; lookups = state.lookups }
-verdict_of (stopped state) = record { actions = state.actions; origins = state.origins; implicit = implicit_of state; error = None; lookups = state.lookups }
-verdict_of (failed error state) = record { actions = []; origins = []; implicit = Some []; error = Some error; lookups = state.lookups }
+verdict_of (goes_on state) = record { entries = state.entries; implicit = implicit_of state; error = None; lookups = state.lookups }
+verdict_of (returned state) = record { entries = state.entries; implicit = implicit_of state; error = None; lookups = state.lookups }
+verdict_of (stopped state) = record { entries = state.entries; implicit = implicit_of state; error = None; lookups = state.lookups }
+verdict_of (failed error state) = record { entries = []; implicit = Some []; error = Some error; lookups = state.lookups }
 
 -- the state in which the main script begins
 abbrev pub begun : ScriptName → RunState
-begun main = record { actions = []; origins = []; cancelled = false; lookups = (main, true) ∷ []; entered = main ∷ []; values = no_values; flags = [] }
+begun main = record { entries = []; cancelled = false; lookups = (main, true) ∷ []; entered = main ∷ []; values = no_values; flags = [] }
 
 -- the delivery as the main script knows it
 abbrev pub delivery_to : Arrival → ScriptName → Delivery
@@ -183,11 +183,11 @@ run_of find arrival main tree = running find include_depth (delivery_to arrival 
 
 -- the verdict where the main script is this
 abbrev pub verdict_at : (ScriptName → Lookup) → Arrival → ScriptName → Lookup → Verdict
-verdict_at find arrival main missing = record { actions = []; origins = []; implicit = Some []; error = Some (record { script = main; line = 0; kind = MissingScript }); lookups = (main, false) ∷ [] }
-verdict_at find arrival main invalid = record { actions = []; origins = []; implicit = Some []; error = Some (record { script = main; line = 0; kind = InvalidScript }); lookups = (main, true) ∷ [] }
+verdict_at find arrival main missing = record { entries = []; implicit = Some []; error = Some (record { script = main; line = 0; kind = MissingScript }); lookups = (main, false) ∷ [] }
+verdict_at find arrival main invalid = record { entries = []; implicit = Some []; error = Some (record { script = main; line = 0; kind = InvalidScript }); lookups = (main, true) ∷ [] }
 verdict_at find arrival main (present tree) = verdict_of (run_of find arrival main tree)
 
 -- the verdict on a message, and the names that it looked up, over a library
 unfoldable pub outcome_of : (ScriptName → Lookup) → Option ScriptName → Arrival → Verdict
-outcome_of find None arrival = record { actions = []; origins = []; implicit = Some []; error = None; lookups = [] }
+outcome_of find None arrival = record { entries = []; implicit = Some []; error = None; lookups = [] }
 outcome_of find (Some main) arrival = verdict_at find arrival main (found_at find main)

@@ -1,15 +1,18 @@
 -- What a run answers.
 use Rattle.std.specs.Prelude.{ℕ, List, Bool, Option}
 use Rattle.script_names.specs.declared.name.ScriptName.{ScriptName}
+use Rattle.sieve_actions.specs.State.{Entered, actions_in}
 use Rattle.sieve_actions.specs.declared.action.Action.{Action}
-use Rattle.sieve_actions.specs.declared.action.Origin.{Origin}
 use Rattle.sieve_actions.specs.declared.error.RunError.{RunError}
 
--- the actions, of each the command that entered it first, the flags of the implicit keep where it stands, the error, and the names looked up, each
--- present or missing
+-- the actions in order, each with the command that entered it first, the flags of the implicit keep where it stands, the error, and the names
+-- looked up, each present or missing
 pub record Verdict : Type 0 where
-  pub actions : List Action
-  pub origins : List Origin
+  pub entries : List Entered
   pub implicit : Option (List (List ℕ))
   pub error : Option RunError
   pub lookups : List (ScriptName × Bool)
+
+-- the actions alone
+abbrev pub actions_of : Verdict → List Action
+actions_of verdict = actions_in verdict.entries

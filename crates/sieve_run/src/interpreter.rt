@@ -38,8 +38,7 @@ fn failed_at_main(
     kind: ErrorKind,
 ) -> Result<Outcome, AllocError>
     ensures { IfOk result (λ outcome. outcome ≡ record {
-      actions = [];
-      origins = [];
+      entries = [];
       implicit = Some [];
       error = Some (record { script = main.now; line = 0; kind = kind });
       lookups = (main.now, is_present) ∷ [];
@@ -48,8 +47,7 @@ fn failed_at_main(
     let script = main.copy(alloc)?;
     let lookups = first_lookup(alloc, main, is_present)?;
     Ok(Outcome {
-        actions: Vec::new(alloc),
-        origins: Vec::new(alloc),
+        entries: Vec::new(alloc),
         implicit: Some(FlagList::new(alloc)),
         error: Some(RunError {
             script,
@@ -82,12 +80,11 @@ fn kept(cancelled: bool, flags: FlagList) -> Option<FlagList>
 
 /// The outcome of a run of the main script that ended so.
 fn ended(alloc: Global, flow: Flow, state: State) -> Outcome
-    requires { length state.actions.actions ≤ action_limit }
+    requires { length state.actions.entries ≤ action_limit }
     ensures { result ≡ verdict_of (ending_by flow (state_of state)) }
 {
     let State {
         actions,
-        origins,
         cancelled,
         lookups,
         entered,
@@ -95,18 +92,16 @@ fn ended(alloc: Global, flow: Flow, state: State) -> Outcome
     } = state;
     drop(entered);
     drop(values);
-    let (actions, flags) = actions.into_parts();
+    let (entries, flags) = actions.into_parts();
     match flow {
         Flow::Failed(error) => Outcome {
-            actions: Vec::new(alloc),
-            origins: Vec::new(alloc),
+            entries: Vec::new(alloc),
             implicit: Some(FlagList::new(alloc)),
             error: Some(error),
             lookups,
         },
         Flow::GoesOn | Flow::Returned | Flow::Stopped => Outcome {
-            actions,
-            origins,
+            entries,
             implicit: kept(cancelled, flags),
             error: None,
             lookups,
@@ -122,8 +117,6 @@ fn begun(alloc: Global, main: &ScriptName) -> Result<State, AllocError>
     entered.push(main.copy(alloc)?)?;
     Ok(State {
         actions: Actions::new(alloc),
-        // Most runs perform one action, and each verdict keeps the list.
-        origins: Vec::with_capacity(alloc, 1)?,
         cancelled: false,
         lookups: first_lookup(alloc, main, true)?,
         entered,
@@ -165,11 +158,10 @@ fn run_main<L: Library>(
 /// The outcome where there is no main script: the implicit keep, and nothing is looked up.
 fn no_main(alloc: Global) -> Outcome
     ensures { result
-        ≡ record { actions = []; origins = []; implicit = Some []; error = None; lookups = [] } }
+        ≡ record { entries = []; implicit = Some []; error = None; lookups = [] } }
 {
     Outcome {
-        actions: Vec::new(alloc),
-        origins: Vec::new(alloc),
+        entries: Vec::new(alloc),
         implicit: Some(FlagList::new(alloc)),
         error: None,
         lookups: IndexMap::new(alloc),

@@ -12,9 +12,12 @@ ghost use Rattle.sieve_run.specs.Depth.{IsDeepest, depth_left, entered_within, w
 ghost use Rattle.sieve_run.specs.Distinct.{AreDistinct};
 ghost use Rattle.sieve_run.specs.Frame.{Agree, Texts, outcome_over};
 ghost use Rattle.sieve_run.specs.Library.{Lookup};
+ghost use Rattle.sieve_run.specs.Origin.{ComesOf};
 ghost use Rattle.sieve_run.specs.Perform.{answers_of, do_gone, perform};
-ghost use Rattle.sieve_actions.specs.Act.{Ending, goes_with_rejections, is_rejection, is_response, returned, state_after, stopped};
+ghost use Rattle.sieve_actions.specs.Act.{Ending, goes_with_rejections, is_rejection, is_response, performs, returned, state_after, stopped};
+ghost use Rattle.sieve_actions.specs.declared.action.Deed.{Deed};
 ghost use Rattle.sieve_run.specs.Run as spec;
+ghost use Rattle.sieve_run.specs.Verdict.{actions_of};
 ghost use Rattle.sieve_actions.specs.State.{RunState};
 ghost use Rattle.script_names.specs.declared.name.ScriptName as names;
 
@@ -104,15 +107,15 @@ pub fn a_run_does_its_walk()
 #[tactic(auto, using(crate::proofs::Bounds::outcome_bounded))]
 pub fn no_run_acts_too_often()
     ensures { (find : names.ScriptName → Lookup) (main : Option names.ScriptName)
-        (arrival : Arrival) → length (spec.outcome_of find main arrival).actions ≤ action_limit }
+        (arrival : Arrival) → length (spec.outcome_of find main arrival).entries ≤ action_limit }
 {}
 
-/// Each action of a verdict has the command that entered it.
-#[tactic(auto, using(crate::proofs::Bounds::outcome_originated))]
+/// Each action has the command that entered it, in one record: where a command performs an action, those that were there keep theirs, joined or
+/// not, and one that is new has this command.
+#[tactic(auto, using(crate::proofs::Bounds::performed_entries))]
 pub fn each_action_has_its_origin()
-    ensures { (find : names.ScriptName → Lookup) (main : Option names.ScriptName)
-        (arrival : Arrival) → length (spec.outcome_of find main arrival).origins
-        ≡ length (spec.outcome_of find main arrival).actions }
+    ensures { (delivery : Delivery) (line : ℕ) (deed : Deed) (state : RunState) → ComesOf delivery
+        line deed state.entries (state_after (performs delivery line deed state)).entries }
 {}
 
 /// No two actions of a verdict are one: it has no two stores into one mailbox, no two redirects to one address, and no two discards (RFC
@@ -120,7 +123,7 @@ pub fn each_action_has_its_origin()
 #[tactic(auto, using(crate::proofs::Distinct::outcome_distinct))]
 pub fn no_run_acts_twice_alike()
     ensures { (find : names.ScriptName → Lookup) (main : Option names.ScriptName)
-        (arrival : Arrival) → AreDistinct (spec.outcome_of find main arrival).actions }
+        (arrival : Arrival) → AreDistinct (actions_of (spec.outcome_of find main arrival)) }
 {}
 
 /// No verdict acts against itself: it answers the sender once at most (RFC 5230, section 4.7), and where it rejects the message it does that
@@ -129,9 +132,10 @@ pub fn no_run_acts_twice_alike()
 pub fn no_run_acts_against_itself()
     ensures responses { (find : names.ScriptName → Lookup) (main : Option names.ScriptName)
         (arrival : Arrival)
-        → length (filter is_response (spec.outcome_of find main arrival).actions) ≤ 1 }
+        → length (filter is_response (actions_of (spec.outcome_of find main arrival))) ≤ 1 }
     ensures rejections { (find : names.ScriptName → Lookup) (main : Option names.ScriptName)
-        (arrival : Arrival) → list_any is_rejection (spec.outcome_of find main arrival).actions
-        ≡ true → length (filter (λ action. not (goes_with_rejections action))
-        (spec.outcome_of find main arrival).actions) ≡ 1 }
+        (arrival : Arrival)
+        → list_any is_rejection (actions_of (spec.outcome_of find main arrival)) ≡ true
+        → length (filter (λ action. not (goes_with_rejections action))
+        (actions_of (spec.outcome_of find main arrival))) ≡ 1 }
 {}

@@ -3,6 +3,7 @@
 #![tactic(auto)]
 
 mod agreement;
+mod comparing;
 mod including;
 mod interpreter;
 pub mod laws;
@@ -12,7 +13,6 @@ mod lookups;
 mod meter;
 mod operations;
 mod outcome;
-mod response_agreement;
 mod response_lines;
 mod script;
 mod shelf;
@@ -32,7 +32,7 @@ pub use script::Script;
 pub use script_names::{Location, ScriptName};
 pub use shelf::Shelf;
 pub use sieve_actions::{
-    Action, Addresses, Envelope, ErrorKind, Filing, Origin, Response, RunError, Texts,
+    Action, Addresses, Entry, Envelope, ErrorKind, Filing, Origin, Response, RunError, Texts,
 };
 pub use sieve_matching::mailbox_count;
 pub use sieve_reading::Rejection;

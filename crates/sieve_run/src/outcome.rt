@@ -3,20 +3,20 @@ ghost use Rattle.std.specs.Prelude.{◌≡◌, ◌<◌, ◌≤◌, ◌↔◌, Is
 ghost use Rattle.sieve_limits.specs.Limits.{action_limit};
 ghost use Rattle.std.specs.Option.{option_copied};
 ghost use Rattle.std.specs.Str.Lines.{lines};
+ghost use Rattle.sieve_actions.specs.view.Actions.{entries_as};
 ghost use Rattle.sieve_run.specs.Lines.{agrees, verdict_lines};
 
 use crate::agreement::says;
 use indexmap::IndexMap;
 use match_text::FlagList;
 use script_names::ScriptName;
-use sieve_actions::{Action, Origin, RunError};
+use sieve_actions::{Entry, RunError};
 use std::marker::Model;
 
 /// The verdict on a message, and the scripts that it looked at. Only a run makes one.
 #[derive(Drop)]
 pub struct Outcome {
-    pub(crate) actions: Vec<Action>,
-    pub(crate) origins: Vec<Origin>,
+    pub(crate) entries: Vec<Entry>,
     pub(crate) implicit: Option<FlagList>,
     pub(crate) error: Option<RunError>,
     pub(crate) lookups: IndexMap<ScriptName, bool>,
@@ -24,30 +24,24 @@ pub struct Outcome {
 
 impl Model for Outcome {
     ghost use Rattle.std.specs.Prelude.{◌≤◌, length};
+    ghost use Rattle.sieve_actions.specs.view.Actions.{entries_as};
     ghost use Rattle.sieve_limits.specs.Limits.{action_limit};
     ghost use Rattle.sieve_run.specs.Verdict.{Verdict};
 
     ghost Value = { Verdict };
 
-    ghost view = { λ a. record { actions = a.actions.items; origins = a.origins.items; implicit = a.implicit; error = a.error; lookups = a.lookups.entries } };
+    ghost view = { λ a. record { entries = entries_as a.entries.items; implicit = a.implicit; error = a.error; lookups = a.lookups.entries } };
 
-    ghost invariant = { λ a. length a.actions.items ≤ action_limit };
+    ghost invariant = { λ a. length a.entries.items ≤ action_limit };
 }
 
 impl Outcome {
-    /// The actions in order, 32 at most (RFC 5228, section 2.10.4). Takes no memory.
-    pub fn actions(&self) -> &[Action]
-        ensures actions { result.now ≡ self.now.actions }
+    /// The actions in order, 32 at most (RFC 5228, section 2.10.4), each with the command that entered it first. Takes no memory.
+    pub fn entries(&self) -> &[Entry]
+        ensures entries { entries_as result.now ≡ self.now.entries }
         ensures limit { length result.now ≤ action_limit }
     {
-        self.actions.as_slice()
-    }
-
-    /// Of each action, at its place, the command that entered it first. Takes no memory.
-    pub fn origins(&self) -> &[Origin]
-        ensures { result.now ≡ self.now.origins }
-    {
-        self.origins.as_slice()
+        self.entries.as_slice()
     }
 
     /// The flags of the implicit keep, where it stands (RFC 5228, section 2.10.2; RFC 5232, section 5). Takes no memory.
@@ -74,13 +68,14 @@ impl Outcome {
 
     /// Whether a text says what becomes of the message where mail is kept in `mailbox`: whether its lines are those of the verdict, each without the
     /// spaces before it in a report, and without the names that were looked up. A line of the text ends at an LF, and a CR directly before that is no
-    /// part of it; the end of the text ends its last line. The empty text says nothing. The time is linear in the text. Takes no memory.
+    /// part of it; the end of the text ends its last line. The empty text says nothing. The time is linear in the text and in the first line of the
+    /// verdict that it doesn't have. Takes no memory.
     pub fn agrees(&self, mailbox: &[u8], text: &[u8]) -> bool
         ensures value { result ≡ agrees mailbox.now self.now text.now }
         ensures lines { IsTrue result
             ↔ ((0 < length text.now) × (lines text.now ≡ verdict_lines mailbox.now self.now)) }
     {
-        let has_lines = says(text, mailbox, self.actions(), self.implicit(), self.error());
+        let has_lines = says(text, mailbox, self.entries(), self.implicit(), self.error());
         !text.is_empty() && has_lines
     }
 }

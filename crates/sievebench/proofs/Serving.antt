@@ -7,7 +7,7 @@ use Rattle.devices.specs.Devices.{HasRisen}
 use Rattle.sieve_limits.specs.Limits.{expected_limit, mailboxes_limit, message_count_limit, message_limit, script_count_limit, text_limit}
 use Rattle.devices.specs.Writers.{Wrote, WroteFront}
 use Rattle.bench.specs.Bench.{BenchState}
-use Rattle.bench.specs.Content.{Content, Edit, after, unless, is_long, is_long_id, text_at, message_at, with_script, with_message, with_expected}
+use Rattle.bench.specs.Content.{Content, Edit, after, unless, is_long, is_long_id, text_at, message_at, with_script, with_message, changed, sample_with}
 use Rattle.session_text.specs.view.Payload.{BreaksOff, Takes, FallsShort}
 use Rattle.sievebench.specs.Session.{answer_to, asks, Ends, MatchFault, MatchSessionEnd, question_takes_memory, Reported, ReportRefused, Request, Served, served, Step, takes_memory, with_octets, edits, reports, truncated, Replies, refusal_line}
 use Rattle.bench.specs.Report.{report_text}
@@ -17,6 +17,7 @@ use Rattle.sievebench.specs.view.Progress.{BreakFrom, Continues, CutFrom, EndsBy
 use Rattle.sievebench.specs.declared.server.Progress.{Progress}
 use Rattle.sievebench.proofs.Moving.{edit_moves, report_moves, stays}
 use Rattle.sievebench.specs.declared.server.Progress.TheVariants as ways
+use Rattle.bench.specs.declared.setting.MessageSetting.TheVariants as own
 use Rattle.bench.specs.declared.fault.EditFault.{EditFault}
 use Rattle.bench.specs.declared.fault.EditFault.TheVariants.{TooLarge, NoSuchMessage, Full, NoMemory}
 use Rattle.sievebench.specs.declared.task.Question.{Question}
@@ -170,7 +171,7 @@ too_large (subjects.Message id) old octets more =
 too_large (subjects.Expected id) old octets more =
     let past : nat_lt expected_limit (length octets) ≡ true = grind (arith, nat_tests) in
     let first : (is_long_id id || nat_lt expected_limit (length octets)) ≡ true = second_holds (is_long_id id) _ past in
-    ap (λ (b : Bool). unless (cond b (Some TooLarge) (cond (is_none (message_at old.messages id)) (Some NoSuchMessage) None)) (record old { messages = with_expected id (Some octets) old.messages })) first
+    ap (λ (b : Bool). unless (cond b (Some TooLarge) (cond (is_none (message_at old.messages id)) (Some NoSuchMessage) None)) (record old { messages = changed id (sample_with (own.Expected (Some octets))) old.messages })) first
 too_large subjects.Mailboxes old octets more =
     let past : nat_lt mailboxes_limit (length octets) ≡ true = grind (arith, nat_tests) in
     ap (λ (b : Bool). unless (cond b (Some TooLarge) None) (record old { envelope = record old.envelope { mailboxes = octets } })) past

@@ -1,5 +1,5 @@
 -- A session: the replies to a stream of octets, and what the bench holds in the end.
-use Rattle.std.specs.Prelude.{◌≡◌, ⊤, ℕ, ◌+◌, ◌-◌, ◌^◌, ◌≤◌, Bool, true, false, ◌⊎◌, List, [], ◌∷◌, ◌++◌, length, take, drop, Option, None, Some, Result, Ok, Err, nat_lt, if◌then◌else◌, codes}
+use Rattle.std.specs.Prelude.{◌≡◌, ⊤, ℕ, ◌+◌, ◌-◌, ◌^◌, ◌≤◌, Bool, true, false, ◌⊎◌, List, [], ◌∷◌, ◌++◌, length, take, drop, Option, None, Some, is_some, Result, Ok, Err, nat_lt, if◌then◌else◌, codes}
 use Rattle.std.specs.Io.KnownBytes.{Appends}
 use Rattle.std.specs.Option.{option_map}
 use Rattle.sieve_limits.specs.Limits.{line_limit}
@@ -7,12 +7,16 @@ use Rattle.sieve_profile.specs.Profile.{Profile}
 use Rattle.sieve_run.specs.Library.{Lookup, missing, invalid, present, found_at, library_of}
 use Rattle.sieve_run.specs.Meter.{runs_after}
 use Rattle.bench.specs.Bench.{BenchState, RefusedAmong}
-use Rattle.bench.specs.Content.{Content, Edit, put_script, put_message, set_main, rename_script, remove_script, remove_message, clear_main, set_envelope, set_mailbox, set_expected, clear_expected, set_mailboxes, set_message_envelope, clear_message_envelope, set_clock, clear_clock, after, text_at}
+use Rattle.bench.specs.Content.{Content, Edit, put_script, put_message, rename_script, remove_script, remove_message, after, text_at, set_for_all, set_for_one}
 use Rattle.bench.specs.Dump.{script_code}
 use Rattle.bench.specs.Report.{report_text}
 use Rattle.bench.specs.Stale.{stale_after}
 use Rattle.script_names.specs.declared.name.ScriptName.{ScriptName}
 use Rattle.session_text.specs.SessionLine.{SessionCommand, nothing, script, message, main, no_main, rename, drop_script, drop_message, envelope, mailbox, report, dump, expect, no_expect, mailboxes, message_envelope, no_message_envelope, clock, no_clock, first_line, command_of_line, is_long_so_far, line_so_far}
+use Rattle.bench.specs.declared.setting.MessageSetting.{MessageSetting}
+use Rattle.bench.specs.declared.setting.MessageSetting.TheVariants as own
+use Rattle.bench.specs.declared.setting.Setting.{Setting}
+use Rattle.bench.specs.declared.setting.Setting.TheVariants as common
 use Rattle.bench.specs.declared.fault.EditFault.{EditFault}
 use Rattle.bench.specs.declared.fault.EditFault.TheVariants.{NoSuchScript, NameTaken, NoSuchMessage, Full, TooLarge, NoMemory}
 use Rattle.sievebench.specs.declared.status.SessionEnd.{SessionEnd}
@@ -45,22 +49,22 @@ abbrev pub demand_of : SessionCommand → Demand
 demand_of nothing = asks_question Nothing
 demand_of (script location name count) = asks_put count (λ octets. put_script (record { location = location; name = name }) octets)
 demand_of (message id count) = asks_put count (λ octets. put_message id octets)
-demand_of (main location name) = asks_edit (set_main (record { location = location; name = name }))
-demand_of no_main = asks_edit clear_main
+demand_of (main location name) = asks_edit (set_for_all (common.Main (Some (record { location = location; name = name }))))
+demand_of no_main = asks_edit (set_for_all (common.Main None))
 demand_of (rename location name new_location new_name) = asks_edit (rename_script (record { location = location; name = name }) (record { location = new_location; name = new_name }))
 demand_of (drop_script location name) = asks_edit (remove_script (record { location = location; name = name }))
 demand_of (drop_message id) = asks_edit (remove_message id)
-demand_of (envelope from to) = asks_edit (set_envelope from to)
-demand_of (mailbox box) = asks_edit (set_mailbox box)
+demand_of (envelope from to) = asks_edit (set_for_all (common.Addresses (record { from = from; to = to })))
+demand_of (mailbox box) = asks_edit (set_for_all (common.Mailbox box))
 demand_of report = asks_report
 demand_of (dump location name) = asks_question (Code (record { location = location; name = name }))
-demand_of (expect id count) = asks_put count (λ octets. set_expected id octets)
-demand_of (no_expect id) = asks_edit (clear_expected id)
-demand_of (mailboxes count) = asks_put count (λ octets. set_mailboxes octets)
-demand_of (message_envelope id from to) = asks_edit (set_message_envelope id from to)
-demand_of (no_message_envelope id) = asks_edit (clear_message_envelope id)
-demand_of (clock time) = asks_edit (set_clock time)
-demand_of no_clock = asks_edit clear_clock
+demand_of (expect id count) = asks_put count (λ octets. set_for_one id (own.Expected (Some octets)))
+demand_of (no_expect id) = asks_edit (set_for_one id (own.Expected None))
+demand_of (mailboxes count) = asks_put count (λ octets. set_for_all (common.Mailboxes octets))
+demand_of (message_envelope id from to) = asks_edit (set_for_one id (own.Addresses (Some (record { from = from; to = to }))))
+demand_of (no_message_envelope id) = asks_edit (set_for_one id (own.Addresses None))
+demand_of (clock time) = asks_edit (set_for_all (common.Clock (Some time)))
+demand_of no_clock = asks_edit (set_for_all (common.Clock None))
 
 -- what a line asks for with the octets after it; a line of no command says nothing that there is
 abbrev pub request_by : Option Demand → List ℕ → Request
@@ -125,24 +129,28 @@ abbrev pub question_takes_memory : Question → Bool
 question_takes_memory Nothing = false
 question_takes_memory (Code name) = true
 
--- whether memory may be refused to an edit of a session; six take none
+-- whether memory may be refused to a setting that a session makes: its octets are copied, where it has some
+abbrev pub copies : Setting → Bool
+copies (common.Main name) = is_some name
+copies (common.Addresses addresses) = true
+copies (common.Mailbox box) = true
+copies (common.Mailboxes text) = true
+copies (common.Clock time) = false
+
+-- the same of a setting of one message
+abbrev pub copies_for_one : MessageSetting → Bool
+copies_for_one (own.Expected expected) = is_some expected
+copies_for_one (own.Addresses addresses) = is_some addresses
+
+-- whether memory may be refused to an edit of a session
 abbrev pub takes_memory : Edit → Bool
 takes_memory (put_script name text) = true
 takes_memory (put_message id bytes) = true
-takes_memory (set_main name) = true
 takes_memory (rename_script from to) = true
 takes_memory (remove_script name) = true
 takes_memory (remove_message id) = false
-takes_memory clear_main = false
-takes_memory (set_envelope from to) = true
-takes_memory (set_mailbox box) = true
-takes_memory (set_expected id text) = true
-takes_memory (clear_expected id) = false
-takes_memory (set_mailboxes text) = true
-takes_memory (set_message_envelope id from to) = true
-takes_memory (clear_message_envelope id) = false
-takes_memory (set_clock time) = false
-takes_memory clear_clock = false
+takes_memory (set_for_all setting) = copies setting
+takes_memory (set_for_one id setting) = copies_for_one setting
 
 -- a bench, and how many runs were made so far
 pub record Served : Type 0 where
@@ -275,13 +283,10 @@ MatchSessionEnd ends.NoMemory P Q R S = S
 
 -- a fact where the reader failed, one where the writer did, and one where the reads came to an end
 abbrev pub MatchFault : SessionEnd → Type 0 → Type 0 → Type 0 → Type 0
-MatchFault ends.Done P Q R = ⊤
-MatchFault ends.Syntax P Q R = ⊤
-MatchFault ends.Truncated P Q R = ⊤
 MatchFault ends.Read P Q R = P
 MatchFault ends.Write P Q R = Q
-MatchFault ends.NoMemory P Q R = ⊤
 MatchFault ends.TurnLimit P Q R = R
+MatchFault other P Q R = ⊤
 
 -- There are no more turns than octets that were read and faults that were counted of the reader, where it says what it has left. A
 -- count that stands at the greatest u64 counts no more.
@@ -297,9 +302,5 @@ ReadsAreMade turns calls calls' = (calls + turns ≤ calls') ⊎ (2 ^ 64 - 1 ≤
 -- a fact at the ends that come with the end of the input
 abbrev pub AtLastEnd : SessionEnd → Type 0 → Type 0
 AtLastEnd ends.Done P = P
-AtLastEnd ends.Syntax P = ⊤
 AtLastEnd ends.Truncated P = P
-AtLastEnd ends.Read P = ⊤
-AtLastEnd ends.Write P = ⊤
-AtLastEnd ends.NoMemory P = ⊤
-AtLastEnd ends.TurnLimit P = ⊤
+AtLastEnd other P = ⊤

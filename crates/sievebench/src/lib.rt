@@ -8,7 +8,8 @@ mod status;
 mod task;
 
 pub use bench::{
-    Bench, EditFault, ReportFault, TestEnd, TestJob, TestScript, dump_text, test_bench,
+    Bench, EditFault, MessageSetting, ReportFault, Setting, TestEnd, TestJob, TestScript,
+    dump_text, test_bench,
 };
 pub use command_line::{Argument, CommandLine, Job, TestWords, UsageFault, command_of};
 pub use date_text::{Clock, Zone, zone_named};
@@ -17,5 +18,5 @@ pub use octets::Octets;
 pub use script_names::{Location, ScriptName};
 pub use server::session;
 pub use sieve_profile::{EXTENSIONS, Extension, Profile};
-pub use sieve_run::{Action, Meter, Outcome};
+pub use sieve_run::{Action, Addresses, Entry, Meter, Origin, Outcome};
 pub use status::{End, SessionEnd, status_of};

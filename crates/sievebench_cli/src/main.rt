@@ -8,8 +8,6 @@ mod folder;
 mod streams;
 mod test_files;
 mod test_run;
-#[cfg(test)]
-mod tests;
 
 use complaints::complain;
 use devices::Counted;

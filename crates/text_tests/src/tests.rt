@@ -2,22 +2,13 @@
 //!
 //! What scripts and mails alone tell stands in `examples/rows` and is made in `tools/checks`.
 
-mod addresses_of_values;
 mod comparators;
-mod dates;
-mod decoded_values;
 mod flags;
-mod limits;
-mod mails;
 mod messages;
-mod orders;
 mod print;
 mod rooms;
 mod scripts;
-mod sequences;
-mod spellings;
 mod variables;
-mod wildcards;
 mod writers;
 
 use std::alloc::AllocError;

@@ -3,6 +3,7 @@
 from __future__ import annotations
 
 import contextlib
+import functools
 from typing import Dict, Iterable, Iterator, List, Optional, Set, Tuple
 
 from .program import Fault, Line, Place, Session, Verdict
@@ -46,10 +47,10 @@ class Bench:
         yield
         self.put({place: self.scripts[place] for place in texts})
 
-    def put(self, texts: Dict[Place, bytes]) -> None:
-        """Puts the texts of scripts."""
+    def put(self, texts: Dict[Place, bytes], paths: Optional[Dict[Place, bytes]] = None) -> None:
+        """Puts the texts of scripts, which are called by their files where these are known."""
         for place, text in texts.items():
-            self.session.script(place, text, f"the script {quoted(place[1])}")
+            self.session.script(place, text, f"the script {quoted((paths or {}).get(place, place[1]))}")
 
     def replace(self, place: Place, text: bytes) -> None:
         """Another text of a script, from now on."""
@@ -57,14 +58,14 @@ class Bench:
             self.put({place: text})
             self.scripts[place] = text
 
-    def become(self, scripts: Dict[Place, bytes]) -> None:
+    def become(self, scripts: Dict[Place, bytes], paths: Optional[Dict[Place, bytes]] = None) -> None:
         """Puts other scripts in place of all that are there. Those that stay as they are aren't touched."""
         for place in self.scripts:
             if place not in scripts:
                 self.session.edit(
                     f"drop-script {place[0]}", [place[1]], None, f"the end of the script {quoted(place[1])}"
                 )
-        self.put({place: text for place, text in scripts.items() if self.scripts.get(place) != text})
+        self.put({place: text for place, text in scripts.items() if self.scripts.get(place) != text}, paths)
         self.scripts = dict(scripts)
 
 
@@ -112,15 +113,14 @@ def step(bench: Bench, place: Place, flags: Flags, group: Set[bytes], course: Co
         found = bench.run(place, KEPT)
     going, asked = {}, set()
     for name in group:
-        kept = [line for line in found[name].lines if is_kept(line)]
-        failed = any(line.text.startswith(b"error ") for line in found[name].lines)
-        if not kept or failed:
+        kept = kept_in(found[name])
+        if kept is None:
             course.add(name, renamed(found[name]))
             continue
-        rest = tuple(line for line in found[name].lines if not is_kept(line))
-        course.add(name, Verdict(rest, found[name].reads))
-        going[name] = flags_of(kept[0])
-        if kept[0].text.startswith(b"store "):
+        line, rest = kept
+        course.add(name, rest)
+        going[name] = flags_of(line)
+        if line.text.startswith(b"store "):
             asked.add(name)
             course.kept[name] = going[name]
     if asked:
@@ -137,6 +137,16 @@ def ends_of(bench: Bench, place: Place, text: bytes, reads: Set[Place]) -> Dict[
     with bench.changed(bare):
         found = bench.run(place, KEPT)
     return {name: flags for name, verdict in found.items() for flags in map(flags_of, filter(is_kept, verdict.lines))}
+
+
+# Many mails have the same verdict.
+@functools.lru_cache(maxsize=1024)
+def kept_in(verdict: Verdict) -> Optional[Tuple[Line, Verdict]]:
+    """What says that a script kept the mail, and what it did beside; nothing where it didn't, or failed."""
+    kept = [line for line in verdict.lines if is_kept(line)]
+    if not kept or any(line.text.startswith(b"error ") for line in verdict.lines):
+        return None
+    return kept[0], Verdict(tuple(line for line in verdict.lines if not is_kept(line)), verdict.reads)
 
 
 def is_kept(line: Line) -> bool:
@@ -169,6 +179,7 @@ def renamed(verdict: Verdict) -> Verdict:
     )
 
 
+@functools.lru_cache(maxsize=1024)
 def joined(before: Verdict, after: Verdict) -> Verdict:
     """All that two scripts did. What adds nothing within a run adds nothing here: a store into the same mailbox brings its flags to
     the first, and a redirect to the same address, a discard or a response that follows another changes nothing."""

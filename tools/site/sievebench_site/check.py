@@ -7,25 +7,22 @@ from typing import Dict, Iterator, List, Optional
 
 from . import findings
 from .checked import EXPECTS_NOTHING, Checked
-from .faults import sentence_of
 from .findings import ANNOTATED, NOTE, PLAIN, SKIPPED, Finding, Test
 from .groups import FIRST, Group, difference, name_of
 from .judge import Case
 from .mails import LeftOut
+from .merge import Part
+from .shards import Shard
 from .shown import Look
 
 
-def text_of(checked: Checked, look: Look, quiet: bool) -> str:
-    """The results for people."""
-    told = [
-        f"{look.name(script.path)}:{line}: {word}: {sentence_of(script, line, word)}"
-        for script, (line, word) in checked.broken
-    ]
-    told += [f"{look.name(script.path)}:{line}: not judged: {why}" for script, line, why in checked.lacking]
+def text_of(checked: Checked, look: Look, quiet: bool, shard: Optional[Shard] = None) -> str:
+    """The results for people, of a site or of one of its parts."""
+    beside = checked.beside
+    told = [f"{look.name(it.path)}:{it.line}: {it.word}: {it.sentence}" for it in beside.broken]
+    told += [f"{look.name(it.path)}:{it.line}: not judged: {it.why}" for it in beside.lacking]
     if not quiet:
-        told += [
-            f"{look.name(it.path)}:{line}: skipped: {look.line(why.encode())}" for it, line, why in checked.passed_over
-        ]
+        told += [f"{look.name(it.path)}:{it.line}: skipped: {look.line(it.why.encode())}" for it in beside.passed_over]
     for group in checked.groups(checked.wrong):
         told += heads(group, look, "") + [f"  {line}" for line in difference(group, look)]
     for group in checked.groups(checked.unjudged):
@@ -33,11 +30,12 @@ def text_of(checked: Checked, look: Look, quiet: bool) -> str:
     if not checked.lax:
         for group in checked.groups(checked.unexpected):
             told += heads(group, look, f": {EXPECTS_NOTHING}")
-        told += [f"{look.name(it.path)}: {it.why(look)}" for it in checked.stale]
+        told += [f"{look.name(it.path)}: {it.why(look)}" for it in beside.stale]
     if not quiet:
-        told += left_out(checked.site.left_out, look, checked.each)
+        told += left_out(beside.left_out, look, checked.each)
         further = {what: count for what, count in checked.further().items() if count}
-        told.append(", ".join(f"{count} {what}" for what, count in [*checked.counts().items(), *further.items()]))
+        counts = ", ".join(f"{count} {what}" for what, count in [*checked.counts().items(), *further.items()])
+        told.append(f"shard {shard.spelled()}: {counts}" if shard else counts)
     return "".join(f"{line}\n" for line in told)
 
 
@@ -63,12 +61,12 @@ def left_out(found: List[LeftOut], look: Look, each: bool, what: str = "left out
 
 def findings_of(checked: Checked) -> Iterator[Finding]:
     """The results, each with a file and a line."""
-    for script, (line, word) in checked.broken:
-        yield Finding(script.path, line, word, sentence_of(script, line, word))
-    for script, line, why in checked.lacking:
-        yield Finding(script.path, line, "not-judged", why)
-    for script, line, why in checked.passed_over:
-        yield Finding(script.path, line, "skipped", ANNOTATED.line(why.encode()), SKIPPED)
+    for fault in checked.beside.broken:
+        yield Finding(fault.path, fault.line, fault.word, fault.sentence)
+    for path, line, why in checked.beside.lacking:
+        yield Finding(path, line, "not-judged", why)
+    for path, line, why in checked.beside.passed_over:
+        yield Finding(path, line, "skipped", ANNOTATED.line(why.encode()), SKIPPED)
     for group in checked.groups(checked.wrong):
         block = group.cases[0].block
         text = "\n".join([*heads(group, ANNOTATED, ""), *difference(group, ANNOTATED)])
@@ -88,9 +86,9 @@ def findings_of(checked: Checked) -> Iterator[Finding]:
                 "nothing-expected",
                 "\n".join(heads(group, ANNOTATED, f": {EXPECTS_NOTHING}")),
             )
-        for it in checked.stale:
+        for it in checked.beside.stale:
             yield Finding(it.path, it.line, "stale", it.why(ANNOTATED))
-    for path, why in checked.site.left_out:
+    for path, why in checked.beside.left_out:
         yield Finding(path, 0, "left-out", why, NOTE)
 
 
@@ -98,15 +96,13 @@ def tests_of(checked: Checked) -> Iterator[Test]:
     """A test for each mail under each main script, and for what else fails."""
     for case in checked.cases:
         yield test_of(checked, case)
-    for script, (line, word) in checked.broken:
-        yield Test(
-            "sievebench-site", PLAIN.name(script.path), 0, f"line {line} {word}", sentence_of(script, line, word)
-        )
-    for script, line, why in checked.lacking:
-        yield Test("sievebench-site", PLAIN.name(script.path), 0, f"line {line} not judged", why)
-    for script, _, why in checked.passed_over:
-        yield Test("sievebench-site", PLAIN.name(script.path), 0, None, PLAIN.line(why.encode()), True)
-    for it in [] if checked.lax else checked.stale:
+    for fault in checked.beside.broken:
+        yield Test("sievebench-site", PLAIN.name(fault.path), 0, f"line {fault.line} {fault.word}", fault.sentence)
+    for path, line, why in checked.beside.lacking:
+        yield Test("sievebench-site", PLAIN.name(path), 0, f"line {line} not judged", why)
+    for path, _, why in checked.beside.passed_over:
+        yield Test("sievebench-site", PLAIN.name(path), 0, None, PLAIN.line(why.encode()), True)
+    for it in [] if checked.lax else checked.beside.stale:
         yield Test("sievebench-site", PLAIN.name(it.path), 0, it.why(PLAIN))
 
 
@@ -129,22 +125,19 @@ def test_of(checked: Checked, case: Case) -> Test:
 
 def object_of(checked: Checked) -> Dict[str, object]:
     """The results as one object."""
+    beside = checked.beside
     return {
         "passed": not checked.failed,
         "counts": {**checked.counts(), **checked.further()},
         "cases": [case_object(case) for case in checked.cases],
-        "faults": [
-            {"script": PLAIN.name(script.path), "line": line, "word": word} for script, (line, word) in checked.broken
-        ],
-        "not judged": [
-            {"script": PLAIN.name(script.path), "line": line, "why": why} for script, line, why in checked.lacking
-        ],
+        "faults": [{"script": PLAIN.name(it.path), "line": it.line, "word": it.word} for it in beside.broken],
+        "not judged": [{"script": PLAIN.name(path), "line": line, "why": why} for path, line, why in beside.lacking],
         "skipped": [
-            {"script": PLAIN.name(script.path), "line": line, "why": PLAIN.line(why.encode())}
-            for script, line, why in checked.passed_over
+            {"script": PLAIN.name(path), "line": line, "why": PLAIN.line(why.encode())}
+            for path, line, why in beside.passed_over
         ],
-        "stale": [{"file": PLAIN.name(it.path), "why": it.why(PLAIN)} for it in checked.stale],
-        "left out": [{"file": PLAIN.name(path), "why": why} for path, why in checked.site.left_out],
+        "stale": [{"file": PLAIN.name(it.path), "why": it.why(PLAIN)} for it in beside.stale],
+        "left out": [{"file": PLAIN.name(path), "why": why} for path, why in beside.left_out],
     }
 
 
@@ -165,19 +158,20 @@ def case_object(case: Case) -> Dict[str, object]:
     return told
 
 
-def results(checked: Checked, form: str, look: Look, quiet: bool, version: str) -> str:
-    """The results in a form."""
+def results(checked: Checked, form: str, look: Look, quiet: bool, version: str, part: Optional[Part] = None) -> str:
+    """The results in a form, of a site or of one of its parts."""
     if form == "json":
-        return json.dumps(object_of(checked)) + "\n"
+        more: Dict[str, object] = {"shard": part.object_of(checked.found)} if part else {}
+        return json.dumps({**object_of(checked), **more}) + "\n"
     if form == "junit":
         return junit_of(checked).decode()
     if form == "github":
         return findings.github(findings_of(checked))
     if form == "sarif":
         return findings.sarif(findings_of(checked), version)
-    return text_of(checked, look, quiet)
+    return text_of(checked, look, quiet, part.shard if part else None)
 
 
 def junit_of(checked: Checked) -> bytes:
     """The results as servers read them that build."""
-    return findings.junit(list(tests_of(checked)), checked.judged.seconds)
+    return findings.junit(list(tests_of(checked)), checked.found.seconds)

@@ -2,17 +2,17 @@
 
 from __future__ import annotations
 
-from typing import Dict, List, NamedTuple, Set, Tuple
+from typing import Dict, Iterable, List, NamedTuple, Optional, Set
 
 from .expected import Key
+from .faults import sentence_of
 from .folder import Site
 from .groups import Group, changes, grouped
 from .judge import Case, Judged
-from .mails import Mail
-from .mains import Script
-from .program import Fault
+from .mails import LeftOut, Mail
+from .shards import Shard
 from .shown import Look
-from .survey import Found
+from .survey import Noted
 
 EXPECTS_NOTHING = "nothing is expected"
 # What is wrong with a line that lists what can't be judged.
@@ -33,35 +33,82 @@ class Stale(NamedTuple):
         return self.sentence.format(look.name(b" ".join(self.key))) if self.line else "its mail isn't there"
 
 
+class Broken(NamedTuple):
+    """A script that has a fault: its file, the line, the word of the fault and what it means."""
+
+    path: bytes
+    line: int
+    word: str
+    sentence: str
+
+
+class Unfit(NamedTuple):
+    """A script that can't be judged: its file, the line, and why, or why that is known."""
+
+    path: bytes
+    line: int
+    why: str
+
+
+class Beside(NamedTuple):
+    """What belongs to no verdict: the scripts that have a fault, that can't be judged, and of these those that are listed, each once; what is
+    stale; and what is left out."""
+
+    broken: List[Broken]
+    lacking: List[Unfit]
+    passed_over: List[Unfit]
+    stale: List[Stale]
+    left_out: List[LeftOut]
+
+
+class Extent(NamedTuple):
+    """How many mails, main scripts and verdicts there are."""
+
+    mails: int
+    mains: int
+    verdicts: int
+
+
+class Found(NamedTuple):
+    """What a check has found, in a site or in a part of it: the cases in the order of the mails, the users and the main scripts, what belongs to
+    none of them, the files of the mails without an envelope, and how long it took."""
+
+    cases: List[Case]
+    extent: Extent
+    beside: Beside
+    bare: List[bytes]
+    seconds: float
+
+
+NOTHING = Beside([], [], [], [], [])
+
+
 class Checked:
     """The results of a check."""
 
-    def __init__(self, site: Site, judged: Judged, lax: bool, each: bool) -> None:
-        self.site, self.judged, self.lax, self.each = site, judged, lax, each
-        self.cases = judged.cases
-        self.wrong = [case for case in self.cases if case.agrees() is False]
+    def __init__(self, found: Found, lax: bool, each: bool) -> None:
+        self.found, self.lax, self.each = found, lax, each
+        self.cases, self.beside = found.cases, found.beside
+        ends = [(case, case.agrees()) for case in self.cases]
+        self.agreeing = sum(agrees is True for _, agrees in ends)
+        self.wrong = [case for case, agrees in ends if agrees is False]
         self.unjudged = [case for case in self.cases if case.unjudged and not case.skipped]
         self.skipped = [case for case in self.cases if case.skipped]
-        self.unexpected = [case for case in self.cases if case.agrees() is None and not case.unjudged]
-        self.broken = broken_in(site, judged)
-        self.lacking = lacking_in(site, judged)
-        self.passed_over = skipped_in(site, judged)
-        self.stale = [*stale_in(site), *stale_list(site, judged)]
-        strictly = not lax and (self.unexpected or self.stale)
-        self.failed = bool(self.wrong or self.unjudged or self.broken or self.lacking or strictly)
+        self.unexpected = [case for case, agrees in ends if agrees is None and not case.unjudged]
+        strictly = not lax and (self.unexpected or self.beside.stale)
+        self.failed = bool(self.wrong or self.unjudged or self.beside.broken or self.beside.lacking or strictly)
 
     def counts(self) -> Dict[str, int]:
         """The counts that are always told."""
-        users = self.site.users
         return {
-            "mails": len({mail.path for user in users for mail in user.mails}),
-            "mains": sum(len(user.mains) for user in users),
+            "mails": self.found.extent.mails,
+            "mains": self.found.extent.mains,
             "verdicts": len(self.cases),
-            "agree": sum(case.agrees() is True for case in self.cases),
+            "agree": self.agreeing,
             "disagree": len(self.wrong),
             "without expectation": len(self.unexpected),
-            "stale expectations": len(self.stale),
-            "scripts with a fault": len(self.broken),
+            "stale expectations": len(self.beside.stale),
+            "scripts with a fault": len(self.beside.broken),
         }
 
     def further(self) -> Dict[str, int]:
@@ -69,8 +116,8 @@ class Checked:
         return {
             "not judged": len(self.unjudged),
             "skipped": len(self.skipped),
-            "mails without an envelope": len(self.judged.bare),
-            "left out": len(self.site.left_out),
+            "mails without an envelope": len(self.found.bare),
+            "left out": len(self.beside.left_out),
         }
 
     def groups(self, cases: List[Case]) -> List[Group]:
@@ -78,22 +125,53 @@ class Checked:
         return grouped(cases, lambda case: case.unjudged or (changes(case) if case.block else None), self.each)
 
 
-def broken_in(site: Site, judged: Judged) -> List[Tuple[Script, Fault]]:
+def found_in(site: Site, judged: Judged, shard: Optional[Shard] = None) -> Found:
+    """What is found in a site, or in a part of it. What belongs to no verdict is that of the first part."""
+    bare = [mail.path for mail in judged.bare]
+    extent = extent_of(site) if shard is None else extent_of_part(judged.cases)
+    beside = beside_in(site, judged) if shard is None or shard.is_first() else NOTHING
+    return Found(judged.cases, extent, beside, bare, judged.seconds)
+
+
+def extent_of(site: Site) -> Extent:
+    """How much there is of a site."""
+    users = site.users
+    mails = len({mail.path for user in users for mail in user.mails})
+    verdicts = sum(len(user.mains) * len(user.mails) for user in users)
+    return Extent(mails, sum(len(user.mains) for user in users), verdicts)
+
+
+def extent_of_part(cases: List[Case]) -> Extent:
+    """How much is judged in a part of a site."""
+    return Extent(len({case.mail.path for case in cases}), len({case.main.key for case in cases}), len(cases))
+
+
+def beside_in(site: Site, judged: Judged) -> Beside:
+    """What belongs to no verdict."""
+    stale = [*stale_in(site), *stale_list(site, judged)]
+    return Beside(broken_in(site, judged), lacking_in(site, judged), skipped_in(site, judged), stale, site.left_out)
+
+
+def broken_in(site: Site, judged: Judged) -> List[Broken]:
     """The scripts with a fault, each once."""
     found = [it for user, survey in zip(site.users, judged.surveys) for it in survey.broken(user)]
-    return list({script.path: (script, fault) for script, fault in found}.values())
+    once = {script.path: (script, fault) for script, fault in found}
+    return [Broken(path, *fault, sentence_of(script, *fault)) for path, (script, fault) in once.items()]
 
 
-def lacking_in(site: Site, judged: Judged) -> List[Found]:
+def lacking_in(site: Site, judged: Judged) -> List[Unfit]:
     """The scripts that can't be judged and aren't listed, each once."""
-    found = [it for user, survey in zip(site.users, judged.surveys) for it in survey.unjudged(user)]
-    return list({it[0].path: it for it in found}.values())
+    return each_once(it for user, survey in zip(site.users, judged.surveys) for it in survey.unjudged(user))
 
 
-def skipped_in(site: Site, judged: Judged) -> List[Found]:
+def skipped_in(site: Site, judged: Judged) -> List[Unfit]:
     """The scripts that are listed and can't be judged, each once."""
-    found = [it for user, survey in zip(site.users, judged.surveys) for it in survey.skipped(user)]
-    return list({it[0].path: it for it in found}.values())
+    return each_once(it for user, survey in zip(site.users, judged.surveys) for it in survey.skipped(user))
+
+
+def each_once(found: Iterable[Noted]) -> List[Unfit]:
+    """Scripts of which something is said, each once."""
+    return list({script.path: Unfit(script.path, line, why) for script, line, why in found}.values())
 
 
 def stale_list(site: Site, judged: Judged) -> List[Stale]:

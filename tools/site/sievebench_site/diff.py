@@ -59,7 +59,7 @@ class Diff:
         self.old, self.new, self.judge = old, new, Judge(new, program, jobs)
         # The other site may be gone when this is told.
         self.settings = [name for name in SETTINGS if setting(old, name) != setting(new, name)]
-        found = zip(old.users, surveys(old, program))
+        found = zip(old.users, surveys(old, program, jobs))
         self.former = {user.name: Former(user, survey) for user, survey in found}
         cases = [it for part in self.judge.batches(self.batch, self.refused) for it in part]
         self.cases = sorted(cases, key=lambda case: case.mail.path)

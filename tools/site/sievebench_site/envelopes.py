@@ -13,7 +13,11 @@ from .words import ADDRESS_LIMIT, quoted, unquoted, words_in
 FIELD = re.compile(rb"([!-9;-~]+)[ \t]*:(.*)", re.S)
 LOCAL = re.compile(rb'[^\x00-\x20"(),:;<>@\[\\\]\x7f]+|"(?:[^\x00-\x1f"\\\x7f]|\\[ -~])*"')
 DOMAIN = re.compile(rb'[^\x00-\x20"(),;<>@\\\x7f]+')
-RECIPIENTS = (b"delivered-to", b"x-original-to", b"envelope-to")
+END, FOLD = re.compile(rb"\n\r?\n|\A\r?\n"), re.compile(rb"\r?\n(?=[ \t])")
+SENDER, RECIPIENTS = b"return-path", (b"delivered-to", b"x-original-to", b"envelope-to")
+FIELDS = (SENDER, *RECIPIENTS)
+# Most mails that a person has saved have none of these fields.
+LEFT = re.compile(rb"^(?:" + b"|".join(FIELDS) + rb")[ \t]*:", re.M | re.I)
 
 
 class Envelope(NamedTuple):
@@ -70,9 +74,10 @@ def envelope_of(octets: bytes) -> Envelope:
     """The envelope that the program which delivered a mail left in its fields, as far as they have one."""
     sender: Optional[bytes] = None
     recipients: Dict[bytes, bytes] = {}
-    for name, value in fields_of(octets):
-        address = address_in(value)
-        if name == b"return-path" and sender is None and address is not None:
+    header = header_of(octets)
+    for name, value in fields_in(header) if LEFT.search(header) else []:
+        address = address_in(value) if name in FIELDS else None
+        if name == SENDER and sender is None:
             sender = address
         elif name in RECIPIENTS and address:
             recipients.setdefault(name, address)
@@ -81,8 +86,17 @@ def envelope_of(octets: bytes) -> Envelope:
 
 def fields_of(octets: bytes) -> List[Tuple[bytes, bytes]]:
     """The fields of a mail's header: their names in small letters, and their values as they are written."""
-    end = re.search(rb"\n\r?\n|\A\r?\n", octets)
-    header = re.sub(rb"\r?\n(?=[ \t])", b"", octets[: end.start() + 1 if end else len(octets)])
+    return fields_in(header_of(octets))
+
+
+def header_of(octets: bytes) -> bytes:
+    """The header of a mail, each field on a line."""
+    end = END.search(octets)
+    return FOLD.sub(b"", octets[: end.start() + 1 if end else len(octets)])
+
+
+def fields_in(header: bytes) -> List[Tuple[bytes, bytes]]:
+    """The fields of such a header."""
     found = (FIELD.match(line) for line in header.split(b"\n"))
     return [(it[1].lower(), it[2].strip(b" \t\r")) for it in found if it]
 

@@ -2,8 +2,9 @@
 
 from __future__ import annotations
 
+import functools
 import re
-from typing import Dict, Iterable, NamedTuple, Optional, Tuple
+from typing import Dict, Iterable, List, NamedTuple, NoReturn, Optional, Tuple
 
 from .ends import refuse
 from .words import lines_of, quoted, unquoted, word_of, words_of
@@ -29,36 +30,51 @@ Blocks = Dict[Key, Block]
 
 def blocks_of(path: bytes, octets: bytes) -> Blocks:
     """The blocks of a file. Comments, empty lines and what else stands in a report aren't part of them."""
-    blocks: Blocks = {}
-    key: Optional[Key] = None
+    found: Dict[Key, Tuple[int, List[bytes]]] = {}
+    lines: Optional[List[bytes]] = None
     for number, line in enumerate(lines_of(octets), 1):
-        place = f"{quoted(path)}, line {number}"
         if line.startswith(b"["):
-            key = key_of(line, place)
-            if key in blocks:
-                refuse(f"{place}: {shown_key(key)} stood there before")
-            blocks[key] = Block(path, number, ())
+            key, lines = key_of(line), []
+            if not key:
+                wrong_at(path, number, "between the brackets stands no name of a main script")
+            if key in found:
+                wrong_at(path, number, f"{shown_key(key)} stood there before")
+            found[key] = number, lines
             continue
-        words = words_of(line)
-        if words is None:
-            refuse(f"{place}: these aren't words, or a quote isn't closed")
-        if not words or words[0] in BESIDE:
+        text = told_by(line)
+        if text is None:
+            wrong_at(path, number, "these aren't words, or a quote isn't closed")
+        if not text:
             continue
-        if key is None:
-            refuse(f"{place}: before it stands no name of a main script in brackets")
-        if words[0] not in KINDS:
-            refuse(f"{place}: no line of a verdict begins with {quoted(words[0])}")
-        blocks[key] = blocks[key]._replace(lines=(*blocks[key].lines, b" ".join(map(spelled, words))))
-    return blocks
+        if lines is None:
+            wrong_at(path, number, "before it stands no name of a main script in brackets")
+        if text.partition(b" ")[0] not in KINDS:
+            first = (words_of(line) or [b""])[0]
+            wrong_at(path, number, f"no line of a verdict begins with {quoted(first)}")
+        lines.append(text)
+    return {key: Block(path, number, tuple(lines)) for key, (number, lines) in found.items()}
 
 
-def key_of(line: bytes, place: str) -> Key:
-    """The words between brackets."""
+def wrong_at(path: bytes, number: int, what: str) -> NoReturn:
+    """Refuses a file for one of its lines."""
+    refuse(f"{quoted(path)}, line {number}: {what}")
+
+
+def key_of(line: bytes) -> Key:
+    """The words between brackets; none where that isn't what stands there."""
     inner = re.fullmatch(rb'\[((?:"(?:[^"\\]|\\.)*"|[^"\]])*)\][ \t]*(?:#.*)?', line, re.S)
     words = words_of(inner[1]) if inner else None
-    if not words:
-        refuse(f"{place}: between the brackets stands no name of a main script")
-    return tuple(unquoted(word) for word in words)
+    return tuple(unquoted(word) for word in words or ())
+
+
+# Most mails have the same few lines.
+@functools.lru_cache(maxsize=4096)
+def told_by(line: bytes) -> Optional[bytes]:
+    """The line of a verdict that a line is, as verdicts spell it; empty where it says nothing, and none where it isn't words."""
+    words = words_of(line)
+    if words is None:
+        return None
+    return b" ".join(map(spelled, words)) if words and words[0] not in BESIDE else b""
 
 
 def spelled(word: bytes) -> bytes:

@@ -18,6 +18,7 @@ from .words import quoted
 # What is answered of a link to nothing, through a plain file, or in a ring: such a link leads to no file.
 LOST = (errno.ENOENT, errno.ENOTDIR, errno.ELOOP)
 OUTPUTS = (b"/dev/stdout", b"/dev/fd/1")
+Entries = Dict[bytes, "os.DirEntry[bytes]"]
 
 
 @contextlib.contextmanager
@@ -44,9 +45,23 @@ def names_in(folder: bytes) -> List[bytes]:
         return sorted(os.listdir(folder))
 
 
+def entries_in(folder: bytes) -> Entries:
+    """What is in a folder by its name, in the order of the names' octets."""
+    with reading(folder), os.scandir(folder) as found:
+        return {it.name: it for it in sorted(found, key=lambda it: it.name)}
+
+
+def is_file(entry: "os.DirEntry[bytes]") -> bool:
+    """Whether what is in a folder leads to a plain file. The system is asked only of links."""
+    try:
+        return entry.is_file()
+    except OSError:
+        return is_plain(entry.path)
+
+
 def files_in(folder: bytes, end: bytes) -> List[bytes]:
     """The names of a folder's plain files that have this end and something before it, in the order of their octets."""
-    return [it for it in names_in(folder) if it.endswith(end) and it != end and is_plain(os.path.join(folder, it))]
+    return [name for name, it in entries_in(folder).items() if name.endswith(end) and name != end and is_file(it)]
 
 
 def is_plain(path: bytes) -> bool:
@@ -62,10 +77,11 @@ def is_plain(path: bytes) -> bool:
 
 def octets_of(path: bytes) -> bytes:
     """What is in a plain file."""
-    if not is_plain(path) and os.path.exists(path):
-        refuse(f"cannot read {quoted(path)}: it is no plain file")
-    with reading(path), open(path, "rb") as file:
-        return file.read()
+    with reading(path):
+        if stat.S_ISREG(os.stat(path).st_mode):
+            with open(path, "rb", buffering=0) as file:
+                return file.read()
+    refuse(f"cannot read {quoted(path)}: it is no plain file")
 
 
 def octets_if_any(path: bytes) -> bytes:
@@ -73,10 +89,10 @@ def octets_if_any(path: bytes) -> bytes:
     return octets_of(path) if os.path.lexists(path) else b""
 
 
-def size_of(path: bytes) -> int:
-    """How many octets a file has."""
-    with reading(path):
-        return os.stat(path).st_size
+def size_in(entry: "os.DirEntry[bytes]") -> int:
+    """How many octets a file of a folder has."""
+    with reading(entry.path):
+        return entry.stat().st_size
 
 
 def umask() -> int:

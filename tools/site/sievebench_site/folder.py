@@ -3,18 +3,22 @@
 from __future__ import annotations
 
 import os
-from typing import List, NamedTuple, Optional, Set
+from typing import Callable, Dict, Iterable, List, NamedTuple, Optional, Set
 
 from .clock import clock_in
 from .ends import Refusal, refuse
-from .files import names_in
+from .files import entries_in, names_in
 from .listed import Listed
-from .mails import LeftOut, Mail, lost_in, mail_at, mail_names, no_files, passed_over, too_large
+from .mails import LeftOut, Mail, lost_in, mail_at, mails_among, no_files, passed_over, too_large
 from .mains import SCRIPT_END, Called, Main, Script, Shelf, called, chosen, scripts_in
 from .names import names_asked
 from .program import Place
 from .texts import text_if_any
 from .words import quoted
+
+
+# Whether a mail is wanted, by its owner, who is empty for one of all, and the name of its file.
+Wants = Callable[[bytes, bytes], bool]
 
 
 class Wanted(NamedTuple):
@@ -155,22 +159,26 @@ def refuse_no_mains(site: Site) -> None:
             refuse(f"no main script: {quoted(path)} names them, one a line, or --main does")
 
 
-def take_mails(site: Site) -> None:
-    """Gives each user the mails that are judged for him or her, and the site what is left out."""
+def take_mails(site: Site, wants: Wants = lambda owner, name: True) -> None:
+    """Gives each user the mails that are judged for him or her, and the site what is left out. Beside other mails than are wanted nothing
+    is read, by their owners and names."""
     top = os.path.join(site.wanted.folder, b"mails")
     folders = [(b"", top)] if os.path.lexists(top) or not site.users[0].name else []
     owned = [(user.name, os.path.join(user.home, b"mails")) for user in site.users if user.name]
     folders += [(name, path) for name, path in owned if os.path.lexists(path)]
+    users = {user.name: user for user in site.users}
     seen: Set[bytes] = set()
     for owner, folder in folders:
-        names = mail_names(folder)
+        there = entries_in(folder)
+        names = mails_among(there)
         seen.update(names)
         for name in names:
             if not site.wanted.mails or name in site.wanted.mails:
-                give(site, owner, mail_at(folder, name, owner, bool(site.users[0].name)))
+                mail = mail_at(folder, name, owner, bool(site.users[0].name), there, wants(owner, name))
+                give(site, users, owner, mail)
         if not site.wanted.mails:
-            site.left_out.extend(passed_over(folder))
-            site.lost.extend(lost_in(folder))
+            site.left_out.extend(passed_over(folder, there))
+            site.lost.extend(lost_in(folder, there))
     for name in site.wanted.mails:
         if name not in seen:
             refuse(f"no mail {quoted(os.path.join(top, name))}")
@@ -178,16 +186,16 @@ def take_mails(site: Site) -> None:
         refuse(f"no mails in {quoted(top)}: they are files whose names end by .eml")
 
 
-def give(site: Site, owner: bytes, mail: Mail) -> None:
+def give(site: Site, users: Dict[bytes, User], owner: bytes, mail: Mail) -> None:
     """Gives a mail to those for whom it is judged."""
     why = too_large(mail)
     if why:
         site.left_out.append((mail.path, why))
         return
-    known = {user.name for user in site.users}
-    unknown = sorted((mail.users or frozenset()) - known) if not site.wanted.users else []
+    unknown = sorted(name for name in mail.users or () if name not in users) if not site.wanted.users else []
     if unknown:
         refuse(f"{quoted(mail.path + b'.users')} names {quoted(unknown[0])}, and the site has no such user")
-    for user in site.users:
-        if user.name == owner or not owner and (mail.users is None or user.name in mail.users):
-            user.mails.append(mail)
+    readers: Iterable[bytes] = [owner] if owner in users else users if mail.users is None else mail.users
+    for name in readers:
+        if name in users:
+            users[name].mails.append(mail)

@@ -35,8 +35,10 @@ class Expected:
     def heading(self, main: Main) -> Optional[Key]:
         """The heading under which a line stands: what it is called, or what stands for it too. The only line for its main script also has
         the heading of several scripts of which this is the main one, if there is one such."""
+        if main.key in self.blocks:
+            return main.key
         chains = self.chains.get(main.script, []) if main.script else []
-        keys = [main.key, *main.also, *(chains if len(chains) == 1 else [])]
+        keys = [*main.also, *(chains if len(chains) == 1 else [])]
         return next((key for key in keys if key in self.blocks), None)
 
     def headings(self, mains: Iterable[Main]) -> Set[Key]:
@@ -55,11 +57,16 @@ def expected_at(place: bytes, users: bool) -> Expected:
     if not os.path.lexists(place):
         return Expected({}, users)
     if not os.path.isdir(place):
-        return Expected({place: text_of(place)}, users)
+        return expected_in(place, users)
     if not users:
         refuse(f"{quoted(place)} is a folder, which has files of users, and the site has no users: make it one file")
     names = [name for name in names_in(place) if not name.startswith(b".")]
     return Expected({path: text_of(path) for path in (os.path.join(place, name) for name in names)}, users, True)
+
+
+def expected_in(place: bytes, users: bool) -> Expected:
+    """What a file expects."""
+    return Expected({place: text_of(place)}, users)
 
 
 def main_script(key: Key, users: bool) -> Key:

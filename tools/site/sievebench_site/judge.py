@@ -8,7 +8,7 @@ import os
 import sys
 import threading
 import time
-from typing import Callable, Dict, Iterator, List, NamedTuple, Optional, Tuple, TypeVar
+from typing import Callable, Dict, Iterator, List, NamedTuple, Optional, Set, Tuple, TypeVar
 
 from .chains import NOTHING, Bench, chained
 from .envelopes import Envelope, envelope_if_any, envelope_of
@@ -17,12 +17,16 @@ from .files import octets_of
 from .folder import Site, User
 from .mails import Mail
 from .mains import Main
-from .program import NO_MEMORY, NoMemory, Program, Session, Verdict
-from .survey import Survey, put_scripts, requires, survey
+from .program import NO_MEMORY, Fault, NoMemory, Place, Program, Session, Verdict
+from .seats import Seats
+from .shards import Shard
+from .survey import Survey, requires, survey
 from .words import quoted
 
 # A batch has about so many octets at most, or one mail, and so many mails.
 BATCH_OCTETS, BATCH_MAILS, FEW_MAILS = 8 << 20, 500, 50
+# Of a user of whom nothing is judged.
+NO_SURVEY = Survey({}, {}, {}, {})
 Part = TypeVar("Part")
 Result = TypeVar("Result")
 
@@ -65,11 +69,13 @@ class Judged(NamedTuple):
 
 
 class Batch(NamedTuple):
-    """Some mails of a user."""
+    """Some mails of a user, the lines of main scripts under which they are judged, and whether that wants a process of their own."""
 
     number: int
     user: User
+    mains: List[Main]
     mails: List[Mail]
+    fresh: bool = False
 
 
 class Held(NamedTuple):
@@ -81,13 +87,16 @@ class Held(NamedTuple):
 
 
 class Judge:
-    """Judges a site's mails by a program."""
+    """Judges a site's mails by a program, or those of one part of the site."""
 
-    def __init__(self, site: Site, program: Program, jobs: int) -> None:
+    def __init__(self, site: Site, program: Program, jobs: int, shard: Optional[Shard] = None) -> None:
         self.site, self.program, self.jobs = site, program, jobs
         self.default = envelope_if_any(os.path.join(site.wanted.folder, b"envelope"))
-        self.surveys = surveys(site, program)
-        self.progress = Progress(sum(len(user.mails) for user in site.users))
+        self.work = list(batches_of(site, jobs, shard))
+        wanted = {batch.number for batch in self.work} if shard and not shard.is_first() else None
+        self.surveys = surveys(site, program, jobs, wanted)
+        self.seats = Seats(program, lambda session: put_settings(session, site))
+        self.progress = Progress(sum(len(batch.mails) for batch in self.work))
 
     def all(self) -> Judged:
         """The cases of all batches."""
@@ -97,29 +106,26 @@ class Judge:
         return Judged(cases, self.surveys, [bare[path] for path in sorted(bare)], self.progress.seconds())
 
     def batches(self, work: Callable[[Batch], Result], without: Callable[[Batch], Result]) -> List[Result]:
-        """What comes of the work on each batch. One for which memory is refused is cut in two, again and again, so that one mail doesn't
-        stop the others: what comes of that mail is said without the work."""
+        """What comes of the work on each batch. One for which memory is refused gets a process of its own, and then is cut in two, again
+        and again, so that one mail doesn't stop the others: what comes of that mail is said without the work."""
 
         def parted(batch: Batch) -> List[Result]:
             try:
                 return [work(batch)]
             except NoMemory:
-                if len(batch.mails) == 1:
+                if batch.fresh and len(batch.mails) == 1:
                     return [without(batch)]
-            return [it for half in halves(batch) for it in parted(half)]
+            smaller = halves(batch) if batch.fresh else [batch._replace(fresh=True)]
+            return [it for part in smaller for it in parted(part)]
 
-        return [it for part in self.each(list(batches_of(self.site, self.jobs)), parted) for it in part]
+        with self.seats:
+            return [it for part in self.each(self.work, parted) for it in part]
 
     def each(self, parts: List[Part], work: Callable[[Part], Result]) -> List[Result]:
         """What comes of each part of the work, of which several are done at once."""
-        pool = concurrent.futures.ThreadPoolExecutor(max(1, min(self.jobs, len(parts))))
-        tasks = [pool.submit(work, part) for part in parts]
         try:
-            return [task.result() for task in tasks]
+            return at_once(parts, work, self.jobs)
         finally:
-            for task in tasks:
-                task.cancel()
-            pool.shutdown(wait=False)
             self.progress.end()
 
     def batch(self, batch: Batch) -> Tuple[List[Case], List[Mail]]:
@@ -127,7 +133,7 @@ class Judge:
         user, found = batch.user, self.surveys[batch.number]
         cases = []
         with self.held(batch) as held:
-            for main in user.mains:
+            for main in batch.mains:
                 began = time.monotonic()
                 told = chained(held.bench, main.scripts, held.mails)
                 seconds = (time.monotonic() - began) / len(held.mails)
@@ -139,19 +145,16 @@ class Judge:
     def refused(self, batch: Batch) -> Tuple[List[Case], List[Mail]]:
         """The cases of mails for which memory is refused."""
         self.progress.add(len(batch.mails))
-        mains = batch.user.mains
-        cases = [(main, mail, mail.expected.block(main)) for main in mains for mail in batch.mails]
+        cases = [(main, mail, mail.expected.block(main)) for main in batch.mains for mail in batch.mails]
         return [Case(batch.user, main, mail, NOTHING, NO_MEMORY, 0.0, block) for main, mail, block in cases], []
 
     @contextlib.contextmanager
     def held(self, batch: Batch) -> Iterator[Held]:
-        """A session of a batch, which ends with the block."""
-        with self.program.session() as session:
-            put_scripts(session, batch.user.scripts)
-            put_settings(session, self.site)
-            mails = {str(at).encode(): mail for at, mail in enumerate(batch.mails)}
-            bare = [mail for name, mail in mails.items() if not self.put_mail(session, name, mail)]
-            yield Held(Bench(session, {script.at(): script.text for script in batch.user.scripts}), mails, bare)
+        """A session with the scripts of a batch's user and with its mails, until the block ends."""
+        with self.seats.taken(batch.fresh) as seat:
+            seat.put_scripts(batch.user)
+            mails, bare = seat.put_mails(batch.mails, self.put_mail)
+            yield Held(seat.bench, mails, bare)
 
     def put_mail(self, session: Session, name: bytes, mail: Mail) -> bool:
         """Puts a mail with its envelope, and says whether it has one."""
@@ -169,13 +172,39 @@ class Judge:
         return envelope if envelope.known() else envelope.over(envelope_of(octets)).over(self.default)
 
 
-def surveys(site: Site, program: Program) -> List[Survey]:
-    """The survey of each user."""
-    found = []
-    for user in site.users:
-        with program.session() as session:
-            found.append(survey(session, site, user))
-    return found
+def at_once(parts: List[Part], work: Callable[[Part], Result], jobs: int) -> List[Result]:
+    """What comes of each part of some work, of which several are done at once."""
+    pool = concurrent.futures.ThreadPoolExecutor(max(1, min(jobs, len(parts))))
+    tasks = [pool.submit(work, part) for part in parts]
+    try:
+        return [task.result() for task in tasks]
+    finally:
+        for task in tasks:
+            task.cancel()
+        pool.shutdown(wait=False)
+
+
+def surveys(site: Site, program: Program, jobs: int, wanted: Optional[Set[int]] = None) -> List[Survey]:
+    """The survey of each user, or of those with these numbers."""
+    seats = Seats(program)
+
+    def faults_of(user: User, fresh: bool = False) -> Dict[Place, Optional[Fault]]:
+        try:
+            with seats.taken(fresh) as seat:
+                seat.put_scripts(user)
+                return seat.session.report().faults
+        except NoMemory:
+            if fresh:
+                raise
+        return faults_of(user, True)
+
+    numbers = [it for it in range(len(site.users)) if wanted is None or it in wanted]
+    with seats:
+        told = dict(zip(numbers, at_once([site.users[it] for it in numbers], faults_of, jobs)))
+    return [
+        survey(site, user, program, told[number]) if number in told else NO_SURVEY
+        for number, user in enumerate(site.users)
+    ]
 
 
 def put_settings(session: Session, site: Site) -> None:
@@ -186,20 +215,27 @@ def put_settings(session: Session, site: Site) -> None:
         session.words("clock", site.clock, "the clock")
 
 
-def batches_of(site: Site, jobs: int) -> Iterator[Batch]:
+def batches_of(site: Site, jobs: int, shard: Optional[Shard] = None) -> Iterator[Batch]:
     """The mails of each user, in batches that aren't large and give each job some."""
     for number, user in enumerate(site.users):
-        most = max(FEW_MAILS, min(BATCH_MAILS, -(-len(user.mails) // jobs)))
-        mails: List[Mail] = []
-        octets = 0
-        for mail in user.mails:
-            if mails and (len(mails) == most or octets + mail.size > BATCH_OCTETS):
-                yield Batch(number, user, mails)
-                mails, octets = [], 0
-            mails.append(mail)
-            octets += mail.size
-        if mails:
-            yield Batch(number, user, mails)
+        for mains, mails in shard.parts_of(user) if shard else [(user.mains, user.mails)]:
+            most = max(FEW_MAILS, min(BATCH_MAILS, -(-len(mails) // jobs)))
+            for part in parts_of(mails, most):
+                yield Batch(number, user, mains, part)
+
+
+def parts_of(mails: List[Mail], most: int) -> Iterator[List[Mail]]:
+    """Mails in parts that aren't large, with so many at most in each."""
+    part: List[Mail] = []
+    octets = 0
+    for mail in mails:
+        if part and (len(part) == most or octets + mail.size > BATCH_OCTETS):
+            yield part
+            part, octets = [], 0
+        part.append(mail)
+        octets += mail.size
+    if part:
+        yield part
 
 
 def halves(batch: Batch) -> List[Batch]:

@@ -17,7 +17,7 @@ from .findings import ERROR, NOTE, PLAIN, SKIPPED, Finding, Test
 from .folder import Site, User
 from .program import Place, Program, Session
 from .shown import Look
-from .survey import survey
+from .survey import surveyed
 from .words import quoted
 
 SIEVEC_SAYS = re.compile(rb"line ([0-9]+): error: (.*)")
@@ -28,7 +28,7 @@ class Linted:
 
     def __init__(self, site: Site, user: User, session: Session) -> None:
         self.site, self.user = site, user
-        self.survey = survey(session, site, user)
+        self.survey = surveyed(session, site, user)
         operations = {script.at(): session.dump(script.at()) for script in user.scripts}
         self.code = Code(user.scripts, operations, {main.scripts[0] for main in user.mains})
         self.faults = [

@@ -7,15 +7,16 @@ import re
 from typing import FrozenSet, List, NamedTuple, Optional, Tuple
 
 from .ends import refuse
-from .envelopes import Envelope, envelope_if_any
-from .files import files_in, is_plain, names_in, size_of
-from .headings import Expected, expected_at
+from .envelopes import Envelope, envelope_in
+from .files import Entries, entries_in, is_file, is_plain, names_in, size_in
+from .headings import Expected, expected_at, expected_in
 from .texts import text_of
 from .words import MESSAGE_LIMIT, quoted, unquoted, words_in
 
 # What may stand beside a mail.
-EXPECT = b".expect"
-ENDS = (b".envelope", EXPECT, b".users")
+ENVELOPE, EXPECT, USERS = ENDS = (b".envelope", b".expect", b".users")
+NOTHING, NOWHERE = Expected({}, False), Envelope()
+FILES = (b".eml", *(b".eml" + end for end in ENDS))
 MAILDIR_NAME = re.compile(rb"[0-9]{9,}\.\S+|.*:2,[A-Za-z]*", re.S)
 LeftOut = Tuple[bytes, str]
 
@@ -35,24 +36,37 @@ class Mail(NamedTuple):
         return self.path + EXPECT
 
 
+def mail_path(site: bytes, name: bytes) -> bytes:
+    """The file of a mail of a site by its name."""
+    user, slash, own = name.partition(b"/")
+    return os.path.join(site, b"users", user, b"mails", own) if slash else os.path.join(site, b"mails", name)
+
+
 def mail_names(folder: bytes) -> List[bytes]:
     """The names of a folder's mails, in the order of their octets."""
-    return [name for name in files_in(folder, b".eml") if not name.startswith(b".")]
+    return mails_among(entries_in(folder))
 
 
-def mail_at(folder: bytes, name: bytes, user: bytes, has_users: bool) -> Mail:
-    """A mail, with what stands beside it. One of a user's own has the user's name before its own."""
-    path = os.path.join(folder, name)
-    expected = expected_at(path + EXPECT, has_users)
-    envelope = envelope_if_any(path + b".envelope")
-    return Mail(path, user + b"/" + name if user else name, size_of(path), envelope, users_of(path), expected)
+def mails_among(there: Entries) -> List[bytes]:
+    """The names of the mails among what is in a folder, in the same order."""
+    return [name for name, it in there.items() if name.endswith(b".eml") and not name.startswith(b".") and is_file(it)]
 
 
-def users_of(path: bytes) -> Optional[FrozenSet[bytes]]:
-    """The users for whom a mail is judged, where they are named."""
-    place = path + b".users"
-    if not os.path.lexists(place):
-        return None
+def mail_at(folder: bytes, name: bytes, user: bytes, has_users: bool, there: Entries, wanted: bool = True) -> Mail:
+    """A mail, with what stands beside it in the folder, if that is wanted. One of a user's own has the user's name before its own."""
+    path, called = os.path.join(folder, name), user + b"/" + name if user else name
+    size = size_in(there[name])
+    users = users_in(path + USERS) if name + USERS in there else None
+    if not wanted:
+        return Mail(path, called, size, NOWHERE, users, NOTHING)
+    envelope = envelope_in(path + ENVELOPE) if name + ENVELOPE in there else NOWHERE
+    expects = there.get(name + EXPECT)
+    read = expected_in if expects and is_file(expects) else expected_at
+    return Mail(path, called, size, envelope, users, read(path + EXPECT, has_users) if expects else NOTHING)
+
+
+def users_in(place: bytes) -> FrozenSet[bytes]:
+    """The users whom a file names."""
     words = words_in(text_of(place))
     if not words:
         refuse(f"{quoted(place)} names no users: it has their names, with blanks or line ends between them")
@@ -66,8 +80,10 @@ def too_large(mail: Mail) -> Optional[str]:
     )
 
 
-def passed_over(folder: bytes) -> List[LeftOut]:
-    """The files of a folder that look like mails and aren't taken, and why."""
+def passed_over(folder: bytes, there: Entries) -> List[LeftOut]:
+    """The files of a folder that look like mails and aren't taken, and why. Most folders have nothing but mails and what stands beside them."""
+    if all(is_usual(it) for it in there.values()):
+        return []
     found: List[LeftOut] = []
     for place, folders, names in os.walk(folder):
         folders[:] = sorted(name for name in folders if not name.endswith(b".eml" + EXPECT))
@@ -78,6 +94,11 @@ def passed_over(folder: bytes) -> List[LeftOut]:
             if why:
                 found.append((path, why))
     return found
+
+
+def is_usual(entry: "os.DirEntry[bytes]") -> bool:
+    """Whether what is in a folder is a file of a mail, or one beside it."""
+    return entry.name.endswith(FILES) and entry.is_file(follow_symlinks=False)
 
 
 def no_files(folder: bytes, end: bytes, names: Optional[List[bytes]] = None) -> List[LeftOut]:
@@ -92,7 +113,7 @@ def no_files(folder: bytes, end: bytes, names: Optional[List[bytes]] = None) -> 
 
 def looks_like_mail(name: bytes) -> bool:
     """Whether a file of this name is meant as a mail."""
-    if name.startswith(b".") or name.endswith(tuple(b".eml" + end for end in ENDS)):
+    if name.startswith(b".") or name.endswith(FILES[1:]):
         return False
     return name.lower().endswith(b".eml") or MAILDIR_NAME.fullmatch(name) is not None
 
@@ -108,9 +129,13 @@ def why_not(path: bytes, inside: bool) -> Optional[str]:
     return "it has the name of a Maildir's file: `import` takes it"
 
 
-def lost_in(folder: bytes) -> List[bytes]:
+def lost_in(folder: bytes, there: Entries) -> List[bytes]:
     """The files beside mails that aren't there."""
-    there = set(files_in(folder, b".eml"))
-    paths = [(end, name) for end in ENDS for name in names_in(folder) if name.endswith(b".eml" + end)]
-    lost = [(end, os.path.join(folder, name)) for end, name in paths if name[: -len(end)] not in there]
+    names = [(end, name) for end in ENDS for name in there if name.endswith(b".eml" + end)]
+    lost = [(end, os.path.join(folder, name)) for end, name in names if not is_mail(name[: -len(end)], there)]
     return [path for end, path in lost if is_plain(path) or (end == EXPECT and os.path.isdir(path))]
+
+
+def is_mail(name: bytes, there: Entries) -> bool:
+    """Whether a file of this name that ends by .eml is there."""
+    return name in there and name != b".eml" and is_file(there[name])

@@ -8,11 +8,11 @@ import io
 import os
 import sys
 import time
-from typing import Callable, Dict, List, NoReturn, Optional
+from typing import Callable, Dict, List, NoReturn, Optional, Tuple
 
 from . import check, diff, ends, lint, untested, watch, why
 from .beginning import USUAL, ask_for, has_begun, is_new
-from .checked import Checked
+from .checked import Checked, Found, found_in
 from .completion import completed
 from .ends import Refusal, Signalled, refuse
 from .filling import Filling, make_folder
@@ -20,11 +20,13 @@ from .files import locked, refuse_unwritable, write_file
 from .folder import Site, refuse_no_mains, site_of, take_mails
 from .importing import import_mails
 from .judge import Judge
+from .merge import Part, merged
 from .options import DESCRIPTION, SITE, STATUS, parsed, site_folder, wanted
 from .program import Program
 from .recognized import refuse_no_box
 from .record import record
 from .server import Server
+from .shards import Shard
 from .shown import look_of
 from .words import quoted
 
@@ -37,11 +39,14 @@ def program_of(options: argparse.Namespace, site: Site) -> Program:
     return Program(path, site.names, options.memory)
 
 
-def site_with_mails(options: argparse.Namespace) -> Site:
-    """The site with its mails."""
+def site_with_mails(options: argparse.Namespace, shard: Optional[Shard] = None) -> Site:
+    """The site with its mails, and what stands beside those of a part."""
     site = site_of(wanted(options))
     refuse_no_mains(site)
-    take_mails(site)
+    if shard:
+        take_mails(site, shard.wants(site))
+    else:
+        take_mails(site)
     return site
 
 
@@ -50,14 +55,29 @@ def run_check(options: argparse.Namespace) -> int:
     junit = None if options.junit is None else os.fsencode(options.junit)
     if junit is not None:
         refuse_unwritable(junit)
-    site = site_with_mails(options)
-    program = program_of(options, site)
-    checked = Checked(site, Judge(site, program, options.jobs).all(), options.lax, options.all)
+    part, found = checked_part(options) if options.merge is None else (None, merged_parts(options))
+    checked = Checked(found, options.lax, options.all)
     if junit is not None:
         write_file(junit, check.junit_of(checked))
     look = look_of(options.utf8)
-    sys.stdout.write(check.results(checked, options.format, look, options.quiet, VERSION))
+    sys.stdout.write(check.results(checked, options.format, look, options.quiet, VERSION, part))
     return int(checked.failed)
+
+
+def checked_part(options: argparse.Namespace) -> Tuple[Optional[Part], Found]:
+    """What is found in a site, or in a part of it, and which part that is."""
+    shard = options.shard
+    site = site_with_mails(options, shard)
+    judged = Judge(site, program_of(options, site), options.jobs, shard).all()
+    return Part(shard, site, VERSION) if shard else None, found_in(site, judged, shard)
+
+
+def merged_parts(options: argparse.Namespace) -> Found:
+    """What the parts of a site found."""
+    judging = ("user", "main", "only", "clock", "program", "shard")
+    if any(getattr(options, name) not in (None, []) for name in judging):
+        refuse(f"--merge judges nothing: it goes without {', '.join(f'--{name}' for name in judging)}")
+    return merged([os.fsencode(it) for it in (*options.merge, *options.folders)], VERSION)
 
 
 def run_record(options: argparse.Namespace) -> int:

@@ -91,6 +91,8 @@ class Shelf:
         there = os.path.lexists(os.path.join(folder, b"global"))
         self.shared = scripts_in("global", b"", os.path.join(folder, b"global")) if there else []
         self.others: Dict[bytes, List[Script]] = {}
+        # The lines of files of main scripts: most users have the same one.
+        self.lines: Dict[bytes, List[Tuple[int, bytes]]] = {}
 
     def path_of(self, name: bytes, home: bytes) -> bytes:
         """The file of a script that a line names: FOLDER/NAME is of the site's folder of that name, and NAME the user's own."""
@@ -140,7 +142,9 @@ class Shelf:
 
     def lines_in(self, path: bytes, home: bytes) -> List[Line]:
         """The lines of a file of main scripts."""
-        return [self.line_of(text, f"{quoted(path)}, line {number}", home) for number, text in lines_in(path)]
+        if path not in self.lines:
+            self.lines[path] = list(lines_in(path))
+        return [self.line_of(text, f"{quoted(path)}, line {number}", home) for number, text in self.lines[path]]
 
 
 def of_user(user: bytes, key: Key) -> Key:

@@ -7,6 +7,7 @@ import os
 import re
 from typing import List, NoReturn, Optional
 
+from .check_words import CHECK, add_sharing
 from .ends import refuse
 from .folder import Wanted
 from .import_words import IMPORT, add_import
@@ -119,22 +120,7 @@ def percent(text: str) -> float:
 
 
 DETAILS = {
-    "check": """\
-Compares the verdict on each mail, under each main script, with what is expected of it.
-
-Prints each difference with the mails that have it, the scripts that have a fault or can't be
-judged, mails without expectations, stale expectations, files that are left out, and a line of
-counts. An expectation is stale if its mail isn't there, which isn't looked at with --only, or if no
-line of mains is called so, which isn't looked at with --user or --main.
-
-A script that requires what isn't there can't be judged. That fails the check, unless the file
-unjudged lists the script: then it is skipped, and so is each mail whose run comes to it. A line of
-this file is stale if its script can be judged.
-
-The object of --json has passed; counts; cases, each with mail, main, agrees (null if nothing is
-expected or it isn't judged), skipped, expected, verdict and the lines of scripts that entered it
-(null if none did); faults, each with script, line and word; not judged and skipped, each with
-script, line and why; stale and left out, each with file and why.""",
+    "check": CHECK,
     "record": """\
 Writes today's verdicts as what is expected.
 
@@ -299,6 +285,7 @@ def add_check(parser: Parser) -> None:
     same = "the same as --format json"
     add_format(parser).add_argument("--json", action="store_const", const="json", dest="format", help=same)
     parser.add_argument("--junit", metavar="FILE", help="also writes the results to a file as JUnit has them")
+    add_sharing(parser)
 
 
 def add_record(parser: Parser) -> None:

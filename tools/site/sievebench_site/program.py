@@ -2,12 +2,13 @@
 
 from __future__ import annotations
 
+import collections
 import contextlib
 import os
 import re
 import subprocess
 import sys
-from typing import IO, Dict, FrozenSet, Iterator, List, NamedTuple, NoReturn, Optional, Set, Tuple
+from typing import IO, Deque, Dict, FrozenSet, Iterator, List, NamedTuple, NoReturn, Optional, Set, Tuple
 
 from .ends import CHILDREN, Refusal, fail, refuse
 from .files import temporary
@@ -15,6 +16,8 @@ from .words import ADDRESS_LIMIT, MAIL_LIMIT, MESSAGE_LIMIT, SCRIPT_LIMIT, TEXT_
 
 # Replies wait in a pipe until they are read: so many edits fill none.
 PENDING = 1_000
+# So many octets of replies are read at once, or as many as there are.
+OCTETS = 1 << 16
 GIBIBYTE = 1 << 30
 SCRIPT_LINE = re.compile(rb"script ([a-z]+) (\".*\") (?:ok|line ([0-9]+) ([a-z-]+))")
 READ_LINE = re.compile(rb"  read ([a-z]+) (\".*?\")( missing)?")
@@ -140,6 +143,9 @@ class Session:
         self.program, self.child, self.errors = program, child, errors
         self.input, self.output = child.stdin, child.stdout
         self.pending: List[Tuple[str, str]] = []
+        # Lines of replies that were read and not looked at yet, and the beginning of the next one.
+        self.lines: Deque[bytes] = collections.deque()
+        self.begun: List[bytes] = []
         # Many verdicts are the same one.
         self.known: Dict[Tuple[bytes, ...], Verdict] = {}
 
@@ -177,10 +183,16 @@ class Session:
 
     def line(self) -> bytes:
         """The next line of the replies, without its end."""
-        found = self.output.readline()
-        if not found.endswith(b"\n"):
-            self.fail()
-        return found[:-1]
+        while not self.lines:
+            octets = os.read(self.output.fileno(), OCTETS)
+            if not octets:
+                self.fail()
+            first, *others = octets.split(b"\n")
+            self.begun.append(first)
+            if others:
+                self.lines.extend([b"".join(self.begun), *others[:-1]])
+                self.begun = others[-1:]
+        return self.lines.popleft()
 
     def flush(self) -> None:
         """Sends what was written."""
@@ -235,26 +247,20 @@ class Session:
         self.flush()
         report, name = Report({}, {}), b""
         told: List[bytes] = []
-        for found in self.lines_of_report():
-            if found.startswith(b"script "):
-                self.take_script(found, report.faults)
+        while True:
+            found = self.line()
+            if found.startswith(b"  "):
+                told.append(found)
             elif found.startswith(b"message "):
                 self.take_verdict(name, told, report.verdicts)
                 name, told = unquoted(found[len(b"message ") :]), []
-            elif found.startswith(b"  "):
-                told.append(found)
-        self.take_verdict(name, told, report.verdicts)
-        return report
-
-    def lines_of_report(self) -> Iterator[bytes]:
-        """The lines of a report but the last one."""
-        while True:
-            found = self.line()
-            if found.startswith(b"no "):
+            elif found.startswith(b"script "):
+                self.take_script(found, report.faults)
+            elif found.startswith(b"no "):
                 raise NoMemory(f"the report is refused: {NO_MEMORY}")
-            if found.startswith(b"total "):
-                return
-            yield found
+            elif found.startswith(b"total "):
+                self.take_verdict(name, told, report.verdicts)
+                return report
 
     def take_script(self, found: bytes, faults: Dict[Place, Optional[Fault]]) -> None:
         """Takes the line of a script."""

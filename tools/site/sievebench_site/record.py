@@ -9,7 +9,6 @@ from typing import Dict, Iterable, List, NamedTuple, Optional, Set, Tuple
 from .check import left_out
 from .checked import Stale, broken_in, lacking_in, stale_in
 from .expected import Key, text_of
-from .faults import sentence_of
 from .files import octets_of, remove_empty, remove_file, write_file, write_folder
 from .folder import Site, user_names
 from .headings import Expected, expected_at
@@ -63,13 +62,10 @@ class Change(NamedTuple):
 
 def record(site: Site, judged: Judged, look: Look, force: bool, prune: bool) -> Tuple[List[str], bool]:
     """Writes what is to be expected, and gives what is printed and whether all of it is written."""
-    faults = [
-        f"{look.name(script.path)}:{line}: {word}: {sentence_of(script, line, word)}"
-        for script, (line, word) in broken_in(site, judged)
-    ]
+    faults = [f"{look.name(it.path)}:{it.line}: {it.word}: {it.sentence}" for it in broken_in(site, judged)]
     if faults:
         return faults, False
-    told = [f"{look.name(script.path)}:{line}: not judged: {why}" for script, line, why in lacking_in(site, judged)]
+    told = [f"{look.name(it.path)}:{it.line}: not judged: {it.why}" for it in lacking_in(site, judged)]
     cases: Dict[bytes, List[Case]] = {}
     for case in judged.cases:
         cases.setdefault(case.mail.path, []).append(case)

@@ -9,6 +9,7 @@ from typing import NamedTuple
 
 ESCAPES = re.compile(rb'\\["\\]|(?:\\x[0-9a-f]{2})+')
 HERE = re.compile(rb"\A(?:\./+)+")
+NAMED = re.compile(r"\\x([0-9a-f]{2})|\\(\\)|([^\\]+)")
 COLOURS = {"-": "31", "+": "32"}
 
 
@@ -26,13 +27,15 @@ class Look(NamedTuple):
 
     def line(self, line: bytes) -> str:
         """The same of a line in which octets are escaped already, as verdicts have them."""
-        if self.utf8:
+        if self.utf8 and b"\\" in line:
             line = ESCAPES.sub(lambda it: octets_meant(it[0]), line)
         return self.text(line)
 
     def text(self, octets: bytes) -> str:
         """The same of octets in which nothing is escaped, as those of a script."""
         text = octets.decode("utf-8", "surrogateescape") if self.utf8 else octets.decode("latin-1")
+        if text.isascii() and text.isprintable():
+            return text
         return "".join(it if is_shown(it, self.utf8) else escaped(it, self.utf8) for it in text)
 
     def mark(self, text: str, kind: str) -> str:
@@ -50,6 +53,11 @@ def look_of(utf8: object) -> Look:
 def is_shown(character: str, utf8: bool) -> bool:
     """Whether a character stands for itself."""
     return " " <= character <= "~" or (utf8 and character.isprintable())
+
+
+def octets_named(shown: str) -> bytes:
+    """The octets of a name that is shown with its characters of UTF-8."""
+    return b"".join(bytes.fromhex(it[1]) if it[1] else (it[2] or it[3]).encode() for it in NAMED.finditer(shown))
 
 
 def octets_meant(spelled: bytes) -> bytes:

@@ -75,10 +75,13 @@ def line_requiring(text: bytes, name: bytes) -> int:
 
 def with_flags(text: bytes, flags: Iterable[bytes]) -> bytes:
     """The script with these internal flags from its start on. They are added after its leading `require` commands, on their line."""
+    flags = tuple(flags)
+    if not flags:
+        return text
     end, names = required(text)
     spelled = b", ".join(b'"' + it.replace(b"\\", b"\\\\").replace(b'"', b'\\"') + b'"' for it in flags)
     require = b"" if b"imap4flags" in names else b' require "imap4flags";'
-    return text[:end] + require + b" addflag [" + spelled + b"];" + text[end:] if spelled else text
+    return text[:end] + require + b" addflag [" + spelled + b"];" + text[end:]
 
 
 def without_actions(text: bytes) -> bytes:

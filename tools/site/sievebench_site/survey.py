@@ -12,15 +12,16 @@ from .program import Fault, Place, Program, Session
 from .sieve_text import line_requiring, required
 from .words import quoted
 
-Found = Tuple[Script, int, str]
+# A script, a line of it, and what is said of that.
+Noted = Tuple[Script, int, str]
 NO_FAULT: Fault = (0, "")
 
 
 class Survey(NamedTuple):
-    """Of each script its fault, if any; of each that can't be judged what it requires that isn't there, and the line that lists it, if one
+    """Of each script that has a fault the first one; of each that can't be judged what it requires that isn't there, and the line that lists it, if one
     does; and why each that isn't listed can't be judged, with what to do."""
 
-    faults: Dict[Place, Optional[Fault]]
+    faults: Dict[Place, Fault]
     lacking: Dict[Place, List[bytes]]
     listed: Dict[Place, Entry]
     answers: Dict[Place, str]
@@ -34,18 +35,18 @@ class Survey(NamedTuple):
             if fault and it.at() not in self.lacking
         ]
 
-    def unjudged(self, user: User) -> List[Found]:
+    def unjudged(self, user: User) -> List[Noted]:
         """The scripts that can't be judged and aren't listed, each with a line and why."""
         return [(it, self.line_of(it), self.answers[it.at()]) for it in user.scripts if it.at() in self.answers]
 
-    def skipped(self, user: User) -> List[Found]:
+    def skipped(self, user: User) -> List[Noted]:
         """The scripts that are listed and can't be judged, each with a line and why."""
         found = [(it, self.listed.get(it.at())) for it in user.scripts]
         return [(it, self.line_of(it), quoted(entry.why)[1:-1]) for it, entry in found if entry]
 
     def line_of(self, script: Script) -> int:
         """The line of a script's fault."""
-        return (self.faults.get(script.at()) or NO_FAULT)[0]
+        return self.faults.get(script.at(), NO_FAULT)[0]
 
 
 def requires(names: Iterable[bytes]) -> str:
@@ -53,10 +54,9 @@ def requires(names: Iterable[bytes]) -> str:
     return "requires " + ", ".join(quoted(name)[1:-1] for name in names)
 
 
-def survey(session: Session, site: Site, user: User) -> Survey:
-    """Puts the scripts of a user, and asks for their faults."""
-    put_scripts(session, user.scripts)
-    faults, program = dict(session.report().faults), session.program
+def survey(site: Site, user: User, program: Program, told: Dict[Place, Optional[Fault]]) -> Survey:
+    """What comes of what a report told of the scripts of a user."""
+    faults = {place: fault for place, fault in told.items() if fault}
     lacking: Dict[Place, List[bytes]] = {}
     for script in user.scripts:
         fault = faults.get(script.at())
@@ -69,7 +69,7 @@ def survey(session: Session, site: Site, user: User) -> Survey:
     listed = {it.at(): site.listed.entry_of(user.name, it) for it in user.scripts if it.at() in lacking}
     entries = {place: entry for place, entry in listed.items() if entry}
     answers = {
-        it.at(): answer_of(site, it, faults[it.at()] or NO_FAULT, lacking[it.at()], program.names())
+        it.at(): answer_of(site, it, faults.get(it.at(), NO_FAULT), lacking[it.at()], program.names())
         for it in user.scripts
         if it.at() in lacking and it.at() not in entries
     }
@@ -84,6 +84,12 @@ def lacked(program: Program, script: Script, fault: Fault) -> List[bytes]:
         names = [name for name in names if used and used.name == name]
     missing = program.missing(names)
     return [name for name in names if name in missing]
+
+
+def surveyed(session: Session, site: Site, user: User) -> Survey:
+    """Puts the scripts of a user into a session, and asks for their faults."""
+    put_scripts(session, user.scripts)
+    return survey(site, user, session.program, session.report().faults)
 
 
 def put_scripts(session: Session, scripts: Iterable[Script]) -> None:

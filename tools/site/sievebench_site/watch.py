@@ -19,6 +19,7 @@ from .judge import Case, Judge, case_of, put_settings
 from .mails import Mail
 from .mains import SCRIPT_END, Main
 from .program import Place, Program, Session, Verdict
+from .seats import Dropped
 from .shown import Look
 
 # How long it waits between two looks, and how long it lets files settle that change.
@@ -104,9 +105,8 @@ class Desk:
 
     def close(self) -> None:
         """Ends the session, however far it is."""
-        self.session.child.kill()
-        with contextlib.suppress(Refusal):
-            self.room.close()
+        with contextlib.suppress(Dropped), self.room:
+            raise Dropped
 
 
 class Seen(NamedTuple):

@@ -152,21 +152,26 @@ def error_of(verdict: Verdict) -> Optional[Error]:
 
 def answers(site: Site, program: Program) -> List[Answer]:
     """The answer for each main script of each user for whom the mail is judged."""
-    judge, found = Judge(site, program, 1), []
-    for number, user in enumerate(site.users):
-        for mail in user.mails:
-            with judge.held(Batch(number, user, [mail])) as held:
-                (name,) = held.mails
-                for main in user.mains:
-                    verdict = chained(held.bench, main.scripts, [name])[name]
-                    unjudged = why_unjudged(verdict, judge.surveys[number])
-                    asked = [(it, it.branches()) for it in questions(held.bench, name, main)]
-                    branches = [branch for _, taken in asked for branch in taken]
-                    left_out = [it.failing for it, _ in asked if it.failing]
-                    known, again = all(it.known for it, _ in asked), any(it.again for it, _ in asked)
-                    told = cautions_of(judge, user, mail, verdict)
-                    found.append(Answer(user, main, mail, verdict, unjudged, branches, left_out, known, again, told))
-    return found
+    judge = Judge(site, program, 1)
+    batches = [Batch(number, user, user.mains, [mail]) for number, user in enumerate(site.users) for mail in user.mails]
+    with judge.seats:
+        return [answer for batch in batches for answer in answers_of(judge, batch)]
+
+
+def answers_of(judge: Judge, batch: Batch) -> Iterator[Answer]:
+    """The answer for each main script of a user, of one mail."""
+    user, (mail,) = batch.user, batch.mails
+    with judge.held(batch) as held:
+        (name,) = held.mails
+        for main in batch.mains:
+            verdict = chained(held.bench, main.scripts, [name])[name]
+            unjudged = why_unjudged(verdict, judge.surveys[batch.number])
+            asked = [(it, it.branches()) for it in questions(held.bench, name, main)]
+            branches = [branch for _, taken in asked for branch in taken]
+            left_out = [it.failing for it, _ in asked if it.failing]
+            known, again = all(it.known for it, _ in asked), any(it.again for it, _ in asked)
+            told = cautions_of(judge, user, mail, verdict)
+            yield Answer(user, main, mail, verdict, unjudged, branches, left_out, known, again, told)
 
 
 def cautions_of(judge: Judge, user: User, mail: Mail, verdict: Verdict) -> List[Finding]:

@@ -34,6 +34,8 @@ def unquoted(word: bytes) -> bytes:
     """The octets that a word stands for."""
     if not word.startswith(b'"'):
         return word
+    if b"\\" not in word:
+        return word[1:-1]
     return ESCAPE.sub(lambda it: bytes([int(it[1], 16)]) if it[1] else it[2], word[1:-1])
 
 

@@ -41,7 +41,8 @@ class Room(unittest.TestCase):
     def started(self, *words: str, heeded: signal.Handlers = signal.SIG_DFL) -> "subprocess.Popen[bytes]":
         """The tool with these words, in the folder, which heeds Ctrl-C or ignores it."""
         command, rest = words[:1], words[1:]
-        program = ["--program", str(FAKE)] if command[0] != "import" else []
+        runs = command[0] != "import" and "--merge" not in rest
+        program = ["--program", str(FAKE)] if runs else []
         whole = [sys.executable, "-B", str(HERE.parent), *command, *program, *rest]
         pipe = subprocess.PIPE
         # Where the tests run in the background, Ctrl-C may be ignored.

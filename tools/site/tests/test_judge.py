@@ -1,18 +1,20 @@
 """Verdicts, by sessions of batches."""
 
 import io
+import subprocess
 import unittest
 from typing import List, Tuple
 from unittest import mock
 
 from sievebench_site import judge as module
-from sievebench_site.ends import Refusal
+from sievebench_site.ends import CHILDREN, Refusal
 from sievebench_site.envelopes import Envelope
 from sievebench_site.folder import Site, Wanted, site_of, take_mails
 from sievebench_site.headings import Expected
 from sievebench_site.judge import Judge, Judged, batches_of
 from sievebench_site.mails import Mail
-from sievebench_site.program import NO_MEMORY, Session
+from sievebench_site.program import NO_MEMORY, NoMemory, Program, Session
+from sievebench_site.seats import Seats
 
 from .room import Files, Room
 from .test_shown import Terminal
@@ -70,6 +72,64 @@ class Verdicts(Room):
         )
         wanted = [("1.eml", "a/m", ["discard"]), ("1.eml", "b/m", ['store "INBOX"']), ("a/1.eml", "a/m", ["discard"])]
         self.assertEqual(self.told(self.judged()), wanted)
+
+    def test_sessions_that_are_held(self) -> None:
+        users = [f"u{number:02}" for number in range(12)]
+        includes = 'require "include"; include :optional "own"; if header "subject" "x" { discard; }'
+        self.write({f"users/{name}/personal/m.sieve": includes for name in users})
+        # What is of one user alone: a script that is included, and a mail with an envelope, which others have under the same name.
+        self.write({"users/u03/personal/own.sieve": 'redirect "a@b.example";', "users/u04/personal/other.sieve": ""})
+        self.write({"users/u05/mails/2.eml": "", "users/u06/mails/2.eml": ""})
+        self.write({"users/u05/mails/2.eml.envelope": "a@b c@d"})
+        self.write({"mains": "m", "mails/1.eml": "subject: x\n", "global/g.sieve": ""})
+        with mock.patch("subprocess.Popen", wraps=subprocess.Popen) as started:
+            with mock.patch.object(Session, "edit", autospec=True, side_effect=Session.edit) as edited:
+                judged = self.judged(1)
+        # The version, the surveys, and the verdicts.
+        self.assertEqual(started.call_count, 3)
+        puts = [call.args[2][0] for call in edited.call_args_list if call.args[1] == "message"]
+        self.assertEqual(puts, [b"1", b"2", b"3"])
+        told = [(mail, main, lines) for mail, main, lines in self.told(judged)]
+        wanted = [("1.eml", f"{name}/m", ["discard"]) for name in users]
+        wanted[3] = ("1.eml", "u03/m", ['redirect "a@b.example"', "discard"])
+        wanted += [(f"{name}/2.eml", f"{name}/m", ['implicit "INBOX"']) for name in ("u05", "u06")]
+        self.assertEqual(told, wanted)
+        reads = {it.user.name: it.verdict.reads for it in judged.cases}
+        self.assertEqual(reads[b"u03"], ((("personal", b"m"), True), (("personal", b"own"), True)))
+        self.assertEqual(reads[b"u04"], ((("personal", b"m"), True), (("personal", b"own"), False)))
+        self.assertEqual([mail.name for mail in judged.bare], [b"1.eml", b"u06/2.eml"])
+
+    def test_sessions_that_fail(self) -> None:
+        self.write({"personal/a.sieve": "", "mains": "a", "mails/1.eml": ""})
+        seats = Seats(self.program())
+        with seats:
+            with self.assertRaises(NoMemory), seats.taken(False) as first:
+                raise NoMemory("no memory")
+            with seats.taken(False) as second:
+                self.assertEqual((second is first, first.session.child.poll()), (False, -9))
+            with seats.taken(False) as third, seats.taken(False) as fourth:
+                self.assertEqual((third is second, fourth is second), (True, False))
+            with seats.taken(True) as fresh:
+                self.assertNotIn(fresh, (third, fourth))
+        held = (third, fourth, fresh)
+        self.assertEqual([it.session.child.poll() for it in held], [0, 0, 0])
+        with self.assertRaises(ZeroDivisionError), seats:
+            with seats.taken(False) as last:
+                pass
+            raise ZeroDivisionError
+        self.assertEqual((last.session.child.poll(), seats.idle), (-9, []))
+        # One that is given back after the others ended has no use any more.
+        with seats.taken(False) as late:
+            pass
+        self.assertEqual((late.session.child.poll(), seats.idle), (-9, []))
+
+    def test_a_program_that_ends(self) -> None:
+        self.write({"personal/a.sieve": "keep;", "mains": "a\n", "mails/1.eml": "x"})
+        self.write({"p": '#!/bin/sh\n[ "$1" = --version ] || exit 5\n'})
+        (self.room / "p").chmod(0o755)
+        with self.assertRaisesRegex(Refusal, "ended with status 5") as caught:
+            Judge(self.site(), Program(bytes(self.room / "p"), []), 2)
+        self.assertEqual((caught.exception.status, CHILDREN.running), (3, set()))
 
     def test_batches(self) -> None:
         mail = Mail(b"", b"", 0, Envelope(), None, Expected({}, False))

@@ -197,6 +197,15 @@ class Looks(Room):
         )
         self.assertEqual(self.saved({"personal/part.sieve": "keep;"})[-1].rpartition(", ")[2], "1 not as expected")
 
+    def test_a_program_that_ends(self) -> None:
+        self.look()
+        for child in list(CHILDREN.running):
+            child.kill()
+        self.write({"site/personal/part.sieve": "keep;"})
+        with self.assertRaisesRegex(Refusal, "ended with status -9") as caught:
+            self.look()
+        self.assertEqual((caught.exception.status, CHILDREN.running), (3, set()))
+
     def test_ways_to_save(self) -> None:
         self.look()
         self.write({"site/personal/.part.new": "keep;"})

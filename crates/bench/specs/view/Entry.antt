@@ -5,13 +5,14 @@ use Rattle.std.specs.Option.{option_map}
 use Rattle.indexmap.specs.IndexMap as ordered
 use lib.Pointwise.{pointwise}
 use Rattle.script_names.specs.declared.name.ScriptName.{ScriptName}
-use Rattle.sieve_actions.specs.declared.envelope.Addresses.{Addresses}
 use Rattle.sieve_run.specs.Meter.{next_run}
 use Rattle.sieve_run.specs.Run.{is_looked_up}
 use Rattle.sieve_run.specs.Verdict.{Verdict}
 use Rattle.bench.specs.Content.{Sample, put_over}
 use Rattle.bench.specs.Report.{Judged, is_unlike}
 use Rattle.bench.specs.declared.entry.Entry.{Entry}
+use Rattle.bench.specs.declared.setting.MessageSetting.{MessageSetting}
+use Rattle.bench.specs.declared.setting.MessageSetting.TheVariants as own
 
 -- the message of an entry, without what is only the bench's
 abbrev pub sample_of : Entry → Sample
@@ -87,13 +88,10 @@ put_entry id message entries = ordered.insert_entry (pointwise nat_eq) entries i
 abbrev pub renewed : List ℕ → Entry → Entry
 renewed message entry = record entry { message = message; kept = None }
 
--- an entry with another expected text, or none
-abbrev pub expecting : Option (List ℕ) → Entry → Entry
-expecting expected entry = record entry { expected = expected }
-
--- an entry with other addresses of its own, or none, which is stale
-abbrev pub readdressed : Option Addresses → Entry → Entry
-readdressed addresses entry = record entry { addresses = addresses; kept = None }
+-- an entry with a setting of its message, which is stale where a run sees that
+abbrev pub entry_with : MessageSetting → Entry → Entry
+entry_with (own.Expected expected) entry = record entry { expected = expected }
+entry_with (own.Addresses addresses) entry = record entry { addresses = addresses; kept = None }
 
 -- whether the verdict that is kept has an error
 abbrev pub has_error : Option Verdict → Bool

@@ -2,7 +2,8 @@
 
 use super::{TURNS, holds, put_message, same};
 use sievebench::{
-    Action, Bench, Counted, Extension, Meter, Octets, Profile, ReportFault, SessionEnd, session,
+    Action, Bench, Counted, Entry, Extension, Meter, Octets, Profile, ReportFault, SessionEnd,
+    session,
 };
 use std::io;
 use std::io::{ErrorKind, Write};
@@ -292,7 +293,13 @@ fn begin(rt: &(impl AllocGlobal + Abort), bench: &mut Bench) -> Result<(), Fail>
 /// Whether a verdict is kept that discards the message and does no more.
 fn is_discarded(bench: &Bench, id: &Octets) -> bool {
     match bench.verdict(id) {
-        Some(outcome) => matches!(outcome.actions(), [Action::Discard]),
+        Some(outcome) => matches!(
+            outcome.entries(),
+            [Entry {
+                action: Action::Discard,
+                ..
+            }]
+        ),
         None => false,
     }
 }

@@ -2,7 +2,6 @@
 
 use super::holds;
 use sievebench::{End, SessionEnd, TestEnd, UsageFault, command_of, status_of};
-use std::alloc::AllocError;
 use std::process::Abort;
 
 /// Compares the status of each end.
@@ -48,33 +47,6 @@ fn check_fault(rt: &impl Abort, fault: &UsageFault) {
 fn check_no_words(rt: &(impl AllocGlobal + Abort), words: &[&str]) {
     match command_of(rt.alloc(), words) {
         Err(fault) => check_fault(rt, &fault),
-        Ok(_) => panic!(rt; "a job"),
-    }
-}
-
-/// Compares the message about a name by which nothing is known.
-fn check_unknown(rt: &(impl AllocGlobal + Abort), fault: &UsageFault) -> Result<(), AllocError> {
-    let text = format!(in rt.alloc(); "{fault}")?;
-    assert_eq!(rt;
-        text.as_str(),
-        "error: invalid value 'frobnicate' for '--with <NAME>'\n  [possible values: body, charsets, comparator-i;ascii-numeric, date, duplicate, encoded-character, envelopes, ereject, lines, mailbox, reject, relational, special-use, subaddress, unused, vacation]\n\nFor more information, try '--help'.\n"
-    );
-    Ok(())
-}
-
-/// The first of several such names is printed, with all that there are.
-#[test]
-fn a_name_that_is_not_known_is_told(rt: HostRuntime) -> Result<(), AllocError> {
-    let words = [
-        "sievebench",
-        "session",
-        "--with",
-        "unused",
-        "--with",
-        "charsets,frobnicate,other",
-    ];
-    match command_of(rt.alloc(), words.as_slice()) {
-        Err(fault) => check_unknown(&rt, &fault),
         Ok(_) => panic!(rt; "a job"),
     }
 }

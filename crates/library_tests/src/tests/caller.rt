@@ -9,7 +9,7 @@ ghost use Rattle.sieve_run.specs.Shelf.{text_on};
 use super::holds;
 use sieve_profile::Profile;
 use sieve_run::{
-    Action, Envelope, Location, Message, Meter, Octets, Outcome, ScriptName, Shelf, run,
+    Action, Entry, Envelope, Location, Message, Meter, Octets, Outcome, ScriptName, Shelf, run,
 };
 use std::alloc::{AllocError, Global};
 use std::test::Fail;
@@ -54,7 +54,13 @@ fn discards(alloc: Global, text: &[u8], from: &[u8], octets: Vec<u8>) -> Result<
         &mail,
         &mut Meter::new(),
     )?;
-    Ok(matches!(verdict.actions(), [Action::Discard]))
+    Ok(matches!(
+        verdict.entries(),
+        [Entry {
+            action: Action::Discard,
+            ..
+        }]
+    ))
 }
 
 #[test]
@@ -65,42 +71,5 @@ fn a_caller_has_the_verdict_of_one_script(rt: HostRuntime) -> Result<(), Fail> {
     let is_eve = discards(alloc, text, b"eve@example.org", Vec::new(alloc))?;
     holds(&rt, "bob", is_bob);
     holds(&rt, "eve", !is_eve);
-    Ok(())
-}
-
-/// A mail of so many octets, with an empty subject and no sender in its head.
-fn mail_of(alloc: Global, size: usize) -> Result<Vec<u8>, AllocError> {
-    let mut octets = Vec::from_slice(alloc, b"Subject:\r\n\r\n")?;
-    for _octet in octets.len()..size {
-        octets.push(b'x')?;
-    }
-    Ok(octets)
-}
-
-/// 1K is 1,024 octets, which is neither over nor under itself (RFC 5228, sections 2.4.1 and 5.9). Each field contains the empty key, and an
-/// absent one contains nothing (section 2.7.1).
-#[test]
-fn sizes_and_empty_keys(rt: HostRuntime) -> Result<(), Fail> {
-    let alloc = rt.alloc();
-    let rows: [(&[u8], usize, bool); 10] = [
-        (b"if size :over 1K { discard; }", 1_023, false),
-        (b"if size :over 1K { discard; }", 1_024, false),
-        (b"if size :over 1K { discard; }", 1_025, true),
-        (b"if size :under 1K { discard; }", 1_023, true),
-        (b"if size :under 1K { discard; }", 1_024, false),
-        (b"if size :under 1K { discard; }", 1_025, false),
-        (
-            b"if header :contains \"Subject\" \"\" { discard; }",
-            12,
-            true,
-        ),
-        (b"if header :is \"Subject\" \"\" { discard; }", 12, true),
-        (b"if header :contains \"From\" \"\" { discard; }", 12, false),
-        (b"if header :is \"From\" \"\" { discard; }", 12, false),
-    ];
-    for (text, size, wanted) in &rows {
-        let is_discarded = discards(alloc, text, b"", mail_of(alloc, *size)?)?;
-        holds(&rt, "a size or an empty key", is_discarded == *wanted);
-    }
     Ok(())
 }

@@ -198,7 +198,11 @@ fn check_source<S: Drop>(
     keys: Vec<Text>,
 ) {
     match source {
-        ValueSource::Header { names } => check_strings(rt, names.as_slice(), keys.as_slice()),
+        ValueSource::Fields { part: None, names } => check_strings(
+            rt,
+            names.as_slice(),
+            keys.as_slice(),
+        ),
         _ => panic!(rt; "another source"),
     }
 }

@@ -6,7 +6,8 @@ ghost use Rattle.std.specs.Prelude.{◌≤◌, IfOk, length};
 use super::{holds, same};
 use sieve_profile::Profile;
 use sieve_run::{
-    Action, Envelope, ErrorKind, Location, Message, Meter, Octets, Outcome, ScriptName, Shelf, run,
+    Action, Entry, Envelope, ErrorKind, Location, Message, Meter, Octets, Outcome, ScriptName,
+    Shelf, run,
 };
 use std::alloc::{AllocError, Global};
 use std::process::Abort;
@@ -52,7 +53,7 @@ fn outcome_on(
 }
 
 /// The outcome of a main script on a message of no octets.
-pub(super) fn outcome_of(
+fn outcome_of(
     alloc: Global,
     shelf: &Shelf,
     main: Option<&ScriptName>,
@@ -64,16 +65,25 @@ pub(super) fn outcome_of(
 }
 
 /// The actions of the script of `check_acting`.
-fn check_actions(rt: &impl Abort, actions: &[Action]) {
-    match actions {
+fn check_actions(rt: &impl Abort, entries: &[Entry]) {
+    match entries {
         [
-            Action::Store {
-                mailbox,
-                flags,
-                filing,
+            Entry {
+                action: Action::Store {
+                    mailbox,
+                    flags,
+                    filing,
+                },
+                ..
             },
-            Action::Redirect { address },
-            Action::Discard,
+            Entry {
+                action: Action::Redirect { address },
+                ..
+            },
+            Entry {
+                action: Action::Discard,
+                ..
+            },
         ] => {
             same(rt, "the mailbox", mailbox.as_slice(), b"A");
             holds(rt, "the flags", flags.len() == 1);
@@ -111,10 +121,9 @@ fn last_read(outcome: &Outcome) -> Option<bool> {
 
 /// Compares what a run comes to. One that has actions is that of `check_acting`.
 fn check_told(rt: &impl Abort, row: &str, outcome: &Outcome, wanted: Told) {
-    holds(rt, row, outcome.actions().len() == wanted.0);
-    holds(rt, row, outcome.origins().len() == wanted.0);
+    holds(rt, row, outcome.entries().len() == wanted.0);
     if wanted.0 > 0 {
-        check_actions(rt, outcome.actions());
+        check_actions(rt, outcome.entries());
     }
     holds(rt, row, outcome.implicit().is_some() == wanted.1);
     holds(rt, row, error_of(outcome) == wanted.2);
@@ -162,22 +171,6 @@ fn check_acting(
     check_text(rt, shelf, main, text, ("three actions", wanted))
 }
 
-/// Runs on one shelf, where each text takes the place of the one before.
-fn check_texts(
-    rt: &(impl AllocGlobal + Abort),
-    shelf: &mut Shelf,
-    main: &ScriptName,
-) -> Result<(), Fail>
-    requires { length main.now.name ≤ 1024 }
-{
-    let invalid = (0, true, Some((0, ErrorKind::InvalidScript)), Some(true));
-    let bad_address = (0, true, Some((2, ErrorKind::BadAddress)), Some(true));
-    let text = b"keep;\nredirect \"\";";
-    check_text(rt, shelf, main, text, ("a bad address", bad_address))?;
-    check_text(rt, shelf, main, b"kep;", ("no command", invalid))?;
-    check_text(rt, shelf, main, b"keep;\ndiscard\n", ("no end", invalid))
-}
-
 /// Runs a text of so many octets, and compares what that comes to.
 fn check_long(
     rt: &(impl AllocGlobal + Abort),
@@ -192,44 +185,6 @@ fn check_long(
     check_text(rt, shelf, main, &text, wanted)
 }
 
-/// Runs no script, and one that is missing: both are runs.
-fn check_missing(
-    rt: &(impl AllocGlobal + Abort),
-    shelf: &Shelf,
-    main: &ScriptName,
-) -> Result<(), Fail> {
-    let mut meter = Meter::new();
-    holds(rt, "no runs", meter.runs() == 0);
-    let none = ("no script", (0, true, None, None));
-    check_run(rt, shelf, None, &mut meter, none)?;
-    let missing = (0, true, Some((0, ErrorKind::MissingScript)), Some(false));
-    check_run(rt, shelf, Some(main), &mut meter, ("missing", missing))?;
-    holds(rt, "two runs", meter.runs() == 2);
-    Ok(())
-}
-
-/// Runs a script that is not on the shelf, though its name is that of the main one.
-fn check_other(rt: &(impl AllocGlobal + Abort), shelf: &Shelf) -> Result<(), Fail> {
-    let other = named(rt.alloc(), Location::Global, b"main")?;
-    let missing = (0, true, Some((0, ErrorKind::MissingScript)), Some(false));
-    let wanted = ("another place", missing);
-    check_run(rt, shelf, Some(&other), &mut Meter::new(), wanted)
-}
-
-/// A text that is put again is run in place of the first, and another script of the same name is not.
-fn check_shelf(
-    rt: &(impl AllocGlobal + Abort),
-    shelf: &mut Shelf,
-    main: &ScriptName,
-) -> Result<(), Fail>
-    requires { length main.now.name ≤ 1024 }
-{
-    shelf.add(main, b"keep;")?;
-    let stopped = ("put again", (0, true, None, Some(true)));
-    check_text(rt, shelf, main, b"stop;", stopped)?;
-    check_other(rt, shelf)
-}
-
 /// Runs on one shelf: of 1,048,576 octets a text can be run, and none of more.
 fn check_all(
     rt: &(impl AllocGlobal + Abort),
@@ -240,15 +195,12 @@ fn check_all(
 {
     let invalid = (0, true, Some((0, ErrorKind::InvalidScript)), Some(true));
     let kept = (0, true, None, Some(true));
-    check_missing(rt, shelf, main)?;
-    check_shelf(rt, shelf, main)?;
-    check_texts(rt, shelf, main)?;
     check_long(rt, shelf, main, 1_048_577, ("too large", invalid))?;
     check_long(rt, shelf, main, 1_048_576, ("at the limit", kept))?;
     check_acting(rt, shelf, main)
 }
 
-/// Runs without a script, with one that takes the place of another, of texts, and with actions.
+/// Runs of texts at the limit and past it, and of one with actions, each in the place of the one before.
 #[test]
 fn scripts_are_run(rt: HostRuntime) -> Result<(), Fail> {
     let main = main_name(rt.alloc())?;

@@ -4,7 +4,5 @@ use Rattle.message_text.specs.declared.marks.Inside.{Inside}
 use Rattle.message_text.specs.declared.marks.Inside.TheVariants as inside
 
 abbrev pub depth_of : Inside → ℕ
-depth_of inside.Nothing = 0
-depth_of inside.QuotedString = 0
 depth_of (inside.Comment depth) = depth
-depth_of inside.DomainLiteral = 0
+depth_of other = 0

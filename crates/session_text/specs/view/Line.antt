@@ -27,11 +27,8 @@ IsWithin Spent pending = IsCutOff pending
 
 -- a line ends at an LF, whatever follows it
 abbrev pub IsEnded : Line → List ℕ → Type 0
-IsEnded Over pending = ⊤
 IsEnded (Whole len skip) pending = (more : List ℕ) → line_so_far (take skip pending ++ more) ≡ Some (take len pending, more)
-IsEnded TooLong pending = ⊤
-IsEnded Failed pending = ⊤
-IsEnded Spent pending = ⊤
+IsEnded other pending = ⊤
 
 -- a fact for the end, and one for each fault
 abbrev pub MatchEnd : Line → Type 0 → Type 0 → Type 0 → Type 0

@@ -10,7 +10,7 @@ use Rattle.message_text.specs.Fields.{Field, is_field_named}
 use Rattle.message_text.specs.declared.addressing.AddressPart.{AddressPart}
 use Rattle.mime_text.specs.Entities.{Entity}
 use Rattle.mime_text.specs.Values.{texts_if_named}
-use Rattle.sieve_reading.specs.Reading.{ValueSource, address_values, body_values, clock_values, date_values, envelope_values, flag_values, header_values, string_values}
+use Rattle.sieve_reading.specs.Reading.{ValueSource, flag_values}
 use Rattle.sieve_variables.specs.Part.{Part}
 use Rattle.sieve_variables.specs.Value.{text_value}
 use Rattle.sieve_table.specs.Address.{is_address_field}
@@ -34,21 +34,10 @@ key_found matcher value key = first_match matcher.comparison (pairs_with (cut_ke
 abbrev pub found_with : Matcher → List ℕ → Option (List (List ℕ))
 found_with matcher value = first_match matcher.comparison (pairs_with (key_texts matcher) value)
 
--- where values are taken from: the values of fields, or a part of the addresses in them
-abbrev pub field_source : Option AddressPart → List (List Part) → ValueSource
-field_source None names = header_values names
-field_source (Some part) names = address_values part names
-
 -- whether a test's keys are cut at spaces
 abbrev pub cuts_keys : ValueSource → Bool
-cuts_keys (header_values names) = false
-cuts_keys (address_values part names) = false
-cuts_keys (envelope_values part names) = false
-cuts_keys (string_values texts) = false
 cuts_keys (flag_values variables) = true
-cuts_keys (date_values zone field part) = false
-cuts_keys (clock_values zone part) = false
-cuts_keys (body_values transform) = false
+cuts_keys other = false
 
 -- whether fields of that name are looked at
 abbrev pub is_looked_at : Option AddressPart → List ℕ → Bool

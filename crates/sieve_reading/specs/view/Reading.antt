@@ -45,8 +45,7 @@ body_by list (transform.Content entries) = reading.content_transform (list entri
 body_by list transform.Text = reading.text_transform
 
 abbrev pub source_by : {N L S : Type 0} → (N → List (List Part)) → (L → List (List Part)) → (Option L → Option (List (List Part))) → (S → List Part) → ValueSource N L S → reading.ValueSource
-source_by names list given_list string (source.Header fields) = reading.header_values (names fields)
-source_by names list given_list string (source.Address part fields) = reading.address_values part (names fields)
+source_by names list given_list string (source.Fields part fields) = reading.field_values part (names fields)
 source_by names list given_list string (source.Envelope part parts) = reading.envelope_values part (list parts)
 source_by names list given_list string (source.String texts) = reading.string_values (list texts)
 source_by names list given_list string (source.Flags variables) = reading.flag_values (given_list variables)

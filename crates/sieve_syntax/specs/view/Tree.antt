@@ -9,15 +9,12 @@ use Rattle.sieve_syntax.specs.declared.tree.Test as one_tests
 use Rattle.sieve_syntax.specs.declared.tree.Tests as some_tests
 use Rattle.sieve_syntax.specs.declared.tree.Text as texts
 use Rattle.sieve_syntax.specs.view.TreeOf as by
-use Rattle.sieve_variables.specs.Part.{Part, literal, variable_part, match_part}
+use Rattle.sieve_variables.specs.Part.{Part, literal}
 
 -- the octets of a string that is one literal, as each string of a text's tree is
 abbrev pub octets_of : List Part → List ℕ
-octets_of [] = []
 octets_of (literal octets ∷ []) = octets
-octets_of (literal octets ∷ part ∷ parts) = []
-octets_of (variable_part variable ∷ parts) = []
-octets_of (match_part index ∷ parts) = []
+octets_of other = []
 
 abbrev pub text_of : texts.Text → Text
 text_of = by.text_of octets_of

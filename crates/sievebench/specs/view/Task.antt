@@ -2,7 +2,9 @@
 use Rattle.std.specs.Prelude.{◌≡◌, ℕ, List, Option, Some, None, Result, true}
 use Rattle.sieve_limits.specs.Limits.{expected_limit, mailboxes_limit, text_limit, message_limit}
 use Rattle.bench.specs.Bench.{BenchState}
-use Rattle.bench.specs.Content.{Edit, put_script, put_message, set_expected, set_mailboxes}
+use Rattle.bench.specs.Content.{Edit, put_script, put_message, set_for_all, set_for_one}
+use Rattle.bench.specs.declared.setting.MessageSetting.TheVariants as own
+use Rattle.bench.specs.declared.setting.Setting.TheVariants as common
 use Rattle.bench.specs.declared.fault.EditFault.{EditFault}
 use Rattle.sievebench.specs.Session.{Demand, asks_question, asks_put, asks_edit, asks_report, question_takes_memory, takes_memory}
 use Rattle.sievebench.specs.view.Progress.{Attempts}
@@ -15,8 +17,8 @@ use Rattle.sievebench.specs.declared.task.Task.TheVariants as tasks
 abbrev pub edit_of : Subject → List ℕ → Edit
 edit_of (subjects.Script name) octets = put_script name octets
 edit_of (subjects.Message id) octets = put_message id octets
-edit_of (subjects.Expected id) octets = set_expected id octets
-edit_of subjects.Mailboxes octets = set_mailboxes octets
+edit_of (subjects.Expected id) octets = set_for_one id (own.Expected (Some octets))
+edit_of subjects.Mailboxes octets = set_for_all (common.Mailboxes octets)
 
 -- the most octets that may be put there
 abbrev pub limit_of : Subject → ℕ
@@ -27,19 +29,14 @@ limit_of subjects.Mailboxes = mailboxes_limit
 
 -- `count` octets follow what is asked for, and memory may be refused to it
 abbrev pub IsFollowedBy : ℕ → Option Demand → Type 0
-IsFollowedBy count None = ⊥
 IsFollowedBy count (Some (asks_question question)) = (count ≡ 0) × (question_takes_memory question ≡ true)
 IsFollowedBy count (Some (asks_put n edit)) = (n ≡ count) × ((octets : List ℕ) → takes_memory (edit octets) ≡ true)
-IsFollowedBy count (Some (asks_edit edit)) = ⊥
-IsFollowedBy count (Some asks_report) = ⊥
+IsFollowedBy count other = ⊥
 
 -- the edit that is asked for was tried
 abbrev pub IsTried : Option Demand → Result Unit EditFault → BenchState → BenchState → Type 0
-IsTried None outcome old new = ⊥
-IsTried (Some (asks_question question)) outcome old new = ⊥
-IsTried (Some (asks_put count edit)) outcome old new = ⊥
 IsTried (Some (asks_edit edit)) outcome old new = Attempts edit outcome old new
-IsTried (Some asks_report) outcome old new = ⊥
+IsTried other outcome old new = ⊥
 
 -- the task is to do what a line asks for, and nothing is done of it yet; or it is the edit that was tried
 abbrev pub Tasks : Task → Option Demand → BenchState → BenchState → Type 0

@@ -1,128 +1,18 @@
-//! Messages and their fields, row by row.
-use super::{Row, holds, push_ended, same};
+//! What isn't printed of messages and their fields: which values are borrowed, and where fields of a name stand.
+use super::{Row, holds, same};
 use message_text::{FieldName, Message, MessageFault, name_hash};
+use sieve_profile::Profile;
 use std::alloc::{AllocError, Global};
 use std::borrow::CowSlice;
 use std::process::Abort;
 use std::test::Fail;
 
-pub(super) fn read(alloc: Global, octets: &[u8]) -> Result<Message, Fail> {
+fn read(alloc: Global, octets: &[u8]) -> Result<Message, Fail> {
     Ok(Message::new(alloc, Vec::from_slice(alloc, octets)?)?)
 }
 
-/// Adds each field of the message on a line of its own, with a colon between name and value.
-fn push_fields(alloc: Global, text: &mut Vec<u8>, message: &Message) -> Result<(), AllocError> {
-    for i in 0..message.fields() {
-        push_ended(text, message.name(i), b':')?;
-        push_ended(text, message.value(alloc, i)?.as_slice(), b'\n')?;
-    }
-    Ok(())
-}
-
-/// Compares the fields of a message.
-fn check_fields(
-    rt: &(impl AllocGlobal + Abort),
-    message: &Message,
-    row: &[u8],
-    wanted: &[u8],
-) -> Result<(), AllocError> {
-    let mut text = Vec::new(rt.alloc());
-    push_fields(rt.alloc(), &mut text, message)?;
-    same(rt, row, &text, wanted);
-    Ok(())
-}
-
-/// Compares the fields of each message.
-fn check_listed(rt: &(impl AllocGlobal + Abort), rows: &[Row<'_>]) -> Result<(), Fail> {
-    for (octets, wanted) in rows {
-        check_fields(rt, &read(rt.alloc(), *octets)?, *octets, *wanted)?;
-    }
-    Ok(())
-}
-
-#[test]
-fn messages_have_their_fields(rt: HostRuntime) -> Result<(), Fail> {
-    check_listed(
-        &rt,
-        &[
-            // Folded values are joined.
-            (
-                b"Subject: one\r\n two\r\n\tthree\r\n\r\n",
-                b"Subject:one two\tthree\n",
-            ),
-            (
-                b"Subject: one\n two\n\tthree\n\n",
-                b"Subject:one two\tthree\n",
-            ),
-            // Blanks at the seams stay, and outer ones go wherever they stand.
-            (b"A: \t\r\n \r\n x \r\n\ty\t\r\n \t\r\n", b"A:x \ty\n"),
-            (b"A:\n \n\t\n", b"A:\n"),
-        ],
-    )
-}
-
-#[test]
-fn lines_that_are_no_fields_are_skipped(rt: HostRuntime) -> Result<(), Fail> {
-    check_listed(
-        &rt,
-        &[
-            // Lines that are no fields are skipped.
-            (b" x\nA b: c\n d\n:e\nF : g\n h\n\nI: j", b"F:g h\n"),
-            (b"", b""),
-            (b"\nA: b\n", b""),
-            (b"\r\nA: b\r\n", b""),
-            (b"A: b\nC: d", b"A:b\nC:d\n"),
-            (b"no colon\nA: b\n\n", b"A:b\n"),
-            (b"\x7f: a\nB: c\n", b"B:c\n"),
-            (b"~: a\n!: b\n \n\n", b"~:a\n!:b\n"),
-            (b"A \t : b\nC\t:d\n", b"A:b\nC:d\n"),
-            (b"\xc3\xa4: b\nC:\xc3\xa4\n", b"C:\xc3\xa4\n"),
-            (b"A:b:c\n::\n", b"A:b:c\n"),
-            (b"A\x00: b\nC: \x00 \x00\n\x00: d\n", b"C:\x00 \x00\n"),
-        ],
-    )
-}
-
-#[test]
-fn a_lone_return_is_an_octet(rt: HostRuntime) -> Result<(), Fail> {
-    check_listed(
-        &rt,
-        &[
-            // A lone return is an octet.
-            (b"A: b\rc\r\n\r\n", b"A:b\rc\n"),
-            (b"A: b\r", b"A:b\r\n"),
-            (b"A: b\r\r\n c\r", b"A:b\r c\r\n"),
-            (b"A: b\n\r", b"A:b\n"),
-            (b"A: b\n\rC: d\nE: f\n", b"A:b\nE:f\n"),
-            (b"A: b\n\r\nC: d\n", b"A:b\n"),
-        ],
-    )
-}
-
-#[test]
-fn messages_of_the_standard_have_their_fields(rt: HostRuntime) -> Result<(), Fail> {
-    check_listed(
-        &rt,
-        &[
-            // RFC 5322, appendices A.1.1, A.5 and A.6.3.
-            (
-                b"From: John Doe <jdoe@machine.example>\r\nTo: Mary Smith <mary@example.net>\r\nSubject: Saying Hello\r\nDate: Fri, 21 Nov 1997 09:55:06 -0600\r\nMessage-ID: <1234@local.machine.example>\r\n\r\nThis is a message just to say hello.\r\nSo, \"Hello\".\r\n",
-                b"From:John Doe <jdoe@machine.example>\nTo:Mary Smith <mary@example.net>\nSubject:Saying Hello\nDate:Fri, 21 Nov 1997 09:55:06 -0600\nMessage-ID:<1234@local.machine.example>\n",
-            ),
-            (
-                b"To:A Group(Some people)\r\n     :Chris Jones <c@(Chris's host.)public.example>,\r\n         joe@example.org,\r\n  John <jdoe@one.test> (my dear friend); (the end of the group)\r\nDate: Thu,\r\n      13\r\n        Feb\r\n          1969\r\n      23:32\r\n               -0330 (Newfoundland Time)\r\nMessage-ID:              <testabcd.1234@silly.test>\r\n\r\nTesting.\r\n",
-                b"To:A Group(Some people)     :Chris Jones <c@(Chris's host.)public.example>,         joe@example.org,  John <jdoe@one.test> (my dear friend); (the end of the group)\nDate:Thu,      13        Feb          1969      23:32               -0330 (Newfoundland Time)\nMessage-ID:<testabcd.1234@silly.test>\n",
-            ),
-            (
-                b"From  : John Doe <jdoe@machine(comment).  example>\r\nTo    : Mary Smith\r\n  \r\n          <mary@example.net>\r\nSubject     : Saying Hello\r\n\r\nSo, \"Hello\".\r\n",
-                b"From:John Doe <jdoe@machine(comment).  example>\nTo:Mary Smith            <mary@example.net>\nSubject:Saying Hello\n",
-            ),
-        ],
-    )
-}
-
 /// Whether a value is borrowed: 1, or else 0.
-pub(super) fn borrowed(value: &CowSlice<'_, u8>) -> u8 {
+fn borrowed(value: &CowSlice<'_, u8>) -> u8 {
     match value {
         CowSlice::Borrowed(_) => 1,
         CowSlice::Owned(_) => 0,
@@ -152,6 +42,21 @@ fn borrows_unfolded_values(rt: HostRuntime) -> Result<(), Fail> {
     check_borrowed(&rt, &one, &[1])?;
     let three = read(rt.alloc(), b"Subject: one\r\n two\r\n\tthree\r\n\r\n")?;
     Ok(check_borrowed(&rt, &three, &[0])?)
+}
+
+/// A decoded value is borrowed where its field stands on one line and no word was replaced; a word of no octets counts.
+#[test]
+fn borrows_values_without_words(rt: HostRuntime) -> Result<(), Fail> {
+    let message = read(
+        rt.alloc(),
+        b"A: b\nB: =?us-ascii?Q?b?=\nC: =?koi8-r?Q?a?=\nD: a\n b\nE: =?us-ascii?Q?a?=\n =?us-ascii?Q?b?=\nF: =?utf-8?Q??=\nG:\n\n",
+    )?;
+    let mut found = Vec::new(rt.alloc());
+    for i in 0..message.fields() {
+        found.push(borrowed(&message.decoded(rt.alloc(), Profile::new(), i)?))?;
+    }
+    same(&rt, b"fields", &found, &[1, 0, 1, 0, 0, 0, 1]);
+    Ok(())
 }
 
 /// Adds the place of each field of that name.

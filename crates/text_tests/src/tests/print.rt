@@ -1,7 +1,7 @@
-//! Trees and tokens as text.
+//! Trees as text.
 
 use super::same;
-use sieve_syntax::{Argument, Command, Test, Tests, Text, Token, parse, tokens};
+use sieve_syntax::{Argument, Command, Test, Tests, Text, parse};
 use std::alloc::{AllocError, Global};
 use std::process::Abort;
 
@@ -175,36 +175,6 @@ pub(super) fn check_trees(
     for (text, wanted) in rows {
         let mut out = String::new(rt.alloc());
         print_tree(&mut out, rt.alloc(), *text)?;
-        same(rt, *text, out.as_bytes(), wanted.as_bytes());
-    }
-    Ok(())
-}
-
-/// A token, as `KIND START-END@LINE` and a space.
-fn print_token(out: &mut String, alloc: Global, token: &Token) -> Result<(), AllocError> {
-    let printed = format!(in alloc;
-        "{:?} {}-{}@{} ",
-        token.kind, token.start, token.end, token.line
-    )?;
-    out.push_str(&printed)
-}
-
-/// Prints the tokens of a text.
-fn print_tokens(out: &mut String, alloc: Global, text: &[u8]) -> Result<(), AllocError> {
-    for token in &tokens(alloc, text)? {
-        print_token(out, alloc, token)?;
-    }
-    Ok(())
-}
-
-/// Compares the tokens of each text.
-pub(super) fn check_tokens(
-    rt: &(impl AllocGlobal + Abort),
-    rows: &[(&[u8], &str)],
-) -> Result<(), AllocError> {
-    for (text, wanted) in rows {
-        let mut out = String::new(rt.alloc());
-        print_tokens(&mut out, rt.alloc(), *text)?;
         same(rt, *text, out.as_bytes(), wanted.as_bytes());
     }
     Ok(())

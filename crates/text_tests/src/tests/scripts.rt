@@ -1,4 +1,4 @@
-//! Scripts with their trees. Texts with faults stand in `examples/rows`.
+//! Scripts with their trees. Texts with faults, and what strings and numbers stand for, are in `examples/rows`.
 
 use super::print::check_trees;
 use std::alloc::AllocError;
@@ -27,6 +27,7 @@ fn scripts_have_their_trees(rt: HostRuntime) -> Result<(), AllocError> {
                 "a@1 (b@1 #1@1,c@1 (d@1,e@1 :t@1,),f@1 g@1,);",
             ),
             (b"a b (c);", "a@1 b@1 (c@1,);"),
+            (b"a :Tag\n:_t9;", "a@1 :Tag@1 :_t9@2;"),
             (
                 b"/*1*/a/*2*/[/*3*/\"b\"/*4*/,#5\n\"c\"/*6*/]/*7*/(/*8*/d/*9*/,/*10*/e/*11*/)/*12*/{/*13*/}/*14*/",
                 "a@1 [\"b\"1\"c\"2] (d@2,e@2,){}",
@@ -65,59 +66,6 @@ fn scripts_of_the_standard_have_their_trees(rt: HostRuntime) -> Result<(), Alloc
                 b"if anyof (NOT address :all :contains\n               [\"To\", \"Cc\", \"Bcc\"] \"me@example.com\",\n             header :matches \"subject\"\n               [\"*make*money*fast*\", \"*university*dipl*mas*\"])\n        {\n        fileinto \"spam\";   # move to \"spam\" mailbox\n        }\nelse\n        {\n        # Move all other (non-company) mail to \"personal\"\n        # mailbox.\n        fileinto \"personal\";\n        }\n",
                 "if@1 anyof@1 (NOT@1 address@1 :all@1 :contains@1 [\"To\"2\"Cc\"2\"Bcc\"2] \"me@example.com\"2,header@3 :matches@3 \"subject\"3 [\"*make*money*fast*\"4\"*university*dipl*mas*\"4],){fileinto@6 \"spam\"6;}else@8{fileinto@12 \"personal\"12;}",
             ),
-        ],
-    )
-}
-
-#[test]
-fn strings_have_their_values(rt: HostRuntime) -> Result<(), AllocError> {
-    check_trees(
-        &rt,
-        &[
-            (b"a \"\";", "a@1 \"\"1;"),
-            (
-                b"a \"b\nc\r\nd\re\";",
-                "a@1 \"b\\x0d\\x0ac\\x0d\\x0ad\\x0de\"1;",
-            ),
-            (b"a \"\n\";", "a@1 \"\\x0d\\x0a\"1;"),
-            (b"a \"\r\\\n\";", "a@1 \"\\x0d\\x0d\\x0a\"1;"),
-            (b"a \"\\q\\\\\\\"\";", "a@1 \"q\\\"\"1;"),
-            (b"a \"\0\xff\";", "a@1 \"\\x00\\xff\"1;"),
-            (
-                b"a\ntext:\n..a\n.b\n.\n;",
-                "a@1 \".a\\x0d\\x0a.b\\x0d\\x0a\"2;",
-            ),
-            (
-                b"a text:\r\n...\r\n\r\n.\r\n;",
-                "a@1 \"..\\x0d\\x0a\\x0d\\x0a\"1;",
-            ),
-            (
-                b"a text: # c\nb\rc\\\"\n.\r\n;",
-                "a@1 \"b\\x0dc\\\"\\x0d\\x0a\"1;",
-            ),
-            (b"a text:\n.\n;", "a@1 \"\"1;"),
-            (b"a text:\n.\r\r\n.\n;", "a@1 \".\\x0d\\x0d\\x0a\"1;"),
-        ],
-    )
-}
-
-#[test]
-fn numbers_and_tags_have_their_values(rt: HostRuntime) -> Result<(), AllocError> {
-    check_trees(
-        &rt,
-        &[
-            (b"a 0 007 10;", "a@1 #0@1 #7@1 #10@1;"),
-            (
-                b"a 1k 1K 1m 1M 1g 1G;",
-                "a@1 #1024@1 #1024@1 #1048576@1 #1048576@1 #1073741824@1 #1073741824@1;",
-            ),
-            (b"a 18446744073709551615;", "a@1 #18446744073709551615@1;"),
-            (b"a 18446744073709551616;", "a@1 #none@1;"),
-            (b"a 17179869183G;", "a@1 #18446744072635809792@1;"),
-            (b"a 17179869184G;", "a@1 #none@1;"),
-            (b"a 99999999999999999999999999999999;", "a@1 #none@1;"),
-            (b"a 000000000000000000000000000000001K;", "a@1 #1024@1;"),
-            (b"a :Tag\n:_t9;", "a@1 :Tag@1 :_t9@2;"),
         ],
     )
 }

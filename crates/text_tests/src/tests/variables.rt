@@ -1,12 +1,10 @@
-//! Rows for public calls of variables whose answers the program doesn't print: what references a text has, and how names are told apart.
-//! What strings, modifiers and variables come to stands in `examples/rows`. What is expected was written by hand from RFC 5229 and RFC 6609.
+//! Rows for public calls of variables whose answers the program doesn't print: what references a text has, and the first octets of a string.
+//! What strings, modifiers and variables come to stands in `examples/rows` and is made in `tools/checks`. What is expected was written by hand from
+//! RFC 5229 and RFC 6609.
 
 use super::{holds, same};
 use octets::Octets;
-use sieve_variables::{
-    LetterCase, Modifiers, Values, folded, is_global_name, is_identifier, parts_of_text,
-    references_in,
-};
+use sieve_variables::{Values, parts_of_text, references_in};
 use std::alloc::{AllocError, Global};
 use std::process::Abort;
 
@@ -44,18 +42,6 @@ fn references_are_found(rt: HostRuntime) {
     );
 }
 
-/// Which names there are stands in `examples/rows` too.
-#[test]
-fn names_are_told_apart_and_kept_in_lower_case(rt: HostRuntime) -> Result<(), AllocError> {
-    holds(&rt, b"first_name", is_identifier(b"first_name"));
-    holds(&rt, b"global.a", !is_identifier(b"global.a"));
-    holds(&rt, b"gLobal.A_1", is_global_name(b"gLobal.A_1"));
-    holds(&rt, b"global", !is_global_name(b"global"));
-    let name = folded(rt.alloc(), b"First_NAME9")?;
-    same(&rt, b"First_NAME9", name.as_slice(), b"first_name9");
-    Ok(())
-}
-
 /// What variables hold after a match of the value and of one wildcard.
 fn values_after(alloc: Global, value: &[u8], taken: &[u8]) -> Result<Values, AllocError> {
     let mut texts = Vec::new(alloc);
@@ -86,46 +72,5 @@ fn strings_have_their_fronts(rt: HostRuntime) -> Result<(), AllocError> {
         let front = values.expanded_front(alloc, parts.as_slice(), *limit)?;
         same(&rt, *string, front.as_slice(), *wanted);
     }
-    Ok(())
-}
-
-/// A string of more than 4,096 octets is cut after all modifiers but `:length`, which counts all of it (RFC 5229, sections 4.1 and 6).
-#[test]
-fn strings_are_modified(rt: HostRuntime) -> Result<(), AllocError> {
-    let alloc = rt.alloc();
-    let long = vec![in alloc; b'a'; 4_090]?;
-    let values = values_after(alloc, &long, b"b")?;
-    let none = Modifiers {
-        letter_case: None,
-        first_letter: None,
-        quote_wildcard: false,
-        length: false,
-    };
-    let upper = Modifiers {
-        letter_case: Some(LetterCase::Upper),
-        ..none
-    };
-    let length = Modifiers {
-        length: true,
-        ..upper
-    };
-    let parts = parts_of_text(alloc, b"${1}${0}${1}c${0}")?;
-    let octets = values.modified_string(alloc, none, parts.as_slice())?;
-    holds(&rt, b"cut", octets.len() == 4_096);
-    same(
-        &rt,
-        b"after the value",
-        octets.get(4_091..).unwrap_or(b""),
-        b"bcaaa",
-    );
-    let octets = values.modified_string(alloc, upper, parts.as_slice())?;
-    same(
-        &rt,
-        b"in capitals",
-        octets.get(4_091..).unwrap_or(b""),
-        b"BCAAA",
-    );
-    let octets = values.modified_string(alloc, length, parts.as_slice())?;
-    same(&rt, b"counted", &octets, b"8183");
     Ok(())
 }

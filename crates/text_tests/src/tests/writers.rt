@@ -1,13 +1,10 @@
-//! What the writers print, and what they do at writers that take little, interrupt or give up.
+//! What the writers do at writers that take little, interrupt or give up.
 
 use super::{holds, same};
-use devices::{
-    Counted, Faults, Piece, Sink, Source, WriteFault, write_out, write_pieces, write_quoted,
-};
+use devices::{Counted, Faults, Source, write_quoted};
 use std::io;
 use std::io::{ErrorKind, Read, Write};
 use std::process::Abort;
-use std::test::Fail;
 
 /// What a writer without room answers.
 #[derive(Clone, Copy)]
@@ -61,61 +58,6 @@ impl Read for Broken {
     fn read(&mut self, _buf: &mut [u8]) -> io::Result<usize> {
         Err(io::Error::from(ErrorKind::BrokenPipe))
     }
-}
-
-/// Compares what each row of octets prints between quotes.
-fn check_quoted(
-    rt: &(impl AllocGlobal + Abort),
-    rows: &[super::Row<'_>],
-) -> Result<(), WriteFault> {
-    for (octets, text) in rows {
-        let mut writer = Counted::new(Vec::new(rt.alloc()));
-        write_quoted(*octets, &mut writer)?;
-        same(rt, *octets, &writer.into_inner(), *text);
-    }
-    Ok(())
-}
-
-#[test]
-fn prints_octets_between_quotes(rt: HostRuntime) -> Result<(), Fail> {
-    Ok(check_quoted(
-        &rt,
-        &[
-            (b"", b"\"\""),
-            (b"a", b"\"a\""),
-            (b"a\"b\\", b"\"a\\\"b\\\\\""),
-            (b"\x00", b"\"\\x00\""),
-            (b"\n", b"\"\\x0a\""),
-            (b"\x1f", b"\"\\x1f\""),
-            (b" ", b"\" \""),
-            (b"~", b"\"~\""),
-            (b"\x7f", b"\"\\x7f\""),
-            (b"ab\xffcd", b"\"ab\\xffcd\""),
-        ],
-    )?)
-}
-
-/// Prints pieces and an end.
-fn print_pieces<W: Sink>(writer: &mut W) -> Result<(), WriteFault> {
-    let pieces = [
-        Piece::Raw(b"main "),
-        Piece::Quoted(b"a b"),
-        Piece::Raw(b"\n"),
-        Piece::Number(0),
-        Piece::Raw(b" "),
-        Piece::Number(18_446_744_073_709_551_615),
-    ];
-    write_pieces(&pieces, writer)?;
-    write_out(b" end", writer)
-}
-
-#[test]
-fn prints_pieces_in_order(rt: HostRuntime) {
-    let mut writer = Counted::new(Vec::new(rt.alloc()));
-    let is_ok = print_pieces(&mut writer).is_ok();
-    holds(&rt, b"pieces", is_ok && writer.faults() == 0);
-    let text = b"main \"a b\"\n0 18446744073709551615 end";
-    same(&rt, b"pieces", &writer.into_inner(), text);
 }
 
 /// The room, what is answered without, the interruptions before each octet, whether printing `abc` between quotes

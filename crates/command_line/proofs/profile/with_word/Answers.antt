@@ -4,20 +4,19 @@ use Rattle.std.proofs.lemmas.Iterator.Splits.{YieldsList-from_str_split}
 use Rattle.std.proofs.lemmas.Iterator.Consumers.{YieldsList-at, YieldsList-turn, YieldsList-end}
 use Rattle.std.proofs.lemmas.List.{at_drop_more, at_drop_all, length_push}
 use Rattle.clap.specs.Walk.{Text}
-use Rattle.sieve_profile.specs.Extension.{extension_named}
-use Rattle.sieve_profile.specs.Profile.{Profile, with_extension}
-use Rattle.sieve_profile.specs.declared.extension.Extension.{Extension}
+use Rattle.std.specs.Option.{option_map}
+use Rattle.sieve_profile.specs.Profile.{Profile, with_named}
 use Rattle.sieve_profile.specs.view.Profile.{profile_as}
 use Rattle.command_line.specs.Profiles.{parts_of, where_known, with_names}
 use Rattle.command_line.proofs.profile.with_word.Goals as goal
 
--- a name that is known, and one that is not
-known : (profile : Profile) (name : Text) (names : List Text) (extension : Extension) → Some extension ≡ extension_named name
-    → with_names profile (name ∷ names) ≡ with_names (with_extension profile extension) names
-known profile name names extension is = ap (λ (o : Option Extension). where_known name o (λ e. with_names (with_extension profile e) names)) (sym is)
+-- a name that asks for something, and one that does not
+known : (profile more : Profile) (name : Text) (names : List Text) → Some more ≡ with_named profile name
+    → with_names profile (name ∷ names) ≡ with_names more names
+known profile more name names is = ap (λ (o : Option Profile). where_known name o (λ p. with_names p names)) (sym is)
 
-unknown : (profile : Profile) (name : Text) (names : List Text) → None ≡ extension_named name → with_names profile (name ∷ names) ≡ Err name
-unknown profile name names is = ap (λ (o : Option Extension). where_known name o (λ e. with_names (with_extension profile e) names)) (sym is)
+unknown : (profile : Profile) (name : Text) (names : List Text) → None ≡ with_named profile name → with_names profile (name ∷ names) ≡ Err name
+unknown profile name names is = ap (λ (o : Option Profile). where_known name o (λ p. with_names p names)) (sym is)
 
 at_turn : (profile : Profile) (names : List Text) (n : ℕ) (name : Text) → n < length names → name ≡ get_or names n name
     → with_names profile (drop n names) ≡ with_names profile (name ∷ drop (n + 1) names)
@@ -38,15 +37,14 @@ loop-name-preserved c =
     let n = length c.loop-name.yielded in
     let left = drop (n + 1) names in
     let name = c.in-Some.name.now in
-    let is_known = sym c.in-Some-named.is ∙ c.named.ensures ∙ ap extension_named c.as_bytes.ensures.value in
-    ap (λ (k : ℕ). with_names (profile_as c.with-profile.result) (drop k names)) (length_push c.loop-name.yielded c.in-Some.name)
-    ∙ ap (λ (p : Profile). with_names p left) c.with-profile.ensures
-    ∙ sym (known (profile_as c.loop-name.profile) name left _ is_known)
+    let is_known = ap (option_map profile_as) (sym c.in-Some-with_named.is) ∙ c.with_named.ensures ∙ ap (with_named (profile_as c.loop-name.profile)) c.as_bytes.ensures.value in
+    ap (λ (k : ℕ). with_names (profile_as c.in-Some-with_named.more) (drop k names)) (length_push c.loop-name.yielded c.in-Some.name)
+    ∙ sym (known (profile_as c.loop-name.profile) (profile_as c.in-Some-with_named.more) name left is_known)
     ∙ sym (at_turn (profile_as c.loop-name.profile) names n name turn.0 turn.1)
     ∙ c.loop-name.invariant
 
-pub returns-in-None-named : goal.returns-in-None-named
-returns-in-None-named c =
+pub returns-in-None-with_named : goal.returns-in-None-with_named
+returns-in-None-with_named c =
     let split = c.split-name-items.ensures in
     let turn = YieldsList-turn (YieldsList-at c.into_iter-name-iterator.ensures.into_iter_gives (YieldsList-from_str_split 44 c.args.word.now (omega arith) split.text split.has_more split.pattern)) c.loop-name.yielded _ c.loop-name.yielded_by _ _ c.in-Some.name c.in-Some.is c.next.ensures.steps in
     let names = parts_of c.args.word.now in
@@ -54,7 +52,7 @@ returns-in-None-named c =
     let name = c.in-Some.name.now in
     sym c.loop-name.invariant
     ∙ at_turn (profile_as c.loop-name.profile) names n name turn.0 turn.1
-    ∙ unknown (profile_as c.loop-name.profile) name (drop (n + 1) names) (sym c.in-None-named.is ∙ c.named.ensures ∙ ap extension_named c.as_bytes.ensures.value)
+    ∙ unknown (profile_as c.loop-name.profile) name (drop (n + 1) names) (ap (option_map profile_as) (sym c.in-None-with_named.is) ∙ c.with_named.ensures ∙ ap (with_named (profile_as c.loop-name.profile)) c.as_bytes.ensures.value)
 
 pub returns : goal.returns
 returns c =

@@ -13,5 +13,5 @@ returns c =
     let e = c.in_ok-added.ensures in let old = state_of c.args.state.now in
     subst (λ (e : Ending). IfOk c.end_with.result (λ (flow : Flow). ending_by flow (state_of c.end_with.new.state) ≡ e))
     (ended_so (delivery_as c.args.delivery.now) c.args.line c.args.deed old _ c.in_ok-added.added e.kept e.value
-    (ap (λ (l : List (List ℕ)). record old { actions = c.add.new.self.actions; flags = l }) e.flags))
+    (ap (λ (l : List (List ℕ)). record old { entries = c.add.new.self.entries; flags = l }) e.flags))
     (c.end_with.ensures _ c.args.deed refl refl)

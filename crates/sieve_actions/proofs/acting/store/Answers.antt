@@ -19,7 +19,7 @@ returns-in_ok-added-in-None c =
     let none : None ≡ said.flags = sym c.in-None.is in
     subst (λ (e : Ending). IfOk c.end_with.result (λ (flow : Flow). ending_by flow (state_of c.end_with.new.state) ≡ e))
     (ended_so d c.args.line deed old _ c.in_ok-added-in-None.added e.kept e.value
-    (ap (λ (l : List (List ℕ)). record old { actions = c.store.new.self.actions; flags = l }) e.flags)
+    (ap (λ (l : List (List ℕ)). record old { entries = c.store.new.self.entries; flags = l }) e.flags)
     ∙ ap (λ o. performs d c.args.line (deed_of (Store c.args.mailbox (stored_flags old o) c.args.filing) said.copy) old) none
     ∙ ap (λ f. performs d c.args.line (deed_of (Store c.args.mailbox (stored_flags old said.flags) f) said.copy) old) c.requires)
     (c.end_with.ensures _ deed refl refl)

@@ -1,12 +1,14 @@
 use Rattle.std.proofs.Common.{◌≡◌, ◌++◌, [], ℕ, List, None, Some, map, rules, ap, append-nil, ◌∙◌}
 use Rattle.std.specs.Option.{option_copied}
+use Rattle.sieve_actions.specs.State.{actions_in}
+use Rattle.sieve_actions.specs.view.Actions.{entries_as}
 use Rattle.sieve_run.specs.Lines.{action_line, error_lines, implicit_lines, says}
 use Rattle.sieve_run.proofs.Left.{part_none, part_some}
 use Rattle.sieve_run.proofs.agreement.says.Goals as goal
 
 pub returns-in-None : goal.returns-in-None
 returns-in-None c =
-    let acted : List (List ℕ) = map action_line c.args.actions.now in
+    let acted : List (List ℕ) = map action_line (actions_in (entries_as c.args.entries.now)) in
     let kept : List (List ℕ) = implicit_lines c.args.mailbox.now (option_copied c.args.kept) in
     let failed : List (List ℕ) = error_lines (option_copied c.args.failed) in
     let first : option_copied c.after_actions.result ≡ Some c.in-Some.left.now = search rules in

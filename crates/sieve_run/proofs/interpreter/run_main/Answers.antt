@@ -17,7 +17,7 @@ ended-requires g c =
     let find : ScriptName → Lookup = library_of (g.L.Library.profile c.args.lib.now) (g.L.Library.texts c.args.lib.now) in
     let d = delivery_to (arrival_as c.args.arrival.now) c.args.main.now in
     let ops = ops_of c.args.code.now in
-    run_bounded find include_depth d (code_walk ops (length ops)) c.in_ok-flow.flow (state_of c.in_ok-state.state) (state_of c.execute.new.state) (ap (λ (s : RunState). s.actions) c.in_ok-state.ensures) c.in_ok-flow.ensures.ending
+    run_bounded find include_depth d (code_walk ops (length ops)) c.in_ok-flow.flow (state_of c.in_ok-state.state) (state_of c.execute.new.state) (ap (λ (s : RunState). s.entries) c.in_ok-state.ensures) c.in_ok-flow.ensures.ending
 
 pub returns : goal.returns
 returns g c =

@@ -8,14 +8,14 @@ pub returns-then-not-is_empty-clause-value : goal.returns-then-not-is_empty-clau
 returns-then-not-is_empty-clause-value c =
     let empty : c.is_empty.result ≡ (length c.args.text.now == 0) = search rules in
     let filled : not (length c.args.text.now == 0) ≡ true = ap not (sym empty ∙ c.if-not-is_empty.true) in
-    let is : c.says-has_lines.result ≡ says c.args.text.now (verdict_lines c.args.mailbox.now c.args.self.now) = rw (c.actions.ensures.actions, c.implicit.ensures, c.error.ensures) at c.says-has_lines.ensures in
+    let is : c.says-has_lines.result ≡ says c.args.text.now (verdict_lines c.args.mailbox.now c.args.self.now) = rw (c.entries.ensures.entries, c.implicit.ensures, c.error.ensures) at c.says-has_lines.ensures in
     is ∙ sym (agrees_is c.args.mailbox.now c.args.self.now c.args.text.now ∙ ap (λ some. some && says c.args.text.now (verdict_lines c.args.mailbox.now c.args.self.now)) filled)
 
 pub returns-then-not-is_empty-clause-lines : goal.returns-then-not-is_empty-clause-lines
 returns-then-not-is_empty-clause-lines c =
     let empty : c.is_empty.result ≡ (length c.args.text.now == 0) = search rules in
     let filled : not (length c.args.text.now == 0) ≡ true = ap not (sym empty ∙ c.if-not-is_empty.true) in
-    let is : c.says-has_lines.result ≡ says c.args.text.now (verdict_lines c.args.mailbox.now c.args.self.now) = rw (c.actions.ensures.actions, c.implicit.ensures, c.error.ensures) at c.says-has_lines.ensures in
+    let is : c.says-has_lines.result ≡ says c.args.text.now (verdict_lines c.args.mailbox.now c.args.self.now) = rw (c.entries.ensures.entries, c.implicit.ensures, c.error.ensures) at c.says-has_lines.ensures in
     let value : agrees c.args.mailbox.now c.args.self.now c.args.text.now ≡ c.says-has_lines.result =
     agrees_is c.args.mailbox.now c.args.self.now c.args.text.now ∙ ap (λ some. some && says c.args.text.now (verdict_lines c.args.mailbox.now c.args.self.now)) filled ∙ sym is in
     let P : Type 0 = (0 < length c.args.text.now) × (lines c.args.text.now ≡ verdict_lines c.args.mailbox.now c.args.self.now) in
