@@ -14,7 +14,9 @@ ghost use Rattle.sieve_code.specs.view.Op.{is_plain, plain_as};
 use crate::op::Op;
 use crate::tail::Tail;
 use crate::test_code::put_first;
-use sieve_reading::{Argument, Command, CommandName, CommandReading, Leaf, Tests, read_command};
+use sieve_reading::{
+    Argument, Command, CommandName, CommandReading, ReadLeaf, Tests, read_command,
+};
 use std::alloc::{AllocError, Global};
 
 /// What stands at the front of a tail.
@@ -60,7 +62,8 @@ fn put_alone(op: Op, front: TailFront, tail: &mut Tail) -> Result<TailFront, All
 
 /// Puts the operation of a command of a line before a tail, in the place of the branches there, which no `if` opens.
 fn put_act(
-    leaf: Leaf,
+    alloc: Global,
+    leaf: ReadLeaf,
     line: u32,
     front: TailFront,
     tail: &mut Tail,
@@ -70,7 +73,7 @@ fn put_act(
         ≡ no_branch (act_op (leaf_as leaf) line ∷ last front.after tail.old)) }
 {
     tail.keep_last(front.after);
-    tail.put_act(leaf, line)?;
+    tail.put_act(alloc, leaf, line)?;
     Ok(without_branch(tail))
 }
 
@@ -162,7 +165,7 @@ fn put_command(
                 after: front.after,
             })
         }
-        Some(CommandReading::Act(leaf)) => { put_act(leaf, line, front, tail) }
+        Some(CommandReading::Act(leaf)) => { put_act(alloc, leaf, line, front, tail) }
         Some(CommandReading::Stop) => put_alone(Op::Stop, front, tail),
         Some(CommandReading::Return) => put_alone(Op::Return, front, tail),
         Some(CommandReading::Nothing) => Ok(drop_branches(front, tail)),

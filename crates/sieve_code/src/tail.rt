@@ -8,7 +8,7 @@ ghost use Rattle.sieve_code.specs.view.Branches.{last};
 
 use crate::op::Op;
 use crate::pools::Pools;
-use sieve_reading::{Ask, Leaf};
+use sieve_reading::{ReadAsk, ReadLeaf};
 use std::alloc::{AllocError, Global};
 use std::collections::VecDeque;
 use std::marker::Model;
@@ -63,12 +63,12 @@ impl Tail {
     }
 
     /// Puts the operation of a test that asks in front. An error, which is out of memory, leaves no operations.
-    pub(crate) fn put_ask(&mut self, ask: Ask) -> Result<(), AllocError>
+    pub(crate) fn put_ask(&mut self, ask: ReadAsk) -> Result<(), AllocError>
         ensures { OnOk result (self.new ≡ test_op (ask_as ask) ∷ self.old) }
     {
         match self.pools.pack_ask(ask) {
-            Ok(op) => {
-                self.ops.push_front(op)?;
+            Ok(ask) => {
+                self.ops.push_front(Op::Test(ask))?;
                 Ok(())
             }
             Err(error) => {
@@ -79,12 +79,17 @@ impl Tail {
     }
 
     /// Puts the operation of a command of a line in front. An error, which is out of memory, leaves no operations.
-    pub(crate) fn put_act(&mut self, leaf: Leaf, line: u32) -> Result<(), AllocError>
+    pub(crate) fn put_act(
+        &mut self,
+        alloc: Global,
+        leaf: ReadLeaf,
+        line: u32,
+    ) -> Result<(), AllocError>
         ensures { OnOk result (self.new ≡ act_op (leaf_as leaf) line ∷ self.old) }
     {
-        match self.pools.pack_act(leaf, line) {
-            Ok(op) => {
-                self.ops.push_front(op)?;
+        match self.pools.pack_leaf(alloc, leaf) {
+            Ok(leaf) => {
+                self.ops.push_front(Op::Act { leaf, line })?;
                 Ok(())
             }
             Err(error) => {

@@ -18,8 +18,8 @@ pub use command_reading::read_command;
 pub use given::literal_in_parts;
 pub use label::{Label, role_of};
 pub use reading::{
-    Ask, BodyTransform, CommandReading, Comparison, DateZone, FlagChange, Leaf, MatchType,
-    Rejection, Settings, TestReading, Vacation, ValueSource,
+    Ask, BodyTransform, CommandReading, Comparison, DateZone, FlagChange, Leaf, MatchType, ReadAsk,
+    ReadLeaf, ReadVacation, Rejection, Settings, TestReading, Vacation, ValueSource,
 };
 pub use script_names::Location;
 pub use shape::{AsOctets, AsParts, RowLabels, StringView, known_labels};
