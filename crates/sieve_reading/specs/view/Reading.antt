@@ -106,7 +106,14 @@ settings_as = filed_by (option_map list_as) (λ string. string)
 abbrev pub vacation_as : vacations.Vacation (Vec Text Global) (List Part) → reading.Vacation
 vacation_as = answered_by (λ parts. parts) (option_map list_as) (λ string. string)
 
-abbrev pub ask_as : Ask (Vec Text Global) (Vec Text Global) (List Part) → reading.Ask
+-- what a test asks, and what a command does, as they are read
+abbrev pub ReadAsk : Type 0
+ReadAsk = Ask (Vec Text Global) (Vec Text Global) (List Part)
+
+abbrev pub ReadLeaf : Type 0
+ReadLeaf = Leaf (Vec Text Global) (List Part) (vacations.Vacation (Vec Text Global) (List Part))
+
+abbrev pub ask_as : ReadAsk → reading.Ask
 ask_as = ask_by list_as list_as (option_map list_as) (λ parts. parts)
 
 abbrev pub test_reading_as : TestReading → reading.TestReading
@@ -117,7 +124,7 @@ test_reading_as AllOf = reading.reads_all
 test_reading_as AnyOf = reading.reads_any
 test_reading_as Not = reading.reads_not
 
-abbrev pub leaf_as : Leaf (Vec Text Global) (List Part) (vacations.Vacation (Vec Text Global) (List Part)) → reading.Leaf
+abbrev pub leaf_as : ReadLeaf → reading.Leaf
 leaf_as = leaf_by list_as (option_map list_as) (λ parts. parts) (λ string. string) vacation_as
 
 abbrev pub command_reading_as : CommandReading → reading.CommandReading
