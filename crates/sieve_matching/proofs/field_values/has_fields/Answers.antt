@@ -2,7 +2,7 @@ use Rattle.std.proofs.Common.{map, sym, ◌∙◌}
 use Rattle.message_text.specs.Fields.{fields_of}
 use Rattle.sieve_matching.specs.Matching.{has_field}
 use Rattle.sieve_variables.specs.Value.{text_value}
-use Rattle.sieve_matching.proofs.NamesInTurn.{name_fails, name_passes}
+use Rattle.sieve_matching.proofs.FieldsInTurn.{name_fails, name_passes}
 use Rattle.sieve_matching.proofs.field_values.has_fields.Goals as goal
 
 pub returns-then-not-has_field : goal.returns-then-not-has_field
