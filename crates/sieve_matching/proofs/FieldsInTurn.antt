@@ -1,11 +1,11 @@
 -- The fields of a name, and those that a test looks at, one after another.
 use Rattle.std.proofs.Common.{◌≡◌, ℕ, zero, suc, ◌+◌, ◌<◌, ◌≤◌, arith, Bool, true, false, ◌&&◌, List, [], ◌∷◌, ◌++◌, map, filter, length, drop, cond, Option, None, Some, refl, sym, ap, ◌∙◌, add-one, append-nil}
-use Rattle.std.specs.Prelude.{IfNone, IfSome, is_some}
+use Rattle.std.specs.Prelude.{IfNone, IfSome}
 use Rattle.std.specs.List.{flat_map, fold, list_all, slice_get}
 use Rattle.std.proofs.lemmas.Grind.{fold-append}
 use Rattle.message_text.specs.Fields.{Field, IsNextNamed, fields_of, is_field_named}
 use Rattle.message_text.specs.declared.addressing.AddressPart.{AddressPart}
-use Rattle.sieve_matching.specs.Matching.{fields_looked_at, fields_named, first_named, is_looked_at}
+use Rattle.sieve_matching.specs.Matching.{fields_looked_at, fields_named, is_looked_at}
 use Rattle.sieve_matching.specs.view.FieldCache.{IsNextField}
 
 -- ELEMENTS THAT PASS A TEST
@@ -109,11 +109,6 @@ stays after visitor rests [] = refl
 stays after visitor rests (field ∷ fields) = ap (λ v. fold after v fields) (rests field) ∙ stays after visitor rests fields
 
 -- WHETHER FIELDS ARE THERE
-
--- the first field of a name is there where its place is found
-pub is_first : (message name : List ℕ) (found : Option ℕ) → IfSome found (IsNextField message name 0) → IfNone found (fields_named (fields_of message) name ≡ []) → is_some found ≡ is_some (first_named (fields_of message) name)
-is_first message name None some none = ap (λ fields. is_some (slice_get fields 0)) (sym none)
-is_first message name (Some i) some none = ap (λ fields. is_some (slice_get fields 0)) (sym some.rest)
 
 -- whether all names from a place on pass is decided by the one that is there, or by those after it
 module _ {X : Type 0} (has : X → Bool) (names : List X) (i : ℕ) (name : X) (b : Bool) (so : list_all has (drop i names) ≡ b) (at : slice_get names i ≡ Some name) where

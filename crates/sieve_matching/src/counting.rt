@@ -107,14 +107,7 @@ fn count_in_named(
         (state_of state.now) (field_values part names.now))) }
 {
     let mut counter = Counter { count: 0 };
-    visit_looked_at(
-        delivery.alloc,
-        fields,
-        part,
-        &state.values,
-        names,
-        &mut counter,
-    )?;
+    visit_looked_at(delivery, fields, state, part, names, &mut counter)?;
     Ok(counter.count)
 }
 

@@ -138,13 +138,6 @@ impl<'a> FieldCache<'a> {
         }
     }
 
-    /// The message. Takes no memory.
-    pub(crate) fn message(&self) -> &'a Message
-        ensures { result.now ≡ self.now.message }
-    {
-        self.arrival.message
-    }
-
     /// The place of the first field of that name, where it is kept.
     fn kept_first(&self, name: &FieldName<'_>) -> Option<usize>
         ensures some { IfSome result (IsNextField self.now.message name.now 0) }

@@ -14,18 +14,11 @@ ghost use Rattle.sieve_variables.specs.Value.{text_value};
 use crate::field_cache::{FieldCache, next_place};
 use crate::field_walk::{FieldVisitor, visit_looked_at};
 use crate::matcher::{MatchValues, Matcher};
-use message_text::{Address, AddressPart, FieldName, Message};
+use message_text::{Address, AddressPart, Message};
 use sieve_actions::{Delivery, State};
 use sieve_operations::FieldNames;
 use sieve_variables::Values;
 use std::alloc::{AllocError, Global};
-
-/// Whether a field of that name is there.
-fn has_field(message: &Message, name: &FieldName<'_>) -> bool
-    ensures { result ≡ has_field (fields_of message.now) name.now }
-{
-    next_place(message, name, 0).is_some()
-}
 
 /// Whether there is a field of each name.
 pub(crate) fn has_fields(
@@ -40,9 +33,9 @@ pub(crate) fn has_fields(
     let mut buffer = Vec::new(alloc);
     for i in 0..names.len() {
         let name = names.name_in(i, values, &mut buffer)?;
-        if !has_field(message, &name) {
+        let Some(_) = next_place(message, &name, 0) else {
             return Ok(false);
-        }
+        };
     }
     Ok(true)
 }
@@ -178,26 +171,6 @@ fn find_in_listed(
     Ok(found)
 }
 
-/// What the value of field `i` gives, or that part of the addresses in it.
-fn find_in_value(
-    alloc: Global,
-    fields: &mut FieldCache<'_>,
-    part: Option<AddressPart>,
-    i: usize,
-    matcher: &Matcher<'_>,
-) -> Result<Option<MatchValues>, AllocError>
-    requires { i < length (fields_of fields.old.message) }
-    ensures arrival { fields.new ≡ fields.old }
-    ensures found { IfOk result
-        (λ found. (field : Field) → slice_get (fields_of fields.old.message) i ≡ Some field → found
-        ≡ first_some (found_with matcher.now) (values_in fields.old.profile part field)) }
-{
-    match part {
-        None => find_in_decoded(alloc, fields, i, matcher),
-        Some(part) => find_in_listed(alloc, fields, i, part, matcher),
-    }
-}
-
 /// What the fields that were visited give: what the first of their values does that matches some key.
 #[derive(Drop)]
 struct Finder<'m, 'v> {
@@ -225,7 +198,10 @@ impl<'m, 'v> FieldVisitor for Finder<'m, 'v> {
         part: Option<AddressPart>,
         i: usize,
     ) -> Result<(), AllocError> {
-        self.found = find_in_value(alloc, fields, part, i, self.matcher)?;
+        self.found = match part {
+            None => find_in_decoded(alloc, fields, i, self.matcher)?,
+            Some(part) => find_in_listed(alloc, fields, i, part, self.matcher)?,
+        };
         Ok(())
     }
 }
@@ -248,13 +224,6 @@ pub(crate) fn find_in_named(
         matcher,
         found: None,
     };
-    visit_looked_at(
-        delivery.alloc,
-        fields,
-        part,
-        &state.values,
-        names,
-        &mut finder,
-    )?;
+    visit_looked_at(delivery, fields, state, part, names, &mut finder)?;
     Ok(finder.found)
 }

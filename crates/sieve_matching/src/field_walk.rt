@@ -3,13 +3,14 @@ ghost use Rattle.std.specs.Prelude.{◌≡◌, ◌<◌, [], ◌∷◌, length, m
 ghost use Rattle.std.specs.List.{fold};
 ghost use Rattle.message_text.specs.Fields.{Field, fields_of};
 ghost use Rattle.sieve_matching.specs.Matching.{fields_looked_at, is_looked_at};
+ghost use Rattle.sieve_actions.specs.view.State.{state_of};
 ghost use Rattle.sieve_variables.specs.Value.{text_value};
 
 use crate::field_cache::FieldCache;
 use message_text::{AddressPart, FieldName};
+use sieve_actions::{Delivery, State};
 use sieve_operations::FieldNames;
 use sieve_table::is_address_field;
-use sieve_variables::Values;
 use std::alloc::{AllocError, Global};
 
 /// What looks at fields one after another, until it has seen enough.
@@ -25,7 +26,6 @@ pub(crate) trait FieldVisitor {
     /// What it is after one more field.
     ghost after: { Profile → Option parts.AddressPart → Self → Field → Self };
 
-    /// Whether it has seen enough.
     ghost is_done: { Self → Bool };
 
     /// Whether it has seen enough.
@@ -90,24 +90,25 @@ fn visit_named<V: FieldVisitor>(
 
 /// Has the fields visited that a test looks at, name by name.
 pub(crate) fn visit_looked_at<V: FieldVisitor>(
-    alloc: Global,
+    delivery: &Delivery<'_>,
     fields: &mut FieldCache<'_>,
+    state: &State,
     part: Option<AddressPart>,
-    values: &Values,
     names: &FieldNames<'_>,
     visitor: &mut V,
 ) -> Result<(), AllocError>
     ensures arrival { fields.new ≡ fields.old }
     ensures seen { OnOk result (visitor.new ≡ fold (V.after fields.old.profile part) visitor.old
         (fields_looked_at part (fields_of fields.old.message)
-        (map (text_value values.now) names.now))) }
+        (map (text_value (state_of state.now).values) names.now))) }
 {
+    let alloc = delivery.alloc;
     let mut buffer = Vec::new(alloc);
     for i in 0..names.len() {
         if visitor.is_done() {
             return Ok(());
         }
-        let name = names.name_in(i, values, &mut buffer)?;
+        let name = names.name_in(i, &state.values, &mut buffer)?;
         visit_named(alloc, &mut *fields, part, &name, visitor)?;
     }
     Ok(())
