@@ -80,13 +80,11 @@ module _ (message name : List ℕ) (start : ℕ) where
 -- FIELDS THAT A TEST LOOKS AT
 
 module _ (part : Option AddressPart) (fields : List Field) where
-  -- of one name they are its fields, or none
+  -- of one name that is looked at they are its fields
   pub looked_at : (name : List ℕ) → is_looked_at part name ≡ true → fields_looked_at part fields (name ∷ []) ≡ fields_named fields name
   looked_at name is = ap (λ b. flat_map (fields_named fields) (cond b (name ∷ []) [])) is ∙ append-nil (fields_named fields name)
 
-  pub not_looked_at : (name : List ℕ) → is_looked_at part name ≡ false → fields_looked_at part fields (name ∷ []) ≡ []
-  not_looked_at name is = ap (λ b. flat_map (fields_named fields) (cond b (name ∷ []) [])) is
-
+  -- they are those of the first name, and then those of the others
   first_name : (name : List ℕ) (names : List (List ℕ)) → fields_looked_at part fields (name ∷ names) ≡ fields_looked_at part fields (name ∷ []) ++ fields_looked_at part fields names
   first_name name names = by (is_looked_at part name)
     where

@@ -20,7 +20,7 @@ pub(crate) trait FieldVisitor {
     ghost use Rattle.message_text.specs.declared.addressing.AddressPart as parts;
     ghost use Rattle.sieve_profile.specs.Profile.{Profile};
 
-    /// Whether the first fields of names that it looks at are kept, which takes memory.
+    /// Whether it is kept where the fields stand that it looks at. This takes memory, and spares later tests a search.
     const KEEPS_NAMES: bool;
 
     /// What it is after one more field.
@@ -41,7 +41,7 @@ pub(crate) trait FieldVisitor {
         i: usize,
     ) -> Result<(), AllocError>
         requires there { i < length (fields_of fields.old.message) }
-        requires open { is_done self.old ≡ false }
+        requires unfinished { is_done self.old ≡ false }
         ensures arrival { fields.new ≡ fields.old }
         ensures seen { OnOk result ((field : Field)
             → slice_get (fields_of fields.old.message) i ≡ Some field
@@ -62,7 +62,7 @@ fn is_looked_at(part: Option<AddressPart>, name: &[u8]) -> bool
     }
 }
 
-/// Has the fields of a name visited, in order, where a test looks at them.
+/// Visits the fields of a name, in order, where a test looks at them.
 fn visit_named<V: FieldVisitor>(
     alloc: Global,
     fields: &mut FieldCache<'_>,
@@ -88,7 +88,7 @@ fn visit_named<V: FieldVisitor>(
     Ok(())
 }
 
-/// Has the fields visited that a test looks at, name by name.
+/// Visits the fields that a test looks at, name by name. Fails where memory is refused.
 pub(crate) fn visit_looked_at<V: FieldVisitor>(
     delivery: &Delivery<'_>,
     fields: &mut FieldCache<'_>,

@@ -1,4 +1,4 @@
--- What tests find in one value, one field, one name and one entity.
+-- What tests find in one value, one field and one entity.
 use Rattle.std.specs.Prelude.{ℕ, ◌+◌, Bool, true, false, List, [], ◌∷◌, length, map, Option}
 use Rattle.std.specs.List.{flat_map}
 use Rattle.std.specs.Option.{option_and_then, option_map, option_or}
