@@ -5,40 +5,11 @@ use Rattle.std.specs.List.{flat_map, fold, list_all, slice_get}
 use Rattle.std.proofs.lemmas.Grind.{fold-append}
 use Rattle.message_text.specs.Fields.{Field, IsNextNamed, fields_of, is_field_named}
 use Rattle.message_text.specs.declared.addressing.AddressPart.{AddressPart}
+use Rattle.sieve_operations.proofs.Joining.{get_map}
 use Rattle.sieve_matching.specs.Matching.{fields_looked_at, fields_named, is_looked_at}
 use Rattle.sieve_matching.specs.view.FieldCache.{IsNextField}
 
--- ELEMENTS THAT PASS A TEST
-
-module _ {X : Type 0} (p : X → Bool) where
-  -- elements that fail are left out
-  pub past_failing : (xs : List X) (i j : ℕ) → i ≤ j → ((k : ℕ) → i ≤ k → k < j → slice_get (map p xs) k ≡ Some false) → filter p (drop j xs) ≡ filter p (drop i xs)
-  past_failing [] zero zero ordered fail = refl
-  past_failing [] zero (suc j) ordered fail = refl
-  past_failing [] (suc i) zero ordered fail = refl
-  past_failing [] (suc i) (suc j) ordered fail = refl
-  past_failing (y ∷ ys) zero zero ordered fail = refl
-  past_failing (y ∷ ys) zero (suc j) ordered fail =
-      let fails : p y ≡ false = (let first = fail 0 (omega arith) (omega arith) in cc) in
-      past_failing ys zero j (omega arith) (λ k low high. fail (suc k) (omega arith) (omega arith)) ∙ sym (ap (λ b. cond b (y ∷ filter p ys) (filter p ys)) fails)
-  past_failing (y ∷ ys) (suc i) zero ordered fail = absurd (omega arith)
-  past_failing (y ∷ ys) (suc i) (suc j) ordered fail = past_failing ys i j (omega arith) (λ k low high. fail (suc k) (omega arith) (omega arith))
-
-  -- one that passes is followed by those after it that pass
-  passes_at : (xs : List X) (i : ℕ) (x : X) → slice_get xs i ≡ Some x → slice_get (map p xs) i ≡ Some true → filter p (drop i xs) ≡ x ∷ filter p (drop (suc i) xs)
-  passes_at [] i x at is = cc
-  passes_at (y ∷ ys) zero x at is =
-      let passes : p y ≡ true = cc in let same : y ≡ x = cc in
-      ap (λ b. cond b (y ∷ filter p ys) (filter p ys)) passes ∙ ap (λ z. z ∷ filter p ys) same
-  passes_at (y ∷ ys) (suc i) x at is = passes_at ys i x at is
-
-  none_pass : (xs : List X) (start : ℕ) → ((k : ℕ) → start ≤ k → k < length xs → slice_get (map p xs) k ≡ Some false) → filter p (drop start xs) ≡ []
-  none_pass [] zero fail = refl
-  none_pass [] (suc start) fail = refl
-  none_pass (y ∷ ys) zero fail =
-      let fails : p y ≡ false = (let first = fail 0 (omega arith) (omega arith) in cc) in
-      ap (λ b. cond b (y ∷ filter p ys) (filter p ys)) fails ∙ none_pass ys zero (λ k low high. fail (suc k) (omega arith) (omega arith))
-  none_pass (y ∷ ys) (suc start) fail = none_pass ys start (λ k low high. fail (suc k) (omega arith) (omega arith))
+-- ELEMENTS AT THEIR PLACES
 
 -- what holds of the element at a place holds where there is one
 there : {X : Type 0} {P : Type 0} (xs : List X) (i : ℕ) → i < length xs → ((x : X) → slice_get xs i ≡ Some x → P) → P
@@ -55,6 +26,35 @@ from_place {X = X} xs i x at = by xs i at ∙ ap (λ n. x ∷ drop n xs) (sym (a
     by (y ∷ ys) zero is = let same : y ≡ x = cc in ap (λ z. z ∷ ys) same
     by (y ∷ ys) (suc k) is = by ys k is
 
+module _ {X : Type 0} (p : X → Bool) where
+  -- elements that fail are left out
+  pub past_failing : (xs : List X) (i j : ℕ) → i ≤ j → ((k : ℕ) → i ≤ k → k < j → slice_get (map p xs) k ≡ Some false) → filter p (drop j xs) ≡ filter p (drop i xs)
+  past_failing [] zero zero ordered fail = refl
+  past_failing [] zero (suc j) ordered fail = refl
+  past_failing [] (suc i) zero ordered fail = refl
+  past_failing [] (suc i) (suc j) ordered fail = refl
+  past_failing (y ∷ ys) zero zero ordered fail = refl
+  past_failing (y ∷ ys) zero (suc j) ordered fail =
+      let fails : p y ≡ false = (let first = fail 0 (omega arith) (omega arith) in cc) in
+      past_failing ys zero j (omega arith) (λ k low high. fail (suc k) (omega arith) (omega arith)) ∙ sym (ap (λ b. cond b (y ∷ filter p ys) (filter p ys)) fails)
+  past_failing (y ∷ ys) (suc i) zero ordered fail = absurd (omega arith)
+  past_failing (y ∷ ys) (suc i) (suc j) ordered fail = past_failing ys i j (omega arith) (λ k low high. fail (suc k) (omega arith) (omega arith))
+
+  -- one that passes is followed by those after it that pass
+  passes_at : (xs : List X) (i : ℕ) (x : X) → slice_get xs i ≡ Some x → slice_get (map p xs) i ≡ Some true → filter p (drop i xs) ≡ x ∷ filter p (drop (i + 1) xs)
+  passes_at xs i x at is =
+      let passes : p x ≡ true = (let same = sym (get_map p xs i x at) ∙ is in cc) in
+      ap (filter p) (from_place xs i x at) ∙ ap (λ b. cond b (x ∷ filter p (drop (i + 1) xs)) (filter p (drop (i + 1) xs))) passes
+
+  -- where all that are left fail, none passes
+  none_pass : (xs : List X) (start : ℕ) → ((k : ℕ) → start ≤ k → k < length xs → slice_get (map p xs) k ≡ Some false) → filter p (drop start xs) ≡ []
+  none_pass [] zero fail = refl
+  none_pass [] (suc start) fail = refl
+  none_pass (y ∷ ys) zero fail =
+      let fails : p y ≡ false = (let first = fail 0 (omega arith) (omega arith) in cc) in
+      ap (λ b. cond b (y ∷ filter p ys) (filter p ys)) fails ∙ none_pass ys zero (λ k low high. fail (suc k) (omega arith) (omega arith))
+  none_pass (y ∷ ys) (suc start) fail = none_pass ys start (λ k low high. fail (suc k) (omega arith) (omega arith))
+
 -- FIELDS OF A NAME
 
 module _ (message name : List ℕ) (start : ℕ) where
@@ -64,8 +64,7 @@ module _ (message name : List ℕ) (start : ℕ) where
     at = at;
     next = next;
     rest = sym (past_failing (is_field_named name) (fields_of message) start i next.after next.others)
-        ∙ passes_at (is_field_named name) (fields_of message) i field at next.is
-        ∙ ap (λ n. field ∷ filter (is_field_named name) (drop n (fields_of message))) (sym (add-one i));
+        ∙ passes_at (is_field_named name) (fields_of message) i field at next.is;
   })
 
   pub next_if_some : (found : Option ℕ) → IfSome found (IsNextNamed (fields_of message) name start) → IfSome found (IsNextField message name start)
