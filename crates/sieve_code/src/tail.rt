@@ -1,10 +1,9 @@
 //! Code that is made from its end.
-ghost use Rattle.std.specs.Prelude.{◌≡◌, [], ◌∷◌, ◌-◌, length, map, drop, true, OnOk};
+ghost use Rattle.std.specs.Prelude.{◌≡◌, [], ◌∷◌, length, map, true, OnOk};
 ghost use Rattle.sieve_reading.specs.view.Reading.{ask_as, leaf_as};
 ghost use Rattle.sieve_code.specs.Operation.{act_op, test_op};
 ghost use Rattle.sieve_code.specs.view.Op.{is_plain, op_in, plain_as};
 ghost use Rattle.sieve_code.specs.view.Pools.{pool_as};
-ghost use Rattle.sieve_code.specs.view.Branches.{last};
 
 use crate::op::Op;
 use crate::pools::Pools;
@@ -92,22 +91,6 @@ impl Tail {
                 Err(error)
             }
         }
-    }
-
-    /// Keeps so many operations from the end.
-    pub(crate) fn keep_last(&mut self, count: usize)
-        ensures { self.new ≡ last count self.old }
-    {
-        while self.len() > count {
-            self.drop_first();
-        }
-    }
-
-    /// Drops the first operation, if there is one.
-    fn drop_first(&mut self)
-        ensures { self.new ≡ drop 1 self.old }
-    {
-        let _op = self.ops.pop_front();
     }
 
     /// The operations in order, and their pools, with room for no more.
