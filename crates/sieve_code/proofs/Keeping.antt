@@ -1,7 +1,7 @@
 -- What is kept in pools stays where it is.
-use Rattle.std.proofs.Common.{◌≡◌, ℕ, true, false, List, [], ◌∷◌, ◌++◌, length, map, drop, get_or, Option, refl, sym, ap, ◌∙◌, subst}
+use Rattle.std.proofs.Common.{◌≡◌, ℕ, true, false, List, [], ◌∷◌, ◌++◌, length, map, get_or, Option, refl, sym, ap, ◌∙◌, subst}
 use Rattle.std.proofs.Math.Seq.{get_or-append_seam}
-use Rattle.std.proofs.lemmas.List.{append-nil, append_assoc, drop-map}
+use Rattle.std.proofs.lemmas.List.{append-nil, append_assoc}
 use Rattle.sieve_operations.specs.Joined.{Lists, list_in, lists_plus, lists_with, no_lists}
 use Rattle.sieve_reading.specs.Reading as reading
 use Rattle.sieve_reading.specs.declared.reading.Vacation.{Vacation}
@@ -126,9 +126,6 @@ module _ (pool : Pool) (ops ops' : List Op) (stays : Stays pool ops) where
 
   pub stays_plain : (op : Op) → is_plain op ≡ true → ops' ≡ op ∷ ops → Stays pool ops'
   stays_plain op plain is = subst (λ (o : List Op). Stays pool o) (sym is) (λ more. ap (λ o. o ∷ map (op_in (plus pool more)) ops) (plain_in (plus pool more) op plain ∙ sym (plain_in pool op plain)) ∙ ap (λ o. op_in pool op ∷ o) (stays more))
-
-  pub stays_dropped : (n : ℕ) → ops' ≡ drop n ops → Stays pool ops'
-  stays_dropped n is = subst (λ (o : List Op). Stays pool o) (sym is) (λ more. sym (drop-map (op_in (plus pool more)) n ops) ∙ ap (drop n) (stays more) ∙ drop-map (op_in pool) n ops)
 
 -- operations in a pool that has grown
 module _ (p q : Pool) (ops : List Op) (grows : Grows p q) (stays : Stays p ops) where

@@ -5,6 +5,7 @@
 mod code;
 mod command_code;
 mod compiler;
+mod condition_code;
 mod dump;
 mod dump_commands;
 mod dump_responses;
@@ -15,7 +16,6 @@ mod op;
 mod packing;
 mod pools;
 mod tail;
-mod test_code;
 
 pub use code::Code;
 pub use compiler::compile;
