@@ -1,11 +1,11 @@
 -- The code of commands does what the commands do.
-use Rattle.std.proofs.Common.{◌≡◌, ℕ, Bool, true, false, ◌∷◌, length, refl, sym, subst}
+use Rattle.std.proofs.Common.{ℕ, false, ◌∷◌, length, refl}
 use Rattle.sieve_reading.specs.Reading as reading
 use Rattle.sieve_reading.specs.Script as script
 use Rattle.sieve_reading.specs.Script.{Condition, Commands, no_commands, chooses, Branches, no_branches, else_branch, test_branch}
 use Rattle.sieve_code.specs.Choice.{Tail, past_branches, branches_before, commands_before, condition_before}
 use Rattle.sieve_code.specs.Operation.{jump_op, jump_if_op, act_op, stop_op, return_op}
-use Rattle.sieve_code.specs.Walk.{Walk, by_stop, by_return, acted, branches_walk, condition_walk, commands_walk}
+use Rattle.sieve_code.specs.Walk.{Walk, by_stop, by_return, acted, branches_walk, commands_walk}
 use Rattle.sieve_code.proofs.Tails.{Walks, Ends, Forward, ends_self, ends_more, ends_trans, walks_acts, walks_stops, walks_returns, walks_jumps, walks_jumps_if, forward_plain, forward_jumps, forward_jumps_if, landed}
 use Rattle.sieve_code.proofs.Conditions.{condition_code}
 
@@ -82,7 +82,7 @@ test_goes c inner others i o after next goes =
 
 chosen_goes : (branches : Branches) (rest : Commands) → IsBlock (branches_before branches) (branches_walk branches) → IsBlock (commands_before rest) (commands_walk rest) → IsBlock (commands_before (chooses branches rest)) (commands_walk (chooses branches rest))
 unfolding commands_before commands_walk
-chosen_goes branches rest b r = record {
+chosen_goes these rest b r = record {
   at = λ after next g.
       let behind = r.at after next g in
       let chosen = b.at (commands_before rest after) (commands_walk rest next) behind.goes in

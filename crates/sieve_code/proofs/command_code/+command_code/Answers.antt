@@ -1,4 +1,4 @@
-use Rattle.std.proofs.Common.{◌≡◌, Some, None, [], ◌∷◌, length, rules, refl, ap, sym, ◌∙◌}
+use Rattle.std.proofs.Common.{◌≡◌, [], ◌∷◌, length, rules, refl, ap, sym, ◌∙◌}
 use Rattle.sieve_reading.specs.Script.{else_branch, no_branches, no_commands}
 use Rattle.sieve_reading.specs.view.Script.{branch_as, branches_as, commands_as, condition_as, else_as, statement_as}
 use Rattle.sieve_code.specs.Choice.{branches_before, commands_before, condition_before}

@@ -1,4 +1,4 @@
-use Rattle.std.proofs.Common.{◌≡◌, length, map, sym, ap, ◌∙◌, subst}
+use Rattle.std.proofs.Common.{length, sym, ap, ◌∙◌, subst}
 use Rattle.sieve_check.specs.view.Checked.{commands_of}
 use Rattle.sieve_reading.specs.view.Script.{commands_as}
 use Rattle.sieve_code.specs.Choice.{AllGoForward, commands_before, tail_of}

@@ -1,4 +1,4 @@
-use Rattle.std.proofs.Common.{◌≡◌, ◌≤◌, ◌<◌, if◌then◌else◌, [], ◌∷◌, length, rules, refl, ap, sym, ◌∙◌, arith}
+use Rattle.std.proofs.Common.{◌≡◌, ◌≤◌, ◌<◌, if◌then◌else◌, [], ◌∷◌, length, rules, refl, ap, sym, ◌∙◌}
 use Rattle.sieve_reading.specs.Script.{no_conditions, one_condition}
 use Rattle.sieve_reading.specs.view.Script.{condition_as}
 use Rattle.sieve_code.specs.Choice.{condition_before, list_before}
