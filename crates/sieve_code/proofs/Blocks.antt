@@ -82,7 +82,7 @@ test_goes c inner others i o after next goes =
 
 chosen_goes : (branches : Branches) (rest : Commands) → IsBlock (branches_before branches) (branches_walk branches) → IsBlock (commands_before rest) (commands_walk rest) → IsBlock (commands_before (chooses branches rest)) (commands_walk (chooses branches rest))
 unfolding commands_before commands_walk
-chosen_goes branches rest b r = record {
+chosen_goes these rest b r = record {
   at = λ after next g.
       let behind = r.at after next g in
       let chosen = b.at (commands_before rest after) (commands_walk rest next) behind.goes in
