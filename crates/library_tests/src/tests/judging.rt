@@ -101,15 +101,18 @@ fn branches_belong_to_their_if(rt: HostRuntime) -> Result<(), Fail> {
         (b"if true {} else {}", &[(1, true)]),
         (b"if true {}", &[(1, false)]),
         (b"if true {} if true {}", &[(1, false), (1, false)]),
-        (b"if true {} elsif true {} elsif false {} else {} keep;", &[(0, false), (3, true)]),
+        (
+            b"if true {} elsif true {} elsif false {} else {} keep;",
+            &[(0, false), (3, true)],
+        ),
     ];
     for (text, expected) in rows {
         let checked = checked_text(rt.alloc(), *text)?;
-        let mut same_count = checked.statements().len() == expected.len();
+        let mut alike = checked.statements().len() == expected.len();
         for (statement, row) in checked.statements().iter().zip(expected.iter()) {
-            same_count = same_count && branches_of(statement) == *row;
+            alike = alike && branches_of(statement) == *row;
         }
-        holds(&rt, "the branches", same_count);
+        holds(&rt, "the branches", alike);
     }
     Ok(())
 }
