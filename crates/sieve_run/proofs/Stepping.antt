@@ -1,15 +1,14 @@
 -- What single operations do of what is left to do.
-use Rattle.std.proofs.Common.{◌≡◌, ℕ, ◌+◌, ◌<◌, ◌≤◌, ◌-◌, zero, suc, Bool, true, false, Option, Some, None, Result, Ok, Err, IfOk, List, length, refl, ap, sym, ◌∙◌, arith, subst}
+use Rattle.std.proofs.Common.{◌≡◌, ℕ, ◌+◌, ◌<◌, ◌≤◌, ◌-◌, zero, suc, Bool, true, false, Option, Some, None, Result, IfOk, List, length, refl, ap, sym, ◌∙◌, arith, subst}
 use Rattle.std.proofs.lemmas.Option.{slice_get_past}
 use Rattle.std.proofs.lemmas.Result.{IfOk-at_ok, IfOk-weaker}
 use Rattle.std.specs.Prelude.{slice_get}
-use Rattle.sieve_reading.specs.Reading.{Ask, Leaf, exists_ask, mailboxes_ask}
-use Rattle.sieve_variables.specs.Part.{Part}
+use Rattle.sieve_reading.specs.Reading.{Ask, Leaf}
 use Rattle.sieve_code.specs.Operation.{Operation, test_op, act_op, stop_op, return_op}
 use Rattle.sieve_code.specs.Walk as walk
 use Rattle.sieve_code.specs.Walk.{Walk, at_limit, code_walk, walk_from}
 use Rattle.sieve_actions.specs.Delivery.{Delivery}
-use Rattle.sieve_matching.specs.Matching.{after_test, truth_of, values_after}
+use Rattle.sieve_matching.specs.Matching.{after_test, truth_of}
 use Rattle.sieve_run.specs.Perform.{perform}
 use Rattle.sieve_actions.specs.Act.{goes_on}
 use Rattle.sieve_run.specs.Run.{and_then, chosen}
