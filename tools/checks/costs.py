@@ -221,13 +221,13 @@ def of_memory(room):
     script, replies = b'require "body"; if body :contains "absent" { discard; }', lines(*["ok"] * 3, *told, "total 1 messages 0 errors")
     yield limited(room, "the parts of a mail", judged(script, [mail]), replies, "body")
     for title, script, count in [
-        ("rules", b"".join(b'if header :contains "subject" "word%d" { discard; }\n' % number for number in range(1_800)), 50),
-        ("keep", b"keep;\n" * 16_000, 24),
-        ("set", b'require "variables";\n' + b'set "a" "b";\n' * 7_000, 39),
-        ("set of two parts", b'require "variables";\n' + b'set"a""x${b}";' * 4_000, 60),
-        ("hasflag", b'require "imap4flags";\n' + b'if hasflag "a" {}\n' * 5_000, 26),
-        ("addflag", b'require "imap4flags";\n' + b'addflag"a";' * 6_000, 44),
-        ("exists", b'if exists"a"{}' * 4_500, 31),
+        ("rules", b"".join(b'if header :contains "subject" "word%d" { discard; }\n' % number for number in range(1_800)), 80),
+        ("keep", b"keep;\n" * 16_000, 70),
+        ("set", b'require "variables";\n' + b'set "a" "b";\n' * 7_000, 46),
+        ("set of two parts", b'require "variables";\n' + b'set"a""x${b}";' * 4_000, 66),
+        ("hasflag", b'require "imap4flags";\n' + b'if hasflag "a" {}\n' * 5_000, 51),
+        ("addflag", b'require "imap4flags";\n' + b'addflag"a";' * 6_000, 66),
+        ("exists", b'if exists"a"{}' * 4_500, 64),
     ]:
         yield bounded(room, f"{count} scripts of {title}", [put(b"script personal s%d" % number, script) for number in range(count)])
 

@@ -1,8 +1,9 @@
 pub mod Rows
 pub mod Tails
 pub mod Conditions
-pub mod Blocks
+pub mod Chains
 pub mod Law
+pub mod Suffixes
 pub mod Putting
 pub mod Placing
 pub mod Keeping

@@ -3,5 +3,6 @@
 pub mod Branches
 pub mod Code
 pub mod Marked
+pub mod Given
 pub mod Op
 pub mod Pools

@@ -4,6 +4,6 @@ pub mod Keyed
 mod NamedPlaces
 mod OnlyKeys
 mod Counted
-mod FieldsInTurn
+mod NamesInTurn
 mod Paths
 pub mod Searching

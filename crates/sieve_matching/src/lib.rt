@@ -8,7 +8,6 @@ mod counting;
 mod date_values;
 mod field_cache;
 mod field_values;
-mod field_walk;
 mod flag_values;
 pub mod laws;
 mod mailboxes;

@@ -1,5 +1,3 @@
 mod ByKind
 mod Labelling
 mod PositionalRows
-pub mod FromEnd
-pub mod ScriptSeen

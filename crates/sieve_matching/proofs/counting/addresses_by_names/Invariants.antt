@@ -1,0 +1,13 @@
+use Rattle.std.proofs.Common.{◌≡◌, ◌+◌, drop, length, map}
+use Rattle.std.specs.List.{flat_map}
+use Rattle.message_text.specs.Fields.{fields_of}
+use Rattle.message_text.specs.declared.addressing.AddressPart.TheVariants.{All}
+use Rattle.sieve_matching.specs.Matching.{parts_named}
+use Rattle.sieve_variables.specs.Value.{text_value}
+use Rattle.sieve_matching.proofs.counting.addresses_by_names.Given as goal
+
+-- what is delivered stays, and the addresses that are counted and those of the names that are left are all
+abbrev pub invariant-loop-i : goal.invariant-loop-i
+invariant-loop-i l =
+    let named = parts_named All (fields_of l.initial.fields.message) in let names = map (text_value l.values) l.names in
+    (l.fields ≡ l.initial.fields) × (l.count + length (flat_map named (drop l.i names)) ≡ length (flat_map named names))
