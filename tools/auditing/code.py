@@ -43,8 +43,9 @@ class Item:
 class Around:
     """What stands around a function: an `impl` or a trait, its type, the words that it binds, and the names that it brings."""
 
-    def __init__(self, owner, head, is_trait):
-        self.owner, self.head, self.is_trait, self.names, self.members, self.of = owner, head, is_trait, Names(), [], None
+    def __init__(self, owner, head, is_trait, is_public=False):
+        self.owner, self.head, self.is_trait, self.is_public = owner, head, is_trait, is_public
+        self.names, self.members, self.of = Names(), [], None
 
 
 class File:
@@ -161,7 +162,7 @@ class File:
         end = self.close(body)
         head = self.plain[it.start() : body]
         if it[2] == "trait":
-            around = Around(it[3], head, True)
+            around = Around(it[3], head, True, bool(it[1]) and "(" not in it[1])
             item = Item(self, "trait", it[3], start, it.start(), end, None)
             item.is_public = bool(it[1])
             self.items[it[3]] = item
@@ -192,7 +193,7 @@ class File:
     def function(self, it, start, around):
         """A function with its contract; gives the place after its body."""
         item = Item(self, "fn", it[3], start, it.start(), None, around)
-        item.is_public = bool(it[1]) and "(" not in it[1] or bool(around and (around.is_trait or around.of))
+        item.is_public = bool(it[1]) and "(" not in it[1] or bool(around and (around.is_public or around.of))
         at = it.end()
         while self.plain[at] not in ";{" and not CLAUSE.match(self.plain, at):
             at = self.close(at) if self.plain[at] in OPENS else at + 1

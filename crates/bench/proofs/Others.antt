@@ -1,5 +1,5 @@
 -- An edit of one message leaves the others as they are.
-use Rattle.std.proofs.Common.{◌≡◌, ℕ, List, [], ◌∷◌, Bool, true, false, if◌then◌else◌, cond, Option, None, Some, Ok, nat_eq, refl, sym, ap, ◌∙◌}
+use Rattle.std.proofs.Common.{◌≡◌, ℕ, List, [], ◌∷◌, Bool, true, false, if◌then◌else◌, cond, Some, Ok, nat_eq, refl, sym, ap, ◌∙◌}
 use Rattle.std.specs.Option.{option_map}
 use lib.Pointwise.{pointwise}
 use Rattle.bench.specs.Content.{Content, Sample, after, changed, message_at, set_for_one, one_refusal, sample_with}

@@ -5,8 +5,7 @@ use Rattle.sieve_limits.specs.Limits.{text_limit}
 use Rattle.script_names.specs.declared.location.Location.TheVariants.{Personal, Global}
 use Rattle.sieve_check.specs.Judgement.{judgement_of, sound, faulty}
 use Rattle.sieve_reading.specs.Reading.{keep_leaf}
-use Rattle.sieve_reading.specs.Script.{acts, no_commands, script_of}
-use Rattle.sieve_reading.specs.Tree.{Node}
+use Rattle.sieve_reading.specs.Script.{acts, no_commands}
 use Rattle.sieve_check.specs.declared.judged.FaultKind.{FaultKind}
 use Rattle.sieve_run.specs.Run.{outcome_of, exec}
 use Rattle.script_names.specs.declared.name.ScriptName.{ScriptName}
@@ -111,9 +110,9 @@ module _ (profile : Profile) where
   unfolding outcome_of
   faulty_row text line kind short judged sample = rw (short, judged) refl
 
-  keep_row : (text : List ℕ) (tree : List Node) → nat_lt text_limit (length text) ≡ false → judgement_of profile text ≡ sound tree → script_of tree ≡ acts (keep_leaf None) 1 no_commands → IsAlone text
+  keep_row : (text : List ℕ) → nat_lt text_limit (length text) ≡ false → judgement_of profile text ≡ sound (acts (keep_leaf None) 1 no_commands) → IsAlone text
   unfolding outcome_of exec
-  keep_row text tree short judged commands sample = rw (short, judged, commands) refl
+  keep_row text short judged sample = rw (short, judged) refl
 
   -- rows where the main script has a text that looks up no other script
   module _ (text : List ℕ) (alone : IsAlone text) where

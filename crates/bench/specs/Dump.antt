@@ -2,7 +2,7 @@
 use Rattle.std.specs.Prelude.{◌≡◌, ℕ, ◌+◌, Bool, true, false, ◌||◌, nat_lt, List, [], ◌∷◌, ◌++◌, length}
 use Rattle.sieve_limits.specs.Limits.{name_limit, text_limit}
 use Rattle.sieve_check.specs.Judgement.{Judgement, judgement_of, sound, faulty}
-use Rattle.sieve_reading.specs.Tree.{Node}
+use Rattle.sieve_reading.specs.Script.{Commands}
 use Rattle.sieve_code.specs.Choice.{code_of}
 use Rattle.sieve_code.specs.Dump.{line_text}
 use Rattle.sieve_code.specs.Operation.{Operation}
@@ -22,8 +22,8 @@ abbrev pub code_text : List Operation → List ℕ
 code_text ops = lines_from 0 ops
 
 -- the lines of a script's code
-abbrev pub script_code : List Node → List ℕ
-script_code tree = code_text (code_of tree)
+abbrev pub script_code : Commands → List ℕ
+script_code program = code_text (code_of program)
 
 -- A TEXT BY ITSELF
 
@@ -32,7 +32,7 @@ abbrev pub is_too_large : ScriptName → List ℕ → Bool
 is_too_large name text = nat_lt name_limit (length name.name) || nat_lt text_limit (length text)
 
 abbrev pub dump_text_by : Profile → ScriptName → List ℕ → Judgement → List ℕ
-dump_text_by profile name text (sound tree) = script_code tree
+dump_text_by profile name text (sound program) = script_code program
 dump_text_by profile name text (faulty line kind) = script_line profile (name, text)
 
 -- what is printed of a text under a profile and a name: its code, or its script's line of a report where it has a fault
@@ -41,7 +41,7 @@ dump_text_of profile name text = dump_text_by profile name text (judgement_of pr
 
 -- how the printing of a text ends
 abbrev pub dump_end_of : Judgement → TestEnd
-dump_end_of (sound tree) = test.Clean
+dump_end_of (sound program) = test.Clean
 dump_end_of (faulty line kind) = test.Faulty
 
 -- What an end says, where `whole` says that a text was written, `front` that a front of it was, and `nothing` that nothing was: that this was so of the

@@ -111,19 +111,19 @@ pub(crate) fn check_script(rt: &impl Host) -> io::Result<()> {
     let answer = check(rt.alloc(), Profile::new(), script);
     mark(rt);
     match answer {
-        Ok(checked) => println!(rt; "{}", checked.commands().len()),
+        Ok(checked) => println!(rt; "{}", checked.statements().len()),
         Err(CheckFault::NoMemory) => tell_refused(rt),
         Err(fault) => println!(rt; "{fault}"),
     }
 }
 
-/// How many commands the text has, or its fault.
+/// How many statements the script of the text has, or its fault.
 pub(crate) fn judge_text(rt: &impl Host, text: &[u8]) -> io::Result<()> {
     mark(rt);
     let answer = judge(rt.alloc(), Profile::new(), text);
     mark(rt);
     match answer {
-        Ok(Judged::Sound(checked)) => println!(rt; "{}", checked.commands().len()),
+        Ok(Judged::Sound(checked)) => println!(rt; "{}", checked.statements().len()),
         Ok(Judged::Faulty { line, kind }) => tell(
             rt,
             &[
@@ -177,7 +177,7 @@ pub(crate) fn tell_end(rt: &impl Print, end: TestEnd) -> io::Result<()> {
 pub(crate) fn ask_checked(rt: &impl Host) -> io::Result<()> {
     let checked = checked_of(rt)?;
     mark(rt);
-    let count = checked.commands().len();
+    let count = checked.statements().len();
     mark(rt);
     println!(rt; "{count}")
 }

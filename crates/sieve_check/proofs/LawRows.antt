@@ -8,7 +8,7 @@ use Rattle.sieve_check.specs.Element.{block_elements, elements_of, node_elements
 use Rattle.sieve_check.specs.Naming.{declares, mentions_in, set_by, sets}
 use Rattle.sieve_check.specs.Order.{written_by}
 use Rattle.sieve_check.specs.Parted.{parted}
-use Rattle.sieve_check.specs.Readable.{IsReadable, ReadsBlock, ReadsNode, ReadsNodes, act_mark, choice_mark, marks, return_mark, stop_mark}
+use Rattle.sieve_check.specs.Readable.{IsReadable, ReadsBlock, ReadsNode, ReadsNodes, act_mark, block_end, branch_marks, choice_end, else_mark, marks, return_mark, stop_mark, test_mark}
 use Rattle.sieve_profile.specs.Profile.{empty_profile}
 use Rattle.sieve_reading.specs.Given.{has_tag}
 use Rattle.sieve_reading.specs.Reading.{discard_leaf, keep_leaf}
@@ -31,13 +31,13 @@ last line inner = syntax.node (codes "else") line [] syntax.no_tests (syntax.blo
 abbrev branches : List syntax.Node
 branches = branch (codes "if") 1 (codes "true") (plain (codes "keep") 1) ∷ branch (codes "elsif") 2 (codes "false") (plain (codes "stop") 2) ∷ last 3 (plain (codes "discard") 3) ∷ plain (codes "keep") 4 ∷ []
 
-marks_row : marks (script_of (parted empty_profile branches)) ≡ choice_mark always ∷ act_mark (keep_leaf None) 1 ∷ choice_mark never ∷ stop_mark ∷ act_mark discard_leaf 3 ∷ act_mark (keep_leaf None) 4 ∷ []
-unfolding marks chain_of chain_with block_commands condition_of conditions_in command_named test_named after has_tag
+marks_row : marks (script_of (parted empty_profile branches)) ≡ test_mark always ∷ act_mark (keep_leaf None) 1 ∷ block_end ∷ test_mark never ∷ stop_mark ∷ block_end ∷ else_mark ∷ act_mark discard_leaf 3 ∷ block_end ∷ choice_end ∷ act_mark (keep_leaf None) 4 ∷ []
+unfolding marks branch_marks chain_of chain_with block_commands condition_of conditions_in command_named test_named after has_tag
 marks_row = refl
 
 -- return; keep;
 return_marks_row : marks (script_of (parted empty_profile (plain (codes "return") 1 ∷ plain (codes "keep") 2 ∷ []))) ≡ return_mark ∷ act_mark (keep_leaf None) 2 ∷ []
-unfolding marks chain_of chain_with block_commands condition_of conditions_in command_named test_named after has_tag
+unfolding marks branch_marks chain_of chain_with block_commands condition_of conditions_in command_named test_named after has_tag
 return_marks_row = refl
 
 -- elsif true { keep; }

@@ -1,27 +1,30 @@
--- The abstract script of a readable tree does what the tree's commands say, each once and in the order of the text.
-use Rattle.std.proofs.Common.{◌≡◌, ℕ, Bool, true, false, List, [], ◌∷◌, ◌++◌, Option, Some, None, refl, sym, ap, ◌∙◌}
+-- The abstract script of a readable tree does what the tree's commands say, each once and in the order of the text, and each block in its
+-- branch.
+use Rattle.std.proofs.Common.{◌≡◌, ℕ, Bool, true, false, List, [], ◌∷◌, ◌++◌, Option, Some, None, if◌then◌else◌, refl, sym, ap, ◌∙◌}
 use Rattle.std.proofs.lemmas.List.{append-nil, append_assoc}
-use Rattle.sieve_check.specs.Readable.{Mark, marks, own_marks, node_marks, block_marks, nodes_marks, choice_mark, stop_mark, return_mark, act_mark, may_go_on, Stands, ReadsNode, ReadsBlock, ReadsNodes, IsReadable, DoesAll}
+use Rattle.sieve_check.specs.Readable.{Mark, marks, branch_marks, begins_continued, branch_closing, closing, continues, opening, node_marks, block_marks, nodes_marks, block_end, choice_end, else_mark, stop_mark, return_mark, test_mark, act_mark, may_go_on, Stands, ReadsNode, ReadsBlock, ReadsNodes, IsReadable, DoesAll}
 use Rattle.sieve_check.specs.Use.{block_fits, has_block}
 use Rattle.sieve_reading.specs.Reading as reading
 use Rattle.sieve_reading.specs.Reading.{CommandReading}
 use Rattle.sieve_reading.specs.CommandReading.{command_reading}
-use Rattle.sieve_reading.specs.Script.{no_commands, Chain, Condition, branch_condition, chain_with_command, chain_with, block_commands, chain_of, conditions_in}
+use Rattle.sieve_reading.specs.Script.{no_commands, no_branches, Chain, Condition, first_condition, chain_with_command, chain_with, block_commands, chain_of, conditions_in}
 use Rattle.sieve_reading.specs.Tree.{Tests, Node, node, Block, no_block, block, Nodes, end_nodes, more_nodes, nodes}
 use Rattle.sieve_check.proofs.Truth.{not_both}
 
--- Commands from some place on do what these marks say. Where no branch may go on there, no branch does.
-record Agrees (follows_if : Bool) (chain : Chain) (all : List Mark) : Type 0 where
-  same : marks chain.otherwise ++ marks chain.rest ≡ all
-  no_branch : follows_if ≡ false → chain.otherwise ≡ no_commands
+-- the marks behind the block of a branch: where no branch goes on there, the branches end
+abbrev behind : (continued : Bool) → List Mark → List Mark
+behind true all = all
+behind false all = choice_end ∷ all
+
+-- Commands from some place on do what these marks say. Where no branch stands there, there is none before them; and one stands there only
+-- where it may.
+record Agrees (follows_if continued : Bool) (chain : Chain) (all : List Mark) : Type 0 where
+  same : branch_marks chain.otherwise ++ (choice_end ∷ marks chain.rest) ≡ behind continued all
+  alone : continued ≡ false → marks chain.rest ≡ all
+  may : follows_if ≡ false → continued ≡ false
 
 both_ways : (b : Bool) → b ≡ true → b ≡ false → ⊥
 both_ways b is not = cc
-
--- where no branch goes on, the marks are those of the rest
-rest_alone : (chain : Chain) (all : List Mark) → Agrees false chain all → marks chain.rest ≡ all
-unfolding marks
-rest_alone chain all so = sym (ap (λ c. marks c ++ marks chain.rest) (so.no_branch refl)) ∙ so.same
 
 -- a command without a block has no marks of a block
 block_empty : (ending : Block) → block_fits false (has_block ending) ≡ true → block_marks ending ≡ []
@@ -29,70 +32,99 @@ unfolding block_marks
 block_empty no_block fits = refl
 block_empty (block ns) fits = absurd (not_both fits)
 
+-- the marks that close a branch, before those after it
+closed : (continued : Bool) (inner all : List Mark) → inner ++ (block_end ∷ behind continued all) ≡ (inner ++ branch_closing continued) ++ all
+closed true inner all = sym (append_assoc inner (block_end ∷ []) all)
+closed false inner all = sym (append_assoc inner (block_end ∷ choice_end ∷ []) all)
+
 -- A COMMAND IN FRONT
 
-module _ (line : ℕ) (condition : Condition) (ending : Block) (chain : Chain) (all : List Mark) where
+module _ (line : ℕ) (condition : Condition) (ending : Block) (continued : Bool) (chain : Chain) (all : List Mark) where
   abbrev before : CommandReading → Chain
   before r = chain_with_command (Some r) line condition (block_commands ending) chain
 
   abbrev with_own : CommandReading → List Mark
-  with_own r = (own_marks (Some r) line condition ++ block_marks ending) ++ all
+  with_own r = (opening (Some r) line condition ++ (block_marks ending ++ closing (Some r) continued)) ++ all
 
-  at_open : (follows_if : Bool) → marks (block_commands ending) ≡ block_marks ending → Agrees true chain all → Agrees follows_if (before reading.reads_if) (with_own reading.reads_if)
-  unfolding marks
+  -- a branch with a test before the branches that go on with it
+  test_first : marks (block_commands ending) ≡ block_marks ending → branch_marks chain.otherwise ++ (choice_end ∷ marks chain.rest) ≡ behind continued all
+      → (test_mark condition ∷ (marks (block_commands ending) ++ (block_end ∷ branch_marks chain.otherwise))) ++ (choice_end ∷ marks chain.rest) ≡ test_mark condition ∷ ((block_marks ending ++ branch_closing continued) ++ all)
+  test_first inner same =
+      ap (λ l. test_mark condition ∷ l) (append_assoc (marks (block_commands ending)) (block_end ∷ branch_marks chain.otherwise) (choice_end ∷ marks chain.rest)
+      ∙ ap (λ l. l ++ (block_end ∷ (branch_marks chain.otherwise ++ (choice_end ∷ marks chain.rest)))) inner
+      ∙ ap (λ l. block_marks ending ++ (block_end ∷ l)) same
+      ∙ closed continued (block_marks ending) all)
+
+  at_open : (follows_if : Bool) → marks (block_commands ending) ≡ block_marks ending → Agrees true continued chain all → Agrees follows_if false (before reading.reads_if) (with_own reading.reads_if)
+  unfolding marks branch_marks
   at_open follows_if inner so = record {
-    same = ap (λ l. choice_mark condition ∷ (l ++ (marks chain.otherwise ++ marks chain.rest))) inner ∙ ap (λ l. choice_mark condition ∷ (block_marks ending ++ l)) so.same;
-    no_branch = λ not. refl;
+    same = ap (λ l. choice_end ∷ l) (test_first inner so.same);
+    alone = λ _. test_first inner so.same;
+    may = λ _. refl;
   }
 
-  at_continuing : (follows_if : Bool) → follows_if ≡ true → marks (block_commands ending) ≡ block_marks ending → Agrees true chain all → Agrees follows_if (before reading.reads_elsif) (with_own reading.reads_elsif)
-  unfolding marks
+  at_continuing : (follows_if : Bool) → follows_if ≡ true → marks (block_commands ending) ≡ block_marks ending → Agrees true continued chain all → Agrees follows_if true (before reading.reads_elsif) (with_own reading.reads_elsif)
+  unfolding marks branch_marks
   at_continuing follows_if follows inner so = record {
-    same =
-        ap (λ l. choice_mark condition ∷ ((marks (block_commands ending) ++ l) ++ marks chain.rest)) (append-nil (marks chain.otherwise))
-        ∙ ap (λ l. choice_mark condition ∷ l) (append_assoc (marks (block_commands ending)) (marks chain.otherwise) (marks chain.rest))
-        ∙ ap (λ l. choice_mark condition ∷ (l ++ (marks chain.otherwise ++ marks chain.rest))) inner
-        ∙ ap (λ l. choice_mark condition ∷ (block_marks ending ++ l)) so.same;
-    no_branch = λ not. absurd (both_ways follows_if follows not);
+    same = test_first inner so.same;
+    alone = λ not. absurd (both_ways true refl not);
+    may = λ not. absurd (both_ways follows_if follows not);
   }
 
-  at_last : (follows_if : Bool) → follows_if ≡ true → marks (block_commands ending) ≡ block_marks ending → Agrees false chain all → Agrees follows_if (before reading.reads_else) (with_own reading.reads_else)
+  at_last : (follows_if : Bool) → follows_if ≡ true → marks (block_commands ending) ≡ block_marks ending → Agrees false continued chain all → Agrees follows_if true (before reading.reads_else) (with_own reading.reads_else)
+  unfolding marks branch_marks
   at_last follows_if follows inner so = record {
-    same = ap (λ l. l ++ marks chain.rest) inner ∙ ap (λ l. block_marks ending ++ l) (rest_alone chain all so);
-    no_branch = λ not. absurd (both_ways follows_if follows not);
+    same =
+        ap (λ l. else_mark ∷ l) (append_assoc (marks (block_commands ending)) (block_end ∷ []) (choice_end ∷ marks chain.rest)
+        ∙ ap (λ l. l ++ (block_end ∷ choice_end ∷ marks chain.rest)) inner
+        ∙ ap (λ l. block_marks ending ++ (block_end ∷ choice_end ∷ l)) (so.alone (so.may refl))
+        ∙ ap (λ b. block_marks ending ++ (block_end ∷ behind b all)) (sym (so.may refl))
+        ∙ closed continued (block_marks ending) all);
+    alone = λ not. absurd (both_ways true refl not);
+    may = λ not. absurd (both_ways follows_if follows not);
   }
 
-  at_stop : (follows_if : Bool) → block_fits false (has_block ending) ≡ true → Agrees false chain all → Agrees follows_if (before reading.reads_stop) (with_own reading.reads_stop)
-  unfolding marks
+  -- a command that is no branch, of such marks, before commands where no branch stands
+  plainly : (own : List Mark) → block_fits false (has_block ending) ≡ true → Agrees false continued chain all → own ++ marks chain.rest ≡ (own ++ (block_marks ending ++ [])) ++ all
+  plainly own is so =
+      ap (λ l. own ++ l) (so.alone (so.may refl))
+      ∙ ap (λ l. l ++ all) (sym (ap (λ l. own ++ (l ++ [])) (block_empty ending is) ∙ append-nil own))
+
+  at_stop : (follows_if : Bool) → block_fits false (has_block ending) ≡ true → Agrees false continued chain all → Agrees follows_if false (before reading.reads_stop) (with_own reading.reads_stop)
+  unfolding marks branch_marks
   at_stop follows_if is so = record {
-    same = ap (λ l. stop_mark ∷ l) (rest_alone chain all so) ∙ ap (λ l. stop_mark ∷ (l ++ all)) (sym (block_empty ending is));
-    no_branch = λ not. refl;
+    same = ap (λ l. choice_end ∷ l) (plainly (stop_mark ∷ []) is so);
+    alone = λ _. plainly (stop_mark ∷ []) is so;
+    may = λ _. refl;
   }
 
-  at_return : (follows_if : Bool) → block_fits false (has_block ending) ≡ true → Agrees false chain all → Agrees follows_if (before reading.reads_return) (with_own reading.reads_return)
-  unfolding marks
+  at_return : (follows_if : Bool) → block_fits false (has_block ending) ≡ true → Agrees false continued chain all → Agrees follows_if false (before reading.reads_return) (with_own reading.reads_return)
+  unfolding marks branch_marks
   at_return follows_if is so = record {
-    same = ap (λ l. return_mark ∷ l) (rest_alone chain all so) ∙ ap (λ l. return_mark ∷ (l ++ all)) (sym (block_empty ending is));
-    no_branch = λ not. refl;
+    same = ap (λ l. choice_end ∷ l) (plainly (return_mark ∷ []) is so);
+    alone = λ _. plainly (return_mark ∷ []) is so;
+    may = λ _. refl;
   }
 
-  at_nothing : (follows_if : Bool) → block_fits false (has_block ending) ≡ true → Agrees false chain all → Agrees follows_if (before reading.reads_nothing) (with_own reading.reads_nothing)
-  unfolding marks
+  at_nothing : (follows_if : Bool) → block_fits false (has_block ending) ≡ true → Agrees false continued chain all → Agrees follows_if false (before reading.reads_nothing) (with_own reading.reads_nothing)
+  unfolding marks branch_marks
   at_nothing follows_if is so = record {
-    same = rest_alone chain all so ∙ ap (λ l. l ++ all) (sym (block_empty ending is));
-    no_branch = λ not. refl;
+    same = ap (λ l. choice_end ∷ l) (plainly [] is so);
+    alone = λ _. plainly [] is so;
+    may = λ _. refl;
   }
 
-  at_act : (leaf : reading.Leaf) (follows_if : Bool) → block_fits false (has_block ending) ≡ true → Agrees false chain all → Agrees follows_if (before (reading.reads_act leaf)) (with_own (reading.reads_act leaf))
-  unfolding marks
+  at_act : (leaf : reading.Leaf) (follows_if : Bool) → block_fits false (has_block ending) ≡ true → Agrees false continued chain all → Agrees follows_if false (before (reading.reads_act leaf)) (with_own (reading.reads_act leaf))
+  unfolding marks branch_marks
   at_act leaf follows_if is so = record {
-    same = ap (λ l. act_mark leaf line ∷ l) (rest_alone chain all so) ∙ ap (λ l. act_mark leaf line ∷ (l ++ all)) (sym (block_empty ending is));
-    no_branch = λ not. refl;
+    same = ap (λ l. choice_end ∷ l) (plainly (act_mark leaf line ∷ []) is so);
+    alone = λ _. plainly (act_mark leaf line ∷ []) is so;
+    may = λ _. refl;
   }
 
   -- a command that stands where it may agrees with its marks, before commands that agree with theirs
-  at_command : (r : Option CommandReading) (follows_if : Bool) (ts : Tests) → Stands follows_if r ts ending → marks (block_commands ending) ≡ block_marks ending → Agrees (may_go_on r) chain all
-      → Agrees follows_if (chain_with_command r line condition (block_commands ending) chain) ((own_marks r line condition ++ block_marks ending) ++ all)
+  at_command : (r : Option CommandReading) (follows_if : Bool) (ts : Tests) → Stands follows_if r ts ending → marks (block_commands ending) ≡ block_marks ending → Agrees (may_go_on r) continued chain all
+      → Agrees follows_if (continues r) (chain_with_command r line condition (block_commands ending) chain) ((opening r line condition ++ (block_marks ending ++ closing r continued)) ++ all)
   at_command None follows_if ts stands inner so = absurd stands
   at_command (Some reading.reads_if) follows_if ts stands inner so = at_open follows_if inner so
   at_command (Some reading.reads_elsif) follows_if ts stands inner so = at_continuing follows_if (stands.2 refl) inner so
@@ -105,21 +137,21 @@ module _ (line : ℕ) (condition : Condition) (ending : Block) (chain : Chain) (
 -- THE TREE
 
 mutual
-  unfolding chain_with block_commands chain_of node_marks block_marks nodes_marks ReadsNode ReadsBlock ReadsNodes marks
+  unfolding chain_with block_commands chain_of node_marks block_marks nodes_marks ReadsNode ReadsBlock ReadsNodes marks branch_marks
 
-  node_agrees : (n : Node) (follows_if : Bool) (chain : Chain) (all : List Mark) → ReadsNode follows_if n → Agrees (may_go_on (command_reading n)) chain all → Agrees follows_if (chain_with n chain) (node_marks n ++ all)
-  node_agrees (node name line args ts ending) follows_if chain all reads so =
-      at_command line (branch_condition (conditions_in ts)) ending chain all (command_reading (node name line args ts ending)) follows_if ts reads.1 (block_agrees ending reads.3) so
+  node_agrees : (n : Node) (follows_if continued : Bool) (chain : Chain) (all : List Mark) → ReadsNode follows_if n → Agrees (may_go_on (command_reading n)) continued chain all → Agrees follows_if (continues (command_reading n)) (chain_with n chain) (node_marks n continued ++ all)
+  node_agrees (node name line args ts ending) follows_if continued chain all reads so =
+      at_command line (first_condition (conditions_in ts)) ending continued chain all (command_reading (node name line args ts ending)) follows_if ts reads.1 (block_agrees ending reads.3) so
 
   block_agrees : (b : Block) → ReadsBlock b → marks (block_commands b) ≡ block_marks b
   block_agrees no_block reads = refl
-  block_agrees (block ns) reads = rest_alone (chain_of ns) (nodes_marks ns) (nodes_agree ns false reads)
+  block_agrees (block ns) reads = let so = nodes_agree ns false reads in so.alone (so.may refl)
 
-  nodes_agree : (ns : Nodes) (follows_if : Bool) → ReadsNodes follows_if ns → Agrees follows_if (chain_of ns) (nodes_marks ns)
-  nodes_agree end_nodes follows_if reads = record { same = refl; no_branch = λ not. refl }
-  nodes_agree (more_nodes n ns) follows_if reads = node_agrees n follows_if (chain_of ns) (nodes_marks ns) reads.0 (nodes_agree ns (may_go_on (command_reading n)) reads.1)
+  nodes_agree : (ns : Nodes) (follows_if : Bool) → ReadsNodes follows_if ns → Agrees follows_if (begins_continued ns) (chain_of ns) (nodes_marks ns)
+  nodes_agree end_nodes follows_if reads = record { same = refl; alone = λ _. refl; may = λ _. refl }
+  nodes_agree (more_nodes n ns) follows_if reads = node_agrees n follows_if (begins_continued ns) (chain_of ns) (nodes_marks ns) reads.0 (nodes_agree ns (may_go_on (command_reading n)) reads.1)
 
 pub does_all : (tree : List Node) → IsReadable tree → DoesAll tree
-does_all tree reads = rest_alone (chain_of (nodes tree)) (nodes_marks (nodes tree)) (nodes_agree (nodes tree) false reads)
+does_all tree reads = let so = nodes_agree (nodes tree) false reads in so.alone (so.may refl)
 
 pub ruleset marks_kept = (does_all)

@@ -18,7 +18,7 @@ use Rattle.sieve_check.specs.Parted.{parted}
 use Rattle.sieve_check.specs.Said.{said}
 use Rattle.sieve_check.specs.Use.{has_block}
 use Rattle.sieve_reading.specs.Shape.{known_shapes}
-use Rattle.sieve_reading.specs.Tree as checked
+use Rattle.sieve_reading.specs.Script.{Commands, script_of}
 use Rattle.sieve_table.specs.Capability.{capabilities, is_name_of}
 use Rattle.sieve_table.specs.Known.{extension_of, is_asked_for, is_known, is_shown_by_no_word, known_command, known_test, may_be_required, names_known}
 use Rattle.sieve_table.specs.Role.{has_role}
@@ -155,21 +155,21 @@ module _ (p : Profile) where
   pub same_tree : (tree : List Node) → parted lenient tree ≡ parted p tree
   same_tree tree = parted_again lenient p (known_alike p) tree
 
-  by_breach : (tree : List Node) (first : Option Breach) (t : List checked.Node) → first_breach p tree ≡ first → judgement_by first (parted p tree) ≡ sound t → judgement_by (first_breach lenient tree) (parted lenient tree) ≡ sound t
+  by_breach : (tree : List Node) (first : Option Breach) (t : Commands) → first_breach p tree ≡ first → judgement_by first (script_of (parted p tree)) ≡ sound t → judgement_by (first_breach lenient tree) (script_of (parted lenient tree)) ≡ sound t
   by_breach tree None t is so =
-      ap (λ bs. judgement_by (slice_get bs 0) (parted lenient tree)) (still_none tree (none_first (breaches_of p tree) is))
-      ∙ ap sound (same_tree tree)
+      ap (λ bs. judgement_by (slice_get bs 0) (script_of (parted lenient tree))) (still_none tree (none_first (breaches_of p tree) is))
+      ∙ ap (λ t. sound (script_of t)) (same_tree tree)
       ∙ so
   by_breach tree (Some breach) t is so = absurd (not_sound so)
     where
-      not_sound : judgement_by (Some breach) (parted p tree) ≡ sound t → ⊥
+      not_sound : judgement_by (Some breach) (script_of (parted p tree)) ≡ sound t → ⊥
       not_sound e = cc
 
-  by_syntax : (read : Result (List Node) ℕ) (t : List checked.Node) → judgement_from p read ≡ sound t → judgement_from lenient read ≡ sound t
+  by_syntax : (read : Result (List Node) ℕ) (t : Commands) → judgement_from p read ≡ sound t → judgement_from lenient read ≡ sound t
   by_syntax (Ok tree) t so = by_breach tree (first_breach p tree) t refl so
   by_syntax (Err line) t so = so
 
-  -- a text that is sound is so with it too, and the same tree
-  pub same_judgement : (text : List ℕ) (t : List checked.Node) → judgement_of p text ≡ sound t → judgement_of lenient text ≡ sound t
+  -- a text that is sound is so with it too, and the same script
+  pub same_judgement : (text : List ℕ) (t : Commands) → judgement_of p text ≡ sound t → judgement_of lenient text ≡ sound t
   unfolding judgement_of
   same_judgement text t so = by_syntax (syntax_of text) t so

@@ -1,11 +1,11 @@
--- Commands that break no rule.
+-- Scripts that break no rule.
 use Rattle.std.specs.Prelude.{◌≡◌, List, []}
 use Rattle.sieve_profile.specs.Profile.{Profile}
 use Rattle.sieve_syntax.specs.Tree as syntax
 use Rattle.sieve_check.specs.Breach.{breaches_of}
 use Rattle.sieve_check.specs.Parted.{parted}
-use Rattle.sieve_reading.specs.Tree.{Node}
+use Rattle.sieve_reading.specs.Script.{Commands, script_of}
 
--- commands are those of a text's tree without a breach, where it is judged by some profile
-abbrev pub AreFaultless : List Node → Type 0
-AreFaultless commands = (profile : Profile) × (tree : List syntax.Node) × (breaches_of profile tree ≡ []) × (commands ≡ parted profile tree)
+-- a script is that of a text's tree without a breach, where it is judged by some profile
+abbrev pub IsFaultless : Commands → Type 0
+IsFaultless script = (profile : Profile) × (tree : List syntax.Node) × (breaches_of profile tree ≡ []) × (script ≡ script_of (parted profile tree))

@@ -1,5 +1,4 @@
--- What a script's text is to a bench of a profile: the tree of a script without a fault, its strings cut into parts, or the line and kind of the
--- first fault.
+-- What a script's text is to a bench of a profile: the abstract script, where it has no fault, or the line and kind of the first fault.
 use Rattle.std.specs.Prelude.{ℕ, List, codes, Option, None, Some, Result, Ok, Err}
 use Rattle.sieve_profile.specs.Profile.{Profile}
 use Rattle.sieve_syntax.specs.Tree as syntax
@@ -7,13 +6,13 @@ use Rattle.sieve_syntax.specs.Syntax.{syntax_of}
 use Rattle.sieve_check.specs.Breach as breaches
 use Rattle.sieve_check.specs.Breach.{first_breach}
 use Rattle.sieve_check.specs.Parted.{parted}
-use Rattle.sieve_reading.specs.Tree.{Node}
+use Rattle.sieve_reading.specs.Script.{Commands, script_of}
 use Rattle.sieve_table.specs.Rule.{rule_word}
 use Rattle.sieve_check.specs.declared.judged.FaultKind.{FaultKind}
 use Rattle.sieve_check.specs.declared.judged.FaultKind.TheVariants.{Syntax, Breach}
 
 pub data Judgement : Type 0 where
-  sound : (tree : List Node) → Judgement
+  sound : (script : Commands) → Judgement
   faulty : (line : ℕ) (kind : FaultKind) → Judgement
 
 -- the word by which a report names a fault
@@ -26,14 +25,14 @@ abbrev pub fault_of : Judgement → Option (ℕ × FaultKind)
 fault_of (sound _) = None
 fault_of (faulty line kind) = Some (line, kind)
 
--- the first breach, or else the tree
-abbrev pub judgement_by : Option breaches.Breach → List Node → Judgement
-judgement_by None tree = sound tree
-judgement_by (Some breach) tree = faulty breach.line (Breach breach.rule)
+-- the first breach, or else the script
+abbrev pub judgement_by : Option breaches.Breach → Commands → Judgement
+judgement_by None script = sound script
+judgement_by (Some breach) script = faulty breach.line (Breach breach.rule)
 
 -- a text that no tree writes has a fault of syntax, on the line that the syntax says
 abbrev pub judgement_from : Profile → Result (List syntax.Node) ℕ → Judgement
-judgement_from profile (Ok tree) = judgement_by (first_breach profile tree) (parted profile tree)
+judgement_from profile (Ok tree) = judgement_by (first_breach profile tree) (script_of (parted profile tree))
 judgement_from profile (Err line) = faulty line Syntax
 
 unfoldable pub judgement_of : Profile → List ℕ → Judgement

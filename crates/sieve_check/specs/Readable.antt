@@ -6,7 +6,7 @@ use Rattle.sieve_reading.specs.Reading.{TestReading, reads_always, reads_never, 
 use Rattle.sieve_reading.specs.CommandReading.{command_reading}
 use Rattle.sieve_reading.specs.TestReading.{test_reading}
 use Rattle.sieve_reading.specs.Shape.{shapes_of}
-use Rattle.sieve_reading.specs.Script.{Commands, no_commands, stops, returns, acts, chooses, Condition, branch_condition, conditions_in, script_of}
+use Rattle.sieve_reading.specs.Script.{Commands, no_commands, stops, returns, acts, chooses, Branches, no_branches, else_branch, test_branch, Condition, first_condition, conditions_in, script_of}
 use Rattle.sieve_table.specs.Table.{command_named, test_named, command_row, test_row}
 use Rattle.sieve_reading.specs.Tree.{Argument, Test, test, Tests, no_tests, one_test, test_list, TestList, end_tests, more_tests, Node, node, Block, no_block, block, Nodes, end_nodes, more_nodes, nodes}
 use Rattle.sieve_check.specs.Use.{block_fits, has_block, is_well_used, tests_fit}
@@ -100,36 +100,71 @@ IsReadable tree = ReadsNodes false (nodes tree)
 
 -- WHAT A SCRIPT DOES, IN THE ORDER OF ITS TEXT
 
--- a command that stops, one that returns, one that acts, with its line, or a choice by a condition
+-- A command that stops, one that returns, or one that acts, with its line; where a branch with a test begins, and where an `else` does;
+-- where the block of a branch ends; and where an `if` has no further branches.
 pub data Mark : Type 0 where
   stop_mark : Mark
   return_mark : Mark
   act_mark : (leaf : Leaf) (line : ℕ) → Mark
-  choice_mark : (condition : Condition) → Mark
-
--- the marks of an abstract script: a choice, then those of its block, then those of the other branches
-unfoldable pub marks : Commands → List Mark
-marks no_commands = []
-marks (stops rest) = stop_mark ∷ marks rest
-marks (returns rest) = return_mark ∷ marks rest
-marks (acts leaf line rest) = act_mark leaf line ∷ marks rest
-marks (chooses condition then_block otherwise rest) = choice_mark condition ∷ marks then_block ++ (marks otherwise ++ marks rest)
-
--- what a command is of itself
-abbrev pub own_marks : Option CommandReading → ℕ → Condition → List Mark
-own_marks None line condition = []
-own_marks (Some reading.reads_if) line condition = choice_mark condition ∷ []
-own_marks (Some reading.reads_elsif) line condition = choice_mark condition ∷ []
-own_marks (Some reading.reads_else) line condition = []
-own_marks (Some reading.reads_stop) line condition = stop_mark ∷ []
-own_marks (Some reading.reads_return) line condition = return_mark ∷ []
-own_marks (Some reading.reads_nothing) line condition = []
-own_marks (Some (reading.reads_act leaf)) line condition = act_mark leaf line ∷ []
+  test_mark : (condition : Condition) → Mark
+  else_mark : Mark
+  block_end : Mark
+  choice_end : Mark
 
 unfoldable mutual
-  -- the marks of a tree: each command's own, and then those of its block
-  pub node_marks : Node → List Mark
-  node_marks (node name line args ts ending) = own_marks (command_reading (node name line args ts ending)) line (branch_condition (conditions_in ts)) ++ block_marks ending
+  -- the marks of an abstract script
+  pub marks : Commands → List Mark
+  marks no_commands = []
+  marks (stops rest) = stop_mark ∷ marks rest
+  marks (returns rest) = return_mark ∷ marks rest
+  marks (acts leaf line rest) = act_mark leaf line ∷ marks rest
+  marks (chooses branches rest) = branch_marks branches ++ (choice_end ∷ marks rest)
+
+  -- the marks of branches: of each its beginning, its block, and the block's end
+  pub branch_marks : Branches → List Mark
+  branch_marks no_branches = []
+  branch_marks (else_branch inner) = else_mark ∷ (marks inner ++ (block_end ∷ []))
+  branch_marks (test_branch condition inner others) = test_mark condition ∷ (marks inner ++ (block_end ∷ branch_marks others))
+
+-- whether a command is an `elsif` or `else`, which goes on with the branches before it (RFC 5228, section 3.1)
+abbrev pub continues : Option CommandReading → Bool
+continues (Some reading.reads_elsif) = true
+continues (Some reading.reads_else) = true
+continues other = false
+
+-- what a command is before its block
+abbrev pub opening : Option CommandReading → ℕ → Condition → List Mark
+opening None line condition = []
+opening (Some reading.reads_if) line condition = test_mark condition ∷ []
+opening (Some reading.reads_elsif) line condition = test_mark condition ∷ []
+opening (Some reading.reads_else) line condition = else_mark ∷ []
+opening (Some reading.reads_stop) line condition = stop_mark ∷ []
+opening (Some reading.reads_return) line condition = return_mark ∷ []
+opening (Some reading.reads_nothing) line condition = []
+opening (Some (reading.reads_act leaf)) line condition = act_mark leaf line ∷ []
+
+-- after the block of a branch: its end, and where the next command isn't an `elsif` or `else`, the end of the `if`'s branches
+abbrev pub branch_closing : (continued : Bool) → List Mark
+branch_closing true = block_end ∷ []
+branch_closing false = block_end ∷ choice_end ∷ []
+
+abbrev pub closing : Option CommandReading → (continued : Bool) → List Mark
+closing (Some reading.reads_if) continued = branch_closing continued
+closing (Some reading.reads_elsif) continued = branch_closing continued
+closing (Some reading.reads_else) continued = branch_closing continued
+closing other continued = []
+
+-- whether the first of some commands is an `elsif` or `else`
+abbrev pub begins_continued : Nodes → Bool
+begins_continued end_nodes = false
+begins_continued (more_nodes n ns) = continues (command_reading n)
+
+unfoldable mutual
+  -- the marks of a tree: each command's own, those of its block, and what ends there; an `if` goes on with each `elsif` and the `else` right
+  -- after it
+  pub node_marks : Node → (continued : Bool) → List Mark
+  node_marks (node name line args ts ending) continued =
+      opening (command_reading (node name line args ts ending)) line (first_condition (conditions_in ts)) ++ (block_marks ending ++ closing (command_reading (node name line args ts ending)) continued)
 
   pub block_marks : Block → List Mark
   block_marks no_block = []
@@ -137,8 +172,8 @@ unfoldable mutual
 
   pub nodes_marks : Nodes → List Mark
   nodes_marks end_nodes = []
-  nodes_marks (more_nodes n ns) = node_marks n ++ nodes_marks ns
+  nodes_marks (more_nodes n ns) = node_marks n (begins_continued ns) ++ nodes_marks ns
 
--- the abstract script of a tree does what the tree's commands say, each once and in the order of the text
+-- the abstract script of a tree does what the tree's commands say, each once and in the order of the text, and each block in its branch
 abbrev pub DoesAll : List Node → Type 0
 DoesAll tree = marks (script_of tree) ≡ nodes_marks (nodes tree)

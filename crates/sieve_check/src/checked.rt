@@ -1,32 +1,32 @@
 //! Checked scripts.
-ghost use Rattle.std.specs.Prelude.{◌≡◌, map};
-ghost use Rattle.sieve_check.specs.Faultless.{AreFaultless};
-ghost use Rattle.sieve_reading.specs.view.Tree.{node_of};
+ghost use Rattle.std.specs.Prelude.{◌≡◌};
+ghost use Rattle.sieve_check.specs.Faultless.{IsFaultless};
+ghost use Rattle.sieve_reading.specs.view.Script.{commands_as};
 
-use sieve_reading::Command;
+use sieve_reading::Statement;
 
-/// A script that breaks no rule. Only the validator makes one.
+/// A script that breaks no rule: its abstract script. Only the validator makes one.
 #[derive(Drop)]
 pub struct Checked {
-    pub(crate) commands: Vec<Command>,
-    pub ghost faultless: { ∥ AreFaultless (map node_of commands.items) ∥₁ },
+    pub(crate) statements: Vec<Statement>,
+    pub ghost faultless: { ∥ IsFaultless (commands_as statements.items) ∥₁ },
 }
 
 impl Checked {
-    ghost use Rattle.sieve_check.specs.view.Checked.{tree_of};
+    ghost use Rattle.sieve_check.specs.view.Checked.{commands_of};
 
-    /// The script's commands in order, in the shape of its text's tree, with each string cut into parts. Takes no memory.
-    pub fn commands(&self) -> &[Command]
-        ensures { map node_of result.now ≡ tree_of self.now }
+    /// What the script's commands do, the last first, with each string cut into parts. Takes no memory.
+    pub fn statements(&self) -> &[Statement]
+        ensures { commands_as result.now ≡ commands_of self.now }
     {
-        self.commands.as_slice()
+        self.statements.as_slice()
     }
 
-    /// The commands, to be kept. Takes no memory.
-    pub fn into_commands(self) -> Vec<Command>
-        ensures { map node_of result.items ≡ tree_of self }
+    /// What the commands do, the last first, to be kept. Takes no memory.
+    pub fn into_statements(self) -> Vec<Statement>
+        ensures { commands_as result.items ≡ commands_of self }
     {
-        let Checked { commands, .. } = self;
-        commands
+        let Checked { statements, .. } = self;
+        statements
     }
 }

@@ -26,6 +26,7 @@ ghost use Rattle.sieve_table.specs.Rule.{all_rules};
 ghost use Rattle.sieve_reading.specs.CommandReading.{command_reading_by};
 ghost use Rattle.sieve_reading.specs.Given.{tags_of};
 ghost use Rattle.sieve_reading.specs.TestReading.{test_reading_by};
+ghost use Rattle.sieve_reading.specs.Script.{Commands};
 ghost use Rattle.sieve_reading.specs.Tree as checked;
 ghost use Rattle.sieve_reading.specs.declared.label.Label.{Label};
 ghost use Rattle.sieve_table.specs.Table.{command_row, test_row};
@@ -99,8 +100,9 @@ pub fn what_is_written_to_be_set_is_set()
         → HasSetBefore (take place (elements_of profile tree)) element }
 {}
 
-/// The abstract script of a readable tree has each command's choice, stop, return or act once, in the order of the text. So nothing of
-/// such a tree vanishes from what a run goes by.
+/// The abstract script of a readable tree has each command's stop, return or act and each branch with its block once, in the order of the text,
+/// and the branches of an `if` are its own, each `elsif` and the `else` right after it. So nothing of such a tree vanishes from what a run
+/// goes by, and no block stands in another branch.
 #[tactic(auto, using(crate::proofs::Marks::marks_kept))]
 pub fn a_readable_script_does_all()
     ensures { (tree : List checked.Node) → IsReadable tree → DoesAll tree }
@@ -120,11 +122,14 @@ pub fn what_is_not_known_is_in_no_script()
         → All (λ e. lacks profile e ≡ false) (elements_of profile tree) }
 {}
 
-/// A text without a fault has none with `unused` either, and is the same tree then, so its code is the same.
+/// A text without a fault has none with `unused` either, and is the same script then, so its code is the same; and whatever the tree, its
+/// strings are cut alike.
 pub fn unused_changes_no_sound_script()
-    ensures { (profile : Profile) (text : List ℕ) (tree : List checked.Node)
-        → judgement_of profile text ≡ sound tree
-        → judgement_of (with_extension profile Unused) text ≡ sound tree }
+    ensures sound { (profile : Profile) (text : List ℕ) (script : Commands)
+        → judgement_of profile text ≡ sound script
+        → judgement_of (with_extension profile Unused) text ≡ sound script }
+    ensures tree { (profile : Profile) (tree : List Node)
+        → parted (with_extension profile Unused) tree ≡ parted profile tree }
 {}
 
 /// Each argument that the reading of a command or a test asks for is in its row: one there is of the role, and it is written as it is read; it

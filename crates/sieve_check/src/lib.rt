@@ -21,7 +21,7 @@ pub use checked::Checked;
 pub use judged::{FaultKind, JudgeFault, Judged, judge};
 pub use octets::SmallOctets;
 pub use sieve_reading::{
-    Argument, Command, Part, PartRef, Parts, Test, Tests, Text, Variable, VariableRef,
+    Branch, Condition, Part, PartRef, Parts, Statement, Text, Variable, VariableRef,
 };
 pub use sieve_table::Rule;
 pub use validator::{CheckFault, check};

@@ -1,13 +1,11 @@
--- The code of tests asks what their conditions ask.
-use Rattle.std.proofs.Common.{◌≡◌, Bool, true, false, not, List, [], ◌∷◌, length, Option, Some, None, refl, ◌∙◌}
-use Rattle.sieve_reading.specs.Reading.{Ask, TestReading, reads_always, reads_never, reads_ask, reads_all, reads_any, reads_not}
-use Rattle.sieve_reading.specs.TestReading.{test_reading}
+-- The code of conditions asks what they ask.
+use Rattle.std.proofs.Common.{◌≡◌, Bool, true, false, not, ◌∷◌, length, refl, ◌∙◌}
+use Rattle.sieve_reading.specs.Reading.{Ask}
 use Rattle.sieve_reading.specs.Script as script
-use Rattle.sieve_reading.specs.Script.{Condition, always, never, negated, both, either, all_of, any_of, negation_of, joined, branch_condition, condition_of, conditions_in, conditions}
-use Rattle.sieve_reading.specs.Tree.{Test, test, Tests, no_tests, one_test, test_list, TestList, end_tests, more_tests}
-use Rattle.sieve_code.specs.Choice.{Tail, reading_before, test_before, tests_before, list_before, first_before}
+use Rattle.sieve_reading.specs.Script.{Condition, always, never, negated, all_hold, any_holds, Conditions, no_conditions, one_condition}
+use Rattle.sieve_code.specs.Choice.{Tail, condition_before, joined_before, list_before}
 use Rattle.sieve_code.specs.Operation.{set_op, invert_op, test_op, jump_if_op}
-use Rattle.sieve_code.specs.Walk.{Walk, condition_walk}
+use Rattle.sieve_code.specs.Walk.{Walk, condition_walk, all_walk, any_walk}
 use Rattle.sieve_code.proofs.Tails.{Walks, Ends, Forward, ends_self, ends_more, ends_trans, walks_sets, walks_inverts, walks_asks, walks_jumps_if, forward_plain, forward_jumps_if, landed}
 
 -- what is put before a tail asks what a condition asks, and goes on in the tail with its truth in the register
@@ -58,101 +56,64 @@ like_code before c d same code = record {
 
 -- LISTS
 
--- the condition of a list of tests where one that comes to that truth decides: all of them for false, any of them for true
-abbrev pub joined_by : Bool → List Condition → Condition
-joined_by false cs = all_of cs
-joined_by true cs = any_of cs
+-- joined conditions of which one that comes to that truth decides: all of them for false, any of them for true
+abbrev pub joined_by : Bool → Conditions → Condition
+joined_by false cs = all_hold cs
+joined_by true cs = any_holds cs
 
-none_code : (truth : Bool) → IsConditionCode (λ after. set_op (not truth) ∷ after) (joined_by truth [])
-none_code true = never_code
-none_code false = always_code
+none_code : (truth : Bool) → IsConditionCode (λ after. set_op (not truth) ∷ after) (joined_by truth no_conditions)
+unfolding condition_walk all_walk any_walk
+none_code true = like_code (λ after. set_op false ∷ after) never (any_holds no_conditions) (λ h f. refl) never_code
+none_code false = like_code (λ after. set_op true ∷ after) always (all_hold no_conditions) (λ h f. refl) always_code
 
-one_code : (truth : Bool) (before : Tail → Tail) (c : Condition) → IsConditionCode before c → IsConditionCode before (joined_by truth (c ∷ []))
-unfolding condition_walk
-one_code true before c code = like_code before c (either c never) (λ h f. refl) code
-one_code false before c code = like_code before c (both c always) (λ h f. refl) code
+one_code : (truth : Bool) (before : Tail → Tail) (c : Condition) → IsConditionCode before c → IsConditionCode before (joined_by truth (one_condition c no_conditions))
+unfolding condition_walk all_walk any_walk
+one_code true before c code = like_code before c (any_holds (one_condition c no_conditions)) (λ h f. refl) code
+one_code false before c code = like_code before c (all_hold (one_condition c no_conditions)) (λ h f. refl) code
 
--- a test, a jump past the others, and the others
-abbrev more_before : Bool → (before others : Tail → Tail) → Tail → Tail
+-- a condition, a jump past the others, and the others
+abbrev pub more_before : Bool → (before others : Tail → Tail) → Tail → Tail
 more_before truth before others after = before (jump_if_op truth (length after) ∷ others after)
 
-joint_code : (truth : Bool) (before others : Tail → Tail) (c : Condition) (cs : List Condition) → IsConditionCode before c → IsConditionCode others (joined_by truth cs) → IsConditionCode (more_before truth before others) (joined_by truth (c ∷ cs))
-unfolding condition_walk
+joint_code : (truth : Bool) (before others : Tail → Tail) (c : Condition) (cs : Conditions) → IsConditionCode before c → IsConditionCode others (joined_by truth cs) → IsConditionCode (more_before truth before others) (joined_by truth (one_condition c cs))
+unfolding condition_walk all_walk any_walk
 joint_code true before others c cs code more = record {
   ends = λ after. ends_trans _ _ after (code.ends (jump_if_op true (length after) ∷ others after)) (ends_more _ _ after (more.ends after));
   forward = λ after f. code.forward _ (forward_jumps_if true _ after (more.ends after) (more.forward after f));
-  walks = λ after does w. code.walks (jump_if_op true (length after) ∷ others after) (λ r. landed true r (does r) (condition_walk (any_of cs) (does true) (does false))) (walks_jumps_if (others after) after does (more.ends after) w true _ (more.walks after does w));
+  walks = λ after does w. code.walks (jump_if_op true (length after) ∷ others after) (λ r. landed true r (does r) (any_walk cs (does true) (does false))) (walks_jumps_if (others after) after does (more.ends after) w true _ (more.walks after does w));
 }
 joint_code false before others c cs code more = record {
   ends = λ after. ends_trans _ _ after (code.ends (jump_if_op false (length after) ∷ others after)) (ends_more _ _ after (more.ends after));
   forward = λ after f. code.forward _ (forward_jumps_if false _ after (more.ends after) (more.forward after f));
-  walks = λ after does w. code.walks (jump_if_op false (length after) ∷ others after) (λ r. landed false r (does r) (condition_walk (all_of cs) (does true) (does false))) (walks_jumps_if (others after) after does (more.ends after) w false _ (more.walks after does w));
+  walks = λ after does w. code.walks (jump_if_op false (length after) ∷ others after) (λ r. landed false r (does r) (all_walk cs (does true) (does false))) (walks_jumps_if (others after) after does (more.ends after) w false _ (more.walks after does w));
 }
 
--- what is known of a list of tests: what the code of all of them asks, and what that of the first asks
-abbrev ListCode : Bool → TestList → Type 0
-ListCode truth end_tests = Unit {0}
-ListCode truth (more_tests t ts) = IsConditionCode (list_before truth (more_tests t ts)) (joined_by truth (conditions (more_tests t ts)))
+-- what is known of a list of conditions where it has one
+abbrev ListCode : Bool → Conditions → Type 0
+ListCode truth no_conditions = Unit {0}
+ListCode truth (one_condition c cs) = IsConditionCode (list_before truth (one_condition c cs)) (joined_by truth (one_condition c cs))
 
-abbrev HeadCode : TestList → Type 0
-HeadCode end_tests = Unit {0}
-HeadCode (more_tests t ts) = IsConditionCode (test_before t) (condition_of t)
+more_code : (truth : Bool) (c : Condition) (cs : Conditions) → IsConditionCode (condition_before c) c → ListCode truth cs → ListCode truth (one_condition c cs)
+unfolding list_before
+more_code truth c no_conditions code more = one_code truth (condition_before c) c code
+more_code truth c (one_condition d ds) code more = joint_code truth (condition_before c) (list_before truth (one_condition d ds)) c (one_condition d ds) code more
 
-more_code : (truth : Bool) (t : Test) (ts : TestList) → IsConditionCode (test_before t) (condition_of t) → ListCode truth ts → ListCode truth (more_tests t ts)
-unfolding list_before conditions
-more_code truth t end_tests code more = one_code truth (test_before t) (condition_of t) code
-more_code truth t (more_tests u us) code more = joint_code truth (test_before t) (list_before truth (more_tests u us)) (condition_of t) (conditions (more_tests u us)) code more
-
-tests_list_code : (truth : Bool) (ts : TestList) → ListCode truth ts → IsConditionCode (tests_before truth (test_list ts)) (joined_by truth (conditions_in (test_list ts)))
-unfolding tests_before conditions_in
-tests_list_code truth end_tests more = none_code truth
-tests_list_code truth (more_tests t ts) more = more
-
-first_list_code : (ts : TestList) → HeadCode ts → IsConditionCode (first_before (test_list ts)) (branch_condition (conditions_in (test_list ts)))
-unfolding first_before conditions_in
-first_list_code end_tests code = never_code
-first_list_code (more_tests t ts) code = code
-
--- TESTS
-
-not_code : (first : Tail → Tail) (cs : List Condition) → IsConditionCode first (branch_condition cs) → IsConditionCode (λ after. first (invert_op ∷ after)) (negation_of cs)
-unfolding condition_walk
-not_code first [] code = like_code _ (negated never) always (λ h f. refl) (negated_code first never code)
-not_code first (c ∷ cs) code = negated_code first c code
-
-reading_code : (r : Option TestReading) (all any first : Tail → Tail) (cs : List Condition) → IsConditionCode all (all_of cs) → IsConditionCode any (any_of cs) → IsConditionCode first (branch_condition cs) → IsConditionCode (reading_before r all any first) (joined r cs)
-reading_code None all any first cs a o f = never_code
-reading_code (Some reads_always) all any first cs a o f = always_code
-reading_code (Some reads_never) all any first cs a o f = never_code
-reading_code (Some (reads_ask ask)) all any first cs a o f = asks_code ask
-reading_code (Some reads_all) all any first cs a o f = a
-reading_code (Some reads_any) all any first cs a o f = o
-reading_code (Some reads_not) all any first cs a o f = not_code first cs f
-
-one_tests_code : (truth : Bool) (t : Test) → IsConditionCode (test_before t) (condition_of t) → IsConditionCode (tests_before truth (one_test t)) (joined_by truth (conditions_in (one_test t)))
-unfolding tests_before conditions_in
-one_tests_code truth t code = one_code truth (test_before t) (condition_of t) code
+joined_code : (truth : Bool) (cs : Conditions) → ListCode truth cs → IsConditionCode (joined_before truth cs) (joined_by truth cs)
+unfolding joined_before list_before
+joined_code truth no_conditions more = none_code truth
+joined_code truth (one_condition c cs) more = more
 
 mutual
-  unfolding test_before tests_before first_before condition_of conditions_in
+  unfolding condition_before
 
-  pub test_code : (t : Test) → IsConditionCode (test_before t) (condition_of t)
-  test_code (test name line args ts) = reading_code (test_reading (test name line args ts)) (tests_before false ts) (tests_before true ts) (first_before ts) (conditions_in ts) (tests_code false ts) (tests_code true ts) (first_code ts)
+  pub condition_code : (c : Condition) → IsConditionCode (condition_before c) c
+  condition_code always = always_code
+  condition_code never = never_code
+  condition_code (script.asks ask) = asks_code ask
+  condition_code (negated c) = negated_code (condition_before c) c (condition_code c)
+  condition_code (all_hold cs) = joined_code false cs (list_code false cs)
+  condition_code (any_holds cs) = joined_code true cs (list_code true cs)
 
-  pub tests_code : (truth : Bool) (ts : Tests) → IsConditionCode (tests_before truth ts) (joined_by truth (conditions_in ts))
-  tests_code truth no_tests = none_code truth
-  tests_code truth (one_test t) = one_tests_code truth t (test_code t)
-  tests_code truth (test_list ts) = tests_list_code truth ts (list_code truth ts)
-
-  pub first_code : (ts : Tests) → IsConditionCode (first_before ts) (branch_condition (conditions_in ts))
-  first_code no_tests = never_code
-  first_code (one_test t) = test_code t
-  first_code (test_list ts) = first_list_code ts (head_code ts)
-
-  list_code : (truth : Bool) (ts : TestList) → ListCode truth ts
-  list_code truth end_tests = tt
-  list_code truth (more_tests t ts) = more_code truth t ts (test_code t) (list_code truth ts)
-
-  head_code : (ts : TestList) → HeadCode ts
-  head_code end_tests = tt
-  head_code (more_tests t ts) = test_code t
+  list_code : (truth : Bool) (cs : Conditions) → ListCode truth cs
+  list_code truth no_conditions = tt
+  list_code truth (one_condition c cs) = more_code truth c cs (condition_code c) (list_code truth cs)

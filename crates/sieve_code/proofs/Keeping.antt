@@ -1,17 +1,12 @@
 -- What is kept in pools stays where it is.
-use Rattle.std.proofs.Common.{◌≡◌, ℕ, true, false, List, [], ◌∷◌, ◌++◌, length, map, drop, get_or, Option, Some, refl, sym, ap, ◌∙◌, subst}
-use Rattle.std.specs.Option.{option_map}
-use Rattle.std.specs.List.{slice_get}
+use Rattle.std.proofs.Common.{◌≡◌, ℕ, true, false, List, [], ◌∷◌, ◌++◌, length, map, get_or, Option, refl, sym, ap, ◌∙◌, subst}
 use Rattle.std.proofs.Math.Seq.{get_or-append_seam}
-use Rattle.std.proofs.lemmas.List.{append-nil, append_assoc, drop-map}
+use Rattle.std.proofs.lemmas.List.{append-nil, append_assoc}
 use Rattle.sieve_operations.specs.Joined.{Lists, list_in, lists_plus, lists_with, no_lists}
 use Rattle.sieve_reading.specs.Reading as reading
-use Rattle.sieve_reading.specs.declared.reading.Settings.{Settings}
 use Rattle.sieve_reading.specs.declared.reading.Vacation.{Vacation}
 use Rattle.sieve_variables.specs.Part.{Part}
-use Rattle.sieve_code.specs.declared.op.PackedTest.{PackedTest}
-use Rattle.sieve_code.specs.declared.pools.Target.{Target}
-use Rattle.sieve_code.specs.Pool.{Grows, Keeps, Kept, Pool, given_list, given_string, given_variable, no_pool, no_test, no_vacation, packed_in, plain_packed, plus, test_in, vacation_packed_in, vacation_unpacked}
+use Rattle.sieve_code.specs.Pool.{Grows, Keeps, Kept, Pool, given_list, given_string, no_pool, plus, vacation_in}
 use Rattle.sieve_code.specs.Operation.{Operation}
 use Rattle.sieve_code.specs.view.Op.{is_plain, op_in, plain_as}
 use Rattle.sieve_code.specs.declared.op.Op.{Op}
@@ -28,11 +23,6 @@ plus_none p =
     ap (λ (s : List (List Part)). record (plus p no_pool) { strings = s }) (append-nil p.strings)
     ∙ ap (λ (l : Lists). record (plus p no_pool) { strings = p.strings; lists = l }) (lists_none p.lists)
     ∙ ap (λ (n : Lists). record (plus p no_pool) { strings = p.strings; lists = p.lists; names = n }) (lists_none p.names)
-    ∙ ap (λ (t : List Target). record (plus p no_pool) { strings = p.strings; lists = p.lists; names = p.names; targets = t }) (append-nil p.targets)
-    ∙ ap (λ (s : List (List ℕ)). record p { scripts = s; tests = p.tests ++ []; settings = p.settings ++ []; vacations = p.vacations ++ [] }) (append-nil p.scripts)
-    ∙ ap (λ (t : List PackedTest). record p { tests = t; settings = p.settings ++ []; vacations = p.vacations ++ [] }) (append-nil p.tests)
-    ∙ ap (λ (s : List (Settings ℕ ℕ)). record p { settings = s; vacations = p.vacations ++ [] }) (append-nil p.settings)
-    ∙ ap (λ (v : List (Vacation ℕ ℕ)). record p { vacations = v }) (append-nil p.vacations)
 
 pub grows_self : (p : Pool) → Grows p p
 grows_self p = λ more. (more, refl)
@@ -63,58 +53,16 @@ kept_then p q r f h g x first second = kept_two (λ g x. g x) p q r f h g x firs
 pub kept_as : {X Y : Type 0} (g : X → Y) (p q : Pool) (f : Pool → X) (x : X) → Kept p q f x → Kept p q (λ s. g (f s)) (g x)
 kept_as g p q f x kept = record { grows = kept.grows; keeps = λ more. ap g (kept.keeps more) }
 
--- what is found where something says its places that is found itself
-pub kept_by : {X Y : Type 0} (f : Y → Pool → X) (p q r : Pool) (h : Pool → Y) (x : X) (y : Y) → Kept p q (f y) x → Kept q r h y → Kept p r (λ s. f (h s) s) x
-kept_by f p q r h x y first second = record {
-  grows = grows_on p q r first.grows second.grows;
-  keeps = λ more. ap (λ a. f a (plus r more)) (second.keeps more) ∙ keeps_on q r (f y) x second.grows first.keeps more;
-}
-
 -- WHAT IS ADDED
 
 no_plain : false ≡ true → ⊥
 no_plain e = cc
-
-slice_get-seam : {X : Type 0} (xs : List X) (x : X) (ys : List X) → slice_get (xs ++ x ∷ ys) (length xs) ≡ Some x
-slice_get-seam [] x ys = refl
-slice_get-seam (y ∷ xs) x ys = slice_get-seam xs x ys
 
 module _ (p q : Pool) (place : ℕ) where
   pub string_kept : (string : List Part) → place ≡ length p.strings → q ≡ record p { strings = p.strings ++ string ∷ [] } → Kept p q (λ r. get_or r.strings place []) string
   string_kept string at is = subst (λ (q : Pool). Kept p q (λ r. get_or r.strings place []) string) (sym is) (record {
     grows = λ more. (record more { strings = string ∷ more.strings }, ap (λ (s : List (List Part)). record (plus p more) { strings = s }) (append_assoc p.strings (string ∷ []) more.strings));
     keeps = λ more. ap (λ l. get_or l place []) (append_assoc p.strings (string ∷ []) more.strings) ∙ ap (λ n. get_or (p.strings ++ string ∷ more.strings) n []) at ∙ get_or-append_seam p.strings string more.strings [];
-  })
-
-  pub script_kept : (name : List ℕ) → place ≡ length p.scripts → q ≡ record p { scripts = p.scripts ++ name ∷ [] } → Kept p q (λ r. get_or r.scripts place []) name
-  script_kept name at is = subst (λ (q : Pool). Kept p q (λ r. get_or r.scripts place []) name) (sym is) (record {
-    grows = λ more. (record more { scripts = name ∷ more.scripts }, ap (λ (s : List (List ℕ)). record (plus p more) { scripts = s }) (append_assoc p.scripts (name ∷ []) more.scripts));
-    keeps = λ more. ap (λ l. get_or l place []) (append_assoc p.scripts (name ∷ []) more.scripts) ∙ ap (λ n. get_or (p.scripts ++ name ∷ more.scripts) n []) at ∙ get_or-append_seam p.scripts name more.scripts [];
-  })
-
-  pub target_kept : (target : Target) → place ≡ length p.targets → q ≡ record p { targets = p.targets ++ target ∷ [] } → Kept p q (λ r. slice_get r.targets place) (Some target)
-  target_kept target at is = subst (λ (q : Pool). Kept p q (λ r. slice_get r.targets place) (Some target)) (sym is) (record {
-    grows = λ more. (record more { targets = target ∷ more.targets }, ap (λ (s : List Target). record (plus p more) { targets = s }) (append_assoc p.targets (target ∷ []) more.targets));
-    keeps = λ more. ap (λ (l : List Target). slice_get l place) (append_assoc p.targets (target ∷ []) more.targets) ∙ ap (slice_get (p.targets ++ target ∷ more.targets)) at ∙ slice_get-seam p.targets target more.targets;
-  })
-
-  pub test_kept : (test : PackedTest) → place ≡ length p.tests → q ≡ record p { tests = p.tests ++ test ∷ [] } → Kept p q (λ r. test_in r place) test
-  test_kept test at is = subst (λ (q : Pool). Kept p q (λ r. test_in r place) test) (sym is) (record {
-    grows = λ more. (record more { tests = test ∷ more.tests }, ap (λ (t : List PackedTest). record (plus p more) { tests = t }) (append_assoc p.tests (test ∷ []) more.tests));
-    keeps = λ more. ap (λ (l : List PackedTest). get_or l place no_test) (append_assoc p.tests (test ∷ []) more.tests) ∙ ap (λ n. get_or (p.tests ++ test ∷ more.tests) n no_test) at ∙ get_or-append_seam p.tests test more.tests no_test;
-  })
-
-  pub settings_kept : (settings : Settings ℕ ℕ) → place ≡ length p.settings → q ≡ record p { settings = p.settings ++ settings ∷ [] } → Kept p q (λ r. packed_in r (Some place)) settings
-  settings_kept settings at is = subst (λ (q : Pool). Kept p q (λ r. packed_in r (Some place)) settings) (sym is) (record {
-    grows = λ more. (record more { settings = settings ∷ more.settings }, ap (λ (s : List (Settings ℕ ℕ)). record (plus p more) { settings = s }) (append_assoc p.settings (settings ∷ []) more.settings));
-    keeps = λ more.
-        ap (λ (l : List (Settings ℕ ℕ)). get_or l place plain_packed) (append_assoc p.settings (settings ∷ []) more.settings) ∙ ap (λ n. get_or (p.settings ++ settings ∷ more.settings) n plain_packed) at ∙ get_or-append_seam p.settings settings more.settings plain_packed;
-  })
-
-  pub vacation_kept : (vacation : Vacation ℕ ℕ) → place ≡ length p.vacations → q ≡ record p { vacations = p.vacations ++ vacation ∷ [] } → Kept p q (λ r. vacation_packed_in r place) vacation
-  vacation_kept vacation at is = subst (λ (q : Pool). Kept p q (λ r. vacation_packed_in r place) vacation) (sym is) (record {
-    grows = λ more. (record more { vacations = vacation ∷ more.vacations }, ap (λ (v : List (Vacation ℕ ℕ)). record (plus p more) { vacations = v }) (append_assoc p.vacations (vacation ∷ []) more.vacations));
-    keeps = λ more. ap (λ (l : List (Vacation ℕ ℕ)). get_or l place no_vacation) (append_assoc p.vacations (vacation ∷ []) more.vacations) ∙ ap (λ n. get_or (p.vacations ++ vacation ∷ more.vacations) n no_vacation) at ∙ get_or-append_seam p.vacations vacation more.vacations no_vacation;
   })
 
 lists_more : (lists more : Lists) (texts : List (List Part)) → lists_plus (lists_with lists texts) more ≡ lists_plus lists (record { strings = texts ++ more.strings; ends = length (lists.strings ++ texts) ∷ more.ends })
@@ -135,15 +83,6 @@ module _ (p q : Pool) (place : ℕ) (texts : List (List Part)) where
     keeps = λ more. ap (list_in (lists_plus (lists_with p.names texts) more.names)) at ∙ there more.names;
   })
 
--- WHAT MAY BE LEFT OUT
-
--- what is found at the place that something stands for
-pub kept_at : {X : Type 0} (p q : Pool) (given place : Option ℕ) (find : Option ℕ → Pool → X) (x : X) → given ≡ place → Kept p q (find place) x → Kept p q (find given) x
-kept_at p q given place find x is kept = subst (λ (g : Option ℕ). Kept p q (find g) x) (sym is) kept
-
-pub variable_kept : (p q : Pool) (place : ℕ) (target : Target) → Kept p q (λ r. slice_get r.targets place) (Some target) → Kept p q (λ r. given_variable r (Some place)) (Some target.variable)
-variable_kept p q place target kept = kept_as (option_map (λ (t : Target). t.variable)) p q (λ r. slice_get r.targets place) (Some target) kept
-
 -- WHAT A VACATION SAYS
 
 abbrev said : Vacation ℕ ℕ → List Part → (subject from : Option (List Part)) → (addresses : Option (List (List Part))) → (handle : Option (List Part)) → reading.Vacation
@@ -155,7 +94,7 @@ module _ (p q r s t u : Pool) (packed : Vacation ℕ ℕ) (reason : List Part) (
       Kept p q (λ x. get_or x.strings packed.reason []) reason → Kept q r (λ x. given_string x packed.subject) subject
       → Kept r s (λ x. given_string x packed.from) from → Kept s t (λ x. given_list x packed.addresses) addresses
       → Kept t u (λ x. given_string x packed.handle) handle
-      → Kept p u (λ x. vacation_unpacked x packed) (said packed reason subject from addresses handle)
+      → Kept p u (λ x. vacation_in x packed) (said packed reason subject from addresses handle)
   said_kept first second third fourth fifth =
       let two = kept_two (said packed) p q r _ _ reason subject first second in
       let three = kept_then p r s _ _ _ from two third in
@@ -178,21 +117,8 @@ plain_in pool (op.JumpIfFalse left) plain = refl
 plain_in pool (op.JumpIfTrue left) plain = refl
 plain_in pool op.Stop plain = refl
 plain_in pool op.Return plain = refl
-plain_in pool (op.Compares test keys) plain = absurd (no_plain plain)
-plain_in pool (op.Exists names) plain = absurd (no_plain plain)
-plain_in pool (op.Over limit) plain = absurd (no_plain plain)
-plain_in pool (op.Under limit) plain = absurd (no_plain plain)
-plain_in pool (op.MailboxExists names) plain = absurd (no_plain plain)
-plain_in pool op.Duplicate plain = absurd (no_plain plain)
-plain_in pool (op.Keep line flags) plain = absurd (no_plain plain)
-plain_in pool (op.Fileinto line mailbox settings) plain = absurd (no_plain plain)
-plain_in pool (op.Redirect line address copy) plain = absurd (no_plain plain)
-plain_in pool (op.Discard line) plain = absurd (no_plain plain)
-plain_in pool (op.Set line target value) plain = absurd (no_plain plain)
-plain_in pool (op.Flags change line variable flags) plain = absurd (no_plain plain)
-plain_in pool (op.Include inclusion) plain = absurd (no_plain plain)
-plain_in pool (op.Vacation line vacation) plain = absurd (no_plain plain)
-plain_in pool (op.Reject how line reason) plain = absurd (no_plain plain)
+plain_in pool (op.Test ask) plain = absurd (no_plain plain)
+plain_in pool (op.Act leaf line) plain = absurd (no_plain plain)
 
 module _ (pool : Pool) (ops ops' : List Op) (stays : Stays pool ops) where
   pub stays_same : ops' ≡ ops → Stays pool ops'
@@ -200,9 +126,6 @@ module _ (pool : Pool) (ops ops' : List Op) (stays : Stays pool ops) where
 
   pub stays_plain : (op : Op) → is_plain op ≡ true → ops' ≡ op ∷ ops → Stays pool ops'
   stays_plain op plain is = subst (λ (o : List Op). Stays pool o) (sym is) (λ more. ap (λ o. o ∷ map (op_in (plus pool more)) ops) (plain_in (plus pool more) op plain ∙ sym (plain_in pool op plain)) ∙ ap (λ o. op_in pool op ∷ o) (stays more))
-
-  pub stays_dropped : (n : ℕ) → ops' ≡ drop n ops → Stays pool ops'
-  stays_dropped n is = subst (λ (o : List Op). Stays pool o) (sym is) (λ more. sym (drop-map (op_in (plus pool more)) n ops) ∙ ap (drop n) (stays more) ∙ drop-map (op_in pool) n ops)
 
 -- operations in a pool that has grown
 module _ (p q : Pool) (ops : List Op) (grows : Grows p q) (stays : Stays p ops) where

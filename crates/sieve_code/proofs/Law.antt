@@ -1,14 +1,14 @@
--- The code of a tree does what the tree does, and its jumps go forward.
-use Rattle.std.proofs.Common.{◌≡◌, ℕ, zero, suc, ◌+◌, ◌-◌, ◌<◌, ◌≤◌, Bool, true, false, not, List, [], ◌∷◌, ◌++◌, length, take, drop, map, Some, None, refl, sym, ap, ◌∙◌, arith, append_assoc, length-append, length-take-le, take-append-drop}
+-- The code of a script does what the script does, and its jumps go forward.
+use Rattle.std.proofs.Common.{◌≡◌, ℕ, zero, suc, ◌+◌, ◌-◌, ◌<◌, ◌≤◌, Bool, true, false, not, [], ◌∷◌, ◌++◌, length, take, drop, map, Some, None, refl, sym, ap, ◌∙◌, arith, append_assoc, length-append, length-take-le, take-append-drop}
 use Rattle.std.proofs.lemmas.List.{length-map}
 use Rattle.std.specs.Prelude.{slice_get}
-use Rattle.sieve_reading.specs.Tree.{Node, nodes}
+use Rattle.sieve_reading.specs.Script.{Commands}
 use Rattle.sieve_code.specs.Choice.{Tail, AllGoForward, code_of, placed, tail_of}
 use Rattle.sieve_code.specs.Operation.{Operation, set_op, invert_op, test_op, jump_op, jump_if_op, act_op, stop_op, return_op, target_of, targeting}
-use Rattle.sieve_code.specs.Walk.{at_end, asked, acted, at_limit, step, walk_from, code_walk, tree_walk}
+use Rattle.sieve_code.specs.Walk.{at_end, asked, acted, at_limit, step, walk_from, code_walk, script_walk}
 use Rattle.sieve_code.specs.view.Branches.{last}
 use Rattle.sieve_code.proofs.Tails.{Forward, tail_step, tail_walk, walks_none}
-use Rattle.sieve_code.proofs.Chains.{Goes, nodes_code}
+use Rattle.sieve_code.proofs.Blocks.{Goes, commands_code}
 
 -- PLACES
 
@@ -81,20 +81,20 @@ same_walk (suc n) front (op ∷ rest) r f =
     ap (λ o. step (walk_from (placed (front ++ op ∷ rest)) n) o (length front) r) (got_at (put (length (front ++ op ∷ rest))) front op rest)
     ∙ same_step n (same_walk n) front op rest r f
 
--- TREES
+-- SCRIPTS
 
-goes_of : (tree : List Node) → Goes (tail_of tree) (tree_walk tree)
-goes_of tree = (nodes_code (nodes tree) [] at_end (record { forward = tt; walks = walks_none })).rest.goes
+goes_of : (script : Commands) → Goes (tail_of script) (script_walk script)
+goes_of script = ((commands_code script).at [] at_end (record { forward = tt; walks = walks_none })).goes
 
 length_placed : (tail : Tail) → length (placed tail) ≡ length tail
 unfolding placed
 length_placed tail = length-map tail (put (length tail))
 
-pub code_walks : (tree : List Node) → code_walk (code_of tree) (length (code_of tree)) ≡ tree_walk tree
-code_walks tree =
-    let goes = goes_of tree in
-    let tail = tail_of tree in
-    ap (λ n. code_walk (code_of tree) n) (length_placed tail)
+pub code_walks : (script : Commands) → code_walk (code_of script) (length (code_of script)) ≡ script_walk script
+code_walks script =
+    let goes = goes_of script in
+    let tail = tail_of script in
+    ap (λ n. code_walk (code_of script) n) (length_placed tail)
     ∙ same_walk (length tail) [] tail false goes.forward
     ∙ goes.walks.by (length tail) (omega arith) false
 
@@ -122,11 +122,11 @@ jump_forward count (o ∷ rest) f (suc place) op target is has =
     let j = jump_forward count rest f.1 place op target is has in
     (j.0, j.1, omega (arith, j.2))
 
-pub code_forward : (tree : List Node) → AllGoForward (code_of tree)
+pub code_forward : (script : Commands) → AllGoForward (code_of script)
 unfolding placed
-code_forward tree place target op is has =
-    let tail = tail_of tree in
-    let j = jump_forward (length tail) tail (goes_of tree).forward place op target is has in
+code_forward script place target op is has =
+    let tail = tail_of script in
+    let j = jump_forward (length tail) tail (goes_of script).forward place op target is has in
     let counted : length (map (put (length tail)) tail) ≡ length tail = length-map tail (put (length tail)) in
     (omega (arith, j.1, j.2), omega (arith, j.1, j.2, counted))
 

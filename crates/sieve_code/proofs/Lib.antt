@@ -1,9 +1,8 @@
 pub mod Rows
 pub mod Tails
 pub mod Conditions
-pub mod Chains
+pub mod Blocks
 pub mod Law
-pub mod Suffixes
 pub mod Putting
 pub mod Placing
 pub mod Keeping

@@ -1,7 +1,7 @@
 -- The targets' places in all of the code.
 use Rattle.std.proofs.Common.{◌≡◌, ℕ, ◌-◌, List, [], ◌∷◌, length, map, refl, sym, ap, ◌∙◌}
 use Rattle.std.proofs.lemmas.List.{length-map}
-use Rattle.sieve_reading.specs.Tree.{Node}
+use Rattle.sieve_reading.specs.Script.{Commands}
 use Rattle.sieve_code.specs.Choice.{Tail, code_of, placed, tail_of}
 use Rattle.sieve_code.specs.Operation.{targeting}
 use Rattle.sieve_code.specs.Pool.{Pool}
@@ -12,10 +12,10 @@ places_seen : (count : ℕ) (pool : Pool) (ops : List Op) → map (placed_in cou
 places_seen count pool [] = refl
 places_seen count pool (op ∷ ops) = ap (λ xs. placed_in count pool op ∷ xs) (places_seen count pool ops)
 
--- what the compiler makes of a tree's tail is the tree's code
-pub code_made : (tree : List Node) (pool : Pool) (ops : List Op) (tail : Tail) → map (op_in pool) ops ≡ tail → tail ≡ tail_of tree → ops_in pool ops ≡ code_of tree
+-- what the compiler makes of a script's tail is the script's code
+pub code_made : (script : Commands) (pool : Pool) (ops : List Op) (tail : Tail) → map (op_in pool) ops ≡ tail → tail ≡ tail_of script → ops_in pool ops ≡ code_of script
 unfolding placed
-code_made tree pool ops tail seen all =
+code_made script pool ops tail seen all =
     places_seen (length ops) pool ops
     ∙ ap (λ n. map (targeting (λ l. n - l)) (map (op_in pool) ops)) (sym (length-map ops (op_in pool)))
     ∙ ap placed (seen ∙ all)

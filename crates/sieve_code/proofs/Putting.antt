@@ -1,301 +1,183 @@
 -- What single steps of the compiler put before a tail.
-use Rattle.std.proofs.Common.{◌≡◌, ℕ, suc, ◌+◌, ◌-◌, ◌<◌, ◌≤◌, Bool, true, false, not, nat_lt, List, [], ◌∷◌, ◌++◌, length, length-append, length-drop, map, get_or, drop, if◌then◌else◌, Option, Some, None, Result, IfOk, OnOk, refl, sym, ap, ◌∙◌, subst, arith}
-use Rattle.std.proofs.lemmas.List.{append-nil, append_assoc, at_drop_all, at_drop_more}
-use borrow.Author.Tests.{ltb-true, ltb-false}
+use Rattle.std.proofs.Common.{◌≡◌, ℕ, ◌<◌, ◌≤◌, Bool, true, false, not, List, [], ◌∷◌, length, map, if◌then◌else◌, Option, Result, OnOk, refl, sym, ap, ◌∙◌, subst, arith}
 use Rattle.std.specs.declared.alloc.Global.{Global}
 use Rattle.std.specs.declared.boxed.Box.{Box}
 use Rattle.std.specs.declared.vec.Vec.{Vec}
-use Rattle.sieve_reading.specs.Reading.{TestReading, CommandReading}
-use Rattle.sieve_reading.specs.CommandReading.{command_reading, some_command_reading}
-use Rattle.sieve_reading.specs.TestReading.{test_reading, some_test_reading}
-use Rattle.sieve_table.specs.Table.{command_named, test_named}
-use Rattle.sieve_reading.specs.Tree.{TestList, test_list, tests, Node, node, block, nodes}
-use Rattle.sieve_syntax.specs.view.TreeOf.{as_parts}
-use Rattle.sieve_reading.specs.view.Tree.{argument_of, block_of, node_of, test_of, tests_of}
-use Rattle.sieve_syntax.specs.declared.tree.Command as commands
-use Rattle.sieve_syntax.specs.declared.tree.Command.TheViews as command_views
-use Rattle.sieve_syntax.specs.declared.tree.Test as one_tests
-use Rattle.sieve_syntax.specs.declared.tree.Tests.TheVariants as test_variants
-use Rattle.sieve_code.specs.Choice.{Tail, Branches, no_branch, past_branches, joint, reading_before, test_before, tests_before, list_before, first_before, branch_before, command_before, node_before, block_before, nodes_before}
-use Rattle.sieve_code.specs.Operation.{Operation, set_op, jump_op, jump_if_op}
-use Rattle.sieve_code.specs.view.Branches.{block_at, branch_at, branches_as, first_at, last}
-use Rattle.sieve_code.specs.declared.command_code.TailFront.{TailFront}
-use Rattle.sieve_code.proofs.Tails.{Ends, last_of}
-use Rattle.sieve_code.proofs.Conditions.{first_code}
-use Rattle.sieve_code.proofs.Suffixes.{Extends, block_ends, branch_ends}
-use Rattle.sieve_syntax.proofs.Views.{seen_command, seen_list, seen_none, seen_one, seen_test}
+use Rattle.sieve_reading.specs.Script.{Condition, Conditions, no_conditions, one_condition, Commands, no_commands, Branches, no_branches, else_branch, test_branch}
+use Rattle.sieve_reading.specs.view.Reading.{ReadAsk, ReadLeaf, ask_as, leaf_as}
+use Rattle.sieve_reading.specs.view.Script.{Before, BranchBefore, branch_as, branch_step, branches_as, commands_as, condition_as, conditions_as, else_as, put_each, statement_as, statement_step}
+use Rattle.sieve_reading.specs.declared.script.Branch as declared_branches
+use Rattle.sieve_reading.specs.declared.script.Condition as declared_conditions
+use Rattle.sieve_reading.specs.declared.script.Condition.TheVariants as condition
+use Rattle.sieve_reading.specs.declared.script.Statement as statements
+use Rattle.sieve_reading.specs.declared.script.Statement.TheFolds as folds
+use Rattle.sieve_reading.specs.declared.script.Statement.TheOpen as layers
+use Rattle.sieve_reading.specs.declared.script.Statement.TheVariants as statement
+use Rattle.sieve_reading.proofs.ScriptSeen.{seen_act, seen_all, seen_always, seen_any, seen_asks, seen_branch, seen_choose, seen_never, seen_not, seen_return, seen_stop}
+use Rattle.sieve_code.specs.Choice.{Tail, branches_before, commands_before, condition_before, joined_before, list_before}
+use Rattle.sieve_code.specs.Operation.{set_op, invert_op, test_op, jump_if_op, act_op, stop_op, return_op}
+use Rattle.sieve_code.specs.view.Branches.{branch_before, has_branch}
 
--- LISTS FROM THEIR END
-
-at_end : {X : Type 0} (front rest : List X) (x d : X) → get_or (front ++ x ∷ rest) (length front) d ≡ x
-at_end [] rest x d = refl
-at_end (y ∷ front) rest x d = at_end front rest x d
-
-after_front : {X : Type 0} (front rest : List X) → drop (length front) (front ++ rest) ≡ rest
-after_front [] rest = refl
-after_front (y ∷ front) rest = after_front front rest
-
--- where a list is what is left of it and what was taken from its end, the item taken next stands at the place of what is left then
-pub record IsTaken {X : Type 0} (all left : List X) (x : X) : Type 0 where
-  pub below : length left < length all
-  pub there : x ≡ get_or all (length left) x
-  pub split : all ≡ left ++ drop (length left) all
-
-pub taken : {X : Type 0} (all now left : List X) (x : X) → all ≡ now ++ drop (length now) all → now ≡ left ++ x ∷ [] → IsTaken all left x
-taken all now left x whole is = record {
-  below = omega (arith, long, length-append left (x ∷ drop (length now) all));
-  there = sym (ap (λ l. get_or l (length left) x) split ∙ at_end left (drop (length now) all) x x);
-  split = split ∙ ap (λ l. left ++ l) (sym (ap (drop (length left)) split ∙ after_front left (x ∷ drop (length now) all)));
-}
-  where
-    split : all ≡ left ++ x ∷ drop (length now) all
-    split = whole ∙ ap (λ l. l ++ drop (length now) all) is ∙ append_assoc left (x ∷ []) (drop (length now) all)
-
-    long : length all ≡ length (left ++ x ∷ drop (length now) all)
-    long = ap length split
+-- what a step that succeeds puts before a tail may be said as anything that is equal to it
+pub on_ok_along : {T E X : Type 0} (r : Result T E) (a b c : X) → b ≡ c → OnOk r (a ≡ b) → OnOk r (a ≡ c)
+on_ok_along r a b c same h = subst (λ x. OnOk r (a ≡ x)) same h
 
 -- a list without items is empty
 pub no_items : {X : Type 0} (xs : List X) → length xs ≡ 0 → xs ≡ []
 no_items [] none = refl
 no_items (x ∷ xs) none = absurd (omega (arith, none))
 
--- before anything is taken from the end of a list, all of it is left
-pub none_taken : {X : Type 0} (xs : List X) → xs ≡ xs ++ drop (length xs) xs
-none_taken xs = sym (ap (λ l. xs ++ l) (at_drop_all (λ l. l) xs (length xs) (omega arith)) ∙ append-nil xs)
+-- CONDITIONS
 
-pub is_below : (n m : ℕ) → n < m → true ≡ nat_lt n m
-is_below n m below = by_test (nat_lt n m) refl
-  where
-    by_test : (b : Bool) → nat_lt n m ≡ b → true ≡ b
-    by_test true is = refl
-    by_test false is = let above = ltb-false n m is in absurd (omega (arith, above, below))
+-- one condition, by which it is
+pub put_always : (c : declared_conditions.Condition) (after : Tail) → c ≡ condition.Always → set_op true ∷ after ≡ condition_before (condition_as c) after
+unfolding condition_before
+put_always c after is = sym (ap (λ x. condition_before x after) (ap condition_as is ∙ seen_always))
 
-pub not_below : (n : ℕ) → false ≡ nat_lt n n
-not_below n = by_test (nat_lt n n) refl
-  where
-    by_test : (b : Bool) → nat_lt n n ≡ b → false ≡ b
-    by_test true is = let below = ltb-true n n is in absurd (omega (arith, below))
-    by_test false is = refl
+pub put_never : (c : declared_conditions.Condition) (after : Tail) → c ≡ condition.Never → set_op false ∷ after ≡ condition_before (condition_as c) after
+unfolding condition_before
+put_never c after is = sym (ap (λ x. condition_before x after) (ap condition_as is ∙ seen_never))
 
--- all but the last are one fewer
-pub one_fewer : {X : Type 0} (now left : List X) (x : X) → now ≡ left ++ x ∷ [] → length now ≡ length left + 1
-one_fewer now left x is = ap length is ∙ length-append left (x ∷ [])
+pub put_asks : (c : declared_conditions.Condition) (ask : ReadAsk) (after : Tail) → c ≡ condition.Asks ask → test_op (ask_as ask) ∷ after ≡ condition_before (condition_as c) after
+unfolding condition_before
+put_asks c ask after is = sym (ap (λ x. condition_before x after) (ap condition_as is ∙ seen_asks ask))
 
--- what a step that succeeds puts before a tail may be said as anything that is equal to it
-pub on_ok_along : {T E X : Type 0} (r : Result T E) (a b c : X) → b ≡ c → OnOk r (a ≡ b) → OnOk r (a ≡ c)
-on_ok_along r a b c same h = subst (λ x. OnOk r (a ≡ x)) same h
+pub put_not : (c : declared_conditions.Condition) (b : Box declared_conditions.Condition Global) (inner : declared_conditions.Condition) (after : Tail) → c ≡ condition.Not b → inner ≡ b.value → condition_before (condition_as inner) (invert_op ∷ after) ≡ condition_before (condition_as c) after
+unfolding condition_before
+put_not c b inner after is same = ap (λ x. condition_before (condition_as x) (invert_op ∷ after)) same ∙ sym (ap (λ x. condition_before x after) (ap condition_as is ∙ seen_not b))
 
--- the branches that a step finds at the front of a tail may be said as any branches that are equal to them
-pub fronts_along : {E : Type 0} (r : Result TailFront E) (tail : Tail) (b c : Branches) → b ≡ c → IfOk r (λ front. branches_as front tail ≡ b) → IfOk r (λ front. branches_as front tail ≡ c)
-fronts_along r tail b c same h = subst (λ (x : Branches). IfOk r (λ (front : TailFront). branches_as front tail ≡ x)) same h
+pub put_all : (c : declared_conditions.Condition) (list : Vec declared_conditions.Condition Global) (after : Tail) → c ≡ condition.All list → joined_before false (conditions_as list.items) after ≡ condition_before (condition_as c) after
+unfolding condition_before
+put_all c list after is = sym (ap (λ x. condition_before x after) (ap condition_as is ∙ seen_all list))
 
--- DROPPING
+pub put_any : (c : declared_conditions.Condition) (list : Vec declared_conditions.Condition Global) (after : Tail) → c ≡ condition.Any list → joined_before true (conditions_as list.items) after ≡ condition_before (condition_as c) after
+unfolding condition_before
+put_any c list after is = sym (ap (λ x. condition_before x after) (ap condition_as is ∙ seen_any list))
 
-pub dropped_one : {X : Type 0} (xs : List X) (count : ℕ) → count < length xs → drop (length (drop 1 xs) - count) (drop 1 xs) ≡ drop (length xs - count) xs
-dropped_one [] count below = absurd (omega (arith, below))
-dropped_one (x ∷ xs) count below =
-    let e : length (x ∷ xs) - count ≡ suc (length xs - count) = omega (arith, below) in
-    sym (ap (λ n. drop n (x ∷ xs)) e)
+-- whether there is a condition
+abbrev pub has_condition : Conditions → Bool
+has_condition no_conditions = false
+has_condition (one_condition c cs) = true
 
-pub all_kept : {X : Type 0} (xs : List X) (count : ℕ) → length xs ≤ count → drop (length xs - count) xs ≡ xs
-all_kept xs count le = let none : length xs - count ≡ 0 = omega arith in ap (λ n. drop n xs) none
+-- the conditions of which some have been put, and those that are left, the next first
+abbrev pub conditions_with : List declared_conditions.Condition → Conditions → Conditions
+conditions_with left seen = put_each one_condition (map condition_as left) seen
 
--- TESTS
+-- some of all conditions were put before a tail: those in front of which the ones that are left stand
+pub record ConditionsPut (truth : Bool) (tail old : Tail) (follows : Bool) (left : List declared_conditions.Condition) (all : Conditions) : Type 0 where
+  pub seen : Conditions
+  pub put : tail ≡ list_before truth seen old
+  pub follows_is : follows ≡ has_condition seen
+  pub goes_on : conditions_with left seen ≡ all
 
-pub first_none : (ts : test_variants.the_data) (after : Tail) → ts ≡ test_variants.None → set_op false ∷ after ≡ first_before (tests_of ts) after
-unfolding first_before
-first_none ts after is = sym (ap (λ x. first_before x after) (seen_none as_parts ts is))
-
-pub first_one : (ts : test_variants.the_data) (b : Box one_tests.Test Global) (t : one_tests.Test) (after : Tail) → ts ≡ test_variants.One b → t ≡ b.value → test_before (test_of t) after ≡ first_before (tests_of ts) after
-unfolding first_before
-first_one ts b t after is same = sym (ap (λ x. first_before x after) (seen_one as_parts ts b t is same))
-
-pub all_none : (truth : Bool) (ts : test_variants.the_data) (after : Tail) → ts ≡ test_variants.None → set_op (not truth) ∷ after ≡ tests_before truth (tests_of ts) after
-unfolding tests_before
-all_none truth ts after is = sym (ap (λ x. tests_before truth x after) (seen_none as_parts ts is))
-
-pub all_one : (truth : Bool) (ts : test_variants.the_data) (b : Box one_tests.Test Global) (t : one_tests.Test) (after : Tail) → ts ≡ test_variants.One b → t ≡ b.value → test_before (test_of t) after ≡ tests_before truth (tests_of ts) after
-unfolding tests_before
-all_one truth ts b t after is same = sym (ap (λ x. tests_before truth x after) (seen_one as_parts ts b t is same))
-
-pub all_list : (truth : Bool) (ts : test_variants.the_data) (b : Box (Vec one_tests.Test Global) Global) (v : Vec one_tests.Test Global) (after : Tail) → ts ≡ test_variants.List b → v ≡ b.value → tests_before truth (test_list (tests (map test_of v.items))) after ≡ tests_before truth (tests_of ts) after
-all_list truth ts b v after is same = sym (ap (λ x. tests_before truth x after) (seen_list as_parts ts b v.items is (ap (λ x. x.items) same)))
-
-pub first_empty : (ts : test_variants.the_data) (b : Box (Vec one_tests.Test Global) Global) (v : Vec one_tests.Test Global) (after : Tail) → ts ≡ test_variants.List b → v ≡ b.value → v.items ≡ [] → set_op false ∷ after ≡ first_before (tests_of ts) after
-unfolding first_before
-first_empty ts b v after is same none = sym (ap (λ x. first_before x after) (seen_list as_parts ts b [] is (sym none ∙ ap (λ x. x.items) same)))
-
-pub first_listed : (ts : test_variants.the_data) (b : Box (Vec one_tests.Test Global) Global) (v : Vec one_tests.Test Global) (t : one_tests.Test) (rest : List one_tests.Test) (after : Tail) → ts ≡ test_variants.List b → v ≡ b.value → v.items ≡ t ∷ rest → test_before (test_of t) after ≡ first_before (tests_of ts) after
-unfolding first_before
-first_listed ts b v t rest after is same first = sym (ap (λ x. first_before x after) (seen_list as_parts ts b (t ∷ rest) is (sym first ∙ ap (λ x. x.items) same)))
-
--- what is read by a test's name and arguments is read of the test
-pub test_seen : (t : one_tests.Test) → some_test_reading (test_named t.name) (map argument_of t.args.items) ≡ test_reading (test_of t)
-test_seen t = sym (ap test_reading (seen_test as_parts t))
-
-pub test_put : (t : one_tests.Test) (r : Option TestReading) (after : Tail) → r ≡ test_reading (test_of t) → reading_before r (tests_before false (tests_of t.tests)) (tests_before true (tests_of t.tests)) (first_before (tests_of t.tests)) after ≡ test_before (test_of t) after
-unfolding test_before
-test_put t r after is =
-    ap (λ x. reading_before x (tests_before false (tests_of t.tests)) (tests_before true (tests_of t.tests)) (first_before (tests_of t.tests)) after) (is ∙ ap test_reading (seen_test as_parts t))
-    ∙ sym (ap (λ x. test_before x after) (seen_test as_parts t))
-
--- LISTS OF TESTS
-
-abbrev pub list_on : List one_tests.Test → TestList
-list_on list = tests (map test_of list)
-
-pub list_empty : (truth : Bool) (list : List one_tests.Test) (after : Tail) → length list ≤ 0 → set_op (not truth) ∷ after ≡ tests_before truth (test_list (list_on list)) after
-unfolding tests_before
-list_empty truth [] after none = refl
-list_empty truth (t ∷ list) after none = absurd (omega (arith, none))
-
-pub list_some : (truth : Bool) (list : List one_tests.Test) (after : Tail) → 0 < length list → list_before truth (list_on list) after ≡ tests_before truth (test_list (list_on list)) after
-unfolding tests_before
-list_some truth [] after some = absurd (omega (arith, some))
-list_some truth (t ∷ list) after some = refl
-
-pub list_none : (truth : Bool) (list : List one_tests.Test) (i : ℕ) (after : Tail) → length list ≤ i → list_before truth (list_on (drop i list)) after ≡ after
+-- a condition before those that have been put
+pub condition_put : (truth : Bool) (c : Condition) (seen : Conditions) (after tail new : Tail) (follows : Bool) → tail ≡ list_before truth seen after → follows ≡ has_condition seen
+    → new ≡ condition_before c (if follows then jump_if_op truth (length after) ∷ tail else tail) → new ≡ list_before truth (one_condition c seen) after
 unfolding list_before
-list_none truth list i after all = at_drop_all (λ l. list_before truth (list_on l) after) list i all
+condition_put truth c no_conditions after tail new follows so is made =
+    made ∙ ap (λ b. condition_before c (if b then jump_if_op truth (length after) ∷ tail else tail)) is ∙ ap (condition_before c) so
+condition_put truth c (one_condition d ds) after tail new follows so is made =
+    made ∙ ap (λ b. condition_before c (if b then jump_if_op truth (length after) ∷ tail else tail)) is ∙ ap (λ t. condition_before c (jump_if_op truth (length after) ∷ t)) so
 
-joint_by : (truth : Bool) (list : List one_tests.Test) (follows : Bool) (after others : Tail) → (follows ≡ true → 0 < length list) → (follows ≡ false → length list ≤ 0) → joint truth (list_on list) after others ≡ (if follows then jump_if_op truth (length after) ∷ others else others)
-joint_by truth [] true after others some none = absurd (omega (arith, some refl))
-joint_by truth [] false after others some none = refl
-joint_by truth (t ∷ list) true after others some none = refl
-joint_by truth (t ∷ list) false after others some none = absurd (omega (arith, none refl))
-
-list_first : (truth : Bool) (t : one_tests.Test) (list : List one_tests.Test) (after : Tail) → list_before truth (list_on (t ∷ list)) after ≡ test_before (test_of t) (joint truth (list_on list) after (list_before truth (list_on list) after))
+pub list_none : (truth : Bool) (after : Tail) → after ≡ list_before truth no_conditions after
 unfolding list_before
-list_first truth t list after = refl
+list_none truth after = refl
 
-some_left : (list : List one_tests.Test) (i : ℕ) (follows : Bool) → follows ≡ nat_lt (i + 1) (length list) → follows ≡ true → 0 < length (drop (i + 1) list)
-some_left list i follows is holds = let lt : i + 1 < length list = ltb-true (i + 1) (length list) (sym is ∙ holds) in omega (arith, lt, length-drop (i + 1) list)
+pub joined_empty : (truth : Bool) (list : List declared_conditions.Condition) (after : Tail) → length list ≤ 0 → set_op (not truth) ∷ after ≡ joined_before truth (conditions_as list) after
+unfolding joined_before
+joined_empty truth [] after none = refl
+joined_empty truth (c ∷ list) after none = absurd (omega (arith, none))
 
-none_left : (list : List one_tests.Test) (i : ℕ) (follows : Bool) → follows ≡ nat_lt (i + 1) (length list) → follows ≡ false → length (drop (i + 1) list) ≤ 0
-none_left list i follows is fails = let le : length list ≤ i + 1 = ltb-false (i + 1) (length list) (sym is ∙ fails) in omega (arith, le, length-drop (i + 1) list)
+all_joined : (truth : Bool) (left : List Condition) (c : Condition) (seen : Conditions) (after : Tail) → list_before truth (put_each one_condition left (one_condition c seen)) after ≡ joined_before truth (put_each one_condition left (one_condition c seen)) after
+unfolding list_before joined_before
+all_joined truth [] c seen after = refl
+all_joined truth (d ∷ left) c seen after = all_joined truth left d (one_condition c seen) after
 
--- a test of a list, put before the tests after it, makes the tests from that one on
-pub list_put : (truth : Bool) (list : List one_tests.Test) (i : ℕ) (t : one_tests.Test) (following others new : Tail) (follows : Bool) → i < length list → t ≡ get_or list i t → follows ≡ nat_lt (i + 1) (length list) → others ≡ list_before truth (list_on (drop (i + 1) list)) following → new ≡ test_before (test_of t) (if follows then jump_if_op truth (length following) ∷ others else others) → new ≡ list_before truth (list_on (drop i list)) following
-list_put truth list i t following others new follows below is more before after =
-    after
-    ∙ ap (λ o. test_before (test_of t) (if follows then jump_if_op truth (length following) ∷ o else o)) before
-    ∙ ap (test_before (test_of t)) (sym (joint_by truth (drop (i + 1) list) follows following (list_before truth (list_on (drop (i + 1) list)) following) (some_left list i follows more) (none_left list i follows more)))
-    ∙ ap (λ x. test_before (test_of x) (joint truth (list_on (drop (i + 1) list)) following (list_before truth (list_on (drop (i + 1) list)) following))) is
-    ∙ sym (list_first truth (get_or list i t) (drop (i + 1) list) following)
-    ∙ sym (at_drop_more (λ l. list_before truth (list_on l) following) list i t below)
-
--- BRANCHES
-
-abbrev pub made : Bool → Tail → Tail → Branches
-made has w r = record { has_branch = has; with_branch = w; after_branches = r }
-
-pub length_last : (count : ℕ) (tail : Tail) → count ≤ length tail → length (last count tail) ≡ count
-length_last count tail le = omega (arith, length-drop (length tail - count) tail)
-
--- what a block continues with: a jump past the branches where one follows, and else the tail itself
-pub past : (front : TailFront) (tail : Tail) → front.after ≤ length tail → past_branches (branches_as front tail) ≡ (if front.has_branch then jump_op front.after ∷ tail else tail)
-past front tail le = ap (λ n. if front.has_branch then jump_op n ∷ tail else tail) (length_last front.after tail le)
-
--- where no branch is at the front of a tail, and all of the tail is after the branches, its branches are none
-pub alone : (front : TailFront) (tail : Tail) → front.has_branch ≡ false → front.after ≡ length tail → branches_as front tail ≡ no_branch tail
-alone front tail none all =
-    ap (λ h. made h tail (last front.after tail)) none
-    ∙ ap (λ n. made false tail (last n tail)) all
-    ∙ ap (made false tail) (all_kept tail (length tail) (omega arith))
-
-drop_past : (front tail : Tail) (n : ℕ) → drop (length front + n) (front ++ tail) ≡ drop n tail
-drop_past [] tail n = let e : length {A = Operation} [] + n ≡ n = omega arith in ap (λ m. drop m tail) e
-drop_past (op ∷ front) tail n =
-    let e : length (op ∷ front) + n ≡ suc (length front + n) = omega arith in
-    ap (λ m. drop m (op ∷ front ++ tail)) e ∙ drop_past front tail n
-
--- a tail that ends with another has the same last operations, as many as the other has or fewer
-pub with_front : (count : ℕ) (tail new : Tail) → count ≤ length tail → Ends new tail → last count new ≡ last count tail
-with_front count tail new le e =
-    let count_left : length (e.front ++ tail) - count ≡ length e.front + (length tail - count) = omega (arith, length-append e.front tail) in
-    ap (last count) e.split ∙ ap (λ n. drop n (e.front ++ tail)) count_left ∙ drop_past e.front tail (length tail - count)
-
--- what a command's first test, block or branch makes of a tail ends with that tail
-first_at_ends : (n : Node) → Extends (first_at n)
-first_at_ends (node name line args ts ending) = (first_code ts).ends
-
-pub block_at_ends : (n : Node) → Extends (block_at n)
-block_at_ends (node name line args ts ending) = block_ends ending
-
-pub branch_at_ends : (n : Node) (b : Branches) → Ends (branch_at n b) b.with_branch
-branch_at_ends n b = branch_ends (first_at n) (block_at n) b (first_at_ends n) (block_at_ends n)
-
--- an `else` puts its block before what is after the branches, which stays as it was
-pub last_branch : (n : Node) (count : ℕ) (old kept new : Tail) → count ≤ length old → kept ≡ last count old → new ≡ block_at n kept → made true new (last count new) ≡ made true (block_at n (last count old)) (last count old)
-last_branch n count old kept new le keeps puts =
-    let after = last count old in
-    ap (λ t. made true t (last count t)) (puts ∙ ap (block_at n) keeps)
-    ∙ ap (made true (block_at n after)) (ap (λ k. last k (block_at n after)) (sym (length_last count old le)) ∙ last_of (block_at n after) after (block_at_ends n after))
+pub joined_some : (truth : Bool) (list : List declared_conditions.Condition) (after : Tail) → 0 < length list → list_before truth (conditions_as list) after ≡ joined_before truth (conditions_as list) after
+joined_some truth [] after some = absurd (omega (arith, some))
+joined_some truth (c ∷ list) after some = all_joined truth (map condition_as list) (condition_as c) no_conditions after
 
 -- COMMANDS
 
-pub line_at : Node → ℕ
-line_at (node name line args ts ending) = line
+-- the commands of which some have been put, and those that are left, the next first
+abbrev pub commands_with : List statements.Statement → Commands → Commands
+commands_with left seen = put_each (λ (before : Before). before) (map statement_as left) seen
 
-by_kind : (n : Node) (b : Branches) → node_before n b ≡ command_before (command_reading n) (line_at n) (first_at n) (block_at n) b
-unfolding node_before line_at
-by_kind (node name line args ts ending) b = refl
+pub commands_none : (after : Tail) → after ≡ commands_before no_commands after
+unfolding commands_before
+commands_none after = refl
 
-pub command_put : (n : Node) (r : Option CommandReading) (b : Branches) → r ≡ command_reading n → command_before r (line_at n) (first_at n) (block_at n) b ≡ node_before n b
-command_put n r b is = ap (λ x. command_before x (line_at n) (first_at n) (block_at n) b) is ∙ sym (by_kind n b)
+-- what a command puts before a tail, in front of commands
+pub put_stop : (s : statements.Statement) (after : Tail) → s ≡ statement.Stop → stop_op ∷ after ≡ commands_before (statement_as s no_commands) after
+unfolding commands_before
+put_stop s after is = sym (ap (λ (f : Before). commands_before (f no_commands) after) (ap statement_as is ∙ seen_stop))
 
--- the line, the first test and the block of a command are those of its node
-pub line_seen : (c : commands.Command) → line_at (node_of c) ≡ (command_views.out-Command c).line
-unfolding line_at
-line_seen c = ap line_at (seen_command as_parts c)
+pub put_return : (s : statements.Statement) (after : Tail) → s ≡ statement.Return → return_op ∷ after ≡ commands_before (statement_as s no_commands) after
+unfolding commands_before
+put_return s after is = sym (ap (λ (f : Before). commands_before (f no_commands) after) (ap statement_as is ∙ seen_return))
 
-pub branch_seen : (c : commands.Command) (b : Branches) → let o = command_views.out-Command c in branch_before (first_before (tests_of o.tests)) (block_before (block_of o.block)) b ≡ branch_at (node_of c) b
-branch_seen c b = sym (ap (λ n. branch_at n b) (seen_command as_parts c))
+pub put_act : (s : statements.Statement) (leaf : ReadLeaf) (line : ℕ) (after : Tail) → s ≡ statement.Act leaf line → act_op (leaf_as leaf) line ∷ after ≡ commands_before (statement_as s no_commands) after
+unfolding commands_before
+put_act s leaf line after is = sym (ap (λ (f : Before). commands_before (f no_commands) after) (ap statement_as is ∙ seen_act leaf line))
 
-pub block_seen : (c : commands.Command) (after : Tail) → block_before (block_of (command_views.out-Command c).block) after ≡ block_at (node_of c) after
-block_seen c after = sym (ap (λ n. block_at n after) (seen_command as_parts c))
+pub put_choice : (s : statements.Statement) (list : Vec declared_branches.Branch Global) (otherwise : Option (Vec statements.Statement Global)) (after : Tail) → s ≡ statement.Choose list otherwise → branches_before (branches_as list.items (else_as otherwise)) after ≡ commands_before (statement_as s no_commands) after
+unfolding commands_before
+put_choice s list otherwise after is = sym (ap (λ (f : Before). commands_before (f no_commands) after) (ap statement_as is ∙ seen_choose list otherwise))
 
--- what is read by a command's name and arguments is read of its node
-pub reading_seen : (c : commands.Command) → let o = command_views.out-Command c in some_command_reading (command_named o.name) (map argument_of o.args.items) ≡ command_reading (node_of c)
-reading_seen c = sym (ap command_reading (seen_command as_parts c))
+-- a command before others is what it puts before what they put
+variant_more : (s : statements.Statement) (cs : Commands) (after : Tail) (made : Before) → statement_as s ≡ made → commands_before (made cs) after ≡ commands_before (made no_commands) (commands_before cs after) → commands_before (statement_as s cs) after ≡ commands_before (statement_as s no_commands) (commands_before cs after)
+variant_more s cs after made is so =
+    ap (λ (f : Before). commands_before (f cs) after) is ∙ so ∙ sym (ap (λ (f : Before). commands_before (f no_commands) (commands_before cs after)) is)
 
-abbrev pub block_on : List commands.Command → Tail → Tail
-block_on list = block_before (block (nodes (map node_of list)))
+layer_more : (l : layers.Statement-F Before BranchBefore) (cs : Commands) (after : Tail) → commands_before (statement_step l cs) after ≡ commands_before (statement_step l no_commands) (commands_before cs after)
+unfolding commands_before
+layer_more layers.Stop cs after = refl
+layer_more layers.Return cs after = refl
+layer_more (layers.Act leaf line) cs after = refl
+layer_more (layers.Choose list otherwise) cs after = refl
 
--- the commands of a block make what the block makes; none are in the place of a block that there isn't
-pub block_some : (b : Option (Vec commands.Command Global)) (v cs : Vec commands.Command Global) → b ≡ Some v → cs ≡ v → (after : Tail) → block_on cs.items after ≡ block_before (block_of b) after
-block_some b v cs is same after = ap (λ l. block_on l.items after) same ∙ sym (ap (λ x. block_before (block_of x) after) is)
+pub statement_more : (s : statements.Statement) (cs : Commands) (after : Tail) → commands_before (statement_as s cs) after ≡ commands_before (statement_as s no_commands) (commands_before cs after)
+statement_more s cs after = variant_more s cs after _ (folds.fold_out-Statement Before BranchBefore statement_step branch_step s) (layer_more _ cs after)
 
-pub block_none : (b : Option (Vec commands.Command Global)) (v cs : Vec commands.Command Global) → b ≡ None → v.items ≡ [] → cs ≡ v → (after : Tail) → block_on cs.items after ≡ block_before (block_of b) after
-unfolding block_before nodes_before
-block_none b v cs is empty same after = ap (λ l. block_on l.items after) same ∙ ap (λ l. block_on l after) empty ∙ sym (ap (λ x. block_before (block_of x) after) is)
+-- some of all commands were put before a tail: those in front of which the ones that are left stand
+pub record CommandsPut (tail old : Tail) (left : List statements.Statement) (all : Commands) : Type 0 where
+  pub seen : Commands
+  pub put : tail ≡ commands_before seen old
+  pub goes_on : commands_with left seen ≡ all
 
-pub block_put : (list : List commands.Command) (after : Tail) → (nodes_before (nodes (map node_of list)) after).after_branches ≡ block_on list after
-unfolding block_before
-block_put list after = refl
+-- BRANCHES
 
--- a branch, by what its block makes
-pub branch_along : (first here there : Tail → Tail) (b : Branches) → ((after : Tail) → here after ≡ there after) → branch_before first here b ≡ branch_before first there b
-branch_along first here there b same = ap (λ tail. first (jump_if_op false (length b.with_branch) ∷ tail)) (same (past_branches b))
+pub none_before : (after : Tail) → after ≡ branches_before no_branches after
+unfolding branches_before
+none_before after = refl
 
--- LISTS OF COMMANDS
+pub else_before : (inner : Commands) (after : Tail) → commands_before inner after ≡ branches_before (else_branch inner) after
+unfolding branches_before
+else_before inner after = refl
 
-abbrev pub branches_on : List commands.Command → Tail → Branches
-branches_on list after = nodes_before (nodes (map node_of list)) after
+-- some of all branches were put before a tail: those in front of which the ones that are left stand
+pub record BranchesPut (tail old : Tail) (follows : Bool) (left : List declared_branches.Branch) (all : Branches) : Type 0 where
+  pub seen : Branches
+  pub put : tail ≡ branches_before seen old
+  pub follows_is : follows ≡ has_branch seen
+  pub goes_on : branches_as left seen ≡ all
 
-pub commands_none : (list : List commands.Command) (i : ℕ) (after : Tail) → length list ≤ i → branches_on (drop i list) after ≡ no_branch after
-unfolding nodes_before
-commands_none list i after all = at_drop_all (λ l. branches_on l after) list i all
+put_by : (c : Condition) (inner : Commands) (seen : Branches) (old : Tail) → branch_before c inner (has_branch seen) (length old) (branches_before seen old) ≡ branches_before (test_branch c inner seen) old
+unfolding branches_before
+put_by c inner no_branches old = refl
+put_by c inner (else_branch other) old = refl
+put_by c inner (test_branch d other others) old = refl
 
-commands_first : (c : commands.Command) (list : List commands.Command) (after : Tail) → branches_on (c ∷ list) after ≡ node_before (node_of c) (branches_on list after)
-unfolding nodes_before
-commands_first c list after = refl
+-- a branch before those that have been put
+pub branch_put : (b : declared_branches.Branch) (seen : Branches) (old tail new : Tail) (follows : Bool) (after : ℕ) → tail ≡ branches_before seen old → follows ≡ has_branch seen → after ≡ length old
+    → new ≡ branch_before (condition_as b.condition) (commands_as b.block.items) follows after tail → new ≡ branches_before (branch_as b seen) old
+branch_put b seen old tail new follows after so is count made =
+    made
+    ∙ ap (λ f. branch_before (condition_as b.condition) (commands_as b.block.items) f after tail) is
+    ∙ ap (λ n. branch_before (condition_as b.condition) (commands_as b.block.items) (has_branch seen) n tail) count
+    ∙ ap (branch_before (condition_as b.condition) (commands_as b.block.items) (has_branch seen) (length old)) so
+    ∙ put_by (condition_as b.condition) (commands_as b.block.items) seen old
+    ∙ sym (ap (λ (f : BranchBefore). branches_before (f seen) old) (seen_branch b))
 
--- a command of a list, put before the commands after it, makes the commands from that one on
-pub command_listed : (list : List commands.Command) (i : ℕ) (c : commands.Command) (following : Tail) (now new : Branches) → i < length list → c ≡ get_or list i c → now ≡ branches_on (drop (i + 1) list) following → new ≡ node_before (node_of c) now → new ≡ branches_on (drop i list) following
-command_listed list i c following now new below is so after =
-    after
-    ∙ ap (node_before (node_of c)) so
-    ∙ ap (λ x. node_before (node_of x) (branches_on (drop (i + 1) list) following)) is
-    ∙ sym (commands_first (get_or list i c) (drop (i + 1) list) following)
-    ∙ sym (at_drop_more (λ l. branches_on l following) list i c below)
+pub branch_follows : (b : declared_branches.Branch) (seen : Branches) → true ≡ has_branch (branch_as b seen)
+branch_follows b seen = sym (ap (λ (f : BranchBefore). has_branch (f seen)) (seen_branch b))

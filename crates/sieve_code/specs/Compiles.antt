@@ -1,16 +1,16 @@
--- What it is for operations to be the code of a tree.
+-- What it is for operations to be the code of an abstract script.
 use Rattle.std.specs.Prelude.{◌≡◌, List, length}
-use Rattle.sieve_reading.specs.Tree.{Node}
+use Rattle.sieve_reading.specs.Script.{Commands}
 use Rattle.sieve_code.specs.Choice.{code_of}
 use Rattle.sieve_code.specs.Operation.{Operation}
-use Rattle.sieve_code.specs.Walk.{code_walk, tree_walk}
+use Rattle.sieve_code.specs.Walk.{code_walk, script_walk}
 
--- operations are those that are chosen for a tree, and in at most as many turns as there are operations they do what it does
-pub record Compiles (tree : List Node) (ops : List Operation) : Type 0 where
-  pub chosen : ops ≡ code_of tree
-  pub does : code_walk ops (length ops) ≡ tree_walk tree
+-- operations are those that are chosen for a script, and in at most as many turns as there are operations they do what it does
+pub record Compiles (script : Commands) (ops : List Operation) : Type 0 where
+  pub chosen : ops ≡ code_of script
+  pub does : code_walk ops (length ops) ≡ script_walk script
 
--- operations are the code of some tree
+-- operations are the code of some script
 pub record IsCode (ops : List Operation) : Type 0 where
-  pub tree : List Node
-  pub compiles : Compiles tree ops
+  pub script : Commands
+  pub compiles : Compiles script ops

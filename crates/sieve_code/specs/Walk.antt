@@ -2,8 +2,7 @@
 use Rattle.std.specs.Prelude.{ℕ, zero, suc, ◌+◌, Bool, true, false, not, List, [], ◌∷◌, Option, Some, None, slice_get, if◌then◌else◌}
 use Rattle.sieve_reading.specs.Reading.{Ask, Leaf}
 use Rattle.sieve_reading.specs.Script as script
-use Rattle.sieve_reading.specs.Script.{Condition, always, never, negated, both, either, Commands, no_commands, chooses, script_of}
-use Rattle.sieve_reading.specs.Tree.{Node}
+use Rattle.sieve_reading.specs.Script.{Condition, always, never, negated, all_hold, any_holds, Conditions, no_conditions, one_condition, Commands, no_commands, chooses, Branches, no_branches, else_branch, test_branch}
 use Rattle.sieve_code.specs.Operation.{Operation, set_op, invert_op, test_op, jump_op, jump_if_op, act_op, stop_op, return_op}
 
 -- A walk: it has come to the end, it was ended by `stop` (RFC 5228, section 3.3) or by `return` (RFC 6609, section 3.3), or its
@@ -16,29 +15,45 @@ pub data Walk : Type 0 where
   asked : (ask : Ask) (held failed : Walk) → Walk
   acted : (leaf : Leaf) (line : ℕ) (next : Walk) → Walk
 
--- THE WALK OF A TREE
+-- THE WALK OF A SCRIPT
 
--- a condition, and the walks where it holds and where it doesn't: tests go from left to right, and no further than needed
--- (RFC 5229, section 3.2)
-unfoldable pub condition_walk : Condition → (held failed : Walk) → Walk
-condition_walk always held failed = held
-condition_walk never held failed = failed
-condition_walk (script.asks ask) held failed = asked ask held failed
-condition_walk (negated c) held failed = condition_walk c failed held
-condition_walk (both c d) held failed = condition_walk c (condition_walk d held failed) failed
-condition_walk (either c d) held failed = condition_walk c held (condition_walk d held failed)
+unfoldable mutual
+  -- a condition, and the walks where it holds and where it doesn't: tests go from left to right, and no further than needed
+  -- (RFC 5229, section 3.2)
+  pub condition_walk : Condition → (held failed : Walk) → Walk
+  condition_walk always held failed = held
+  condition_walk never held failed = failed
+  condition_walk (script.asks ask) held failed = asked ask held failed
+  condition_walk (negated c) held failed = condition_walk c failed held
+  condition_walk (all_hold cs) held failed = all_walk cs held failed
+  condition_walk (any_holds cs) held failed = any_walk cs held failed
 
--- commands, and the walk after them
-unfoldable pub commands_walk : Commands → Walk → Walk
-commands_walk no_commands next = next
-commands_walk (script.stops rest) next = by_stop
-commands_walk (script.returns rest) next = by_return
-commands_walk (script.acts leaf line rest) next = acted leaf line (commands_walk rest next)
-commands_walk (chooses condition block otherwise rest) next = condition_walk condition (commands_walk block (commands_walk rest next)) (commands_walk otherwise (commands_walk rest next))
+  pub all_walk : Conditions → (held failed : Walk) → Walk
+  all_walk no_conditions held failed = held
+  all_walk (one_condition c cs) held failed = condition_walk c (all_walk cs held failed) failed
 
--- what a checked tree does
-abbrev pub tree_walk : List Node → Walk
-tree_walk tree = commands_walk (script_of tree) at_end
+  pub any_walk : Conditions → (held failed : Walk) → Walk
+  any_walk no_conditions held failed = failed
+  any_walk (one_condition c cs) held failed = condition_walk c held (any_walk cs held failed)
+
+unfoldable mutual
+  -- commands, and the walk after them
+  pub commands_walk : Commands → Walk → Walk
+  commands_walk no_commands next = next
+  commands_walk (script.stops rest) next = by_stop
+  commands_walk (script.returns rest) next = by_return
+  commands_walk (script.acts leaf line rest) next = acted leaf line (commands_walk rest next)
+  commands_walk (chooses branches rest) next = branches_walk branches (commands_walk rest next)
+
+  -- branches, and the walk after them: of the branches one at most is taken, the first whose condition holds, or the `else`
+  pub branches_walk : Branches → Walk → Walk
+  branches_walk no_branches next = next
+  branches_walk (else_branch inner) next = commands_walk inner next
+  branches_walk (test_branch condition inner others) next = condition_walk condition (commands_walk inner next) (branches_walk others next)
+
+-- what a script does
+abbrev pub script_walk : Commands → Walk
+script_walk commands = commands_walk commands at_end
 
 -- THE WALK OF CODE
 

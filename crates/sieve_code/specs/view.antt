@@ -3,6 +3,5 @@
 pub mod Branches
 pub mod Code
 pub mod Marked
-pub mod Given
 pub mod Op
 pub mod Pools

@@ -1,5 +1,5 @@
 //! Compiled code.
-ghost use Rattle.std.specs.Prelude.{◌≡◌, ◌<◌, [], length, Some, slice_get, slice_index_or};
+ghost use Rattle.std.specs.Prelude.{◌≡◌, ◌<◌, length, Some, slice_get};
 ghost use Rattle.std.specs.Option.{option_copied};
 ghost use Rattle.devices.specs.Writers.{Writes};
 ghost use Rattle.sieve_operations.specs.Joined.{list_in};
@@ -7,19 +7,17 @@ ghost use Rattle.sieve_operations.specs.view.Ops.{body_op_as, settings_op_as, so
 ghost use Rattle.sieve_code.specs.Choice.{AllGoForward};
 ghost use Rattle.sieve_code.specs.Compiles.{IsCode};
 ghost use Rattle.sieve_code.specs.Dump.{line_at};
-ghost use Rattle.sieve_code.specs.Pool.{body_in, given_list, given_string, given_variable, no_test, no_vacation, packed_in, plain_packed, settings_in, source_in, string_in, test_in, vacation_in, vacation_packed_in, zone_in};
+ghost use Rattle.sieve_code.specs.Pool.{body_in, given_list, given_string, settings_in, source_in, string_in, vacation_in, zone_in};
 ghost use Rattle.sieve_code.specs.view.Op.{ops_in};
 ghost use Rattle.sieve_code.specs.view.Pools.{pool_as};
 
 use crate::dump::write_line;
-use crate::given::GivenPlace;
-use crate::op::{Op, PackedSettings, PackedSource, PackedTest, PackedVacation};
-use crate::pools::{Pools, Target};
+use crate::op::{Op, PackedSettings, PackedSource, PackedVacation};
+use crate::pools::Pools;
 use devices::{Sink, WriteFault};
-use match_text::Collation;
 use sieve_operations::{BodyOp, FieldNames, SettingsOp, SourceOp, Strings, VacationOp, ZoneOp};
-use sieve_reading::{BodyTransform, Comparison, DateZone, MatchType};
-use sieve_variables::{Part, Variable};
+use sieve_reading::{BodyTransform, DateZone};
+use sieve_variables::Part;
 
 /// The code of a checked script. It starts at the first operation and ends after the last. Each jump goes forward, and at most
 /// to the end; and what it does is what the script does that it was compiled from.
@@ -29,46 +27,6 @@ pub struct Code {
     pub(crate) pools: Pools,
     pub ghost forward: { AllGoForward (ops_in (pool_as pools) ops.items) },
     pub ghost compiled: { ∥ IsCode (ops_in (pool_as pools) ops.items) ∥₁ },
-}
-
-/// What a place past the end says: a `string` test of the first list.
-fn no_test() -> PackedTest
-    ensures { result ≡ no_test }
-{
-    PackedTest {
-        source: PackedSource::String { texts: 0 },
-        comparison: Comparison {
-            match_type: MatchType::Is,
-            collation: Collation::Octet,
-        },
-    }
-}
-
-/// What a `fileinto` says that says nothing beside its mailbox.
-fn plain_packed() -> PackedSettings
-    ensures { result ≡ plain_packed }
-{
-    PackedSettings {
-        flags: None,
-        copy: false,
-        create: false,
-        special_use: None,
-    }
-}
-
-/// What a place past the end says: a `vacation` of the first string.
-fn no_vacation() -> PackedVacation
-    ensures { result ≡ no_vacation }
-{
-    PackedVacation {
-        reason: 0,
-        days: None,
-        subject: None,
-        from: None,
-        addresses: None,
-        mime: false,
-        handle: None,
-    }
 }
 
 impl Code {
@@ -82,11 +40,11 @@ impl Code {
     }
 
     /// The operation at a place. Takes no memory.
-    pub fn op(&self, i: usize) -> Op
+    pub fn op(&self, i: usize) -> &Op
         requires { i < length (ops_of self.now) }
-        ensures { slice_get (ops_of self.now) i ≡ Some (op_of self.now result) }
+        ensures { slice_get (ops_of self.now) i ≡ Some (op_of self.now result.now) }
     {
-        self.ops[i]
+        &self.ops[i]
     }
 
     /// The place where so many operations are left, to which a jump goes that says this number. Takes no memory.
@@ -135,16 +93,6 @@ impl Code {
         ensures { result ≡ list_in (pool_of self.now).names place }
     {
         self.pools.names.list(place as usize)
-    }
-
-    /// What a test that compares says beside its keys, by its place. Takes no memory.
-    pub fn test(&self, place: u32) -> PackedTest
-        ensures { result ≡ test_in (pool_of self.now) place }
-    {
-        match self.pools.tests.get(place as usize) {
-            Some(test) => *test,
-            None => no_test(),
-        }
     }
 
     /// The zone in which a date is shown.
@@ -205,86 +153,30 @@ impl Code {
         }
     }
 
-    /// What a `fileinto` says beside its mailbox, by its place, as it is kept.
-    fn packed_settings(&self, place: GivenPlace) -> PackedSettings
-        ensures { result ≡ packed_in (pool_of self.now) place }
+    /// What a `fileinto` says beside its mailbox. Takes no memory.
+    pub fn settings(&self, settings: PackedSettings) -> SettingsOp<'_>
+        ensures { settings_op_as result ≡ settings_in (pool_of self.now) settings }
     {
-        let Some(place) = place.get() else {
-            return plain_packed();
-        };
-        match self.pools.settings.get(place as usize) {
-            Some(settings) => *settings,
-            None => plain_packed(),
-        }
-    }
-
-    /// What a `fileinto` says beside its mailbox, by its place, if it says anything. Takes no memory.
-    pub fn settings(&self, place: GivenPlace) -> SettingsOp<'_>
-        ensures { settings_op_as result ≡ settings_in (pool_of self.now) place }
-    {
-        let packed = self.packed_settings(place);
         SettingsOp {
-            flags: self.given_list(packed.flags),
-            copy: packed.copy,
-            create: packed.create,
-            special_use: self.given_string(packed.special_use),
+            flags: self.given_list(settings.flags),
+            copy: settings.copy,
+            create: settings.create,
+            special_use: self.given_string(settings.special_use),
         }
     }
 
-    /// What a `vacation` says, by its place, as it is kept.
-    fn packed_vacation(&self, place: u32) -> PackedVacation
-        ensures { result ≡ vacation_packed_in (pool_of self.now) place }
+    /// What a `vacation` says. Takes no memory.
+    pub fn vacation(&self, vacation: PackedVacation) -> VacationOp<'_>
+        ensures { vacation_op_as result ≡ vacation_in (pool_of self.now) vacation }
     {
-        match self.pools.vacations.get(place as usize) {
-            Some(vacation) => *vacation,
-            None => no_vacation(),
-        }
-    }
-
-    /// What a `vacation` says, by its place. Takes no memory.
-    pub fn vacation(&self, place: u32) -> VacationOp<'_>
-        ensures { vacation_op_as result ≡ vacation_in (pool_of self.now) place }
-    {
-        let packed = self.packed_vacation(place);
         VacationOp {
-            reason: self.string(packed.reason),
-            days: packed.days,
-            subject: self.given_string(packed.subject),
-            from: self.given_string(packed.from),
-            addresses: self.given_list(packed.addresses),
-            mime: packed.mime,
-            handle: self.given_string(packed.handle),
-        }
-    }
-
-    /// What a `set` changes, by the place that it says; nothing where none lies there, and no operation of this code says such a place. Takes
-    /// no memory.
-    pub fn target(&self, place: u32) -> Option<&Target>
-        ensures { option_copied result ≡ slice_get (pool_of self.now).targets place }
-    {
-        self.pools.targets.get(place as usize)
-    }
-
-    /// The variable at a place, if one is given. Takes no memory.
-    pub fn variable(&self, place: GivenPlace) -> Option<&Variable>
-        ensures { option_copied result ≡ given_variable (pool_of self.now) place }
-    {
-        let Some(place) = place.get() else {
-            return None;
-        };
-        match self.target(place) {
-            Some(target) => Some(&target.variable),
-            None => None,
-        }
-    }
-
-    /// The name of the script at a place. Takes no memory.
-    pub fn script(&self, place: u32) -> &[u8]
-        ensures { result.now ≡ slice_index_or (pool_of self.now).scripts place [] }
-    {
-        match self.pools.scripts.get(place as usize) {
-            Some(name) => name.as_slice(),
-            None => b"",
+            reason: self.string(vacation.reason),
+            days: vacation.days,
+            subject: self.given_string(vacation.subject),
+            from: self.given_string(vacation.from),
+            addresses: self.given_list(vacation.addresses),
+            mime: vacation.mime,
+            handle: self.given_string(vacation.handle),
         }
     }
 

@@ -1,8 +1,8 @@
 //! The compiler.
 ghost use Rattle.std.specs.Prelude.{◌≡◌, Bool, List, length, IfOk};
-ghost use Rattle.sieve_check.specs.view.Checked.{tree_of};
+ghost use Rattle.sieve_check.specs.view.Checked.{commands_of};
 ghost use Rattle.sieve_code.specs.Compiles.{Compiles};
-ghost use Rattle.sieve_code.specs.Walk.{code_walk, gone, tree_walk};
+ghost use Rattle.sieve_code.specs.Walk.{code_walk, gone, script_walk};
 ghost use Rattle.sieve_code.specs.view.Code.{ops_of};
 
 use crate::code::Code;
@@ -15,12 +15,12 @@ use std::alloc::{AllocError, Global};
 /// meets what the script meets, in that order, and ends as the script ends. A line past 4,294,967,295, and as many strings or places, are
 /// answered as out of memory; no text that is read has them.
 pub fn compile(alloc: Global, checked: Checked) -> Result<Code, AllocError>
-    ensures code { IfOk result (λ code. Compiles (tree_of checked) (ops_of code)) }
+    ensures code { IfOk result (λ code. Compiles (commands_of checked) (ops_of code)) }
     ensures answers { IfOk result (λ code. (answers : List Bool) → gone (code_walk (ops_of code)
-        (length (ops_of code))) answers ≡ gone (tree_walk (tree_of checked)) answers) }
+        (length (ops_of code))) answers ≡ gone (script_walk (commands_of checked)) answers) }
 {
     let mut tail = Tail::new(alloc);
-    put_commands(alloc, checked.into_commands(), &mut tail)?;
+    put_commands(checked.into_statements(), &mut tail)?;
     let (ops, pools) = tail.into_parts();
     Ok(Code { ops, pools })
 }

@@ -1,19 +1,19 @@
 //! Laws over the definitions. Each of these functions does nothing: its contract is the law.
-ghost use Rattle.std.specs.Prelude.{◌≡◌, List, length};
-ghost use Rattle.sieve_reading.specs.Tree.{Node};
+ghost use Rattle.std.specs.Prelude.{◌≡◌, length};
+ghost use Rattle.sieve_reading.specs.Script.{Commands};
 ghost use Rattle.sieve_code.specs.Choice.{AllGoForward, code_of};
-ghost use Rattle.sieve_code.specs.Walk.{IsWhole, code_walk, tree_walk};
+ghost use Rattle.sieve_code.specs.Walk.{IsWhole, code_walk, script_walk};
 
-/// Whatever the tree: its code does what it does, in at most as many operations as the code has, and each jump goes forward.
+/// Whatever the script: its code does what it does, in at most as many operations as the code has, and each jump goes forward.
 #[tactic(auto, using(crate::proofs::Law::code_laws))]
-pub fn code_does_what_the_tree_does()
-    ensures walk { (tree : List Node)
-        → code_walk (code_of tree) (length (code_of tree)) ≡ tree_walk tree }
-    ensures forward { (tree : List Node) → AllGoForward (code_of tree) }
+pub fn code_does_what_the_script_does()
+    ensures walk { (script : Commands)
+        → code_walk (code_of script) (length (code_of script)) ≡ script_walk script }
+    ensures forward { (script : Commands) → AllGoForward (code_of script) }
 {}
 
-/// Whatever the tree: no part of its walk is cut off, and so none of its code's.
-#[tactic(auto, using(crate::proofs::Whole::tree_whole))]
+/// Whatever the script: no part of its walk is cut off, and so none of its code's.
+#[tactic(auto, using(crate::proofs::Whole::script_whole))]
 pub fn no_walk_is_cut_off()
-    ensures tree { (tree : List Node) → IsWhole (tree_walk tree) }
+    ensures script { (script : Commands) → IsWhole (script_walk script) }
 {}

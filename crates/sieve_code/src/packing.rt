@@ -1,33 +1,20 @@
-//! The operations of tests that ask and of commands that act, with what they say in pools.
+//! What tests ask and what commands do, with their strings in pools.
 ghost use Rattle.std.specs.Prelude.{◌≡◌, IfOk};
-ghost use Rattle.std.specs.Option.{option_map};
-ghost use Rattle.sieve_reading.specs.Reading.{compares, exists_ask, fileinto_leaf, flag_leaf, include_leaf, keep_leaf, mailboxes_ask, redirect_leaf, reject_leaf, set_leaf, vacation_leaf};
+ghost use Rattle.sieve_reading.specs.Reading.{compares, fileinto_leaf};
 ghost use Rattle.sieve_reading.specs.view.Reading.{ask_as, date_zone_as, leaf_as, settings_as, source_as, texts_as, transform_as, vacation_as};
-ghost use Rattle.sieve_code.specs.Operation.{act_op, test_op};
-ghost use Rattle.sieve_code.specs.Pool.{Kept, body_in, source_in, zone_in};
-ghost use Rattle.sieve_code.specs.view.Op.{op_in};
+ghost use Rattle.sieve_code.specs.Pool.{Kept, ask_in, body_in, leaf_in, settings_in, source_in, vacation_in, zone_in};
 ghost use Rattle.sieve_code.specs.view.Pools.{pool_as};
 
-use crate::op::{Inclusion, Op, PackedSource, PackedTest};
-use crate::pools::{Pools, Target};
-use script_names::Location;
+use crate::op::{PackedAsk, PackedLeaf, PackedSettings, PackedSource, PackedVacation};
+use crate::pools::Pools;
 use sieve_reading::{
-    Ask, BodyTransform, Comparison, DateZone, FlagChange, Leaf, Rejection, Settings, Text,
-    Vacation, ValueSource,
+    Ask, BodyTransform, Comparison, DateZone, Leaf, ReadAsk, ReadLeaf, ReadVacation, Settings,
+    Text, ValueSource,
 };
-use sieve_variables::{Literal, Modifiers, Parts, Variable};
-use std::alloc::AllocError;
+use sieve_variables::Parts;
+use std::alloc::{AllocError, Global};
 
 impl Pools {
-    /// The operation of an `exists`.
-    fn pack_exists(&mut self, names: Vec<Text>) -> Result<Op, AllocError>
-        ensures { IfOk result (λ op. Kept (pool_as self.old) (pool_as self.new) (λ p. op_in p op)
-            (test_op (exists_ask (texts_as names.items)))) }
-    {
-        let names = self.add_names(names)?;
-        Ok(Op::Exists { names })
-    }
-
     /// Adds the zone in which a date is shown.
     fn add_zone(&mut self, zone: DateZone<Parts>) -> Result<DateZone<u32>, AllocError>
         ensures { IfOk result (λ kept. Kept (pool_as self.old) (pool_as self.new)
@@ -104,35 +91,29 @@ impl Pools {
         }
     }
 
-    /// The operation of a test that compares values with keys.
+    /// Adds the strings of a test that compares values with keys.
     fn pack_compares(
         &mut self,
         source: ValueSource<Vec<Text>, Vec<Text>, Parts>,
         comparison: Comparison,
         keys: Vec<Text>,
-    ) -> Result<Op, AllocError>
-        ensures { IfOk result (λ op. Kept (pool_as self.old) (pool_as self.new) (λ p. op_in p op)
-            (test_op (compares (source_as source) comparison (texts_as keys.items)))) }
+    ) -> Result<PackedAsk, AllocError>
+        ensures { IfOk result (λ kept. Kept (pool_as self.old) (pool_as self.new)
+            (λ p. ask_in p kept) (compares (source_as source) comparison (texts_as keys.items))) }
     {
         let source = self.add_source(source)?;
         let keys = self.add_list(keys)?;
-        let test = self.add_test(PackedTest { source, comparison })?;
-        Ok(Op::Compares { test, keys })
+        Ok(Ask::Compares {
+            source,
+            comparison,
+            keys,
+        })
     }
 
-    /// The operation of a `mailboxexists`.
-    fn pack_mailboxes(&mut self, names: Vec<Text>) -> Result<Op, AllocError>
-        ensures { IfOk result (λ op. Kept (pool_as self.old) (pool_as self.new) (λ p. op_in p op)
-            (test_op (mailboxes_ask (texts_as names.items)))) }
-    {
-        let names = self.add_list(names)?;
-        Ok(Op::MailboxExists { names })
-    }
-
-    /// The operation of a test that asks.
-    pub(crate) fn pack_ask(&mut self, ask: Ask) -> Result<Op, AllocError>
-        ensures { IfOk result (λ op. Kept (pool_as self.old) (pool_as self.new) (λ p. op_in p op)
-            (test_op (ask_as ask))) }
+    /// Adds the strings of what a test asks.
+    pub(crate) fn pack_ask(&mut self, ask: ReadAsk) -> Result<PackedAsk, AllocError>
+        ensures { IfOk result (λ kept. Kept (pool_as self.old) (pool_as self.new)
+            (λ p. ask_in p kept) (ask_as ask)) }
     {
         match ask {
             Ask::Compares {
@@ -140,171 +121,141 @@ impl Pools {
                 comparison,
                 keys,
             } => self.pack_compares(source, comparison, keys),
-            Ask::Exists { names } => self.pack_exists(names),
-            Ask::Over { limit } => Ok(Op::Over { limit }),
-            Ask::Under { limit } => Ok(Op::Under { limit }),
-            Ask::MailboxExists { names } => self.pack_mailboxes(names),
-            Ask::Duplicate => Ok(Op::Duplicate),
+            Ask::Exists { names } => {
+                let names = self.add_names(names)?;
+                Ok(Ask::Exists { names })
+            }
+            Ask::Over { limit } => Ok(Ask::Over { limit }),
+            Ask::Under { limit } => Ok(Ask::Under { limit }),
+            Ask::MailboxExists { names } => {
+                let names = self.add_list(names)?;
+                Ok(Ask::MailboxExists { names })
+            }
+            Ask::Duplicate => Ok(Ask::Duplicate),
         }
     }
 
-    /// The operation of a `keep`.
-    fn pack_keep(&mut self, flags: Option<Vec<Text>>, line: u32) -> Result<Op, AllocError>
-        ensures { IfOk result (λ op. Kept (pool_as self.old) (pool_as self.new) (λ p. op_in p op)
-            (act_op (keep_leaf (option_map (λ given. texts_as given.items) flags)) line)) }
+    /// Adds what a `fileinto` says beside its mailbox.
+    fn add_settings(
+        &mut self,
+        settings: Settings<Vec<Text>, Parts>,
+    ) -> Result<PackedSettings, AllocError>
+        ensures { IfOk result (λ kept. Kept (pool_as self.old) (pool_as self.new)
+            (λ p. settings_in p kept) (settings_as settings)) }
     {
-        let flags = self.add_given(flags)?;
-        Ok(Op::Keep { line, flags })
+        let copy = settings.copy;
+        let create = settings.create;
+        let flags = self.add_given(settings.flags)?;
+        let special_use = self.add_given_string(settings.special_use)?;
+        Ok(PackedSettings {
+            flags,
+            copy,
+            create,
+            special_use,
+        })
     }
 
-    /// The operation of a `fileinto`.
+    /// Adds what a `vacation` says.
+    fn add_vacation(&mut self, vacation: ReadVacation) -> Result<PackedVacation, AllocError>
+        ensures { IfOk result (λ kept. Kept (pool_as self.old) (pool_as self.new)
+            (λ p. vacation_in p kept) (vacation_as vacation)) }
+    {
+        let days = vacation.days;
+        let mime = vacation.mime;
+        let reason = self.add_string(vacation.reason)?;
+        let subject = self.add_given_string(vacation.subject)?;
+        let from = self.add_given_string(vacation.from)?;
+        let addresses = self.add_given(vacation.addresses)?;
+        let handle = self.add_given_string(vacation.handle)?;
+        Ok(PackedVacation {
+            reason,
+            days,
+            subject,
+            from,
+            addresses,
+            mime,
+            handle,
+        })
+    }
+
+    /// Adds the strings of a `fileinto`.
     fn pack_fileinto(
         &mut self,
         mailbox: Parts,
         settings: Settings<Vec<Text>, Parts>,
-        line: u32,
-    ) -> Result<Op, AllocError>
-        ensures { IfOk result (λ op. Kept (pool_as self.old) (pool_as self.new) (λ p. op_in p op)
-            (act_op (fileinto_leaf mailbox (settings_as settings)) line)) }
+    ) -> Result<PackedLeaf, AllocError>
+        ensures { IfOk result (λ kept. Kept (pool_as self.old) (pool_as self.new)
+            (λ p. leaf_in p kept) (fileinto_leaf mailbox (settings_as settings))) }
     {
         let mailbox = self.add_string(mailbox)?;
         let settings = self.add_settings(settings)?;
-        Ok(Op::Fileinto {
-            line,
-            mailbox,
-            settings,
-        })
+        Ok(Leaf::Fileinto { mailbox, settings })
     }
 
-    /// The operation of a `redirect`.
-    fn pack_redirect(&mut self, address: Parts, copy: bool, line: u32) -> Result<Op, AllocError>
-        ensures { IfOk result (λ op. Kept (pool_as self.old) (pool_as self.new) (λ p. op_in p op)
-            (act_op (redirect_leaf address copy) line)) }
-    {
-        let address = self.add_string(address)?;
-        Ok(Op::Redirect {
-            line,
-            address,
-            copy,
-        })
-    }
-
-    /// The operation of a `set`.
-    fn pack_set(
+    /// Adds the strings of what a command does.
+    pub(crate) fn pack_leaf(
         &mut self,
-        variable: Variable,
-        modifiers: Modifiers,
-        value: Parts,
-        line: u32,
-    ) -> Result<Op, AllocError>
-        ensures { IfOk result (λ op. Kept (pool_as self.old) (pool_as self.new) (λ p. op_in p op)
-            (act_op (set_leaf variable modifiers value) line)) }
-    {
-        let target = self.add_target(Target {
-            variable,
-            modifiers,
-        })?;
-        let value = self.add_string(value)?;
-        Ok(Op::Set {
-            line,
-            target,
-            value,
-        })
-    }
-
-    /// The operation of a command that changes flags.
-    fn pack_flags(
-        &mut self,
-        change: FlagChange,
-        variable: Option<Variable>,
-        flags: Vec<Text>,
-        line: u32,
-    ) -> Result<Op, AllocError>
-        ensures { IfOk result (λ op. Kept (pool_as self.old) (pool_as self.new) (λ p. op_in p op)
-            (act_op (flag_leaf change variable (texts_as flags.items)) line)) }
-    {
-        let variable = self.add_variable(variable)?;
-        let flags = self.add_list(flags)?;
-        Ok(Op::Flags {
-            change,
-            line,
-            variable,
-            flags,
-        })
-    }
-
-    /// The operation of an `include`.
-    fn pack_include(
-        &mut self,
-        location: Location,
-        once: bool,
-        optional: bool,
-        name: Literal,
-        line: u32,
-    ) -> Result<Op, AllocError>
-        ensures { IfOk result (λ op. Kept (pool_as self.old) (pool_as self.new) (λ p. op_in p op)
-            (act_op (include_leaf location once optional name) line)) }
-    {
-        let name = self.add_script(name)?;
-        Ok(Op::Include(Inclusion {
-            location,
-            once,
-            optional,
-            line,
-            name,
-        }))
-    }
-
-    /// The operation of a `vacation`.
-    fn pack_vacation(
-        &mut self,
-        vacation: Vacation<Vec<Text>, Parts>,
-        line: u32,
-    ) -> Result<Op, AllocError>
-        ensures { IfOk result (λ op. Kept (pool_as self.old) (pool_as self.new) (λ p. op_in p op)
-            (act_op (vacation_leaf (vacation_as vacation)) line)) }
-    {
-        let vacation = self.add_vacation(vacation)?;
-        Ok(Op::Vacation { line, vacation })
-    }
-
-    /// The operation of a command that rejects the message.
-    fn pack_reject(&mut self, how: Rejection, reason: Parts, line: u32) -> Result<Op, AllocError>
-        ensures { IfOk result (λ op. Kept (pool_as self.old) (pool_as self.new) (λ p. op_in p op)
-            (act_op (reject_leaf how reason) line)) }
-    {
-        let reason = self.add_string(reason)?;
-        Ok(Op::Reject { how, line, reason })
-    }
-
-    /// The operation of a command of a line that acts.
-    pub(crate) fn pack_act(&mut self, leaf: Leaf, line: u32) -> Result<Op, AllocError>
-        ensures { IfOk result (λ op. Kept (pool_as self.old) (pool_as self.new) (λ p. op_in p op)
-            (act_op (leaf_as leaf) line)) }
+        alloc: Global,
+        leaf: ReadLeaf,
+    ) -> Result<PackedLeaf, AllocError>
+        ensures { IfOk result (λ kept. Kept (pool_as self.old) (pool_as self.new)
+            (λ p. leaf_in p kept) (leaf_as leaf)) }
     {
         match leaf {
-            Leaf::Keep { flags } => self.pack_keep(flags, line),
-            Leaf::Fileinto { mailbox, settings } => self.pack_fileinto(mailbox, settings, line),
-            Leaf::Redirect { address, copy } => self.pack_redirect(address, copy, line),
-            Leaf::Discard => Ok(Op::Discard { line }),
+            Leaf::Keep { flags } => {
+                let flags = self.add_given(flags)?;
+                Ok(Leaf::Keep { flags })
+            }
+            Leaf::Fileinto { mailbox, settings } => self.pack_fileinto(mailbox, settings),
+            Leaf::Redirect { address, copy } => {
+                let address = self.add_string(address)?;
+                Ok(Leaf::Redirect { address, copy })
+            }
+            Leaf::Discard => Ok(Leaf::Discard),
             Leaf::Set {
                 variable,
                 modifiers,
                 value,
-            } => self.pack_set(variable, modifiers, value, line),
+            } => {
+                let value = self.add_string(value)?;
+                Ok(Leaf::Set {
+                    variable,
+                    modifiers,
+                    value,
+                })
+            }
             Leaf::Flags {
                 change,
                 variable,
                 flags,
-            } => self.pack_flags(change, variable, flags, line),
+            } => {
+                let flags = self.add_list(flags)?;
+                Ok(Leaf::Flags {
+                    change,
+                    variable,
+                    flags,
+                })
+            }
             Leaf::Include {
                 location,
                 once,
                 optional,
                 name,
-            } => self.pack_include(location, once, optional, name, line),
-            Leaf::Vacation { vacation } => self.pack_vacation(vacation, line),
-            Leaf::Reject { how, reason } => self.pack_reject(how, reason, line),
+            } => Ok(Leaf::Include {
+                location,
+                once,
+                optional,
+                name,
+            }),
+            Leaf::Vacation { vacation } => {
+                let vacation = self.add_vacation(vacation)?;
+                let vacation = Box::new(alloc, vacation)?;
+                Ok(Leaf::Vacation { vacation })
+            }
+            Leaf::Reject { how, reason } => {
+                let reason = self.add_string(reason)?;
+                Ok(Leaf::Reject { how, reason })
+            }
         }
     }
 }

@@ -1,14 +1,13 @@
 //! Code that is made from its end.
-ghost use Rattle.std.specs.Prelude.{◌≡◌, [], ◌∷◌, ◌-◌, length, map, drop, true, OnOk};
+ghost use Rattle.std.specs.Prelude.{◌≡◌, [], ◌∷◌, length, map, true, OnOk};
 ghost use Rattle.sieve_reading.specs.view.Reading.{ask_as, leaf_as};
 ghost use Rattle.sieve_code.specs.Operation.{act_op, test_op};
 ghost use Rattle.sieve_code.specs.view.Op.{is_plain, op_in, plain_as};
 ghost use Rattle.sieve_code.specs.view.Pools.{pool_as};
-ghost use Rattle.sieve_code.specs.view.Branches.{last};
 
 use crate::op::Op;
 use crate::pools::Pools;
-use sieve_reading::{Ask, Leaf};
+use sieve_reading::{ReadAsk, ReadLeaf};
 use std::alloc::{AllocError, Global};
 use std::collections::VecDeque;
 use std::marker::Model;
@@ -17,6 +16,7 @@ use std::marker::Model;
 /// the target to the end, so that what is put before it changes nothing in it. Contracts see the list of operations.
 #[derive(Drop)]
 pub(crate) struct Tail {
+    alloc: Global,
     ops: VecDeque<Op>,
     pools: Pools,
 }
@@ -41,6 +41,7 @@ impl Tail {
         ensures { result ≡ [] }
     {
         Tail {
+            alloc,
             ops: VecDeque::new(alloc),
             pools: Pools::new(alloc),
         }
@@ -63,12 +64,12 @@ impl Tail {
     }
 
     /// Puts the operation of a test that asks in front. An error, which is out of memory, leaves no operations.
-    pub(crate) fn put_ask(&mut self, ask: Ask) -> Result<(), AllocError>
+    pub(crate) fn put_ask(&mut self, ask: ReadAsk) -> Result<(), AllocError>
         ensures { OnOk result (self.new ≡ test_op (ask_as ask) ∷ self.old) }
     {
         match self.pools.pack_ask(ask) {
-            Ok(op) => {
-                self.ops.push_front(op)?;
+            Ok(ask) => {
+                self.ops.push_front(Op::Test(ask))?;
                 Ok(())
             }
             Err(error) => {
@@ -79,12 +80,12 @@ impl Tail {
     }
 
     /// Puts the operation of a command of a line in front. An error, which is out of memory, leaves no operations.
-    pub(crate) fn put_act(&mut self, leaf: Leaf, line: u32) -> Result<(), AllocError>
+    pub(crate) fn put_act(&mut self, leaf: ReadLeaf, line: u32) -> Result<(), AllocError>
         ensures { OnOk result (self.new ≡ act_op (leaf_as leaf) line ∷ self.old) }
     {
-        match self.pools.pack_act(leaf, line) {
-            Ok(op) => {
-                self.ops.push_front(op)?;
+        match self.pools.pack_leaf(self.alloc, leaf) {
+            Ok(leaf) => {
+                self.ops.push_front(Op::Act { leaf, line })?;
                 Ok(())
             }
             Err(error) => {
@@ -92,22 +93,6 @@ impl Tail {
                 Err(error)
             }
         }
-    }
-
-    /// Keeps so many operations from the end.
-    pub(crate) fn keep_last(&mut self, count: usize)
-        ensures { self.new ≡ last count self.old }
-    {
-        while self.len() > count {
-            self.drop_first();
-        }
-    }
-
-    /// Drops the first operation, if there is one.
-    fn drop_first(&mut self)
-        ensures { self.new ≡ drop 1 self.old }
-    {
-        let _op = self.ops.pop_front();
     }
 
     /// The operations in order, and their pools, with room for no more.

@@ -4,6 +4,6 @@ pub mod Keyed
 mod NamedPlaces
 mod OnlyKeys
 mod Counted
-mod NamesInTurn
+mod FieldsInTurn
 mod Paths
 pub mod Searching

@@ -30,11 +30,6 @@ fails_too [] a b so k at = absurd cc
 fails_too (x ∷ fields) a b so zero at = ap Some (sym (so x)) ∙ at
 fails_too (x ∷ fields) a b so (suc k) at = fails_too fields a b so k at
 
-within_names : (fields : List Field) (name : List ℕ) (i : ℕ) → slice_get (map (is_field_named name) fields) i ≡ Some true → i < length fields
-within_names [] name i at = absurd cc
-within_names (x ∷ fields) name zero at = omega arith
-within_names (x ∷ fields) name (suc i) at = let rest = within_names fields name i at in omega arith
-
 -- the first field of a name is kept for each name that it has
 pub is_named_place : (message name : List ℕ) (first next : ℕ) → IsNextNamed (fields_of message) name 0 first → first < 2 ^ 64 - 1 → first < next
     → ((k : ℕ) → first + 1 ≤ k → k < next → slice_get (map (is_field_named name) (fields_of message)) k ≡ Some false) → IsNamedPlace message (record { first = first; next = next })

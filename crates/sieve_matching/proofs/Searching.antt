@@ -1,135 +1,27 @@
--- What one field or one name gives, in what all of them give.
-use Rattle.std.proofs.Common.{◌≡◌, ℕ, zero, suc, ◌+◌, ◌-◌, ◌<◌, ◌≤◌, arith, Bool, true, false, ◌||◌, List, [], ◌∷◌, ◌++◌, map, filter, length, drop, cond, Option, None, Some, Result, refl, subst, sym, ap, ◌∙◌, add-one}
-use Rattle.std.specs.Prelude.{IfNone, IfOk, IfSome, is_some, if◌then◌else◌, option_to_list}
-use Rattle.std.specs.List.{cons_option, flat_map, list_any, slice_get}
-use Rattle.std.specs.Option.{option_and_then, option_map, option_or}
-use Rattle.std.proofs.Math.Bool.{or-true}
-use Rattle.std.proofs.lemmas.List.{drop_all}
-use Rattle.encoded_words.specs.Scan.{decoded_of}
+-- What one value gives, in what all of them give.
+use Rattle.std.proofs.Common.{◌≡◌, ℕ, zero, suc, ◌+◌, Bool, true, false, List, [], ◌∷◌, ◌++◌, map, drop, Option, None, Some, Result, refl, subst, sym, ap, ◌∙◌, add-one}
+use Rattle.std.specs.Prelude.{IfOk, option_to_list}
+use Rattle.std.specs.List.{cons_option, filter_map, flat_map, fold, slice_get}
+use Rattle.std.specs.Option.{option_and_then, option_or}
 use Rattle.sieve_profile.specs.Profile.{Profile}
-use Rattle.message_text.specs.Addresses.{AddrSpec, addresses_of, part_of_address, part_of_path}
-use Rattle.message_text.specs.Fields.{Field, IsNextNamed, fields_of, is_field_named}
+use Rattle.message_text.specs.Addresses.{AddrSpec, part_of_address, part_of_path}
+use Rattle.message_text.specs.Fields.{Field}
 use Rattle.message_text.specs.declared.addressing.AddressPart.{AddressPart}
 use Rattle.sieve_reading.specs.Reading.{ValueSource, body_values, clock_values, date_values, envelope_values, field_values, flag_values, string_values}
 use Rattle.sieve_variables.specs.Part.{Part}
 use Rattle.sieve_variables.specs.Value.{text_value}
 use Rattle.sieve_reading.specs.declared.reading.Comparison.{Comparison}
-use Rattle.sieve_table.specs.Address.{is_address_field}
 use Rattle.sieve_actions.specs.Delivery.{Delivery, envelope_of}
 use Rattle.match_text.specs.Flags.{flag_keys_of_texts, flag_list}
 use Rattle.sieve_actions.specs.State.{RunState}
-use Rattle.sieve_matching.specs.Matching.{compared_of, envelope_named, envelope_text, first_match, first_some, match_found, match_of, pairs_with, address_parts, decoded_named, parts_named, parts_of_envelope, parts_of_value, values_named, values_of, keys_from, keys_of}
-use Rattle.sieve_matching.specs.view.FieldTests.{cut_key, cuts_keys, field_found, name_found, part_found, path_found, path_name_found, value_found}
+use Rattle.sieve_operations.proofs.Joining.{get_map}
+use Rattle.sieve_matching.specs.Matching.{compared_of, envelope_named, envelope_text, first_match, first_some, match_found, match_of, pairs_with, parts_of_envelope, values_in, values_of, keys_from, keys_of}
+use Rattle.sieve_matching.specs.declared.field_values.Finder.{Finder}
+use Rattle.sieve_matching.specs.view.FieldTests.{cut_key, cuts_keys, found_after, found_with, part_found, path_found, path_name_found}
 
--- a function of what is made of an element in two steps
-pub get-mapped-twice : {W X Y Z : Type 0} (g : W → X) (h : X → Y) (k : Y → Z) (ws : List W) (i : ℕ) (y : Y) → slice_get (map h (map g ws)) i ≡ Some y → slice_get (map (λ w. k (h (g w))) ws) i ≡ Some (k y)
-get-mapped-twice g h k [] i y at = cc
-get-mapped-twice g h k (w ∷ ws) zero y at = ap (option_map k) at
-get-mapped-twice g h k (w ∷ ws) (suc i) y at = get-mapped-twice g h k ws i y at
-
-module _ {X Y : Type 0} (p : X → Bool) (f : X → Option Y) where
-  -- an element gives nothing where it fails the test, and else what the function gives for it
-  pub get-fails : (xs : List X) (i : ℕ) → slice_get (map p xs) i ≡ Some false → slice_get (map (λ x. if p x then f x else None) xs) i ≡ Some None
-  get-fails [] i at = cc
-  get-fails (x ∷ xs) zero at = let e : p x ≡ false = cc in ap (λ b. Some (if b then f x else None)) e
-  get-fails (x ∷ xs) (suc i) at = get-fails xs i at
-
-  pub get-passes : (xs : List X) (i : ℕ) (o : Option Y) → slice_get (map p xs) i ≡ Some true → slice_get (map f xs) i ≡ Some o → slice_get (map (λ x. if p x then f x else None) xs) i ≡ Some o
-  get-passes [] i o first second = cc
-  get-passes (x ∷ xs) zero o first second = let e : p x ≡ true = cc in ap (λ b. Some (if b then f x else None)) e ∙ second
-  get-passes (x ∷ xs) (suc i) o first second = get-passes xs i o first second
-
-module _ {X : Type 0} (q : X → Bool) where
-  -- where the element at some place passes the test, some element passes it
-  pub any_at : (xs : List X) (i : ℕ) → slice_get (map q xs) i ≡ Some true → list_any q xs ≡ true
-  any_at [] i at = cc
-  any_at (x ∷ xs) zero at = let e : q x ≡ true = cc in ap (λ b. b || list_any q xs) e
-  any_at (x ∷ xs) (suc i) at = ap (λ b. q x || b) (any_at xs i at) ∙ or-true (q x)
-
-module _ {X Y : Type 0} (f : X → Option Y) where
-  -- what an element gives is the answer of the elements from it on
-  pub first_at : (xs : List X) (i : ℕ) (y : Y) (o : Option Y) → first_some f (drop i xs) ≡ o → slice_get (map f xs) i ≡ Some (Some y) → Some y ≡ o
-  first_at [] i y o so at = cc
-  first_at (x ∷ xs) zero y o so at = let e : f x ≡ Some y = cc in sym (ap (λ a. option_or a (first_some f xs)) e) ∙ so
-  first_at (x ∷ xs) (suc i) y o so at = first_at xs i y o so at
-
-  first_past : (xs : List X) (i : ℕ) → slice_get (map f xs) i ≡ Some None → first_some f (drop (suc i) xs) ≡ first_some f (drop i xs)
-  first_past [] i at = cc
-  first_past (x ∷ xs) zero at = let e : f x ≡ None = cc in sym (ap (λ a. option_or a (first_some f xs)) e)
-  first_past (x ∷ xs) (suc i) at = first_past xs i at
-
-  -- an item that gives nothing leaves the answer to those after it
-  pub first_after : (xs : List X) (i : ℕ) (o : Option Y) → first_some f (drop i xs) ≡ o → slice_get (map f xs) i ≡ Some None → first_some f (drop (i + 1) xs) ≡ o
-  first_after xs i o so at = ap (λ n. first_some f (drop n xs)) (add-one i) ∙ first_past xs i at ∙ so
-
-module _ {X Y : Type 0} (p : X → Bool) (f : X → Option Y) where
-  -- elements for which the test fails give nothing
-  skips_by : (xs : List X) (i d : ℕ) → ((k : ℕ) → i ≤ k → k < i + d → slice_get (map p xs) k ≡ Some false) → first_some (λ x. if p x then f x else None) (drop (i + d) xs) ≡ first_some (λ x. if p x then f x else None) (drop i xs)
-  skips_by xs i zero fail = let same : i + 0 ≡ i = omega arith in ap (λ n. first_some (λ x. if p x then f x else None) (drop n xs)) same
-  skips_by xs i (suc d) fail =
-      let next : i + suc d ≡ suc (i + d) = omega arith in
-      ap (λ n. first_some (λ x. if p x then f x else None) (drop n xs)) next
-      ∙ first_past (λ x. if p x then f x else None) xs (i + d) (get-fails p f xs (i + d) (fail (i + d) (omega arith) (omega arith)))
-      ∙ skips_by xs i d (λ k low high. fail k low (omega arith))
-
-  pub skips : (xs : List X) (i j : ℕ) → i ≤ j → ((k : ℕ) → i ≤ k → k < j → slice_get (map p xs) k ≡ Some false) → first_some (λ x. if p x then f x else None) (drop j xs) ≡ first_some (λ x. if p x then f x else None) (drop i xs)
-  skips xs i j ordered fail =
-      let is : i + (j - i) ≡ j = omega arith in
-      ap (λ n. first_some (λ x. if p x then f x else None) (drop n xs)) (sym is)
-      ∙ skips_by xs i (j - i) (λ k low high. fail k low (omega arith))
-
-  -- items that all fail the test give nothing
-  pub gives_none : (xs : List X) (i : ℕ) → i ≤ length xs → ((k : ℕ) → i ≤ k → k < length xs → slice_get (map p xs) k ≡ Some false) → first_some (λ x. if p x then f x else None) (drop i xs) ≡ None
-  gives_none xs i ordered fail = sym (skips xs i (length xs) ordered fail) ∙ nothing xs
-    where
-      nothing : (ys : List X) → first_some (λ x. if p x then f x else None) (drop (length ys) ys) ≡ None
-      nothing [] = refl
-      nothing (y ∷ ys) = nothing ys
-
--- where the elements at all places fail the test, no element passes it
-pub none_passes : {X : Type 0} (p : X → Bool) (xs : List X) → ((k : ℕ) → 0 ≤ k → k < length xs → slice_get (map p xs) k ≡ Some false) → list_any p xs ≡ false
-none_passes p [] fail = refl
-none_passes p (x ∷ xs) fail =
-    let first : p x ≡ false = (let at = fail 0 (omega arith) (omega arith) in cc) in
-    ap (λ b. b || list_any p xs) first ∙ none_passes p xs (λ k low high. fail (suc k) (omega arith) (omega arith))
-
-within : {X Y : Type 0} (h : X → Y) (xs : List X) (i : ℕ) (y : Y) → slice_get (map h xs) i ≡ Some y → i < length xs
-within h [] i y at = cc
-within h (x ∷ xs) zero y at = omega arith
-within h (x ∷ xs) (suc i) y at = let rest = within h xs i y at in omega arith
-
--- FIELDS BY THEIR NAMES
-
--- the next field of a name is one of the fields
-pub next_within : {fields : List Field} {name : List ℕ} {start i : ℕ} → IsNextNamed fields name start i → i < length fields
-next_within {fields = fields} {name = name} {i = i} next = within (is_field_named name) fields i true next.is
-
--- a field of a name is found where some field has the name
-pub has_next : (found : Option ℕ) (fields : List Field) (name : List ℕ) → IfSome found (IsNextNamed fields name 0)
-    → IfNone found ((k : ℕ) → 0 ≤ k → k < length fields → slice_get (map (is_field_named name) fields) k ≡ Some false) → is_some found ≡ list_any (is_field_named name) fields
-has_next None fields name some none = sym (none_passes (is_field_named name) fields none)
-has_next (Some i) fields name some none = sym (any_at (is_field_named name) fields i some.is)
-
-module _ (find : List ℕ → Option (List (List ℕ))) (profile : Profile) (part : Option AddressPart) (fields : List Field) (name : List ℕ) where
-  -- the next field of a name gives what its value gives, and those before it nothing
-  pub next_found : (start i : ℕ) (found o : Option (List (List ℕ))) → first_some (field_found find profile part name) (drop start fields) ≡ o → IsNextNamed fields name start i
-      → slice_get (map (λ field. value_found find profile part field.value) fields) i ≡ Some found → (slice_get (map (field_found find profile part name) fields) i ≡ Some found) × (first_some (field_found find profile part name) (drop i fields) ≡ o)
-  next_found start i found o so next at = (
-    get-passes (is_field_named name) (λ field. value_found find profile part field.value) fields i found next.is at,
-    skips (is_field_named name) (λ field. value_found find profile part field.value) fields start i next.after next.others ∙ so,
-  )
-
-  -- where no field of the name is left, nothing is found
-  pub none_left : (start : ℕ) (o : Option (List (List ℕ))) → first_some (field_found find profile part name) (drop start fields) ≡ o → start ≤ length fields
-      → ((k : ℕ) → start ≤ k → k < length fields → slice_get (map (is_field_named name) fields) k ≡ Some false) → None ≡ o
-  none_left start o so ordered fail = sym (gives_none (is_field_named name) (λ field. value_found find profile part field.value) fields start ordered fail) ∙ so
-
-  -- after all fields nothing is found
-  pub none_after : (start : ℕ) (o : Option (List (List ℕ))) → first_some (field_found find profile part name) (drop start fields) ≡ o → length fields ≤ start → None ≡ o
-  none_after start o so after = sym (ap (first_some (field_found find profile part name)) (drop_all start fields after)) ∙ so
-
-not_both : false ≡ true → ⊥
-not_both e = cc
+-- what is made of an element in two steps
+pub made_twice : {W X Y : Type 0} (g : W → X) (h : X → Y) (ws : List W) (i : ℕ) (w : W) (y : Y) → slice_get ws i ≡ Some w → slice_get (map h (map g ws)) i ≡ Some y → y ≡ h (g w)
+made_twice g h ws i w y at is = let same = sym (get_map h (map g ws) i (g w) (get_map g ws i w at)) ∙ is in cc
 
 -- an answer that found `x` found `y`, where `x` is `y`
 pub answers_so : {A E : Type 0} (answer : Result A E) (x y : A) → x ≡ y → IfOk answer (λ found. found ≡ x) → IfOk answer (λ found. found ≡ y)
@@ -140,6 +32,15 @@ answers_so answer x y same is = subst (λ b. IfOk answer (λ found. found ≡ b)
 pub or_in_turn : {Y : Type 0} (a b c : Option Y) → option_or (option_or a b) c ≡ option_or a (option_or b c)
 or_in_turn None b c = refl
 or_in_turn (Some y) b c = refl
+
+-- what the element at a place gives, or else those after it, is what the elements from that place on give
+pub first_from : {X Y : Type 0} (f : X → Option Y) (xs : List X) (i : ℕ) (o : Option Y) → slice_get (map f xs) i ≡ Some o → option_or o (first_some f (drop (i + 1) xs)) ≡ first_some f (drop i xs)
+first_from {X = X} f xs i o at = ap (λ n. option_or o (first_some f (drop n xs))) (add-one i) ∙ by xs i at
+  where
+    by : (ys : List X) (k : ℕ) → slice_get (map f ys) k ≡ Some o → option_or o (first_some f (drop (suc k) ys)) ≡ first_some f (drop k ys)
+    by [] k is = cc
+    by (y ∷ ys) zero is = let first : f y ≡ o = cc in ap (λ a. option_or a (first_some f ys)) (sym first)
+    by (y ∷ ys) (suc k) is = by ys k is
 
 first_append : {X Y : Type 0} (f : X → Option Y) (xs ys : List X) → first_some f (xs ++ ys) ≡ option_or (first_some f xs) (first_some f ys)
 first_append f [] ys = refl
@@ -164,50 +65,14 @@ or_none (Some y) = refl
 -- VALUES
 
 module _ (find : List ℕ → Option (List (List ℕ))) where
-  one_field : (field : Field) (fields : List Field) (b : Bool) → first_some find (map (λ f. f.value) (cond b (field ∷ fields) fields)) ≡ option_or (if b then find field.value else None) (first_some find (map (λ f. f.value) fields))
-  one_field field fields true = refl
-  one_field field fields false = refl
-
-  -- what the values of a name give is what the fields give that have it
-  first_named : (name : List ℕ) (fields : List Field) → first_some find (values_named fields name) ≡ first_some (λ field. if is_field_named name field then find field.value else None) fields
-  first_named name [] = refl
-  first_named name (field ∷ fields) =
-      one_field field (filter (is_field_named name) fields) (is_field_named name field)
-      ∙ ap (option_or (if is_field_named name field then find field.value else None)) (first_named name fields)
-
-module _ (find : List ℕ → Option (List (List ℕ))) where
   one_part : (o : Option (List ℕ)) (octets : List (List ℕ)) → first_some find (cons_option o octets) ≡ option_or (option_and_then find o) (first_some find octets)
   one_part None octets = refl
   one_part (Some x) octets = refl
 
   -- what parts of addresses give is what the addresses give
-  first_part : (part : AddressPart) (addresses : List AddrSpec) → first_some find (address_parts part addresses) ≡ first_some (part_found find part) addresses
+  pub first_part : (part : AddressPart) (addresses : List AddrSpec) → first_some find (filter_map (part_of_address part) addresses) ≡ first_some (part_found find part) addresses
   first_part part [] = refl
-  first_part part (address ∷ addresses) = one_part (part_of_address part address) (address_parts part addresses) ∙ ap (option_or (part_found find part address)) (first_part part addresses)
-
-  where_so : (b : Bool) (octets : List (List ℕ)) → first_some find (if b then octets else []) ≡ (if b then first_some find octets else None)
-  where_so true octets = refl
-  where_so false octets = refl
-
-  first_parts_named : (profile : Profile) (part : AddressPart) (fields : List Field) (name : List ℕ) → first_some find (parts_named part fields name) ≡ name_found find profile (Some part) fields name
-  first_parts_named profile part fields name =
-      where_so (is_address_field name) (flat_map (parts_of_value part) (values_named fields name))
-      ∙ ap (λ o. if is_address_field name then o else None)
-      (first_flat find (parts_of_value part) (values_named fields name)
-      ∙ first_same (λ value. first_some find (parts_of_value part value)) (value_found find profile (Some part)) (λ value. first_part part (addresses_of value)) (values_named fields name)
-      ∙ first_named (value_found find profile (Some part)) name fields)
-
-  -- what decoded values of a name give is what the fields give that have it
-  first_decoded_named : (profile : Profile) (name : List ℕ) (fields : List Field) → first_some find (decoded_named profile fields name) ≡ name_found find profile None fields name
-  first_decoded_named profile name fields = first_map find (decoded_of profile) (values_named fields name) ∙ first_named (value_found find profile None) name fields
-
-  pub first_of_names : (part : Option AddressPart) (delivery : Delivery) (state : RunState) (names : List (List Part)) → first_some find (values_of delivery state (field_values part names)) ≡ first_some (name_found find delivery.arrival.profile part (fields_of delivery.arrival.message)) (map (text_value state.values) names)
-  first_of_names None delivery state names =
-      first_flat find (decoded_named delivery.arrival.profile (fields_of delivery.arrival.message)) (map (text_value state.values) names)
-      ∙ first_same (λ name. first_some find (decoded_named delivery.arrival.profile (fields_of delivery.arrival.message) name)) (name_found find delivery.arrival.profile None (fields_of delivery.arrival.message)) (λ name. first_decoded_named delivery.arrival.profile name (fields_of delivery.arrival.message)) (map (text_value state.values) names)
-  first_of_names (Some part) delivery state names =
-      first_flat find (parts_named part (fields_of delivery.arrival.message)) (map (text_value state.values) names)
-      ∙ first_same (λ name. first_some find (parts_named part (fields_of delivery.arrival.message) name)) (name_found find delivery.arrival.profile (Some part) (fields_of delivery.arrival.message)) (λ name. first_parts_named delivery.arrival.profile part (fields_of delivery.arrival.message) name) (map (text_value state.values) names)
+  first_part part (address ∷ addresses) = one_part (part_of_address part address) (filter_map (part_of_address part) addresses) ∙ ap (option_or (part_found find part address)) (first_part part addresses)
 
   -- what one value gives that may be there
   pub first_of_one : (o : Option (List ℕ)) → first_some find (option_to_list o) ≡ option_and_then find o
@@ -222,6 +87,16 @@ module _ (find : List ℕ → Option (List (List ℕ))) where
   first_of_paths part delivery state names =
       first_flat find (envelope_named part (envelope_of delivery.arrival)) (map (text_value state.values) names)
       ∙ first_same (λ name. first_some find (envelope_named part (envelope_of delivery.arrival) name)) (path_name_found find part (envelope_of delivery.arrival)) (λ name. first_of_path part (envelope_text (envelope_of delivery.arrival) name)) (map (text_value state.values) names)
+
+-- what has been found after some fields is what their values give
+pub all_found : (profile : Profile) (part : Option AddressPart) (fields : List Field) (finder : Finder)
+    → (fold (found_after profile part) finder fields).found ≡ option_or finder.found (first_some (found_with finder.matcher.now) (flat_map (values_in profile part) fields))
+all_found profile part [] finder = sym (or_none finder.found)
+all_found profile part (field ∷ fields) finder =
+    let find = found_with finder.matcher.now in
+    all_found profile part fields (found_after profile part finder field)
+    ∙ or_in_turn finder.found (first_some find (values_in profile part field)) (first_some find (flat_map (values_in profile part) fields))
+    ∙ ap (option_or finder.found) (sym (first_append find (values_in profile part field) (flat_map (values_in profile part) fields)))
 
 -- the flags in the texts of a flag test's variables give what the values of the test's source give
 module _ (find : List ℕ → Option (List (List ℕ))) (delivery : Delivery) (state : RunState) where

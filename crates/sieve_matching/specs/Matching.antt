@@ -14,7 +14,7 @@ use Rattle.match_text.specs.Flags.{flag_keys_of_texts, flag_list}
 use Rattle.match_text.specs.Order.{are_equal, contains_under, matched_under, order_of}
 use Rattle.match_text.specs.Relation.{stands_in}
 use Rattle.match_text.specs.declared.comparators.Collation.{Collation}
-use Rattle.message_text.specs.Addresses.{AddrSpec, part_of_address, addresses_of, part_of_path}
+use Rattle.message_text.specs.Addresses.{part_of_address, addresses_of, part_of_path}
 use Rattle.message_text.specs.Fields.{Field, fields_of, is_field_named}
 use Rattle.message_text.specs.declared.addressing.AddressPart.{AddressPart}
 use Rattle.message_text.specs.declared.addressing.AddressPart.TheVariants.{All}
@@ -51,34 +51,37 @@ pub record Pair : Type 0 where
   pub value : List ℕ
   pub key : List ℕ
 
--- the values of the fields of that name, in order
-abbrev pub values_named : List Field → List ℕ → List (List ℕ)
-values_named fields name = map (λ field. field.value) (filter (is_field_named name) fields)
+-- whether fields of that name are looked at: for parts of addresses those that hold addresses; fields of another name have none (RFC 5228,
+-- section 5.1)
+abbrev pub is_looked_at : Option AddressPart → List ℕ → Bool
+is_looked_at None name = true
+is_looked_at (Some part) name = is_address_field name
 
--- the values of the fields of that name with their encoded words (RFC 2047) of known charsets replaced, as a `header` test sees them (RFC 5228,
--- section 2.7.2)
-abbrev pub decoded_named : Profile → List Field → List ℕ → List (List ℕ)
-decoded_named profile fields name = map (decoded_of profile) (values_named fields name)
+-- the fields of that name, in order
+abbrev pub fields_named : List Field → List ℕ → List Field
+fields_named fields name = filter (is_field_named name) fields
+
+-- the fields that a test looks at: for each name in turn those of that name
+abbrev pub fields_looked_at : Option AddressPart → List Field → (names : List (List ℕ)) → List Field
+fields_looked_at part fields names = flat_map (fields_named fields) (filter (is_looked_at part) names)
+
+-- What a test finds in a field: its value with the encoded words (RFC 2047) of known charsets replaced, as a `header` test sees it (RFC 5228,
+-- section 2.7.2), or that part of each of the addresses in it; one that lacks the part gives nothing (RFC 5228, section 2.7.4).
+abbrev pub values_in : Profile → Option AddressPart → Field → List (List ℕ)
+values_in profile None field = decoded_of profile field.value ∷ []
+values_in profile (Some part) field = filter_map (part_of_address part) (addresses_of field.value)
+
+-- the first field of that name
+abbrev pub first_named : List Field → List ℕ → Option Field
+first_named fields name = slice_get (fields_named fields name) 0
 
 -- the date of the first field of that name, where that one has a date (RFC 5260, section 4); encoded words stay as they are written
 abbrev pub date_named : List Field → List ℕ → Option Moment
-date_named fields name = option_and_then date_in (slice_get (values_named fields name) 0)
+date_named fields name = option_and_then (λ field. date_in field.value) (first_named fields name)
 
 -- a value with each key
 abbrev pub pairs_with : List (List ℕ) → List ℕ → List Pair
 pairs_with keys value = map (λ key. record { value = value; key = key }) keys
-
--- the part of each of some addresses; one that lacks the part gives nothing (RFC 5228, section 2.7.4)
-abbrev pub address_parts : AddressPart → List AddrSpec → List (List ℕ)
-address_parts part addresses = filter_map (part_of_address part) addresses
-
--- the parts of the addresses in a value
-abbrev pub parts_of_value : AddressPart → List ℕ → List (List ℕ)
-parts_of_value part value = address_parts part (addresses_of value)
-
--- the parts of the addresses in the fields of a name, in order; a name that isn't of a field with addresses names nothing (RFC 5228, section 5.1)
-abbrev pub parts_named : AddressPart → List Field → List ℕ → List (List ℕ)
-parts_named part fields name = if is_address_field name then flat_map (parts_of_value part) (values_named fields name) else []
 
 -- the address of an envelope's part: the sender, or the recipient; another name names nothing (RFC 5228, section 5.4)
 abbrev pub envelope_text : Envelope → List ℕ → Option (List ℕ)
@@ -96,8 +99,8 @@ envelope_named part envelope name = parts_of_envelope part (envelope_text envelo
 -- The values of a test, by names, then by fields, then by addresses, and of a body by its entities, outer before inner ones; an absent
 -- field gives nothing. A test of dates has one value at most. Strings stand for what they do when the test begins.
 abbrev pub values_of : Delivery → RunState → ValueSource → List (List ℕ)
-values_of delivery state (field_values None names) = flat_map (decoded_named delivery.arrival.profile (fields_of delivery.arrival.message)) (map (text_value state.values) names)
-values_of delivery state (field_values (Some part) names) = flat_map (parts_named part (fields_of delivery.arrival.message)) (map (text_value state.values) names)
+values_of delivery state (field_values part names) =
+    flat_map (values_in delivery.arrival.profile part) (fields_looked_at part (fields_of delivery.arrival.message) (map (text_value state.values) names))
 values_of delivery state (envelope_values part names) = flat_map (envelope_named part (envelope_of delivery.arrival)) (map (text_value state.values) names)
 values_of delivery state (string_values texts) = map (text_value state.values) texts
 values_of delivery state (flag_values None) = state.flags
@@ -147,7 +150,7 @@ has_mailbox envelope name = is_inbox name || list_any (pointwise nat_eq name) (e
 
 -- whether a field of that name is there (RFC 5228, sections 2.4.2.2 and 5.5)
 abbrev pub has_field : List Field → List ℕ → Bool
-has_field fields name = list_any (is_field_named name) fields
+has_field fields name = is_some (first_named fields name)
 
 -- the answer of the first that has one
 abbrev pub first_some : {X Y : Type 0} → (X → Option Y) → List X → Option Y

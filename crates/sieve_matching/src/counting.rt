@@ -1,15 +1,17 @@
 //! How many values a test has that counts them (RFC 5231, section 4.2).
-ghost use Rattle.std.specs.Prelude.{◌≡◌, ◌<◌, ◌≤◌, ◌+◌, ◌^◌, length, filter, map, None, Some, slice_get, IfOk, OnErr};
+ghost use Rattle.std.specs.Prelude.{◌≡◌, ◌<◌, ◌≤◌, ◌+◌, ◌^◌, length, false, filter, map, Some, slice_get, IfOk, OnErr};
+ghost use Rattle.std.proofs.Common.{rules};
 ghost use Rattle.std.specs.List.{flat_map};
+ghost use Rattle.std.specs.Option.{option_map};
 ghost use Rattle.match_text.specs.Flags.{flag_list};
-ghost use Rattle.message_text.specs.Fields.{fields_of};
+ghost use Rattle.message_text.specs.Fields.{Field, fields_of};
 ghost use Rattle.message_text.specs.declared.addressing.AddressPart.TheVariants.{All};
 ghost use Rattle.octets.specs.Octet.{is_filled};
 ghost use Rattle.sieve_reading.specs.Reading.{envelope_values, field_values, flag_values};
 ghost use Rattle.sieve_actions.specs.Delivery.{envelope_of};
-ghost use Rattle.sieve_matching.specs.Matching.{counted_of, envelope_named, parts_named, parts_of_envelope, parts_of_value, values_named, values_of};
+ghost use Rattle.sieve_matching.specs.Matching.{counted_of, envelope_named, parts_of_envelope, values_in, values_of};
 ghost use Rattle.sieve_actions.specs.view.Delivery.{arrival_as, delivery_as};
-ghost use Rattle.sieve_matching.specs.view.FieldCache.{address_lists_of};
+ghost use Rattle.sieve_matching.specs.view.FieldTests.{counted_after};
 ghost use Rattle.sieve_operations.specs.view.Ops.{source_op_as};
 ghost use Rattle.sieve_actions.specs.view.State.{state_of};
 ghost use Rattle.sieve_variables.specs.Value.{text_value};
@@ -17,12 +19,12 @@ ghost use Rattle.sieve_variables.specs.Value.{text_value};
 use crate::body_values::count_body;
 use crate::date_values::{count_clock, count_date};
 use crate::field_cache::FieldCache;
+use crate::field_walk::{FieldVisitor, visit_looked_at};
 use crate::path_values::{envelope_text, is_null_path};
 use match_text::flags_of;
-use message_text::{AddressPart, FieldName, Message};
+use message_text::AddressPart;
 use sieve_actions::{Arrival, Delivery, State};
 use sieve_operations::{FieldNames, SourceOp, Strings};
-use sieve_table::is_address_field;
 use sieve_variables::Values;
 use std::alloc::{AllocError, Global};
 
@@ -37,140 +39,58 @@ pub(crate) fn plus(count: usize, more: usize) -> Result<usize, AllocError>
     }
 }
 
-/// How many fields of that name there are. None of their values is read.
-fn fields_named(message: &Message, name: &FieldName<'_>) -> usize
-    ensures { result ≡ length (values_named (fields_of message.now) name.now) }
-{
-    let mut count = 0usize;
-    let mut start = 0;
-    while start < message.fields() {
-        let Some(i) = message.next_named(name, start) else {
-            return count;
-        };
-        count += 1;
-        start = i + 1;
-    }
-    count
+/// How many values there are in the fields that were visited, or how many addresses, whatever part of them is looked at.
+#[derive(Clone, Copy)]
+struct Counter {
+    count: usize,
 }
 
-/// How many fields of some names there are. Where a name is given twice, its fields count twice.
-fn fields_by_names(
+/// How many values field `i` counts for: its value, which isn't read, or the addresses in it.
+fn count_at(
     alloc: Global,
-    message: &Message,
-    values: &Values,
-    names: &FieldNames<'_>,
+    fields: &mut FieldCache<'_>,
+    part: Option<AddressPart>,
+    i: usize,
 ) -> Result<usize, AllocError>
-    ensures { IfOk result (λ count. count ≡ length
-        (flat_map (values_named (fields_of message.now)) (map (text_value values.now) names.now))) }
-{
-    let mut buffer = Vec::new(alloc);
-    let mut count = 0usize;
-    for i in 0..names.len() {
-        let name = names.name_in(i, values, &mut buffer)?;
-        count = plus(count, fields_named(message, &name))?;
-    }
-    Ok(count)
-}
-
-/// How many values there are for a test of some fields.
-fn count_fields(
-    delivery: &Delivery<'_>,
-    state: &State,
-    names: &FieldNames<'_>,
-) -> Result<usize, AllocError>
-    ensures { IfOk result (λ count. count ≡ length
-        (values_of (delivery_as delivery.now) (state_of state.now) (field_values None names.now))) }
-{
-    let message = delivery.arrival.message;
-    fields_by_names(delivery.alloc, message, &state.values, names)
-}
-
-/// How many addresses there are in the value of field `i`.
-fn addresses_at(alloc: Global, fields: &mut FieldCache<'_>, i: usize) -> Result<usize, AllocError>
     requires { i < length (fields_of fields.old.message) }
     ensures arrival { fields.new ≡ fields.old }
-    ensures count { IfOk result (λ count. slice_get
-        (map (λ listed. length listed) (address_lists_of fields.old.message)) i ≡ Some count) }
+    ensures count { IfOk result
+        (λ count. (field : Field) → slice_get (fields_of fields.old.message) i ≡ Some field
+        → count ≡ length (values_in fields.old.profile (option_map (λ one. All) part) field)) }
 {
+    let Some(_) = part else {
+        return Ok(1);
+    };
     let listed = fields.take_addresses(alloc, i)?;
     let count = listed.len();
     fields.cache_addresses(i, listed)?;
     Ok(count)
 }
 
-/// How many addresses there are in the fields of that name.
-fn addresses_in_fields(
-    alloc: Global,
-    fields: &mut FieldCache<'_>,
-    name: &FieldName<'_>,
-) -> Result<usize, AllocError>
-    ensures arrival { fields.new ≡ fields.old }
-    ensures count { IfOk result (λ count. count ≡ length
-        (flat_map (parts_of_value All) (values_named (fields_of fields.old.message) name.now))) }
-{
-    let message = fields.message();
-    let mut count = 0usize;
-    let mut start = 0;
-    while start < message.fields() {
-        let Some(i) = message.next_named(name, start) else {
-            return Ok(count);
-        };
-        count = plus(count, addresses_at(alloc, &mut *fields, i)?)?;
-        start = i + 1;
-    }
-    Ok(count)
-}
+impl FieldVisitor for Counter {
+    const KEEPS_NAMES: bool = false;
 
-/// How many addresses there are in the fields of that name, where such fields hold addresses.
-fn addresses_by_name(
-    alloc: Global,
-    fields: &mut FieldCache<'_>,
-    name: &FieldName<'_>,
-) -> Result<usize, AllocError>
-    ensures arrival { fields.new ≡ fields.old }
-    ensures count { IfOk result
-        (λ count. count ≡ length (parts_named All (fields_of fields.old.message) name.now)) }
-{
-    if is_address_field(name.octets()) {
-        addresses_in_fields(alloc, fields, name)
-    } else {
-        Ok(0)
-    }
-}
+    ghost after = { counted_after };
 
-/// How many addresses there are in the fields of some names.
-fn addresses_by_names(
-    alloc: Global,
-    fields: &mut FieldCache<'_>,
-    values: &Values,
-    names: &FieldNames<'_>,
-) -> Result<usize, AllocError>
-    ensures arrival { fields.new ≡ fields.old }
-    ensures count { IfOk result (λ count. count ≡ length (flat_map
-        (parts_named All (fields_of fields.old.message)) (map (text_value values.now) names.now))) }
-{
-    let mut buffer = Vec::new(alloc);
-    let mut count = 0usize;
-    for i in 0..names.len() {
-        let name = names.name_in(i, values, &mut buffer)?;
-        count = plus(count, addresses_by_name(alloc, &mut *fields, &name)?)?;
-    }
-    Ok(count)
-}
+    ghost is_done = { λ counter. false };
 
-/// How many addresses there are for a test of some fields, whatever part of them it names.
-fn count_addresses(
-    delivery: &Delivery<'_>,
-    fields: &mut FieldCache<'_>,
-    state: &State,
-    names: &FieldNames<'_>,
-) -> Result<usize, AllocError>
-    requires { fields.old ≡ (delivery_as delivery.now).arrival }
-    ensures arrival { fields.new ≡ fields.old }
-    ensures count { IfOk result (λ count. count ≡ length (values_of (delivery_as delivery.now)
-        (state_of state.now) (field_values (Some All) names.now))) }
-{
-    addresses_by_names(delivery.alloc, fields, &state.values, names)
+    ghost rests = { Prim.search rules };
+
+    fn is_done(&self) -> bool {
+        false
+    }
+
+    fn visit(
+        &mut self,
+        alloc: Global,
+        fields: &mut FieldCache<'_>,
+        part: Option<AddressPart>,
+        i: usize,
+    ) -> Result<(), AllocError> {
+        let more = count_at(alloc, fields, part, i)?;
+        self.count = plus(self.count, more)?;
+        Ok(())
+    }
 }
 
 /// How many values there are for a test of some fields, or how many addresses in them, whatever part of them it names.
@@ -186,10 +106,9 @@ fn count_in_named(
     ensures count { IfOk result (λ count. count ≡ length (counted_of (delivery_as delivery.now)
         (state_of state.now) (field_values part names.now))) }
 {
-    match part {
-        None => count_fields(delivery, state, names),
-        Some(_) => count_addresses(delivery, fields, state, names),
-    }
+    let mut counter = Counter { count: 0 };
+    visit_looked_at(delivery, fields, state, part, names, &mut counter)?;
+    Ok(counter.count)
 }
 
 /// How many addresses there are in the envelope's part of this text: none in a null path, and one in each other text.

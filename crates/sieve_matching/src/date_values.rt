@@ -14,6 +14,7 @@ ghost use Rattle.sieve_operations.specs.view.Ops.{zone_op_as};
 ghost use Rattle.sieve_actions.specs.view.State.{state_of};
 ghost use Rattle.sieve_variables.specs.Value.{text_value};
 
+use crate::field_cache::next_place;
 use crate::matcher::{MatchValues, Matcher};
 use date_text::{Clock, DatePart, Moment, Zone, date_in, shown, zone_named};
 use message_text::{FieldName, Message};
@@ -31,7 +32,7 @@ fn date_named(
     ensures { IfOk result
         (λ moment. option_map moment_as moment ≡ date_named (fields_of message.now) name.now) }
 {
-    match message.next_named(name, 0) {
+    match next_place(message, name, 0) {
         Some(i) => {
             let value = message.value(alloc, i)?;
             Ok(date_in(value.as_slice()))

@@ -1,11 +1,12 @@
 //! What a run has read of a message: of its fields, and of what it is made of.
-ghost use Rattle.std.specs.Prelude.{◌≡◌, ◌<◌, ◌≤◌, ◌-◌, ◌^◌, ℕ, length, map, slice_get, IfNone, IfOk, IfSome, OnOk, Some, false, true};
+ghost use Rattle.std.specs.Prelude.{◌≡◌, ◌<◌, ◌≤◌, ◌-◌, ◌^◌, ℕ, [], drop, length, map, slice_get, IfNone, IfOk, IfSome, OnOk, Some, false, true};
 ghost use Rattle.std.specs.Cow.{cow_slice_items};
 ghost use Rattle.message_text.specs.Fields.{IsNextNamed, decoded_values_of, fields_of, is_field_named};
 ghost use Rattle.mime_text.specs.Entities.{entities_of};
 ghost use Rattle.mime_text.specs.view.Entities.{entity_as};
 ghost use Rattle.sieve_actions.specs.view.Delivery.{arrival_as};
-ghost use Rattle.sieve_matching.specs.view.FieldCache.{HasNoMore, IsNamedPlace, address_lists_of};
+ghost use Rattle.sieve_matching.specs.Matching.{fields_named};
+ghost use Rattle.sieve_matching.specs.view.FieldCache.{HasNoMore, IsNamedPlace, IsNextField, address_lists_of};
 
 use match_text::{AsciiCasemap, is};
 use message_text::{Address, FieldName, Message, addresses};
@@ -88,6 +89,16 @@ fn place_of(name: &[u8]) -> usize
     }
 }
 
+/// The place of the first field of that name at or after place `start`, or nothing where no further field has it.
+pub(crate) fn next_place(message: &Message, name: &FieldName<'_>, start: usize) -> Option<usize>
+    ensures some { IfSome result (IsNextField message.now name.now start) }
+    ensures none { IfNone result
+        (fields_named (drop start (fields_of message.now)) name.now ≡ []) }
+    ensures countable { IfSome result (λ i. i < 2 ^ 64 - 1) }
+{
+    message.next_named(name, start)
+}
+
 /// What is kept of the first field of a name.
 fn named_place(message: &Message, name: &FieldName<'_>, first: usize) -> NamedPlace
     requires first { IsNextNamed (fields_of message.now) name.now 0 first }
@@ -127,16 +138,9 @@ impl<'a> FieldCache<'a> {
         }
     }
 
-    /// The message. Takes no memory.
-    pub(crate) fn message(&self) -> &'a Message
-        ensures { result.now ≡ self.now.message }
-    {
-        self.arrival.message
-    }
-
     /// The place of the first field of that name, where it is kept.
     fn kept_first(&self, name: &FieldName<'_>) -> Option<usize>
-        ensures some { IfSome result (IsNextNamed (fields_of self.now.message) name.now 0) }
+        ensures some { IfSome result (IsNextField self.now.message name.now 0) }
         ensures countable { IfSome result (λ i. i < 2 ^ 64 - 1) }
     {
         let first = kept_at(&self.named, place_of(name.octets()))?.first;
@@ -158,25 +162,31 @@ impl<'a> FieldCache<'a> {
     }
 
     /// The place of the first field of that name at or after place `start`, or nothing where no further field has it. The first field of
-    /// a name is found without a search where it is kept, and is kept from then on.
-    pub(crate) fn next_named(&mut self, name: &FieldName<'_>, start: usize) -> Option<usize>
+    /// a name is found without a search where it is kept, and is kept from then on if `keeps` says so.
+    pub(crate) fn next_named(
+        &mut self,
+        name: &FieldName<'_>,
+        start: usize,
+        keeps: bool,
+    ) -> Option<usize>
         ensures arrival { self.new ≡ self.old }
-        ensures some { IfSome result (IsNextNamed (fields_of self.old.message) name.now start) }
+        ensures some { IfSome result (IsNextField self.old.message name.now start) }
         ensures none { IfNone result
-            ((k : ℕ) → start ≤ k → k < length (fields_of self.old.message) → slice_get
-            (map (is_field_named name.now) (fields_of self.old.message)) k ≡ Some false) }
+            (fields_named (drop start (fields_of self.old.message)) name.now ≡ []) }
         ensures countable { IfSome result (λ i. i < 2 ^ 64 - 1) }
     {
+        let message = self.arrival.message;
         if start > 0 {
-            return self.arrival.message.next_named(name, start);
+            return next_place(message, name, start);
         }
         if let Some(i) = self.kept_first(name) {
             return Some(i);
         }
-        let message = self.arrival.message;
-        let i = message.next_named(name, 0)?;
-        // Where memory is refused, nothing is kept.
-        let _is_kept = self.cache_place(place_of(name.octets()), named_place(message, name, i));
+        let i = next_place(message, name, 0)?;
+        if keeps {
+            // Where memory is refused, nothing is kept.
+            let _is_kept = self.cache_place(place_of(name.octets()), named_place(message, name, i));
+        }
         Some(i)
     }
 

@@ -1,30 +1,24 @@
 //! What a test finds in the fields of a message (RFC 5228, sections 5.1, 5.5 and 5.7).
-ghost use Rattle.std.specs.Prelude.{◌≡◌, ◌<◌, length, map, None, Some, slice_get, IfOk};
+ghost use Rattle.std.specs.Prelude.{◌≡◌, ◌<◌, length, map, None, Some, is_some, slice_get, IfOk};
+ghost use Rattle.std.proofs.Common.{rules};
 ghost use Rattle.std.specs.List.{list_all};
 ghost use Rattle.std.specs.Option.{option_and_then, option_map};
-ghost use Rattle.message_text.specs.Fields.{fields_of};
-ghost use Rattle.sieve_matching.specs.Matching.{first_some, has_field, match_of, values_of};
+ghost use Rattle.message_text.specs.Fields.{Field, fields_of};
+ghost use Rattle.sieve_matching.specs.Matching.{first_some, has_field, match_of, values_in, values_of};
 ghost use Rattle.sieve_actions.specs.view.Delivery.{delivery_as};
-ghost use Rattle.sieve_matching.specs.view.FieldTests.{field_found, found_with, is_looked_at, name_found, part_found, value_found};
+ghost use Rattle.sieve_matching.specs.view.FieldTests.{found_after, found_with, part_found};
 ghost use Rattle.sieve_reading.specs.Reading.{field_values};
 ghost use Rattle.sieve_actions.specs.view.State.{state_of};
 ghost use Rattle.sieve_variables.specs.Value.{text_value};
 
-use crate::field_cache::FieldCache;
+use crate::field_cache::{FieldCache, next_place};
+use crate::field_walk::{FieldVisitor, visit_looked_at};
 use crate::matcher::{MatchValues, Matcher};
-use message_text::{Address, AddressPart, FieldName, Message};
+use message_text::{Address, AddressPart, Message};
 use sieve_actions::{Delivery, State};
 use sieve_operations::FieldNames;
-use sieve_table::is_address_field;
 use sieve_variables::Values;
 use std::alloc::{AllocError, Global};
-
-/// Whether a field of that name is there.
-fn has_field(message: &Message, name: &FieldName<'_>) -> bool
-    ensures { result ≡ has_field (fields_of message.now) name.now }
-{
-    message.next_named(name, 0).is_some()
-}
 
 /// Whether there is a field of each name.
 pub(crate) fn has_fields(
@@ -39,9 +33,9 @@ pub(crate) fn has_fields(
     let mut buffer = Vec::new(alloc);
     for i in 0..names.len() {
         let name = names.name_in(i, values, &mut buffer)?;
-        if !has_field(message, &name) {
+        let Some(_) = next_place(message, &name, 0) else {
             return Ok(false);
-        }
+        };
     }
     Ok(true)
 }
@@ -143,9 +137,9 @@ fn find_in_decoded(
 ) -> Result<Option<MatchValues>, AllocError>
     requires { i < length (fields_of fields.old.message) }
     ensures arrival { fields.new ≡ fields.old }
-    ensures found { IfOk result (λ found. slice_get
-        (map (λ field. value_found (found_with matcher.now) fields.old.profile None field.value)
-        (fields_of fields.old.message)) i ≡ Some found) }
+    ensures found { IfOk result
+        (λ found. (field : Field) → slice_get (fields_of fields.old.message) i ≡ Some field → found
+        ≡ first_some (found_with matcher.now) (values_in fields.old.profile None field)) }
 {
     if let Some(value) = fields.kept_decoded(i) {
         let matched = matcher.first_match(alloc, value)?;
@@ -168,8 +162,8 @@ fn find_in_listed(
     requires { i < length (fields_of fields.old.message) }
     ensures arrival { fields.new ≡ fields.old }
     ensures found { IfOk result
-        (λ found. slice_get (map (λ field. value_found (found_with matcher.now) fields.old.profile
-        (Some part) field.value) (fields_of fields.old.message)) i ≡ Some found) }
+        (λ found. (field : Field) → slice_get (fields_of fields.old.message) i ≡ Some field → found
+        ≡ first_some (found_with matcher.now) (values_in fields.old.profile (Some part) field)) }
 {
     let listed = fields.take_addresses(alloc, i)?;
     let found = find_in_addresses(alloc, part, &listed, matcher)?;
@@ -177,103 +171,39 @@ fn find_in_listed(
     Ok(found)
 }
 
-/// What the value of field `i` gives, or that part of the addresses in it.
-fn find_in_value(
-    alloc: Global,
-    fields: &mut FieldCache<'_>,
-    i: usize,
-    part: Option<AddressPart>,
-    matcher: &Matcher<'_>,
-) -> Result<Option<MatchValues>, AllocError>
-    requires { i < length (fields_of fields.old.message) }
-    ensures arrival { fields.new ≡ fields.old }
-    ensures found { IfOk result (λ found. slice_get
-        (map (λ field. value_found (found_with matcher.now) fields.old.profile part field.value)
-        (fields_of fields.old.message)) i ≡ Some found) }
-{
-    match part {
-        None => find_in_decoded(alloc, fields, i, matcher),
-        Some(part) => find_in_listed(alloc, fields, i, part, matcher),
-    }
+/// What the fields that were visited give: what the first of their values does that matches some key.
+#[derive(Drop)]
+struct Finder<'m, 'v> {
+    matcher: &'m Matcher<'v>,
+    found: Option<MatchValues>,
 }
 
-/// What the first field of that name gives whose value matches some key.
-fn find_in_fields(
-    alloc: Global,
-    fields: &mut FieldCache<'_>,
-    part: Option<AddressPart>,
-    name: &FieldName<'_>,
-    matcher: &Matcher<'_>,
-) -> Result<Option<MatchValues>, AllocError>
-    ensures arrival { fields.new ≡ fields.old }
-    ensures found { IfOk result (λ found. found ≡ first_some (field_found
-        (found_with matcher.now) fields.old.profile part name.now) (fields_of fields.old.message)) }
-{
-    let message = fields.message();
-    let mut start = 0;
-    while start < message.fields() {
-        let Some(i) = fields.next_named(name, start) else {
-            return Ok(None);
+impl<'m, 'v> FieldVisitor for Finder<'m, 'v> {
+    const KEEPS_NAMES: bool = true;
+
+    ghost after = { found_after };
+
+    ghost is_done = { λ finder. is_some finder.found };
+
+    ghost rests = { Prim.search rules };
+
+    fn is_done(&self) -> bool {
+        self.found.is_some()
+    }
+
+    fn visit(
+        &mut self,
+        alloc: Global,
+        fields: &mut FieldCache<'_>,
+        part: Option<AddressPart>,
+        i: usize,
+    ) -> Result<(), AllocError> {
+        self.found = match part {
+            None => find_in_decoded(alloc, fields, i, self.matcher)?,
+            Some(part) => find_in_listed(alloc, fields, i, part, self.matcher)?,
         };
-        if let Some(values) = find_in_value(alloc, &mut *fields, i, part, matcher)? {
-            return Ok(Some(values));
-        }
-        start = fields.after_named(name, i);
+        Ok(())
     }
-    Ok(None)
-}
-
-/// Whether fields of that name are looked at: for a part of addresses, those that hold addresses.
-fn is_looked_at(part: Option<AddressPart>, name: &[u8]) -> bool
-    ensures { result ≡ is_looked_at part name.now }
-{
-    match part {
-        None => true,
-        Some(_) => is_address_field(name),
-    }
-}
-
-/// What fields of that name give, where they are looked at.
-fn find_by_name(
-    alloc: Global,
-    fields: &mut FieldCache<'_>,
-    part: Option<AddressPart>,
-    name: &FieldName<'_>,
-    matcher: &Matcher<'_>,
-) -> Result<Option<MatchValues>, AllocError>
-    ensures arrival { fields.new ≡ fields.old }
-    ensures found { IfOk result (λ found. found ≡ name_found
-        (found_with matcher.now) fields.old.profile part (fields_of fields.old.message) name.now) }
-{
-    if is_looked_at(part, name.octets()) {
-        find_in_fields(alloc, fields, part, name, matcher)
-    } else {
-        Ok(None)
-    }
-}
-
-/// What fields of the first name give of which one matches.
-fn find_by_names(
-    alloc: Global,
-    fields: &mut FieldCache<'_>,
-    part: Option<AddressPart>,
-    values: &Values,
-    names: &FieldNames<'_>,
-    matcher: &Matcher<'_>,
-) -> Result<Option<MatchValues>, AllocError>
-    ensures arrival { fields.new ≡ fields.old }
-    ensures found { IfOk result (λ found. found ≡ first_some
-        (name_found (found_with matcher.now) fields.old.profile part (fields_of fields.old.message))
-        (map (text_value values.now) names.now)) }
-{
-    let mut buffer = Vec::new(alloc);
-    for i in 0..names.len() {
-        let name = names.name_in(i, values, &mut buffer)?;
-        if let Some(found) = find_by_name(alloc, &mut *fields, part, &name, matcher)? {
-            return Ok(Some(found));
-        }
-    }
-    Ok(None)
 }
 
 /// What the values of some named fields give, or that part of the addresses in them.
@@ -290,5 +220,10 @@ pub(crate) fn find_in_named(
     ensures found { IfOk result (λ found. found ≡ first_some (found_with matcher.now)
         (values_of (delivery_as delivery.now) (state_of state.now) (field_values part names.now))) }
 {
-    find_by_names(delivery.alloc, fields, part, &state.values, names, matcher)
+    let mut finder = Finder {
+        matcher,
+        found: None,
+    };
+    visit_looked_at(delivery, fields, state, part, names, &mut finder)?;
+    Ok(finder.found)
 }

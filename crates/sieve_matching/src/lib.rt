@@ -8,6 +8,7 @@ mod counting;
 mod date_values;
 mod field_cache;
 mod field_values;
+mod field_walk;
 mod flag_values;
 pub mod laws;
 mod mailboxes;

@@ -1,3 +1,5 @@
 mod ByKind
 mod Labelling
 mod PositionalRows
+pub mod FromEnd
+pub mod ScriptSeen

@@ -12,7 +12,7 @@ use Rattle.message_text.specs.declared.addressing.AddressPart.TheVariants as par
 use Rattle.sieve_reading.specs.Role.{first_role}
 use Rattle.sieve_table.specs.Role.{has_role}
 use Rattle.sieve_table.specs.Table.{same_kind, tag_row}
-use Rattle.sieve_reading.specs.Tree.{Argument, strings, number, tag}
+use Rattle.sieve_reading.specs.Tree.{Argument, strings, number}
 use Rattle.sieve_reading.specs.declared.label.Label.{Label}
 use Rattle.sieve_reading.specs.declared.label.Label.TheVariants.{Tagged}
 use Rattle.sieve_reading.specs.declared.reading.MatchType.{MatchType}

@@ -2,6 +2,7 @@
 pub mod Expected
 pub mod Labels
 pub mod Reading
+pub mod Script
 pub mod Shape
 pub mod Tags
 pub mod Tree

@@ -15,7 +15,7 @@ use crate::by_label::{into_argument, into_arguments, into_three};
 use crate::given::{
     given_text, given_texts, given_variable, name_in, text_in, texts_in, variable_in,
 };
-use crate::reading::{CommandReading, FlagChange, Leaf, Rejection, Settings};
+use crate::reading::{CommandReading, FlagChange, Leaf, ReadLeaf, Rejection, Settings};
 use crate::tags::Tags;
 use crate::vacation::vacation_leaf;
 use script_names::Location;
@@ -25,7 +25,7 @@ use sieve_variables::{LetterCase, Modifiers};
 use std::alloc::Global;
 
 /// What a `keep` does.
-fn keep_leaf(alloc: Global, row: &Row, args: Vec<Argument>) -> Leaf
+fn keep_leaf(alloc: Global, row: &Row, args: Vec<Argument>) -> ReadLeaf
     ensures { leaf_as result
         ≡ spec.keep_by (labels_in row.now args.items) (map argument_of args.items) }
 {
@@ -35,7 +35,7 @@ fn keep_leaf(alloc: Global, row: &Row, args: Vec<Argument>) -> Leaf
 }
 
 /// What a `fileinto` does.
-fn fileinto_leaf(alloc: Global, row: &Row, args: Vec<Argument>) -> Leaf
+fn fileinto_leaf(alloc: Global, row: &Row, args: Vec<Argument>) -> ReadLeaf
     ensures { leaf_as result
         ≡ spec.fileinto_by (labels_in row.now args.items) (map argument_of args.items) }
 {
@@ -58,7 +58,7 @@ fn fileinto_leaf(alloc: Global, row: &Row, args: Vec<Argument>) -> Leaf
 }
 
 /// What a `redirect` does.
-fn redirect_leaf(row: &Row, args: Vec<Argument>) -> Leaf
+fn redirect_leaf(row: &Row, args: Vec<Argument>) -> ReadLeaf
     ensures { leaf_as result
         ≡ spec.redirect_by (labels_in row.now args.items) (map argument_of args.items) }
 {
@@ -94,7 +94,7 @@ fn modifiers_of(tags: Tags) -> Modifiers
 }
 
 /// What a `set` does.
-fn set_leaf(row: &Row, args: Vec<Argument>) -> Leaf
+fn set_leaf(row: &Row, args: Vec<Argument>) -> ReadLeaf
     ensures { leaf_as result
         ≡ spec.set_by (labels_in row.now args.items) (map argument_of args.items) }
 {
@@ -110,7 +110,7 @@ fn set_leaf(row: &Row, args: Vec<Argument>) -> Leaf
 }
 
 /// What a command does that changes flags.
-fn flags_leaf(alloc: Global, change: FlagChange, row: &Row, args: Vec<Argument>) -> Leaf
+fn flags_leaf(alloc: Global, change: FlagChange, row: &Row, args: Vec<Argument>) -> ReadLeaf
     ensures { leaf_as result
         ≡ spec.flags_by change (labels_in row.now args.items) (map argument_of args.items) }
 {
@@ -143,7 +143,7 @@ fn location_of(tags: Tags) -> Location
 }
 
 /// What an `include` does.
-fn include_leaf(row: &Row, args: Vec<Argument>) -> Leaf
+fn include_leaf(row: &Row, args: Vec<Argument>) -> ReadLeaf
     ensures { leaf_as result
         ≡ spec.include_by (labels_in row.now args.items) (map argument_of args.items) }
 {
@@ -158,7 +158,7 @@ fn include_leaf(row: &Row, args: Vec<Argument>) -> Leaf
 }
 
 /// What a command does that rejects the message.
-fn reject_leaf(how: Rejection, row: &Row, args: Vec<Argument>) -> Leaf
+fn reject_leaf(how: Rejection, row: &Row, args: Vec<Argument>) -> ReadLeaf
     ensures { leaf_as result
         ≡ spec.reject_by how (labels_in row.now args.items) (map argument_of args.items) }
 {

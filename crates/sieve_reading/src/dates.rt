@@ -12,7 +12,7 @@ ghost use Rattle.sieve_table.specs.declared.row.Role.TheVariants as role;
 use crate::by_label::first_or;
 use crate::given::{given_text, text_in, texts_in};
 use crate::label::role_of;
-use crate::reading::{Ask, DateZone, ValueSource};
+use crate::reading::{Ask, DateZone, ReadAsk, ValueSource};
 use crate::shape::{AsParts, row_expected, shape_of};
 use crate::tags::Tags;
 use crate::test_reading::comparison_of;
@@ -88,7 +88,7 @@ fn zone_of(tags: Tags, named: Option<Parts>) -> DateZone<Parts>
 }
 
 /// What a `date` test asks.
-pub(crate) fn date_ask(alloc: Global, row: &Row, args: Vec<Argument>) -> Ask
+pub(crate) fn date_ask(alloc: Global, row: &Row, args: Vec<Argument>) -> ReadAsk
     ensures { ask_as result ≡ (let labels = labels_in row.now args.items
         in spec.compares_by (spec.date_source labels (map argument_of args.items)) labels
         (map argument_of args.items)) }
@@ -113,7 +113,7 @@ pub(crate) fn date_ask(alloc: Global, row: &Row, args: Vec<Argument>) -> Ask
 }
 
 /// What a `currentdate` test asks.
-pub(crate) fn current_date_ask(alloc: Global, row: &Row, args: Vec<Argument>) -> Ask
+pub(crate) fn current_date_ask(alloc: Global, row: &Row, args: Vec<Argument>) -> ReadAsk
     ensures { ask_as result ≡ (let labels = labels_in row.now args.items
         in spec.compares_by (spec.clock_source labels (map argument_of args.items)) labels
         (map argument_of args.items)) }

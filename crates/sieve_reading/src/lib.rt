@@ -1,14 +1,17 @@
-//! What the arguments of a Sieve script are (RFC 5228, section 2.6), the tree of a checked script, and what its commands and
-//! tests are, read from it.
+//! What the arguments of a Sieve script are (RFC 5228, section 2.6), the tree of a checked script, what its commands and
+//! tests are, read from it, and the abstract script.
 #![tactic(auto)]
 
 mod by_label;
 mod command_reading;
+mod condition_reading;
 mod dates;
 mod given;
 mod label;
 pub mod laws;
 mod reading;
+mod script;
+mod script_reading;
 mod shape;
 mod tags;
 mod test_reading;
@@ -18,10 +21,12 @@ pub use command_reading::read_command;
 pub use given::literal_in_parts;
 pub use label::{Label, role_of};
 pub use reading::{
-    Ask, BodyTransform, CommandReading, Comparison, DateZone, FlagChange, Leaf, MatchType,
-    Rejection, Settings, TestReading, Vacation, ValueSource,
+    Ask, BodyTransform, CommandReading, Comparison, DateZone, FlagChange, Leaf, MatchType, ReadAsk,
+    ReadLeaf, ReadVacation, Rejection, Settings, TestReading, Vacation, ValueSource,
 };
+pub use script::{Branch, Condition, Statement};
 pub use script_names::Location;
+pub use script_reading::read_script;
 pub use shape::{AsOctets, AsParts, RowLabels, StringView, known_labels};
 pub use sieve_syntax::{Argument, Command, CommandName, Test, TestName, Tests, Text};
 pub use sieve_table::{CommandKind, TestKind};

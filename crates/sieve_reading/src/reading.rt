@@ -1,6 +1,6 @@
 //! What the commands and tests of a checked script are, with defaults filled in (RFC 5228, sections 3, 4 and 5). A reading has the
-//! strings of the arguments that it is made of. Those that operations have too are over how names of fields (`N`), lists of strings (`L`)
-//! and strings (`S`) are kept; a script's tree keeps a string as its parts.
+//! strings of the arguments that it is made of. What tests ask and what commands do is over how names of fields (`N`), lists of strings (`L`),
+//! strings (`S`) and what a `vacation` says (`V`) are kept: what is read has a string as its parts, and code has it at a place.
 ghost use Rattle.std.specs.Prelude.{◌≡◌};
 ghost use Rattle.sieve_reading.specs.Reading.{rejection_word};
 
@@ -110,21 +110,21 @@ pub enum ValueSource<N, L, S> {
 }
 
 /// What a test asks of the delivery.
-#[derive(Drop)]
-pub enum Ask {
+#[derive(Clone, Copy, Drop)]
+pub enum Ask<N, L, S> {
     /// Whether some value matches some key (RFC 5228, section 2.7).
     Compares {
         /// Where the values are from.
-        source: ValueSource<Vec<Text>, Vec<Text>, Parts>,
+        source: ValueSource<N, L, S>,
         /// How a value is compared with a key.
         comparison: Comparison,
         /// The keys.
-        keys: Vec<Text>,
+        keys: L,
     },
     /// Whether all named fields are there (RFC 5228, section 5.5).
     Exists {
         /// The names of fields.
-        names: Vec<Text>,
+        names: N,
     },
     /// Whether the message has more octets (RFC 5228, section 5.9).
     Over {
@@ -139,11 +139,14 @@ pub enum Ask {
     /// Whether all named mailboxes are there (RFC 5490, section 3.1).
     MailboxExists {
         /// The names of mailboxes.
-        names: Vec<Text>,
+        names: L,
     },
     /// Whether the message came before (RFC 7352, section 3).
     Duplicate,
 }
+
+/// What a test of a checked script asks.
+pub type ReadAsk = Ask<Vec<Text>, Vec<Text>, Parts>;
 
 /// What a test is, apart from the tests in it.
 #[derive(Drop)]
@@ -153,7 +156,7 @@ pub enum TestReading {
     /// False (RFC 5228, section 5.6).
     Never,
     /// What the test asks of the message.
-    Asks(Ask),
+    Asks(ReadAsk),
     /// Whether all tests in it hold (RFC 5228, section 5.2).
     AllOf,
     /// Whether some test in it holds (RFC 5228, section 5.3).
@@ -205,6 +208,9 @@ pub struct Vacation<L, S> {
     pub handle: Option<S>,
 }
 
+/// What a `vacation` of a checked script says.
+pub type ReadVacation = Vacation<Vec<Text>, Parts>;
+
 /// The action by which a message is rejected (RFC 5429, section 2).
 #[derive(Clone, Copy, PartialEq, Eq)]
 pub enum Rejection {
@@ -228,23 +234,23 @@ impl Rejection {
 
 /// What a command does that acts.
 #[derive(Drop)]
-pub enum Leaf {
+pub enum Leaf<L, S, V> {
     /// A command that stores into the mailbox of the delivery (RFC 5228, section 4.3).
     Keep {
         /// The flags of what the command stores, where it names them (RFC 5232, section 5).
-        flags: Option<Vec<Text>>,
+        flags: Option<L>,
     },
     /// A command that stores into the mailbox of that name (RFC 5228, section 4.1).
     Fileinto {
-        /// The name, as its parts.
-        mailbox: Parts,
+        /// The name.
+        mailbox: S,
         /// What the command says beside.
-        settings: Settings<Vec<Text>, Parts>,
+        settings: Settings<L, S>,
     },
     /// A command that sends the message on to that address (RFC 5228, section 4.2).
     Redirect {
-        /// The address, as its parts.
-        address: Parts,
+        /// The address.
+        address: S,
         /// Whether the implicit keep stays as it is (RFC 3894, section 3).
         copy: bool,
     },
@@ -256,8 +262,8 @@ pub enum Leaf {
         variable: Variable,
         /// What is done to the value.
         modifiers: Modifiers,
-        /// The value, as its parts.
-        value: Parts,
+        /// The value.
+        value: S,
     },
     /// A command that changes flags (RFC 5232, section 3).
     Flags {
@@ -266,7 +272,7 @@ pub enum Leaf {
         /// The variable that holds them; the internal flags where none is named.
         variable: Option<Variable>,
         /// The flags that the command names.
-        flags: Vec<Text>,
+        flags: L,
     },
     /// A command that runs another script (RFC 6609, section 3.2).
     Include {
@@ -282,16 +288,19 @@ pub enum Leaf {
     /// A command that answers the sender (RFC 5230).
     Vacation {
         /// What the command says.
-        vacation: Vacation<Vec<Text>, Parts>,
+        vacation: V,
     },
     /// A command that rejects the message (RFC 5429).
     Reject {
         /// By which action.
         how: Rejection,
-        /// Why, as its parts.
-        reason: Parts,
+        /// Why.
+        reason: S,
     },
 }
+
+/// What a command of a checked script does that acts.
+pub type ReadLeaf = Leaf<Vec<Text>, Parts, ReadVacation>;
 
 /// What a command is, apart from its test and its block.
 #[derive(Drop)]
@@ -309,5 +318,5 @@ pub enum CommandReading {
     /// A command that does nothing when it runs (RFC 5228, section 3.2; RFC 6609, section 3.4.1).
     Nothing,
     /// A command that acts.
-    Act(Leaf),
+    Act(ReadLeaf),
 }

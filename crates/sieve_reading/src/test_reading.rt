@@ -14,7 +14,7 @@ use crate::dates::{current_date_ask, date_ask};
 use crate::given::{
     address_part_of, collation_by, given_texts, match_type_of, number_in, texts_in,
 };
-use crate::reading::{Ask, BodyTransform, Comparison, TestReading, ValueSource};
+use crate::reading::{Ask, BodyTransform, Comparison, ReadAsk, TestReading, ValueSource};
 use crate::tags::Tags;
 use sieve_syntax::{Argument, Text};
 use sieve_table::{Role, Row, Tag, TagKind, TestKind};
@@ -32,7 +32,7 @@ pub(crate) fn comparison_of(tags: Tags, row: &Row, args: &[Argument]) -> Compari
 }
 
 /// What a `header` test asks.
-fn header_ask(alloc: Global, row: &Row, args: Vec<Argument>) -> Ask
+fn header_ask(alloc: Global, row: &Row, args: Vec<Argument>) -> ReadAsk
     ensures { ask_as result ≡ (let labels = labels_in row.now args.items
         in spec.compares_by (spec.header_source labels (map argument_of args.items)) labels
         (map argument_of args.items)) }
@@ -50,7 +50,7 @@ fn header_ask(alloc: Global, row: &Row, args: Vec<Argument>) -> Ask
 }
 
 /// What an `address` test asks.
-fn address_ask(alloc: Global, row: &Row, args: Vec<Argument>) -> Ask
+fn address_ask(alloc: Global, row: &Row, args: Vec<Argument>) -> ReadAsk
     ensures { ask_as result ≡ (let labels = labels_in row.now args.items
         in spec.compares_by (spec.address_source labels (map argument_of args.items)) labels
         (map argument_of args.items)) }
@@ -69,7 +69,7 @@ fn address_ask(alloc: Global, row: &Row, args: Vec<Argument>) -> Ask
 }
 
 /// What an `envelope` test asks.
-fn envelope_ask(alloc: Global, row: &Row, args: Vec<Argument>) -> Ask
+fn envelope_ask(alloc: Global, row: &Row, args: Vec<Argument>) -> ReadAsk
     ensures { ask_as result ≡ (let labels = labels_in row.now args.items
         in spec.compares_by (spec.envelope_source labels (map argument_of args.items)) labels
         (map argument_of args.items)) }
@@ -88,7 +88,7 @@ fn envelope_ask(alloc: Global, row: &Row, args: Vec<Argument>) -> Ask
 }
 
 /// What a `string` test asks.
-fn string_ask(alloc: Global, row: &Row, args: Vec<Argument>) -> Ask
+fn string_ask(alloc: Global, row: &Row, args: Vec<Argument>) -> ReadAsk
     ensures { ask_as result ≡ (let labels = labels_in row.now args.items
         in spec.compares_by (spec.string_source labels (map argument_of args.items)) labels
         (map argument_of args.items)) }
@@ -105,7 +105,7 @@ fn string_ask(alloc: Global, row: &Row, args: Vec<Argument>) -> Ask
 }
 
 /// What a `hasflag` test asks.
-fn flag_ask(alloc: Global, row: &Row, args: Vec<Argument>) -> Ask
+fn flag_ask(alloc: Global, row: &Row, args: Vec<Argument>) -> ReadAsk
     ensures { ask_as result ≡ (let labels = labels_in row.now args.items
         in spec.compares_by (spec.flag_source labels (map argument_of args.items)) labels
         (map argument_of args.items)) }
@@ -143,7 +143,7 @@ fn transform_of(tags: Tags, named: Option<Vec<Text>>) -> BodyTransform<Vec<Text>
 }
 
 /// What a `body` test asks.
-fn body_ask(alloc: Global, row: &Row, args: Vec<Argument>) -> Ask
+fn body_ask(alloc: Global, row: &Row, args: Vec<Argument>) -> ReadAsk
     ensures { ask_as result ≡ (let labels = labels_in row.now args.items
         in spec.compares_by (spec.body_source labels (map argument_of args.items)) labels
         (map argument_of args.items)) }
@@ -161,7 +161,7 @@ fn body_ask(alloc: Global, row: &Row, args: Vec<Argument>) -> Ask
 }
 
 /// What an `exists` test asks.
-fn exists_ask(alloc: Global, row: &Row, args: Vec<Argument>) -> Ask
+fn exists_ask(alloc: Global, row: &Row, args: Vec<Argument>) -> ReadAsk
     ensures { ask_as result
         ≡ spec.exists_by (labels_in row.now args.items) (map argument_of args.items) }
 {
@@ -170,7 +170,7 @@ fn exists_ask(alloc: Global, row: &Row, args: Vec<Argument>) -> Ask
 }
 
 /// What a test asks of the message's size, by a tag.
-fn bound_by(tag: Option<Tag>, limit: u64) -> Ask
+fn bound_by(tag: Option<Tag>, limit: u64) -> ReadAsk
     ensures { ask_as result ≡ spec.bound_by tag limit }
 {
     match tag {
@@ -181,14 +181,14 @@ fn bound_by(tag: Option<Tag>, limit: u64) -> Ask
 
 /// What a test asks of the message's size.
 #[tactic(auto, unfolding(crate::specs::TestReading::bound_ask))]
-fn bound_ask(tags: Tags, limit: u64) -> Ask
+fn bound_ask(tags: Tags, limit: u64) -> ReadAsk
     ensures { ask_as result ≡ spec.bound_ask (tags_as tags) limit }
 {
     bound_by(tags.of(TagKind::Bound), limit)
 }
 
 /// What a `size` test asks.
-fn size_ask(row: &Row, args: Vec<Argument>) -> Ask
+fn size_ask(row: &Row, args: Vec<Argument>) -> ReadAsk
     ensures { ask_as result
         ≡ spec.size_by (labels_in row.now args.items) (map argument_of args.items) }
 {
@@ -197,7 +197,7 @@ fn size_ask(row: &Row, args: Vec<Argument>) -> Ask
 }
 
 /// What a `mailboxexists` test asks.
-fn mailboxes_ask(alloc: Global, row: &Row, args: Vec<Argument>) -> Ask
+fn mailboxes_ask(alloc: Global, row: &Row, args: Vec<Argument>) -> ReadAsk
     ensures { ask_as result
         ≡ spec.mailboxes_by (labels_in row.now args.items) (map argument_of args.items) }
 {

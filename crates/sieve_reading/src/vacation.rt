@@ -11,7 +11,7 @@ ghost use Rattle.sieve_table.specs.declared.row.Role.TheVariants as role;
 use crate::by_label::{argument_in, first_or};
 use crate::given::{given_number, given_text, given_texts, text_in};
 use crate::label::role_of;
-use crate::reading::{Leaf, Vacation};
+use crate::reading::{Leaf, ReadLeaf, Vacation};
 use crate::shape::{AsParts, row_expected, shape_of};
 use crate::tags::Tags;
 use sieve_syntax::Argument;
@@ -72,7 +72,7 @@ fn into_strings(row: &Row, args: Vec<Argument>) -> Strings
 }
 
 /// What a `vacation` does.
-pub(crate) fn vacation_leaf(alloc: Global, row: &Row, args: Vec<Argument>) -> Leaf
+pub(crate) fn vacation_leaf(alloc: Global, row: &Row, args: Vec<Argument>) -> ReadLeaf
     ensures { leaf_as result
         ≡ vacation_by (labels_in row.now args.items) (map argument_of args.items) }
 {

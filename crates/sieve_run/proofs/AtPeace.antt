@@ -4,7 +4,7 @@ use Rattle.std.specs.Prelude.{⊤, if◌then◌else◌}
 use Rattle.std.specs.List.{AllByRecursion, list_any}
 use Rattle.std.specs.Option.{option_or}
 use Rattle.sieve_actions.specs.Delivery.{Arrival}
-use Rattle.sieve_actions.specs.State.{RunState, actions_in}
+use Rattle.sieve_actions.specs.State.{actions_in}
 use Rattle.sieve_actions.specs.declared.action.Action.{Action}
 use Rattle.sieve_actions.specs.declared.action.Action.TheVariants.{Store, Discard, Respond, Reject}
 use Rattle.sieve_actions.specs.declared.error.ErrorKind.{ErrorKind}

@@ -1,5 +1,5 @@
 -- What holds of the state of a run from its start to its end: it has no more actions, and no more scripts were entered, than there may be.
-use Rattle.std.proofs.Common.{◌≡◌, ◌⊎◌, inl, inr, ℕ, zero, suc, ◌+◌, ◌≤◌, Bool, true, false, ◌&&◌, Option, None, Some, List, [], ◌∷◌, ◌++◌, length, map, nat_lt, refl, ap, subst, sym, ◌∙◌, append-nil, append_assoc, arith}
+use Rattle.std.proofs.Common.{◌≡◌, inl, inr, ℕ, zero, suc, ◌≤◌, Bool, true, false, ◌&&◌, Option, None, Some, List, [], ◌∷◌, ◌++◌, length, map, nat_lt, refl, ap, subst, sym, ◌∙◌, append-nil, append_assoc, arith}
 use Rattle.std.proofs.lemmas.Bool.Decides.{nat_tests}
 use Rattle.std.proofs.lemmas.List.{length_push, length-map, map-append}
 use Rattle.std.specs.Prelude.{if◌then◌else◌}
@@ -8,9 +8,8 @@ use Rattle.message_text.specs.Addresses.{addresses_of}
 use Rattle.sieve_limits.specs.Limits.{action_limit, include_depth, include_limit}
 use Rattle.sieve_reading.specs.Reading.{plain_settings, Leaf, keep_leaf, fileinto_leaf, redirect_leaf, discard_leaf, set_leaf, flag_leaf, include_leaf, vacation_leaf, reject_leaf}
 use Rattle.sieve_reading.specs.declared.reading.FlagChange.{FlagChange}
-use Rattle.sieve_reading.specs.Script.{script_of}
-use Rattle.sieve_reading.specs.Tree.{Node}
-use Rattle.sieve_code.specs.Walk.{Walk, at_end, by_stop, by_return, cut_off, asked, acted, tree_walk}
+use Rattle.sieve_reading.specs.Script.{Commands}
+use Rattle.sieve_code.specs.Walk.{Walk, at_end, by_stop, by_return, cut_off, asked, acted, script_walk}
 use Rattle.sieve_actions.specs.Delivery.{Arrival, Delivery, inside}
 use Rattle.sieve_run.specs.Origin.{ComesOf}
 use Rattle.sieve_run.specs.Library.{Lookup, missing, invalid, present, found_at}
@@ -103,23 +102,23 @@ module _ (Holds : RunState → Type 0) (kept : IsKept Holds) where
   resumed_holds before (stopped s) h = kept.values s (resumed_values before s.values) h
   resumed_holds before (failed error s) h = kept.values s (resumed_values before s.values) h
 
-  optional_holds : (delivery : Delivery) (line : ℕ) (enter : List Node → RunState → Ending) (name : ScriptName) (s : RunState) → Holds s → (optional : Bool) → Ends (with_found_script delivery optional line enter name missing s)
+  optional_holds : (delivery : Delivery) (line : ℕ) (enter : Commands → RunState → Ending) (name : ScriptName) (s : RunState) → Holds s → (optional : Bool) → Ends (with_found_script delivery optional line enter name missing s)
   optional_holds delivery line enter name s h true = h
   optional_holds delivery line enter name s h false = h
 
-  found_holds : (delivery : Delivery) (optional : Bool) (line : ℕ) (enter : List Node → RunState → Ending) (name : ScriptName) (lookup : Lookup) (s : RunState) → nat_lt include_limit (length s.entered) ≡ false → ((tree : List Node) (t : RunState) → Holds t → Ends (enter tree t)) → Holds s → Ends (with_found_script delivery optional line enter name lookup s)
+  found_holds : (delivery : Delivery) (optional : Bool) (line : ℕ) (enter : Commands → RunState → Ending) (name : ScriptName) (lookup : Lookup) (s : RunState) → nat_lt include_limit (length s.entered) ≡ false → ((program : Commands) (t : RunState) → Holds t → Ends (enter program t)) → Holds s → Ends (with_found_script delivery optional line enter name lookup s)
   found_holds delivery optional line enter name missing s few runs h = optional_holds delivery line enter name s h optional
   found_holds delivery optional line enter name invalid s few runs h = h
-  found_holds delivery optional line enter name (present tree) s few runs h = resumed_holds s.values (enter tree (entering name s)) (runs tree (entering name s) (kept.enters name s few h))
+  found_holds delivery optional line enter name (present program) s few runs h = resumed_holds s.values (enter program (entering name s)) (runs program (entering name s) (kept.enters name s few h))
 
-  counted_holds : (find : ScriptName → Lookup) (delivery : Delivery) (enter : ScriptName → List Node → RunState → Ending) (name : ScriptName) (optional : Bool) (line : ℕ) (s : RunState) → ((tree : List Node) (t : RunState) → Holds t → Ends (enter name tree t)) → Holds s
+  counted_holds : (find : ScriptName → Lookup) (delivery : Delivery) (enter : ScriptName → Commands → RunState → Ending) (name : ScriptName) (optional : Bool) (line : ℕ) (s : RunState) → ((program : Commands) (t : RunState) → Holds t → Ends (enter name program t)) → Holds s
       → (many : Bool) → nat_lt include_limit (length s.entered) ≡ many → Ends (if many then fails_at delivery line IncludeCount s else with_found_script delivery optional line (enter name) name (found_at find name) (looked_up name (found_at find name) s))
   counted_holds find delivery enter name optional line s runs h true is = h
   counted_holds find delivery enter name optional line s runs h false is =
       found_holds delivery optional line (enter name) name (found_at find name) (looked_up name (found_at find name) s) is runs (kept.lookups s (with_lookup name (is_there (found_at find name)) s.lookups) h)
 
-  includes_holds : (find : ScriptName → Lookup) (delivery : Delivery) (enter : Option (ScriptName → List Node → RunState → Ending)) (name : ScriptName) (optional : Bool) (line : ℕ) (s : RunState)
-      → ((one : ScriptName → List Node → RunState → Ending) → enter ≡ Some one → (tree : List Node) (t : RunState) → Holds t → Ends (one name tree t)) → Holds s → Ends (includes find delivery enter name optional line s)
+  includes_holds : (find : ScriptName → Lookup) (delivery : Delivery) (enter : Option (ScriptName → Commands → RunState → Ending)) (name : ScriptName) (optional : Bool) (line : ℕ) (s : RunState)
+      → ((one : ScriptName → Commands → RunState → Ending) → enter ≡ Some one → (program : Commands) (t : RunState) → Holds t → Ends (one name program t)) → Holds s → Ends (includes find delivery enter name optional line s)
   includes_holds find delivery None name optional line s runs h = h
   includes_holds find delivery (Some enter) name optional line s runs h =
       counted_holds find delivery enter name optional line s (runs enter refl) h (nat_lt include_limit (length s.entered)) refl
@@ -129,8 +128,8 @@ module _ (Holds : RunState → Type 0) (kept : IsKept Holds) where
   by_checks false true fails others s h f o = f
   by_checks false false fails others s h f o = o
 
-  include_holds : (find : ScriptName → Lookup) (delivery : Delivery) (enter : Option (ScriptName → List Node → RunState → Ending)) (name : ScriptName) (once optional : Bool) (line : ℕ) (s : RunState)
-      → ((one : ScriptName → List Node → RunState → Ending) → enter ≡ Some one → (tree : List Node) (t : RunState) → Holds t → Ends (one name tree t)) → Holds s → Ends (include_of find delivery enter name once optional line s)
+  include_holds : (find : ScriptName → Lookup) (delivery : Delivery) (enter : Option (ScriptName → Commands → RunState → Ending)) (name : ScriptName) (once optional : Bool) (line : ℕ) (s : RunState)
+      → ((one : ScriptName → Commands → RunState → Ending) → enter ≡ Some one → (program : Commands) (t : RunState) → Holds t → Ends (one name program t)) → Holds s → Ends (include_of find delivery enter name once optional line s)
   include_holds find delivery enter name once optional line s runs h =
       by_checks (once && is_script name s.entered) (is_running name delivery) _ (includes find delivery enter name optional line s) s h h (includes_holds find delivery enter name optional line s runs h)
 
@@ -179,22 +178,22 @@ module _ (Holds : RunState → Type 0) (kept : IsKept Holds) where
     unfolding included
     included_holds zero delivery name once optional line s h = include_holds find delivery None name once optional line s (λ one is. absurd cc) h
     included_holds (suc depth) delivery name once optional line s h =
-        include_holds find delivery (Some (λ script tree. exec (answer_of (inside script delivery)) (act_of find depth (inside script delivery)) (script_of tree))) name once optional line s
-        (λ one is tree t held.
+        include_holds find delivery (Some (λ script program. exec (answer_of (inside script delivery)) (act_of find depth (inside script delivery)) program)) name once optional line s
+        (λ one is program t held.
         let d = inside name delivery in
-        subst (λ (f : ScriptName → List Node → RunState → Ending). Ends (f name tree t)) (one_of _ _ is)
-        (subst Ends (sym (does_walk (answer_of d) (act_of find depth d) tree t)) (walk_holds (act_of find depth d) (acts_hold depth d (included_holds depth d)) d (tree_walk tree) t held)))
+        subst (λ (f : ScriptName → Commands → RunState → Ending). Ends (f name program t)) (one_of _ _ is)
+        (subst Ends (sym (does_walk (answer_of d) (act_of find depth d) program t)) (walk_holds (act_of find depth d) (acts_hold depth d (included_holds depth d)) d (script_walk program) t held)))
         h
       where
-        one_of : (a b : ScriptName → List Node → RunState → Ending) → Some a ≡ Some b → a ≡ b
+        one_of : (a b : ScriptName → Commands → RunState → Ending) → Some a ≡ Some b → a ≡ b
         one_of a b e = cc
 
     pub running_walk_holds : (depth : ℕ) (delivery : Delivery) (w : Walk) (s : RunState) → Holds s → Ends (doing (act_of find depth delivery) delivery w s)
     running_walk_holds depth delivery w s h = walk_holds (act_of find depth delivery) (acts_hold depth delivery (included_holds depth delivery)) delivery w s h
 
-    pub running_holds : (depth : ℕ) (delivery : Delivery) (tree : List Node) (s : RunState) → Holds s → Ends (running find depth delivery tree s)
-    running_holds depth delivery tree s h =
-        subst Ends (sym (does_walk (answer_of delivery) (act_of find depth delivery) tree s)) (running_walk_holds depth delivery (tree_walk tree) s h)
+    pub running_holds : (depth : ℕ) (delivery : Delivery) (program : Commands) (s : RunState) → Holds s → Ends (running find depth delivery program s)
+    running_holds depth delivery program s h =
+        subst Ends (sym (does_walk (answer_of delivery) (act_of find depth delivery) program s)) (running_walk_holds depth delivery (script_walk program) s h)
 
 -- VERDICTS
 
@@ -209,8 +208,8 @@ module _ (Holds : List Action → Type 0) (none : Holds []) (kept : IsKept (λ s
   found_holds_of : (find : ScriptName → Lookup) (arrival : Arrival) (main : ScriptName) (lookup : Lookup) → Holds (actions_of (verdict_at find arrival main lookup))
   found_holds_of find arrival main missing = none
   found_holds_of find arrival main invalid = none
-  found_holds_of find arrival main (present tree) =
-      verdict_holds (run_of find arrival main tree) (running_holds (λ s. Holds (actions_in s.entries)) kept find include_depth (delivery_to arrival main) tree (begun main) none)
+  found_holds_of find arrival main (present program) =
+      verdict_holds (run_of find arrival main program) (running_holds (λ s. Holds (actions_in s.entries)) kept find include_depth (delivery_to arrival main) program (begun main) none)
 
   pub outcome_holds : (find : ScriptName → Lookup) (main : Option ScriptName) (arrival : Arrival) → Holds (actions_of (outcome_of find main arrival))
   unfolding outcome_of
@@ -302,8 +301,8 @@ short = record {
 }
 
 -- a run enters the main script and so many others at most
-pub run_short : (find : ScriptName → Lookup) (arrival : Arrival) (main : ScriptName) (tree : List Node) → length (state_after (run_of find arrival main tree)).entered ≤ suc include_limit
-run_short find arrival main tree = running_holds IsShort short find include_depth (delivery_to arrival main) tree (begun main) (omega arith)
+pub run_short : (find : ScriptName → Lookup) (arrival : Arrival) (main : ScriptName) (program : Commands) → length (state_after (run_of find arrival main program)).entered ≤ suc include_limit
+run_short find arrival main program = running_holds IsShort short find include_depth (delivery_to arrival main) program (begun main) (omega arith)
 
 -- the scripts that were entered begin with these
 abbrev Keeps : List ScriptName → RunState → Type 0
@@ -319,5 +318,5 @@ keeping front = record {
 }
 
 -- the scripts that were entered before a script runs are still the first ones when it has run
-pub run_keeps : (find : ScriptName → Lookup) (depth : ℕ) (delivery : Delivery) (tree : List Node) (state : RunState) → Keeps state.entered (state_after (running find depth delivery tree state))
-run_keeps find depth delivery tree state = running_holds (Keeps state.entered) (keeping state.entered) find depth delivery tree state ([], sym (append-nil state.entered))
+pub run_keeps : (find : ScriptName → Lookup) (depth : ℕ) (delivery : Delivery) (program : Commands) (state : RunState) → Keeps state.entered (state_after (running find depth delivery program state))
+run_keeps find depth delivery program state = running_holds (Keeps state.entered) (keeping state.entered) find depth delivery program state ([], sym (append-nil state.entered))

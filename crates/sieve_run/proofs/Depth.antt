@@ -1,11 +1,10 @@
 -- How deep scripts include one another, counted by those that include the running one.
-use Rattle.std.proofs.Common.{◌≡◌, ℕ, zero, suc, ◌+◌, ◌-◌, ◌≤◌, Bool, true, false, ◌&&◌, Option, None, Some, List, length, nat_lt, refl, ap, ◌∙◌, arith}
+use Rattle.std.proofs.Common.{◌≡◌, ℕ, zero, suc, ◌+◌, ◌-◌, ◌≤◌, Bool, true, false, ◌&&◌, Option, None, Some, length, nat_lt, refl, ap, ◌∙◌, arith}
 use Rattle.std.proofs.lemmas.Bool.Decides.{nat_tests}
 use Rattle.std.proofs.lemmas.List.{length_push}
 use Rattle.std.specs.Prelude.{if◌then◌else◌}
 use Rattle.sieve_limits.specs.Limits.{include_depth}
-use Rattle.sieve_reading.specs.Script.{script_of}
-use Rattle.sieve_reading.specs.Tree.{Node}
+use Rattle.sieve_reading.specs.Script.{Commands}
 use Rattle.sieve_actions.specs.Delivery.{Arrival, Delivery, inside}
 use Rattle.sieve_run.specs.Depth.{IsDeepest, depth_left, entered_within, watched, watched_include, watched_run}
 use Rattle.sieve_run.specs.Library.{Lookup}
@@ -15,8 +14,8 @@ use Rattle.sieve_actions.specs.State.{RunState}
 use Rattle.script_names.specs.declared.name.ScriptName.{ScriptName}
 
 -- the main script has all depth left
-pub main_first : (find : ScriptName → Lookup) (arrival : Arrival) (main : ScriptName) (tree : List Node) → run_of find arrival main tree ≡ running find (depth_left (delivery_to arrival main)) (delivery_to arrival main) tree (begun main)
-main_first find arrival main tree = refl
+pub main_first : (find : ScriptName → Lookup) (arrival : Arrival) (main : ScriptName) (program : Commands) → run_of find arrival main program ≡ running find (depth_left (delivery_to arrival main)) (delivery_to arrival main) program (begun main)
+main_first find arrival main program = refl
 
 -- with one more script that includes the running one, one level less is left; where as many include it as may, none is left
 one_less : (n m : ℕ) → m ≡ n + 1 → nat_lt n include_depth ≡ true → include_depth - n ≡ suc (include_depth - m)
@@ -27,11 +26,11 @@ none_left n full = grind (arith, nat_tests)
 
 module _ (find : ScriptName → Lookup) (delivery : Delivery) (name : ScriptName) (once optional : Bool) (line : ℕ) (s : RunState) where
   -- what the include does, by how a script is entered
-  abbrev done_by : Option (ScriptName → List Node → RunState → Ending) → Ending
+  abbrev done_by : Option (ScriptName → Commands → RunState → Ending) → Ending
   done_by enter = include_of find delivery enter name once optional line s
 
   -- how a script is entered where scripts may still include one another so deep
-  abbrev entered_at : ℕ → ScriptName → List Node → RunState → Ending
+  abbrev entered_at : ℕ → ScriptName → Commands → RunState → Ending
   entered_at depth script = running find depth (inside script delivery)
 
   by_room : (room : Bool) → nat_lt (length delivery.including) include_depth ≡ room
@@ -61,28 +60,28 @@ module _ (find : ScriptName → Lookup) (delivery : Delivery) (name : ScriptName
 
 -- A RUN THAT IS WATCHED
 
-module _ (beyond : Delivery → List Node → RunState → Ending) (find : ScriptName → Lookup) where
+module _ (beyond : Delivery → Commands → RunState → Ending) (find : ScriptName → Lookup) where
   -- watched includes do what includes do in a script
   abbrev DoAlike : ℕ → Delivery → Type 0
   DoAlike depth delivery = (name : ScriptName) (once optional : Bool) (line : ℕ) (s : RunState) → watched_include beyond find depth delivery name once optional line s ≡ included find depth delivery name once optional line s
 
-  by_depth : (depth : ℕ) (delivery : Delivery) (tree : List Node) (s : RunState) (deep : Bool) → deep ≡ false → DoAlike depth delivery
-      → (if deep then beyond delivery tree s else exec (answer_of delivery) (act_by (watched_include beyond find depth delivery) delivery) (script_of tree) s) ≡ running find depth delivery tree s
-  by_depth depth delivery tree s true shallow alike = absurd cc
-  by_depth depth delivery tree s false shallow alike =
-      ap (λ (include : ScriptName → Bool → Bool → ℕ → RunState → Ending). exec (answer_of delivery) (act_by include delivery) (script_of tree) s) (λ i name once optional line t. alike name once optional line t i)
+  by_depth : (depth : ℕ) (delivery : Delivery) (program : Commands) (s : RunState) (deep : Bool) → deep ≡ false → DoAlike depth delivery
+      → (if deep then beyond delivery program s else exec (answer_of delivery) (act_by (watched_include beyond find depth delivery) delivery) program s) ≡ running find depth delivery program s
+  by_depth depth delivery program s true shallow alike = absurd cc
+  by_depth depth delivery program s false shallow alike =
+      ap (λ (include : ScriptName → Bool → Bool → ℕ → RunState → Ending). exec (answer_of delivery) (act_by include delivery) program s) (λ i name once optional line t. alike name once optional line t i)
 
   -- a script that isn't too deep does where it is watched what it does where it isn't
-  script_alike : (depth : ℕ) (delivery : Delivery) (tree : List Node) (s : RunState) → length delivery.including ≤ include_depth → DoAlike depth delivery
-      → watched beyond (watched_include beyond find depth delivery) delivery tree s ≡ running find depth delivery tree s
-  script_alike depth delivery tree s shallow alike = by_depth depth delivery tree s (nat_lt include_depth (length delivery.including)) (grind (arith, nat_tests, shallow)) alike
+  script_alike : (depth : ℕ) (delivery : Delivery) (program : Commands) (s : RunState) → length delivery.including ≤ include_depth → DoAlike depth delivery
+      → watched beyond (watched_include beyond find depth delivery) delivery program s ≡ running find depth delivery program s
+  script_alike depth delivery program s shallow alike = by_depth depth delivery program s (nat_lt include_depth (length delivery.including)) (grind (arith, nat_tests, shallow)) alike
 
   include_alike : (depth : ℕ) (delivery : Delivery) → length delivery.including + depth ≤ include_depth → DoAlike depth delivery
   unfolding included watched_include
   include_alike zero delivery room name once optional line s = refl
   include_alike (suc depth) delivery room name once optional line s =
-      ap (λ (enter : ScriptName → List Node → RunState → Ending). include_of find delivery (Some enter) name once optional line s)
-      (λ i script tree t. script_alike depth (inside script delivery) tree t (below script) (include_alike depth (inside script delivery) (room_in script)) i)
+      ap (λ (enter : ScriptName → Commands → RunState → Ending). include_of find delivery (Some enter) name once optional line s)
+      (λ i script program t. script_alike depth (inside script delivery) program t (below script) (include_alike depth (inside script delivery) (room_in script)) i)
     where
       below : (script : ScriptName) → length (inside script delivery).including ≤ include_depth
       below script = omega (arith, length_push delivery.including delivery.script)
@@ -91,7 +90,7 @@ module _ (beyond : Delivery → List Node → RunState → Ending) (find : Scrip
       room_in script = omega (arith, length_push delivery.including delivery.script)
 
   -- no run comes to a script that is too deep
-  pub never_beyond : (arrival : Arrival) (main : ScriptName) (tree : List Node) → watched_run beyond find arrival main tree ≡ run_of find arrival main tree
-  never_beyond arrival main tree =
+  pub never_beyond : (arrival : Arrival) (main : ScriptName) (program : Commands) → watched_run beyond find arrival main program ≡ run_of find arrival main program
+  never_beyond arrival main program =
       let delivery = delivery_to arrival main in
-      script_alike include_depth delivery tree (begun main) (omega arith) (include_alike include_depth delivery (omega arith))
+      script_alike include_depth delivery program (begun main) (omega arith) (include_alike include_depth delivery (omega arith))

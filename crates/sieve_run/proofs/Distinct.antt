@@ -6,7 +6,7 @@ use Rattle.std.specs.Cmp.Lexicographic.{nat_list_eq_equiv}
 use Rattle.std.specs.List.{AllByRecursion, IsDistinct}
 use Rattle.std.specs.Prelude.{if◌then◌else◌}
 use Rattle.sieve_actions.specs.Delivery.{Arrival}
-use Rattle.sieve_actions.specs.State.{RunState, actions_in}
+use Rattle.sieve_actions.specs.State.{actions_in}
 use Rattle.sieve_actions.specs.declared.action.Action.{Action}
 use Rattle.sieve_actions.specs.declared.action.Action.TheVariants.{Store, Redirect, Discard, Respond, Reject}
 use Rattle.script_names.specs.declared.name.ScriptName.{ScriptName}

@@ -10,14 +10,13 @@ use Rattle.script_names.specs.declared.location.Location.{Location}
 use Rattle.script_names.specs.declared.location.Location.TheVariants.{Personal, Global}
 use Rattle.sieve_reading.specs.Reading.{plain_settings, Leaf, keep_leaf, fileinto_leaf, redirect_leaf, discard_leaf, set_leaf, flag_leaf, include_leaf, vacation_leaf, reject_leaf}
 use Rattle.sieve_reading.specs.declared.reading.FlagChange.{FlagChange}
-use Rattle.sieve_reading.specs.Script.{Condition, Commands, no_commands, stops, returns, acts, chooses, script_of}
-use Rattle.sieve_reading.specs.Tree.{Node}
+use Rattle.sieve_reading.specs.Script.{Condition, Commands, no_commands, stops, returns, acts, chooses, Branches, no_branches, else_branch, test_branch}
 use Rattle.sieve_actions.specs.Delivery.{Arrival, Delivery, inside}
 use Rattle.sieve_run.specs.Frame.{Agree, Texts, outcome_over}
 use Rattle.sieve_run.specs.Library.{Lookup, found_at, invalid, library_of, lookup_of, missing, present}
 use Rattle.script_names.specs.Name.{name_eq, location_eq}
 use Rattle.sieve_actions.specs.Act.{deed_of, store_deed, Ending, goes_on, returned, stopped, failed, changes, changed_flags, flags_named, held_flags, performs, fails_at, filing_of, is_mailbox, may_be_from, may_be_used, only_address, redirects, response_of, act_by, state_after}
-use Rattle.sieve_run.specs.Run.{entering, included, include_of, includes, is_looked_up, is_running, is_script, is_there, looked_up, act_of, and_then, answer_of, begun, chosen, decide, delivery_to, exec, resumed, run_of, running, verdict_at, verdict_of, outcome_of, with_found_script, with_lookup}
+use Rattle.sieve_run.specs.Run.{entering, included, include_of, includes, is_looked_up, is_running, is_script, is_there, looked_up, act_of, and_then, answer_of, begun, chosen, decide, delivery_to, exec, exec_branches, resumed, run_of, running, verdict_at, verdict_of, outcome_of, with_found_script, with_lookup}
 use Rattle.sieve_actions.specs.State.{RunState}
 use Rattle.script_names.specs.declared.name.ScriptName.{ScriptName}
 use Rattle.sieve_actions.specs.declared.action.Deed.{Deed}
@@ -182,40 +181,49 @@ module _ (find other : ScriptName → Lookup) where
       same = λ s agree. chosen_same (decide (answer_of delivery) c s).truth f g h k first second (decide (answer_of delivery) c s).state agree;
     }
 
-    exec_frames : (act act' : Acts) → ((leaf : Leaf) (line : ℕ) → Frames (act leaf line) (act' leaf line)) → (c : Commands) → Frames (exec (answer_of delivery) act c) (exec (answer_of delivery) act' c)
-    unfolding exec
-    exec_frames act act' frames no_commands = record { grows = λ s name r. r; same = λ s agree. refl }
-    exec_frames act act' frames (stops rest) = record { grows = λ s name r. r; same = λ s agree. refl }
-    exec_frames act act' frames (returns rest) = record { grows = λ s name r. r; same = λ s agree. refl }
-    exec_frames act act' frames (acts leaf line rest) =
-        let all = then_frames (act leaf line) (act' leaf line) (exec (answer_of delivery) act rest) (exec (answer_of delivery) act' rest) (frames leaf line) (exec_frames act act' frames rest) in
-        record { grows = all.grows; same = all.same }
-    exec_frames act act' frames (chooses condition block otherwise rest) =
-        let choice = choice_frames condition (exec (answer_of delivery) act block) (exec (answer_of delivery) act' block) (exec (answer_of delivery) act otherwise) (exec (answer_of delivery) act' otherwise) (exec_frames act act' frames block) (exec_frames act act' frames otherwise) in
-        let all = then_frames _ _ (exec (answer_of delivery) act rest) (exec (answer_of delivery) act' rest) choice (exec_frames act act' frames rest) in
-        record { grows = all.grows; same = all.same }
+    mutual
+      unfolding exec exec_branches
+
+      exec_frames : (act act' : Acts) → ((leaf : Leaf) (line : ℕ) → Frames (act leaf line) (act' leaf line)) → (c : Commands) → Frames (exec (answer_of delivery) act c) (exec (answer_of delivery) act' c)
+      exec_frames act act' frames no_commands = record { grows = λ s name r. r; same = λ s agree. refl }
+      exec_frames act act' frames (stops rest) = record { grows = λ s name r. r; same = λ s agree. refl }
+      exec_frames act act' frames (returns rest) = record { grows = λ s name r. r; same = λ s agree. refl }
+      exec_frames act act' frames (acts leaf line rest) =
+          let all = then_frames (act leaf line) (act' leaf line) (exec (answer_of delivery) act rest) (exec (answer_of delivery) act' rest) (frames leaf line) (exec_frames act act' frames rest) in
+          record { grows = all.grows; same = all.same }
+      exec_frames act act' frames (chooses branches rest) =
+          let all = then_frames (exec_branches (answer_of delivery) act branches) (exec_branches (answer_of delivery) act' branches) (exec (answer_of delivery) act rest) (exec (answer_of delivery) act' rest) (branches_frame act act' frames branches) (exec_frames act act' frames rest) in
+          record { grows = all.grows; same = all.same }
+
+      branches_frame : (act act' : Acts) → ((leaf : Leaf) (line : ℕ) → Frames (act leaf line) (act' leaf line)) → (bs : Branches) → Frames (exec_branches (answer_of delivery) act bs) (exec_branches (answer_of delivery) act' bs)
+      branches_frame act act' frames no_branches = record { grows = λ s name r. r; same = λ s agree. refl }
+      branches_frame act act' frames (else_branch inner) =
+          let all = exec_frames act act' frames inner in record { grows = all.grows; same = all.same }
+      branches_frame act act' frames (test_branch condition inner others) =
+          let choice = choice_frames condition (exec (answer_of delivery) act inner) (exec (answer_of delivery) act' inner) (exec_branches (answer_of delivery) act others) (exec_branches (answer_of delivery) act' others) (exec_frames act act' frames inner) (branches_frame act act' frames others) in
+          record { grows = choice.grows; same = choice.same }
 
   -- INCLUDES
 
   abbrev Enter : Type 0
-  Enter = List Node → RunState → Ending
+  Enter = Commands → RunState → Ending
 
   module _ (delivery : Delivery) (optional : Bool) (line : ℕ) (enter enter' : Enter) (name : ScriptName) where
     optional_grows : (b : Bool) (t : RunState) → Grows t (state_after (with_found_script delivery b line enter name missing t))
     optional_grows true t = λ n r. r
     optional_grows false t = λ n r. r
 
-    found_grows : ((tree : List Node) → Frames (enter tree) (enter' tree)) → (lookup : Lookup) (t : RunState) → Grows t (state_after (with_found_script delivery optional line enter name lookup t))
+    found_grows : ((program : Commands) → Frames (enter program) (enter' program)) → (lookup : Lookup) (t : RunState) → Grows t (state_after (with_found_script delivery optional line enter name lookup t))
     found_grows frames missing t = optional_grows optional t
     found_grows frames invalid t = λ n r. r
-    found_grows frames (present tree) t = λ n r.
-        lookups_stay (state_after (enter tree (entering name t))) (state_after (resumed t.values (enter tree (entering name t)))) (resumed_lookups t.values (enter tree (entering name t))) n ((frames tree).grows (entering name t) n r)
+    found_grows frames (present program) t = λ n r.
+        lookups_stay (state_after (enter program (entering name t))) (state_after (resumed t.values (enter program (entering name t)))) (resumed_lookups t.values (enter program (entering name t))) n ((frames program).grows (entering name t) n r)
 
-    found_same : ((tree : List Node) → Frames (enter tree) (enter' tree)) → (lookup : Lookup) (t : RunState) → AgreeOn (state_after (with_found_script delivery optional line enter name lookup t)).lookups → with_found_script delivery optional line enter' name lookup t ≡ with_found_script delivery optional line enter name lookup t
+    found_same : ((program : Commands) → Frames (enter program) (enter' program)) → (lookup : Lookup) (t : RunState) → AgreeOn (state_after (with_found_script delivery optional line enter name lookup t)).lookups → with_found_script delivery optional line enter' name lookup t ≡ with_found_script delivery optional line enter name lookup t
     found_same frames missing t agree = refl
     found_same frames invalid t agree = refl
-    found_same frames (present tree) t agree =
-        ap (resumed t.values) ((frames tree).same (entering name t) (λ n r. agree n (lookups_stay (state_after (enter tree (entering name t))) (state_after (resumed t.values (enter tree (entering name t)))) (resumed_lookups t.values (enter tree (entering name t))) n r)))
+    found_same frames (present program) t agree =
+        ap (resumed t.values) ((frames program).same (entering name t) (λ n r. agree n (lookups_stay (state_after (enter program (entering name t))) (state_after (resumed t.values (enter program (entering name t)))) (resumed_lookups t.values (enter program (entering name t))) n r)))
 
     -- what is found at a name is the same where the libraries agree on it
     same_found : find name ≡ other name → found_at find name ≡ found_at other name
@@ -224,10 +232,10 @@ module _ (find other : ScriptName → Lookup) where
     abbrev does : Enter → Lookup → RunState → Ending
     does one lookup s = with_found_script delivery optional line one name lookup (looked_up name lookup s)
 
-    lookup_grows : ((tree : List Node) → Frames (enter tree) (enter' tree)) → (s : RunState) (n : ScriptName) → is_looked_up n (looked_up name (found_at find name) s).lookups ≡ true → is_looked_up n (state_after (does enter (found_at find name) s)).lookups ≡ true
+    lookup_grows : ((program : Commands) → Frames (enter program) (enter' program)) → (s : RunState) (n : ScriptName) → is_looked_up n (looked_up name (found_at find name) s).lookups ≡ true → is_looked_up n (state_after (does enter (found_at find name) s)).lookups ≡ true
     lookup_grows frames s n r = found_grows frames (found_at find name) (looked_up name (found_at find name) s) n r
 
-    lookup_frames : ((tree : List Node) → Frames (enter tree) (enter' tree)) → Frames (does enter (found_at find name)) (does enter' (found_at other name))
+    lookup_frames : ((program : Commands) → Frames (enter program) (enter' program)) → Frames (does enter (found_at find name)) (does enter' (found_at other name))
     lookup_frames frames = record {
       grows = λ s n r. lookup_grows frames s n (lookup_still n name (is_there (found_at find name)) s.lookups r);
       same = λ s agree.
@@ -254,7 +262,7 @@ module _ (find other : ScriptName → Lookup) where
   EnterFrames None None = Unit {0}
   EnterFrames None (Some b) = ⊥
   EnterFrames (Some a) None = ⊥
-  EnterFrames (Some a) (Some b) = (name : ScriptName) (tree : List Node) → Frames (a name tree) (b name tree)
+  EnterFrames (Some a) (Some b) = (name : ScriptName) (program : Commands) → Frames (a name program) (b name program)
 
   includes_frames : (delivery : Delivery) (enter enter' : Option (ScriptName → Enter)) → EnterFrames enter enter' → (name : ScriptName) (optional : Bool) (line : ℕ) → Frames (includes find delivery enter name optional line) (includes other delivery enter' name optional line)
   includes_frames delivery None None frames name optional line = record { grows = λ s n r. r; same = λ s agree. refl }
@@ -293,14 +301,14 @@ module _ (find other : ScriptName → Lookup) where
       let all = include_frames delivery None None tt name once optional line in record { grows = all.grows; same = all.same }
   included_frames (suc depth) delivery name once optional line =
       let all = include_frames delivery
-      (Some (λ script tree. exec (answer_of (inside script delivery)) (act_of find depth (inside script delivery)) (script_of tree)))
-      (Some (λ script tree. exec (answer_of (inside script delivery)) (act_of other depth (inside script delivery)) (script_of tree)))
-      (λ script tree. exec_frames (inside script delivery) (act_of find depth (inside script delivery)) (act_of other depth (inside script delivery)) (acts_frames (inside script delivery) (included find depth (inside script delivery)) (included other depth (inside script delivery)) (included_frames depth (inside script delivery))) (script_of tree))
+      (Some (λ script program. exec (answer_of (inside script delivery)) (act_of find depth (inside script delivery)) program))
+      (Some (λ script program. exec (answer_of (inside script delivery)) (act_of other depth (inside script delivery)) program))
+      (λ script program. exec_frames (inside script delivery) (act_of find depth (inside script delivery)) (act_of other depth (inside script delivery)) (acts_frames (inside script delivery) (included find depth (inside script delivery)) (included other depth (inside script delivery)) (included_frames depth (inside script delivery))) program)
       name once optional line in
       record { grows = all.grows; same = all.same }
 
-  running_frames : (depth : ℕ) (delivery : Delivery) (tree : List Node) → Frames (running find depth delivery tree) (running other depth delivery tree)
-  running_frames depth delivery tree = exec_frames delivery (act_of find depth delivery) (act_of other depth delivery) (acts_frames delivery (included find depth delivery) (included other depth delivery) (included_frames depth delivery)) (script_of tree)
+  running_frames : (depth : ℕ) (delivery : Delivery) (program : Commands) → Frames (running find depth delivery program) (running other depth delivery program)
+  running_frames depth delivery program = exec_frames delivery (act_of find depth delivery) (act_of other depth delivery) (acts_frames delivery (included find depth delivery) (included other depth delivery) (included_frames depth delivery)) program
 
   -- VERDICTS
 
@@ -313,16 +321,16 @@ module _ (find other : ScriptName → Lookup) where
   main_lookup : (arrival : Arrival) (main : ScriptName) (lookup : Lookup) → is_looked_up main (verdict_at find arrival main lookup).lookups ≡ true
   main_lookup arrival main missing = or_first (name_eq main main) false (same_name main)
   main_lookup arrival main invalid = or_first (name_eq main main) false (same_name main)
-  main_lookup arrival main (present tree) =
-      subst (λ lookups. is_looked_up main lookups ≡ true) (sym (verdict_lookups (run_of find arrival main tree)))
-      ((running_frames include_depth (delivery_to arrival main) tree).grows (begun main) main (or_first (name_eq main main) false (same_name main)))
+  main_lookup arrival main (present program) =
+      subst (λ lookups. is_looked_up main lookups ≡ true) (sym (verdict_lookups (run_of find arrival main program)))
+      ((running_frames include_depth (delivery_to arrival main) program).grows (begun main) main (or_first (name_eq main main) false (same_name main)))
 
   verdict_same : (arrival : Arrival) (main : ScriptName) (lookup : Lookup) → AgreeOn (verdict_at find arrival main lookup).lookups → verdict_at other arrival main lookup ≡ verdict_at find arrival main lookup
   verdict_same arrival main missing agree = refl
   verdict_same arrival main invalid agree = refl
-  verdict_same arrival main (present tree) agree =
-      ap verdict_of ((running_frames include_depth (delivery_to arrival main) tree).same (begun main)
-      (λ name r. agree name (subst (λ lookups. is_looked_up name lookups ≡ true) (sym (verdict_lookups (run_of find arrival main tree))) r)))
+  verdict_same arrival main (present program) agree =
+      ap verdict_of ((running_frames include_depth (delivery_to arrival main) program).same (begun main)
+      (λ name r. agree name (subst (λ lookups. is_looked_up name lookups ≡ true) (sym (verdict_lookups (run_of find arrival main program))) r)))
 
   outcome_same : (main : Option ScriptName) (arrival : Arrival) → AgreeOn (outcome_of find main arrival).lookups → outcome_of other main arrival ≡ outcome_of find main arrival
   unfolding outcome_of

@@ -2,8 +2,7 @@
 use Rattle.std.proofs.Common.{◌≡◌, ℕ, zero, suc, Bool, true, false, ◌&&◌, Option, None, Some, List, ◌-◌, nat_lt, length, refl, sym, ap, ◌∙◌, arith}
 use Rattle.std.specs.Prelude.{if◌then◌else◌}
 use Rattle.sieve_limits.specs.Limits.{include_limit}
-use Rattle.sieve_reading.specs.Script.{script_of}
-use Rattle.sieve_reading.specs.Tree.{Node}
+use Rattle.sieve_reading.specs.Script.{Commands}
 use Rattle.sieve_code.specs.Operation.{Operation}
 use Rattle.sieve_code.specs.Walk.{code_walk}
 use Rattle.sieve_actions.specs.Delivery.{Delivery, inside}
@@ -22,14 +21,14 @@ use Rattle.sieve_variables.specs.Value.{Values}
 use Rattle.sieve_run.proofs.Performing.{by_found_code}
 
 abbrev Enter : Type 0
-Enter = Option (ScriptName → List Node → RunState → Ending)
+Enter = Option (ScriptName → Commands → RunState → Ending)
 
 module _ (find : ScriptName → Lookup) (delivery : Delivery) (name : ScriptName) (once optional : Bool) (line : ℕ) (s : RunState) where
   -- what an include does whatever runs a script, it does at each depth
   at_depth : (depth : ℕ) (e : Ending) → ((enter : Enter) → e ≡ include_of find delivery enter name once optional line s) → e ≡ included find depth delivery name once optional line s
   unfolding included
   at_depth zero e does = does None
-  at_depth (suc depth) e does = does (Some (λ script tree. exec (answer_of (inside script delivery)) (act_of find depth (inside script delivery)) (script_of tree)))
+  at_depth (suc depth) e does = does (Some (λ script program. exec (answer_of (inside script delivery)) (act_of find depth (inside script delivery)) program))
 
   at_once : (enter : Enter) (skips : Bool) → (once && is_script name s.entered) ≡ skips
       → (if skips then goes_on s else if is_running name delivery then fails_at delivery line RecursiveInclude s else includes find delivery enter name optional line s) ≡ include_of find delivery enter name once optional line s
@@ -63,7 +62,7 @@ module _ (find : ScriptName → Lookup) (delivery : Delivery) (name : ScriptName
   fails_many zero first second deep many = absurd (deep refl)
   fails_many (suc depth) first second deep many =
       sym (ap (λ b. if b then fails_at delivery line IncludeCount s else looks_up find depth delivery name optional line s) many)
-      ∙ at_running (Some (λ script tree. exec (answer_of (inside script delivery)) (act_of find depth (inside script delivery)) (script_of tree))) false first second
+      ∙ at_running (Some (λ script program. exec (answer_of (inside script delivery)) (act_of find depth (inside script delivery)) program)) false first second
 
   -- the script of any other include is looked up
   pub looks_included : (depth : ℕ) → (once && is_script name s.entered) ≡ false → is_running name delivery ≡ false → (depth ≡ 0 → ⊥) → nat_lt include_limit (length s.entered) ≡ false → looks_up find (depth - 1) delivery name optional line s ≡ included find depth delivery name once optional line s
@@ -72,7 +71,7 @@ module _ (find : ScriptName → Lookup) (delivery : Delivery) (name : ScriptName
   looks_included (suc depth) first second deep few =
       ap (λ n. looks_up find n delivery name optional line s) (omega arith)
       ∙ sym (ap (λ b. if b then fails_at delivery line IncludeCount s else looks_up find depth delivery name optional line s) few)
-      ∙ at_running (Some (λ script tree. exec (answer_of (inside script delivery)) (act_of find depth (inside script delivery)) (script_of tree))) false first second
+      ∙ at_running (Some (λ script program. exec (answer_of (inside script delivery)) (act_of find depth (inside script delivery)) program)) false first second
 
 -- an include isn't skipped without `:once`, nor where its script wasn't entered
 pub not_once : (once : Bool) (name : ScriptName) (entered : List ScriptName) → once ≡ false → (once && is_script name entered) ≡ false
@@ -90,7 +89,7 @@ not_entered once found name entered names are says is = by once (sym (says ∙ a
 has_text : (lookup : Lookup) (ops : List Operation) → HasCode lookup ops → is_there lookup ≡ true
 has_text missing ops has = absurd has
 has_text invalid ops has = absurd has
-has_text (present tree) ops has = refl
+has_text (present program) ops has = refl
 
 -- a script that is found is added to the names looked up, and runs
 pub looks_present : (find : ScriptName → Lookup) (depth : ℕ) (delivery : Delivery) (name : ScriptName) (optional : Bool) (line : ℕ) (ops : List Operation) (old new : RunState) (there : Bool) → HasCode (found_at find name) ops → there ≡ true

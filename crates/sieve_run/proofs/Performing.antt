@@ -1,9 +1,8 @@
 -- Doing the leaves of a script's walk is what running the script is.
 use Rattle.std.proofs.Common.{◌≡◌, ℕ, Bool, true, false, not, List, ◌∷◌, length, refl, ap, sym, ◌∙◌}
 use Rattle.sieve_reading.specs.Reading.{Ask, Leaf}
-use Rattle.sieve_reading.specs.Script.{Condition, always, never, asks, negated, both, either, Commands, no_commands, stops, returns, acts, chooses, script_of}
-use Rattle.sieve_reading.specs.Tree.{Node}
-use Rattle.sieve_code.specs.Walk.{Walk, at_end, by_stop, by_return, cut_off, asked, acted, code_walk, condition_walk, gone, commands_walk, tree_walk}
+use Rattle.sieve_reading.specs.Script.{Condition, always, never, asks, negated, all_hold, any_holds, Conditions, no_conditions, one_condition, Commands, no_commands, stops, returns, acts, chooses, Branches, no_branches, else_branch, test_branch}
+use Rattle.sieve_code.specs.Walk.{Walk, at_end, by_stop, by_return, cut_off, asked, acted, all_walk, any_walk, branches_walk, code_walk, condition_walk, gone, commands_walk, script_walk}
 use Rattle.sieve_code.specs.Operation.{Operation}
 use Rattle.sieve_limits.specs.Limits.{include_depth}
 use Rattle.sieve_code.specs.Compiles.{Compiles}
@@ -14,7 +13,7 @@ use Rattle.script_names.specs.declared.name.ScriptName.{ScriptName}
 use Rattle.sieve_run.specs.view.Include.{enters}
 use Rattle.sieve_run.specs.view.Step.{doing}
 use Rattle.sieve_actions.specs.Act.{Ending, goes_on, returned, stopped, failed}
-use Rattle.sieve_run.specs.Run.{Answer, also, or_else, act_of, and_then, answer_of, begun, chosen, decide, delivery_to, entering, exec, resumed, running, verdict_at, verdict_of, with_found_script}
+use Rattle.sieve_run.specs.Run.{Answer, also, or_else, act_of, and_then, answer_of, begun, chosen, decide, decide_all, decide_any, delivery_to, entering, exec, exec_branches, resumed, running, verdict_at, verdict_of, with_found_script}
 use Rattle.sieve_actions.specs.State.{RunState}
 
 module _ (ask : Ask → RunState → Answer) (act : Leaf → ℕ → RunState → Ending) where
@@ -33,19 +32,29 @@ module _ (ask : Ask → RunState → Answer) (act : Leaf → ℕ → RunState �
   either_by second first f g is true s = refl
   either_by second first f g is false s = is s
 
-  by_condition : (c : Condition) (so otherwise : Walk) (s : RunState) → perform ask act (condition_walk c so otherwise) s ≡ chosen (decide ask c s).truth (perform ask act so) (perform ask act otherwise) (decide ask c s).state
-  unfolding perform condition_walk decide
-  by_condition always so otherwise s = refl
-  by_condition never so otherwise s = refl
-  by_condition (asks a) so otherwise s = refl
-  by_condition (negated c) so otherwise s =
-      by_condition c otherwise so s ∙ other_way (decide ask c s).truth (perform ask act otherwise) (perform ask act so) (decide ask c s).state
-  by_condition (both c d) so otherwise s =
-      by_condition c (condition_walk d so otherwise) otherwise s
-      ∙ both_by (decide ask d) (perform ask act (condition_walk d so otherwise)) (perform ask act so) (perform ask act otherwise) (by_condition d so otherwise) (decide ask c s).truth (decide ask c s).state
-  by_condition (either c d) so otherwise s =
-      by_condition c so (condition_walk d so otherwise) s
-      ∙ either_by (decide ask d) (perform ask act (condition_walk d so otherwise)) (perform ask act so) (perform ask act otherwise) (by_condition d so otherwise) (decide ask c s).truth (decide ask c s).state
+  mutual
+    unfolding perform condition_walk all_walk any_walk decide decide_all decide_any
+
+    by_condition : (c : Condition) (so otherwise : Walk) (s : RunState) → perform ask act (condition_walk c so otherwise) s ≡ chosen (decide ask c s).truth (perform ask act so) (perform ask act otherwise) (decide ask c s).state
+    by_condition always so otherwise s = refl
+    by_condition never so otherwise s = refl
+    by_condition (asks a) so otherwise s = refl
+    by_condition (negated c) so otherwise s =
+        by_condition c otherwise so s ∙ other_way (decide ask c s).truth (perform ask act otherwise) (perform ask act so) (decide ask c s).state
+    by_condition (all_hold cs) so otherwise s = by_all cs so otherwise s
+    by_condition (any_holds cs) so otherwise s = by_any cs so otherwise s
+
+    by_all : (cs : Conditions) (so otherwise : Walk) (s : RunState) → perform ask act (all_walk cs so otherwise) s ≡ chosen (decide_all ask cs s).truth (perform ask act so) (perform ask act otherwise) (decide_all ask cs s).state
+    by_all no_conditions so otherwise s = refl
+    by_all (one_condition c cs) so otherwise s =
+        by_condition c (all_walk cs so otherwise) otherwise s
+        ∙ both_by (decide_all ask cs) (perform ask act (all_walk cs so otherwise)) (perform ask act so) (perform ask act otherwise) (by_all cs so otherwise) (decide ask c s).truth (decide ask c s).state
+
+    by_any : (cs : Conditions) (so otherwise : Walk) (s : RunState) → perform ask act (any_walk cs so otherwise) s ≡ chosen (decide_any ask cs s).truth (perform ask act so) (perform ask act otherwise) (decide_any ask cs s).state
+    by_any no_conditions so otherwise s = refl
+    by_any (one_condition c cs) so otherwise s =
+        by_condition c so (any_walk cs so otherwise) s
+        ∙ either_by (decide_any ask cs) (perform ask act (any_walk cs so otherwise)) (perform ask act so) (perform ask act otherwise) (by_any cs so otherwise) (decide ask c s).truth (decide ask c s).state
 
   -- COMMANDS
 
@@ -55,24 +64,29 @@ module _ (ask : Ask → RunState → Answer) (act : Leaf → ℕ → RunState �
   in_turn (stopped s) f g h is = refl
   in_turn (failed error s) f g h is = refl
 
-  choice_by : (f g block otherwise rest h : RunState → Ending) → ((s : RunState) → f s ≡ and_then (and_then (block s) rest) h) → ((s : RunState) → g s ≡ and_then (and_then (otherwise s) rest) h) → (truth : Bool) (s : RunState) → chosen truth f g s ≡ and_then (and_then (chosen truth block otherwise s) rest) h
-  choice_by f g block otherwise rest h then_is else_is true s = then_is s
-  choice_by f g block otherwise rest h then_is else_is false s = else_is s
+  choice_by : (f g block otherwise h : RunState → Ending) → ((s : RunState) → f s ≡ and_then (block s) h) → ((s : RunState) → g s ≡ and_then (otherwise s) h) → (truth : Bool) (s : RunState) → chosen truth f g s ≡ and_then (chosen truth block otherwise s) h
+  choice_by f g block otherwise h then_is else_is true s = then_is s
+  choice_by f g block otherwise h then_is else_is false s = else_is s
 
-  by_commands : (c : Commands) (next : Walk) (s : RunState) → perform ask act (commands_walk c next) s ≡ and_then (exec ask act c s) (perform ask act next)
-  unfolding perform commands_walk exec
-  by_commands no_commands next s = refl
-  by_commands (stops rest) next s = refl
-  by_commands (returns rest) next s = refl
-  by_commands (acts leaf line rest) next s =
-      in_turn (act leaf line s) (exec ask act rest) (perform ask act next) (perform ask act (commands_walk rest next)) (by_commands rest next)
-  by_commands (chooses condition block otherwise rest) next s =
-      let after : (e : Ending) → and_then e (perform ask act (commands_walk rest next)) ≡ and_then (and_then e (exec ask act rest)) (perform ask act next) = λ e. in_turn e (exec ask act rest) (perform ask act next) (perform ask act (commands_walk rest next)) (by_commands rest next)
-      in by_condition condition (commands_walk block (commands_walk rest next)) (commands_walk otherwise (commands_walk rest next)) s
-      ∙ choice_by (perform ask act (commands_walk block (commands_walk rest next))) (perform ask act (commands_walk otherwise (commands_walk rest next))) (exec ask act block) (exec ask act otherwise) (exec ask act rest) (perform ask act next)
-      (λ t. by_commands block (commands_walk rest next) t ∙ after (exec ask act block t))
-      (λ t. by_commands otherwise (commands_walk rest next) t ∙ after (exec ask act otherwise t))
-      (decide ask condition s).truth (decide ask condition s).state
+  mutual
+    unfolding perform commands_walk branches_walk exec exec_branches
+
+    by_commands : (c : Commands) (next : Walk) (s : RunState) → perform ask act (commands_walk c next) s ≡ and_then (exec ask act c s) (perform ask act next)
+    by_commands no_commands next s = refl
+    by_commands (stops rest) next s = refl
+    by_commands (returns rest) next s = refl
+    by_commands (acts leaf line rest) next s =
+        in_turn (act leaf line s) (exec ask act rest) (perform ask act next) (perform ask act (commands_walk rest next)) (by_commands rest next)
+    by_commands (chooses branches rest) next s =
+        by_branches branches (commands_walk rest next) s
+        ∙ in_turn (exec_branches ask act branches s) (exec ask act rest) (perform ask act next) (perform ask act (commands_walk rest next)) (by_commands rest next)
+
+    by_branches : (bs : Branches) (next : Walk) (s : RunState) → perform ask act (branches_walk bs next) s ≡ and_then (exec_branches ask act bs s) (perform ask act next)
+    by_branches no_branches next s = refl
+    by_branches (else_branch inner) next s = by_commands inner next s
+    by_branches (test_branch condition inner others) next s =
+        by_condition condition (commands_walk inner next) (branches_walk others next) s
+        ∙ choice_by (perform ask act (commands_walk inner next)) (perform ask act (branches_walk others next)) (exec ask act inner) (exec_branches ask act others) (perform ask act next) (by_commands inner next) (by_branches others next) (decide ask condition s).truth (decide ask condition s).state
 
   nothing_after : (e : Ending) → and_then e (perform ask act at_end) ≡ e
   unfolding perform
@@ -105,29 +119,29 @@ module _ (ask : Ask → RunState → Answer) (act : Leaf → ℕ → RunState �
   does_gone (asked a so otherwise) s = by_truth a so otherwise s (does_gone so) (does_gone otherwise) (ask a s).truth
   does_gone (acted leaf line next) s = by_leaf leaf line next s (does_gone next) (act leaf line s)
 
-  pub does_walk : (tree : List Node) (s : RunState) → exec ask act (script_of tree) s ≡ perform ask act (tree_walk tree) s
-  does_walk tree s = sym (by_commands (script_of tree) at_end s ∙ nothing_after (exec ask act (script_of tree) s))
+  pub does_walk : (program : Commands) (s : RunState) → exec ask act program s ≡ perform ask act (script_walk program) s
+  does_walk program s = sym (by_commands program at_end s ∙ nothing_after (exec ask act program s))
 
-  pub does_met : (tree : List Node) (s : RunState) → exec ask act (script_of tree) s ≡ do_gone ask act (gone (tree_walk tree) (answers_of ask act (tree_walk tree) s)) s
-  does_met tree s = does_walk tree s ∙ does_gone (tree_walk tree) s
+  pub does_met : (program : Commands) (s : RunState) → exec ask act program s ≡ do_gone ask act (gone (script_walk program) (answers_of ask act (script_walk program) s)) s
+  does_met program s = does_walk program s ∙ does_gone (script_walk program) s
 
 pub ruleset walking = (does_walk, does_met)
 
 -- doing the code of the running script is running the script
-pub by_running_code : (find : ScriptName → Lookup) (depth : ℕ) (delivery : Delivery) (tree : List Node) (ops : List Operation) (s : RunState) → Compiles tree ops → doing (act_of find depth delivery) delivery (code_walk ops (length ops)) s ≡ running find depth delivery tree s
-by_running_code find depth delivery tree ops s has =
-    ap (λ w. doing (act_of find depth delivery) delivery w s) has.does ∙ sym (does_walk (answer_of delivery) (act_of find depth delivery) tree s)
+pub by_running_code : (find : ScriptName → Lookup) (depth : ℕ) (delivery : Delivery) (program : Commands) (ops : List Operation) (s : RunState) → Compiles program ops → doing (act_of find depth delivery) delivery (code_walk ops (length ops)) s ≡ running find depth delivery program s
+by_running_code find depth delivery program ops s has =
+    ap (λ w. doing (act_of find depth delivery) delivery w s) has.does ∙ sym (does_walk (answer_of delivery) (act_of find depth delivery) program s)
 
 -- the verdict of doing the code of the main script is the verdict on that script
 pub by_code : (find : ScriptName → Lookup) (arrival : Arrival) (main : ScriptName) (lookup : Lookup) (ops : List Operation) → HasCode lookup ops
     → verdict_of (doing (act_of find include_depth (delivery_to arrival main)) (delivery_to arrival main) (code_walk ops (length ops)) (begun main)) ≡ verdict_at find arrival main lookup
 by_code find arrival main missing ops has = absurd has
 by_code find arrival main invalid ops has = absurd has
-by_code find arrival main (present tree) ops has = ap verdict_of (by_running_code find include_depth (delivery_to arrival main) tree ops (begun main) has)
+by_code find arrival main (present program) ops has = ap verdict_of (by_running_code find include_depth (delivery_to arrival main) program ops (begun main) has)
 
 -- entering a script by its code is what an include does with the script that is found
 pub by_found_code : (find : ScriptName → Lookup) (depth : ℕ) (delivery : Delivery) (name : ScriptName) (optional : Bool) (line : ℕ) (lookup : Lookup) (ops : List Operation) (s : RunState) → HasCode lookup ops
-    → enters find depth delivery name ops s ≡ with_found_script delivery optional line (λ tree. running find depth (inside name delivery) tree) name lookup s
+    → enters find depth delivery name ops s ≡ with_found_script delivery optional line (λ program. running find depth (inside name delivery) program) name lookup s
 by_found_code find depth delivery name optional line missing ops s has = absurd has
 by_found_code find depth delivery name optional line invalid ops s has = absurd has
-by_found_code find depth delivery name optional line (present tree) ops s has = ap (resumed s.values) (by_running_code find depth (inside name delivery) tree ops (entering name s) has)
+by_found_code find depth delivery name optional line (present program) ops s has = ap (resumed s.values) (by_running_code find depth (inside name delivery) program ops (entering name s) has)

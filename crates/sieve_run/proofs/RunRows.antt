@@ -2,10 +2,8 @@
 -- say of actions.
 use Rattle.std.proofs.Common.{◌≡◌, true, false, List, [], ◌∷◌, length, nat_lt, if◌then◌else◌, None, Some, refl, ap, codes}
 use Rattle.std.specs.List.{IsDistinct}
-use Rattle.sieve_reading.specs.Script.{chain_of, chain_with, block_commands, conditions_in}
-use Rattle.sieve_table.specs.Table.{command_named}
+use Rattle.sieve_reading.specs.Script.{Commands, no_commands}
 use Rattle.sieve_variables.specs.Value.{begun_values, no_values}
-use Rattle.sieve_reading.specs.Tree.{Node}
 use Rattle.script_names.specs.declared.location.Location.TheVariants.{Personal}
 use Rattle.sieve_limits.specs.Limits.{name_limit}
 use Rattle.script_names.specs.Name.{name_eq}
@@ -38,8 +36,8 @@ envelope = record { from = []; to = []; mailbox = codes "INBOX"; mailboxes = [];
 -- WATCHED RUNS
 
 -- a library that has one script
-abbrev having : ScriptName → List Node → ScriptName → Lookup
-having name tree asked = if name_eq name asked then present tree else missing
+abbrev having : ScriptName → Commands → ScriptName → Lookup
+having name program asked = if name_eq name asked then present program else missing
 
 -- the state of a run that has entered "a" too
 abbrev entered_a : RunState
@@ -53,11 +51,11 @@ abbrev nine : List ScriptName
 nine = script_b ∷ script_b ∷ script_b ∷ script_b ∷ script_b ∷ script_b ∷ script_b ∷ script_b ∷ script_b ∷ []
 
 -- where a run is watched, a script that ten include is run, and one that eleven include isn't
-watched_row : (beyond : Delivery → List Node → RunState → Ending) → watched_include beyond (having script_a []) 1 (under nine) script_a false false 2 (begun main) ≡ goes_on entered_a
-unfolding exec included watched_include chain_of chain_with block_commands conditions_in command_named
+watched_row : (beyond : Delivery → Commands → RunState → Ending) → watched_include beyond (having script_a no_commands) 1 (under nine) script_a false false 2 (begun main) ≡ goes_on entered_a
+unfolding exec included watched_include
 watched_row beyond = refl
 
-beyond_row : (beyond : Delivery → List Node → RunState → Ending) → watched_include beyond (having script_a []) 1 (under (script_b ∷ nine)) script_a false false 2 (begun main) ≡ resumed no_values (beyond (inside script_a (under (script_b ∷ nine))) [] (record entered_a { values = begun_values no_values }))
+beyond_row : (beyond : Delivery → Commands → RunState → Ending) → watched_include beyond (having script_a no_commands) 1 (under (script_b ∷ nine)) script_a false false 2 (begun main) ≡ resumed no_values (beyond (inside script_a (under (script_b ∷ nine))) no_commands (record entered_a { values = begun_values no_values }))
 unfolding watched_include
 beyond_row beyond = refl
 

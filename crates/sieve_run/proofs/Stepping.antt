@@ -1,15 +1,14 @@
 -- What single operations do of what is left to do.
-use Rattle.std.proofs.Common.{◌≡◌, ℕ, ◌+◌, ◌<◌, ◌≤◌, ◌-◌, zero, suc, Bool, true, false, Option, Some, None, Result, Ok, Err, IfOk, List, length, refl, ap, sym, ◌∙◌, arith, subst}
+use Rattle.std.proofs.Common.{◌≡◌, ℕ, ◌+◌, ◌<◌, ◌≤◌, ◌-◌, zero, suc, Bool, true, false, Option, Some, None, Result, IfOk, List, length, refl, ap, sym, ◌∙◌, arith, subst}
 use Rattle.std.proofs.lemmas.Option.{slice_get_past}
 use Rattle.std.proofs.lemmas.Result.{IfOk-at_ok, IfOk-weaker}
 use Rattle.std.specs.Prelude.{slice_get}
-use Rattle.sieve_reading.specs.Reading.{Ask, Leaf, exists_ask, mailboxes_ask}
-use Rattle.sieve_variables.specs.Part.{Part}
+use Rattle.sieve_reading.specs.Reading.{Ask, Leaf}
 use Rattle.sieve_code.specs.Operation.{Operation, test_op, act_op, stop_op, return_op}
 use Rattle.sieve_code.specs.Walk as walk
 use Rattle.sieve_code.specs.Walk.{Walk, at_limit, code_walk, walk_from}
 use Rattle.sieve_actions.specs.Delivery.{Delivery}
-use Rattle.sieve_matching.specs.Matching.{after_test, truth_of, values_after}
+use Rattle.sieve_matching.specs.Matching.{after_test, truth_of}
 use Rattle.sieve_run.specs.Perform.{perform}
 use Rattle.sieve_actions.specs.Act.{goes_on}
 use Rattle.sieve_run.specs.Run.{and_then, chosen}
@@ -74,28 +73,6 @@ module _ (act : Acts) (delivery : Delivery) where
       (subst (λ r. StepsTo act delivery (test_op ask) after register old r new) (sym f.2)
       (asks_steps ask f.0 after register old new (IfOk-at_ok (λ t. t ≡ truth_of delivery old ask) f.1 truth) (IfOk-at_ok (λ _. new ≡ after_test delivery ask old) f.1 moves))))
       follows
-
-  -- a test that sets no match variables leaves the state
-  still : {E : Type 0} (called : Result Bool E) (old new : RunState) → old ≡ new → IfOk called (λ _. old ≡ new)
-  still (Ok truth) old new same = same
-  still (Err error) old new same = tt
-
-  pub exists_follow : {E : Type 0} (names : List (List Part)) (op : Operation) (called : Result Bool E) (step : Result Step E) (after : ℕ) (register : Bool) (s : RunState) → op ≡ test_op (exists_ask names)
-      → IfOk called (λ truth. truth ≡ truth_of delivery s (exists_ask names)) → IfOk step (Follows called (λ truth. Next after truth))
-      → IfOk step (λ taken. StepsTo act delivery op after register s taken s)
-  unfolding values_after
-  exists_follow names op called step after register s is truth follows = asks_follow (exists_ask names) op called step after register s s is truth (still called s s refl) follows
-
-  pub mailboxes_follow : {E : Type 0} (names : List (List Part)) (op : Operation) (called : Result Bool E) (step : Result Step E) (after : ℕ) (register : Bool) (s : RunState) → op ≡ test_op (mailboxes_ask names)
-      → IfOk called (λ truth. truth ≡ truth_of delivery s (mailboxes_ask names)) → IfOk step (Follows called (λ truth. Next after truth))
-      → IfOk step (λ taken. StepsTo act delivery op after register s taken s)
-  unfolding values_after
-  mailboxes_follow names op called step after register s is truth follows = asks_follow (mailboxes_ask names) op called step after register s s is truth (still called s s refl) follows
-
-  pub size_steps : (ask : Ask) (op : Operation) (truth : Bool) (step : Step) (after : ℕ) (register : Bool) (s : RunState) → op ≡ test_op ask → truth ≡ truth_of delivery s ask → s ≡ after_test delivery ask s → step ≡ Next after truth → StepsTo act delivery op after register s step s
-  size_steps ask op truth step after register s is says stays to =
-      subst (λ o. StepsTo act delivery o after register s step s) (sym is)
-      (subst (λ r. StepsTo act delivery (test_op ask) after register s r s) (sym to) (asks_steps ask truth after register s s says stays))
 
   pub acts_follow : {E : Type 0} (leaf : Leaf) (line : ℕ) (op : Operation) (called : Result Flow E) (step : Result Step E) (after : ℕ) (register : Bool) (old new : RunState) → op ≡ act_op leaf line
       → IfOk called (λ flow. ending_by flow new ≡ act leaf line old) → IfOk step (Follows called (λ flow. step_after flow after register))

@@ -4,11 +4,11 @@ use Rattle.std.specs.Prelude.{if◌then◌else◌}
 use Rattle.sieve_reading.specs.Reading.{Ask, Leaf, compares, exists_ask, over_ask, under_ask, mailboxes_ask, duplicate_ask}
 use Rattle.sieve_reading.specs.declared.reading.MatchType.{MatchType}
 use Rattle.sieve_reading.specs.declared.reading.MatchType.TheVariants.{Is, Contains, Matches, Value, Count}
-use Rattle.sieve_reading.specs.Script.{Condition, always, never, asks, negated, both, either, Commands, stops, returns}
+use Rattle.sieve_reading.specs.Script.{Condition, always, never, asks, negated, all_hold, any_holds, Conditions, no_conditions, one_condition, Commands, stops, returns}
 use Rattle.sieve_actions.specs.Delivery.{Delivery}
 use Rattle.sieve_matching.specs.Matching.{after_test, match_found, sets_matched, values_after, with_found}
 use Rattle.sieve_actions.specs.Act.{Ending, returned, stopped}
-use Rattle.sieve_run.specs.Run.{SetsMatched, Answer, and_then, answer_of, also, or_else, decide, exec}
+use Rattle.sieve_run.specs.Run.{SetsMatched, Answer, and_then, answer_of, also, or_else, decide, decide_all, decide_any, exec}
 use Rattle.sieve_actions.specs.State.{RunState}
 use Rattle.sieve_variables.specs.Value.{with_matched}
 
@@ -50,16 +50,26 @@ ask_keeps delivery (mailboxes_ask names) state = (state.values.matched, refl)
 ask_keeps delivery duplicate_ask state = (state.values.matched, refl)
 
 -- tests set match variables at most
-pub decide_keeps : (delivery : Delivery) (c : Condition) (state : RunState) → SetsMatched state (decide (answer_of delivery) c state).state
-unfolding decide
-decide_keeps delivery always state = (state.values.matched, refl)
-decide_keeps delivery never state = (state.values.matched, refl)
-decide_keeps delivery (asks ask) state = ask_keeps delivery ask state
-decide_keeps delivery (negated c) state = decide_keeps delivery c state
-decide_keeps delivery (both c d) state =
-    also_keeps (decide (answer_of delivery) c state).truth (decide (answer_of delivery) d) state (decide (answer_of delivery) c state).state (decide_keeps delivery d) (decide_keeps delivery c state)
-decide_keeps delivery (either c d) state =
-    or_else_keeps (decide (answer_of delivery) c state).truth (decide (answer_of delivery) d) state (decide (answer_of delivery) c state).state (decide_keeps delivery d) (decide_keeps delivery c state)
+mutual
+  unfolding decide decide_all decide_any
+
+  pub decide_keeps : (delivery : Delivery) (c : Condition) (state : RunState) → SetsMatched state (decide (answer_of delivery) c state).state
+  decide_keeps delivery always state = (state.values.matched, refl)
+  decide_keeps delivery never state = (state.values.matched, refl)
+  decide_keeps delivery (asks ask) state = ask_keeps delivery ask state
+  decide_keeps delivery (negated c) state = decide_keeps delivery c state
+  decide_keeps delivery (all_hold cs) state = all_keep delivery cs state
+  decide_keeps delivery (any_holds cs) state = any_keeps delivery cs state
+
+  all_keep : (delivery : Delivery) (cs : Conditions) (state : RunState) → SetsMatched state (decide_all (answer_of delivery) cs state).state
+  all_keep delivery no_conditions state = (state.values.matched, refl)
+  all_keep delivery (one_condition c cs) state =
+      also_keeps (decide (answer_of delivery) c state).truth (decide_all (answer_of delivery) cs) state (decide (answer_of delivery) c state).state (all_keep delivery cs) (decide_keeps delivery c state)
+
+  any_keeps : (delivery : Delivery) (cs : Conditions) (state : RunState) → SetsMatched state (decide_any (answer_of delivery) cs state).state
+  any_keeps delivery no_conditions state = (state.values.matched, refl)
+  any_keeps delivery (one_condition c cs) state =
+      or_else_keeps (decide (answer_of delivery) c state).truth (decide_any (answer_of delivery) cs) state (decide (answer_of delivery) c state).state (any_keeps delivery cs) (decide_keeps delivery c state)
 
 -- nothing after a stop is run
 pub stop_ends : (ask : Ask → RunState → Answer) (act : Leaf → ℕ → RunState → Ending) (rest : Commands) (after : RunState → Ending) (state : RunState) → and_then (exec ask act (stops rest) state) after ≡ stopped state

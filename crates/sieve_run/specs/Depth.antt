@@ -1,8 +1,7 @@
 -- How deep scripts include one another, counted by those that include the running one (RFC 6609, section 3.1).
-use Rattle.std.specs.Prelude.{ℕ, zero, suc, ◌-◌, ◌≤◌, Bool, List, length, Option, None, Some, if◌then◌else◌, nat_lt}
+use Rattle.std.specs.Prelude.{ℕ, zero, suc, ◌-◌, ◌≤◌, Bool, length, Option, None, Some, if◌then◌else◌, nat_lt}
 use Rattle.sieve_limits.specs.Limits.{include_depth}
-use Rattle.sieve_reading.specs.Script.{script_of}
-use Rattle.sieve_reading.specs.Tree.{Node}
+use Rattle.sieve_reading.specs.Script.{Commands}
 use Rattle.sieve_actions.specs.Delivery.{Arrival, Delivery, inside}
 use Rattle.sieve_run.specs.Library.{Lookup}
 use Rattle.sieve_actions.specs.Act.{Ending, act_by}
@@ -15,7 +14,7 @@ abbrev pub depth_left : Delivery → ℕ
 depth_left delivery = include_depth - length delivery.including
 
 -- how a script is entered that the running one includes, if it may be
-abbrev pub entered_within : (ScriptName → Lookup) → Delivery → Option (ScriptName → List Node → RunState → Ending)
+abbrev pub entered_within : (ScriptName → Lookup) → Delivery → Option (ScriptName → Commands → RunState → Ending)
 entered_within find delivery =
     if nat_lt (length delivery.including) include_depth then Some (λ name. running find (depth_left (inside name delivery)) (inside name delivery)) else None
 
@@ -25,18 +24,18 @@ IsDeepest delivery = include_depth ≤ length delivery.including
 
 -- A RUN THAT IS WATCHED
 
--- What a script does whose includes do this, where this is its tree. A script that more include than may isn't run: what `beyond` does
+-- What a script does whose includes do this, where this is its abstract script. A script that more include than may isn't run: what `beyond` does
 -- comes in its place, whatever that is.
-abbrev pub watched : (beyond : Delivery → List Node → RunState → Ending) → (include : ScriptName → (once optional : Bool) → ℕ → RunState → Ending) → Delivery → List Node → RunState → Ending
-watched beyond include delivery tree state =
-    if nat_lt include_depth (length delivery.including) then beyond delivery tree state else exec (answer_of delivery) (act_by include delivery) (script_of tree) state
+abbrev pub watched : (beyond : Delivery → Commands → RunState → Ending) → (include : ScriptName → (once optional : Bool) → ℕ → RunState → Ending) → Delivery → Commands → RunState → Ending
+watched beyond include delivery program state =
+    if nat_lt include_depth (length delivery.including) then beyond delivery program state else exec (answer_of delivery) (act_by include delivery) program state
 
 -- what an include does, where scripts may still include one another so deep and each that is entered is watched
-unfoldable pub watched_include : (beyond : Delivery → List Node → RunState → Ending) → (ScriptName → Lookup) → (depth : ℕ) → Delivery → ScriptName → (once optional : Bool) → ℕ → RunState → Ending
+unfoldable pub watched_include : (beyond : Delivery → Commands → RunState → Ending) → (ScriptName → Lookup) → (depth : ℕ) → Delivery → ScriptName → (once optional : Bool) → ℕ → RunState → Ending
 watched_include beyond find zero delivery name once optional line state = include_of find delivery None name once optional line state
 watched_include beyond find (suc depth) delivery name once optional line state =
-    include_of find delivery (Some (λ script tree. watched beyond (watched_include beyond find depth (inside script delivery)) (inside script delivery) tree)) name once optional line state
+    include_of find delivery (Some (λ script program. watched beyond (watched_include beyond find depth (inside script delivery)) (inside script delivery) program)) name once optional line state
 
 -- what the main script does, watched with all the scripts below it
-abbrev pub watched_run : (beyond : Delivery → List Node → RunState → Ending) → (ScriptName → Lookup) → Arrival → ScriptName → List Node → Ending
-watched_run beyond find arrival main tree = watched beyond (watched_include beyond find include_depth (delivery_to arrival main)) (delivery_to arrival main) tree (begun main)
+abbrev pub watched_run : (beyond : Delivery → Commands → RunState → Ending) → (ScriptName → Lookup) → Arrival → ScriptName → Commands → Ending
+watched_run beyond find arrival main program = watched beyond (watched_include beyond find include_depth (delivery_to arrival main)) (delivery_to arrival main) program (begun main)

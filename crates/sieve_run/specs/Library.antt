@@ -1,28 +1,28 @@
 -- What a library has at a name, by its profile and the text there.
 use Rattle.std.specs.Prelude.{ℕ, List, length, Option, None, Some, if◌then◌else◌, nat_lt}
+use Rattle.sieve_reading.specs.Script.{Commands}
 use Rattle.sieve_limits.specs.Limits.{text_limit, name_limit}
 use Rattle.sieve_profile.specs.Profile.{Profile}
 use Rattle.sieve_check.specs.Judgement.{Judgement, judgement_of, sound, faulty}
-use Rattle.sieve_reading.specs.Tree.{Node}
 use Rattle.sieve_code.specs.Compiles.{Compiles}
 use Rattle.sieve_code.specs.Operation.{Operation}
 use Rattle.script_names.specs.declared.name.ScriptName.{ScriptName}
 
--- nothing, a text with a fault, or the tree of a text without one
+-- nothing, a text with a fault, or the abstract script of a text without one
 pub data Lookup : Type 0 where
   missing : Lookup
   invalid : Lookup
-  present : (tree : List Node) → Lookup
+  present : (program : Commands) → Lookup
 
--- what is there is a tree, and these operations are its code
+-- what is there is a script, and these operations are its code
 abbrev pub HasCode : Lookup → List Operation → Type 0
 HasCode missing ops = ⊥
 HasCode invalid ops = ⊥
-HasCode (present tree) ops = Compiles tree ops
+HasCode (present program) ops = Compiles program ops
 
 -- a text with a fault is invalid
 abbrev pub lookup_of_judgement : Judgement → Lookup
-lookup_of_judgement (sound tree) = present tree
+lookup_of_judgement (sound program) = present program
 lookup_of_judgement (faulty line kind) = invalid
 
 -- what there is under a profile where this text is, or none; a text past the limit counts as faulty

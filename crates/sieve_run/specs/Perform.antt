@@ -7,7 +7,7 @@ use Rattle.sieve_actions.specs.Act.{Ending, goes_on, returned, stopped, failed}
 use Rattle.sieve_run.specs.Run.{Answer, and_then, chosen}
 use Rattle.sieve_actions.specs.State.{RunState}
 
--- `ask` says what tests ask, whose truth is the walk's next answer, and `act` what commands do that act; no walk of a tree is
+-- `ask` says what tests ask, whose truth is the walk's next answer, and `act` what commands do that act; no walk of a script is
 -- cut off
 unfoldable pub perform : (Ask → RunState → Answer) → (Leaf → ℕ → RunState → Ending) → Walk → RunState → Ending
 perform ask act at_end state = goes_on state

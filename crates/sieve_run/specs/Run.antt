@@ -3,8 +3,7 @@ use Rattle.std.specs.Prelude.{◌≡◌, ℕ, List, [], ◌∷◌, ◌++◌, zer
 use Rattle.std.specs.List.{list_any}
 use Rattle.sieve_limits.specs.Limits.{include_depth, include_limit}
 use Rattle.sieve_reading.specs.Reading.{Ask, Leaf}
-use Rattle.sieve_reading.specs.Script.{Condition, always, never, asks, negated, both, either, Commands, no_commands, stops, returns, acts, chooses, script_of}
-use Rattle.sieve_reading.specs.Tree.{Node}
+use Rattle.sieve_reading.specs.Script.{Condition, always, never, asks, negated, all_hold, any_holds, Conditions, no_conditions, one_condition, Commands, no_commands, stops, returns, acts, chooses, Branches, no_branches, else_branch, test_branch}
 use Rattle.script_names.specs.declared.name.ScriptName.{ScriptName}
 use Rattle.sieve_actions.specs.Act.{Ending, goes_on, returned, stopped, failed, fails_at, act_by}
 use Rattle.sieve_actions.specs.declared.error.ErrorKind.TheVariants.{MissingScript, InvalidScript, RecursiveInclude, IncludeDepth, IncludeCount}
@@ -50,32 +49,48 @@ abbrev pub or_else : Bool → (RunState → Answer) → RunState → Answer
 or_else true second state = record { truth = true; state = state }
 or_else false second state = second state
 
--- A condition, where `ask` says what is asked: true (RFC 5228, section 5.10), false (section 5.6), not (section 5.8), allof
--- (section 5.2) and anyof (section 5.3). It goes from left to right and no further than needed (RFC 5229, section 3.2).
-unfoldable pub decide : (Ask → RunState → Answer) → Condition → RunState → Answer
-decide ask always state = record { truth = true; state = state }
-decide ask never state = record { truth = false; state = state }
-decide ask (asks a) state = ask a state
-decide ask (negated c) state = inverted (decide ask c state)
-decide ask (both c d) state = also (decide ask c state).truth (decide ask d) (decide ask c state).state
-decide ask (either c d) state = or_else (decide ask c state).truth (decide ask d) (decide ask c state).state
+unfoldable mutual
+  -- A condition, where `ask` says what is asked: true (RFC 5228, section 5.10), false (section 5.6), not (section 5.8), allof
+  -- (section 5.2) and anyof (section 5.3). It goes from left to right and no further than needed (RFC 5229, section 3.2).
+  pub decide : (Ask → RunState → Answer) → Condition → RunState → Answer
+  decide ask always state = record { truth = true; state = state }
+  decide ask never state = record { truth = false; state = state }
+  decide ask (asks a) state = ask a state
+  decide ask (negated c) state = inverted (decide ask c state)
+  decide ask (all_hold cs) state = decide_all ask cs state
+  decide ask (any_holds cs) state = decide_any ask cs state
+
+  pub decide_all : (Ask → RunState → Answer) → Conditions → RunState → Answer
+  decide_all ask no_conditions state = record { truth = true; state = state }
+  decide_all ask (one_condition c cs) state = also (decide ask c state).truth (decide_all ask cs) (decide ask c state).state
+
+  pub decide_any : (Ask → RunState → Answer) → Conditions → RunState → Answer
+  decide_any ask no_conditions state = record { truth = false; state = state }
+  decide_any ask (one_condition c cs) state = or_else (decide ask c state).truth (decide_any ask cs) (decide ask c state).state
 
 -- COMMANDS
 
--- the block of two that a truth chooses (RFC 5228, section 3.1)
+-- the block, or what the other branches do, by a truth (RFC 5228, section 3.1)
 abbrev pub chosen : Bool → (RunState → Ending) → (RunState → Ending) → RunState → Ending
 chosen true block otherwise state = block state
 chosen false block otherwise state = otherwise state
 
--- What a list of commands does, where `ask` says what tests ask and `act` what commands do that act: stop (RFC 5228, section
--- 3.3), return (RFC 6609, section 3.3), and if with its branches (RFC 5228, section 3.1).
-unfoldable pub exec : (Ask → RunState → Answer) → (Leaf → ℕ → RunState → Ending) → Commands → RunState → Ending
-exec ask act no_commands state = goes_on state
-exec ask act (stops rest) state = stopped state
-exec ask act (returns rest) state = returned state
-exec ask act (acts leaf line rest) state = and_then (act leaf line state) (exec ask act rest)
-exec ask act (chooses condition block otherwise rest) state =
-    and_then (chosen (decide ask condition state).truth (exec ask act block) (exec ask act otherwise) (decide ask condition state).state) (exec ask act rest)
+unfoldable mutual
+  -- What a list of commands does, where `ask` says what tests ask and `act` what commands do that act: stop (RFC 5228, section
+  -- 3.3), return (RFC 6609, section 3.3), and if with its branches (RFC 5228, section 3.1).
+  pub exec : (Ask → RunState → Answer) → (Leaf → ℕ → RunState → Ending) → Commands → RunState → Ending
+  exec ask act no_commands state = goes_on state
+  exec ask act (stops rest) state = stopped state
+  exec ask act (returns rest) state = returned state
+  exec ask act (acts leaf line rest) state = and_then (act leaf line state) (exec ask act rest)
+  exec ask act (chooses branches rest) state = and_then (exec_branches ask act branches state) (exec ask act rest)
+
+  -- what branches do: the first block whose condition holds, or that of the `else`, or nothing
+  pub exec_branches : (Ask → RunState → Answer) → (Leaf → ℕ → RunState → Ending) → Branches → RunState → Ending
+  exec_branches ask act no_branches state = goes_on state
+  exec_branches ask act (else_branch inner) state = exec ask act inner state
+  exec_branches ask act (test_branch condition inner others) state =
+      chosen (decide ask condition state).truth (exec ask act inner) (exec_branches ask act others) (decide ask condition state).state
 
 -- INCLUDED SCRIPTS
 
@@ -91,7 +106,7 @@ is_running name delivery = name_eq name delivery.script || is_script name delive
 abbrev pub is_there : Lookup → Bool
 is_there missing = false
 is_there invalid = true
-is_there (present tree) = true
+is_there (present program) = true
 
 -- whether a name is among those looked up
 abbrev pub is_looked_up : ScriptName → List (ScriptName × Bool) → Bool
@@ -121,13 +136,13 @@ resumed before (stopped state) = stopped (resuming before state)
 resumed before (failed error state) = failed error (resuming before state)
 
 -- What an include does with what is found at its name: a script that may be missing does nothing then. `enter` runs a script.
-abbrev pub with_found_script : Delivery → (optional : Bool) → ℕ → (enter : List Node → RunState → Ending) → ScriptName → Lookup → RunState → Ending
+abbrev pub with_found_script : Delivery → (optional : Bool) → ℕ → (enter : Commands → RunState → Ending) → ScriptName → Lookup → RunState → Ending
 with_found_script delivery optional line enter name missing state = if optional then goes_on state else fails_at delivery line MissingScript state
 with_found_script delivery optional line enter name invalid state = fails_at delivery line InvalidScript state
-with_found_script delivery optional line enter name (present tree) state = resumed state.values (enter tree (entering name state))
+with_found_script delivery optional line enter name (present program) state = resumed state.values (enter program (entering name state))
 
 -- an include that isn't too deep is one too many where so many scripts were entered, beside the main one; else its name is looked up
-abbrev pub includes : (ScriptName → Lookup) → Delivery → (enter : Option (ScriptName → List Node → RunState → Ending)) → ScriptName → (optional : Bool) → ℕ → RunState → Ending
+abbrev pub includes : (ScriptName → Lookup) → Delivery → (enter : Option (ScriptName → Commands → RunState → Ending)) → ScriptName → (optional : Bool) → ℕ → RunState → Ending
 includes find delivery None name optional line state = fails_at delivery line IncludeDepth state
 includes find delivery (Some enter) name optional line state =
     if nat_lt include_limit (length state.entered) then fails_at delivery line IncludeCount state else
@@ -135,7 +150,7 @@ includes find delivery (Some enter) name optional line state =
 
 -- What an include does, where `enter` runs a script, if one may be included so deep (RFC 6609, section 3.2): under `:once` nothing
 -- where the script was entered; an error where it runs.
-abbrev pub include_of : (ScriptName → Lookup) → Delivery → (enter : Option (ScriptName → List Node → RunState → Ending)) → ScriptName → (once optional : Bool) → ℕ → RunState → Ending
+abbrev pub include_of : (ScriptName → Lookup) → Delivery → (enter : Option (ScriptName → Commands → RunState → Ending)) → ScriptName → (once optional : Bool) → ℕ → RunState → Ending
 include_of find delivery enter name once optional line state =
     if once && is_script name state.entered then goes_on state else
     if is_running name delivery then fails_at delivery line RecursiveInclude state else includes find delivery enter name optional line state
@@ -144,15 +159,15 @@ include_of find delivery enter name once optional line state =
 unfoldable pub included : (ScriptName → Lookup) → (depth : ℕ) → Delivery → ScriptName → (once optional : Bool) → ℕ → RunState → Ending
 included find zero delivery name once optional line state = include_of find delivery None name once optional line state
 included find (suc depth) delivery name once optional line state =
-    include_of find delivery (Some (λ script tree. exec (answer_of (inside script delivery)) (act_by (included find depth (inside script delivery)) (inside script delivery)) (script_of tree))) name once optional line state
+    include_of find delivery (Some (λ script program. exec (answer_of (inside script delivery)) (act_by (included find depth (inside script delivery)) (inside script delivery)) program)) name once optional line state
 
 -- what a command does that acts
 abbrev pub act_of : (ScriptName → Lookup) → (depth : ℕ) → Delivery → Leaf → ℕ → RunState → Ending
 act_of find depth delivery = act_by (included find depth delivery) delivery
 
--- what the script does that runs, where this is its tree
-abbrev pub running : (ScriptName → Lookup) → (depth : ℕ) → Delivery → List Node → RunState → Ending
-running find depth delivery tree = exec (answer_of delivery) (act_of find depth delivery) (script_of tree)
+-- what the script does that runs, where this is its abstract script
+abbrev pub running : (ScriptName → Lookup) → (depth : ℕ) → Delivery → Commands → RunState → Ending
+running find depth delivery program = exec (answer_of delivery) (act_of find depth delivery) program
 
 -- THE VERDICT
 
@@ -178,14 +193,14 @@ abbrev pub delivery_to : Arrival → ScriptName → Delivery
 delivery_to arrival main = record { arrival = arrival; script = main; including = [] }
 
 -- what the main script does
-abbrev pub run_of : (ScriptName → Lookup) → Arrival → ScriptName → List Node → Ending
-run_of find arrival main tree = running find include_depth (delivery_to arrival main) tree (begun main)
+abbrev pub run_of : (ScriptName → Lookup) → Arrival → ScriptName → Commands → Ending
+run_of find arrival main program = running find include_depth (delivery_to arrival main) program (begun main)
 
 -- the verdict where the main script is this
 abbrev pub verdict_at : (ScriptName → Lookup) → Arrival → ScriptName → Lookup → Verdict
 verdict_at find arrival main missing = record { entries = []; implicit = Some []; error = Some (record { script = main; line = 0; kind = MissingScript }); lookups = (main, false) ∷ [] }
 verdict_at find arrival main invalid = record { entries = []; implicit = Some []; error = Some (record { script = main; line = 0; kind = InvalidScript }); lookups = (main, true) ∷ [] }
-verdict_at find arrival main (present tree) = verdict_of (run_of find arrival main tree)
+verdict_at find arrival main (present program) = verdict_of (run_of find arrival main program)
 
 -- the verdict on a message, and the names that it looked up, over a library
 unfoldable pub outcome_of : (ScriptName → Lookup) → Option ScriptName → Arrival → Verdict

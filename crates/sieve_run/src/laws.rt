@@ -3,9 +3,8 @@
 ghost use Rattle.std.specs.Prelude.{◌≡◌, ◌≤◌, ◌++◌, ℕ, suc, Bool, true, not, List, Option, filter, length};
 ghost use Rattle.std.specs.List.{list_any};
 ghost use Rattle.sieve_reading.specs.Reading.{Ask, Leaf};
-ghost use Rattle.sieve_reading.specs.Script.{Commands, Condition, returns, script_of, stops};
-ghost use Rattle.sieve_reading.specs.Tree.{Node};
-ghost use Rattle.sieve_code.specs.Walk.{gone, tree_walk};
+ghost use Rattle.sieve_reading.specs.Script.{Commands, Condition, returns, stops};
+ghost use Rattle.sieve_code.specs.Walk.{gone, script_walk};
 ghost use Rattle.sieve_limits.specs.Limits.{action_limit, include_limit};
 ghost use Rattle.sieve_actions.specs.Delivery.{Arrival, Delivery};
 ghost use Rattle.sieve_run.specs.Depth.{IsDeepest, depth_left, entered_within, watched_run};
@@ -41,19 +40,19 @@ pub fn return_ends_the_commands()
 /// A run enters at most 256 scripts beside the main one. A script that was entered stays among those that were, whatever is done then.
 pub fn a_run_enters_so_many_scripts()
     ensures many { (find : names.ScriptName → Lookup) (arrival : Arrival) (main : names.ScriptName)
-        (tree : List Node)
-        → length (state_after (spec.run_of find arrival main tree)).entered ≤ suc include_limit }
+        (program : Commands)
+        → length (state_after (spec.run_of find arrival main program)).entered ≤ suc include_limit }
     ensures kept { (find : names.ScriptName → Lookup) (depth : ℕ) (delivery : Delivery)
-        (tree : List Node) (state : RunState) → (more : List names.ScriptName) × ((state_after
-        (spec.running find depth delivery tree state)).entered ≡ state.entered ++ more) }
+        (program : Commands) (state : RunState) → (more : List names.ScriptName) × ((state_after
+        (spec.running find depth delivery program state)).entered ≡ state.entered ++ more) }
 {}
 
 /// Scripts include one another 10 deep at most, counted by those that include the running one: the main script runs with none
 /// above it; an include runs its script with one more above it, and enters none where 10 are.
 pub fn scripts_include_one_another_so_deep()
     ensures main { (find : names.ScriptName → Lookup) (arrival : Arrival) (main : names.ScriptName)
-        (tree : List Node) → spec.run_of find arrival main tree ≡ spec.running find (depth_left
-        (spec.delivery_to arrival main)) (spec.delivery_to arrival main) tree (spec.begun main) }
+        (program : Commands) → spec.run_of find arrival main program ≡ spec.running find (depth_left
+        (spec.delivery_to arrival main)) (spec.delivery_to arrival main) program (spec.begun main) }
     ensures within { (find : names.ScriptName → Lookup) (delivery : Delivery)
         (name : names.ScriptName) (once optional : Bool) (line : ℕ) (state : RunState)
         → spec.included find (depth_left delivery) delivery name once optional line state
@@ -68,9 +67,9 @@ pub fn scripts_include_one_another_so_deep()
 /// At no moment of a run do more than 10 scripts run below the main one (RFC 6609, section 3.1): whatever is done in place of a
 /// script that more include, the run is the same.
 pub fn no_run_comes_to_a_deeper_script()
-    ensures { (beyond : Delivery → List Node → RunState → Ending) (find : names.ScriptName → Lookup)
-        (arrival : Arrival) (main : names.ScriptName) (tree : List Node)
-        → watched_run beyond find arrival main tree ≡ spec.run_of find arrival main tree }
+    ensures { (beyond : Delivery → Commands → RunState → Ending) (find : names.ScriptName → Lookup)
+        (arrival : Arrival) (main : names.ScriptName) (program : Commands)
+        → watched_run beyond find arrival main program ≡ spec.run_of find arrival main program }
 {}
 
 /// The frame: a verdict, with the names that it looked up, is the same over each library of the same profile that has the same text,
@@ -90,17 +89,17 @@ pub fn tests_set_match_variables_at_most()
         → spec.SetsMatched state (spec.decide (spec.answer_of delivery) condition state).state }
 {}
 
-/// What running a checked tree's commands does is what doing the leaves of its walk in turn gives, up to the first that ends
+/// What running a script's commands does is what doing the leaves of its walk in turn gives, up to the first that ends
 /// the run, the answers being what tests ask; whatever tests ask, and whatever commands that act do.
 /// The same comes of the list of answers that the tests give: what the walk meets with them is done in turn.
 #[tactic(auto, using(crate::proofs::Performing::walking))]
 pub fn a_run_does_its_walk()
     ensures same { (ask : Ask → RunState → spec.Answer) (act : Leaf → ℕ → RunState → Ending)
-        (tree : List Node) (state : RunState)
-        → spec.exec ask act (script_of tree) state ≡ perform ask act (tree_walk tree) state }
+        (program : Commands) (state : RunState)
+        → spec.exec ask act program state ≡ perform ask act (script_walk program) state }
     ensures met { (ask : Ask → RunState → spec.Answer) (act : Leaf → ℕ → RunState → Ending)
-        (tree : List Node) (state : RunState) → spec.exec ask act (script_of tree) state ≡ do_gone
-        ask act (gone (tree_walk tree) (answers_of ask act (tree_walk tree) state)) state }
+        (program : Commands) (state : RunState) → spec.exec ask act program state ≡ do_gone
+        ask act (gone (script_walk program) (answers_of ask act (script_walk program) state)) state }
 {}
 
 /// Whatever the scripts, the message, the envelope and the profile: no verdict has more actions than a run may perform (RFC 5228, section 2.10.4).

@@ -25,8 +25,8 @@ enum Compiled {
     Faulty { line: u64, kind: FaultKind },
 }
 
-/// What is kept of a judgement: a checked script is compiled, and its tree goes.
-fn without_tree(alloc: Global, judged: Judged) -> Result<Compiled, AllocError>
+/// What is kept of a judgement: a checked script is compiled, and its statements go.
+fn kept_of(alloc: Global, judged: Judged) -> Result<Compiled, AllocError>
     ensures { IfOk result (λ compiled. CompiledFrom compiled (judged_as judged)) }
 {
     match judged {
@@ -69,7 +69,7 @@ impl Script {
             Ok(judged) => Ok(Script {
                 profile,
                 text,
-                compiled: without_tree(alloc, judged)?,
+                compiled: kept_of(alloc, judged)?,
             }),
             Err(JudgeFault::TooLarge) => unreachable!(),
             Err(JudgeFault::NoMemory) => Err(AllocError),

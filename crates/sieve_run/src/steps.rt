@@ -1,5 +1,6 @@
 //! Carries out code.
-ghost use Rattle.std.specs.Prelude.{◌≡◌, [], if◌then◌else◌, length, slice_index_or, IfOk};
+ghost use Rattle.std.specs.Prelude.{◌≡◌, if◌then◌else◌, length, IfOk};
+ghost use Rattle.sieve_code.specs.Pool.{leaf_in};
 ghost use Rattle.sieve_code.specs.Walk.{code_walk};
 ghost use Rattle.sieve_code.specs.view.Code.{op_of, ops_of, pool_of};
 ghost use Rattle.sieve_run.specs.Library.{library_of};
@@ -16,18 +17,31 @@ use crate::including::{
 };
 use crate::library::{Found, Library};
 use crate::lookups::note_lookup;
-use crate::operations::{
-    act_discard, act_fileinto, act_flags, act_keep, act_redirect, act_reject, act_set,
-    act_vacation, ask_compares, ask_duplicate, ask_exists, ask_mailboxes, ask_over, ask_under,
-};
-use crate::turn::{Step, Turn, proceed};
+use crate::operations::ask;
+use crate::turn::{Step, acted, proceed, tested};
 use octets::Octets;
-use script_names::ScriptName;
-use sieve_actions::{Delivery, ErrorKind, Flow, State, fail};
-use sieve_code::{Code, Inclusion, Op};
+use script_names::{Location, ScriptName};
+use sieve_actions::{
+    Delivery, ErrorKind, Flow, State, change, discard, fail, file_into, keep, redirect, reject,
+    respond, set,
+};
+use sieve_code::{Code, Op, PackedLeaf};
 use sieve_limits::MAX_INCLUDES;
 use sieve_matching::FieldCache;
+use sieve_reading::Leaf;
+use sieve_variables::Literal;
 use std::alloc::AllocError;
+
+/// What an `include` says beside its script (RFC 6609, section 3.2).
+#[derive(Clone, Copy)]
+struct Inclusion {
+    /// Whether the script runs only where it hasn't run yet.
+    once: bool,
+    /// Whether the script may be missing.
+    optional: bool,
+    /// The command's line.
+    line: u32,
+}
 
 /// A script that runs.
 #[derive(Drop)]
@@ -90,7 +104,7 @@ pub(crate) fn execute<L: Library>(
 #[tactic(auto, using(crate::proofs::Stepping::stop_steps, crate::proofs::Stepping::return_steps))]
 fn carry_out<L: Library>(
     running: &Running<'_, L>,
-    op: Op,
+    op: &Op,
     after: usize,
     register: bool,
     fields: &mut FieldCache<'_>,
@@ -100,68 +114,108 @@ fn carry_out<L: Library>(
     ensures arrival { fields.new ≡ fields.old }
     ensures step { IfOk result (λ step. StepsTo (act_of (library_of (L.profile running.now.lib.now)
         (L.texts running.now.lib.now)) running.now.depth (delivery_as running.now.delivery.now))
-        (delivery_as running.now.delivery.now) (op_of running.now.code.now op) after register
+        (delivery_as running.now.delivery.now) (op_of running.now.code.now op.now) after register
         (state_of state.old) step (state_of state.new)) }
 {
     let code = running.code;
-    let turn = &Turn {
-        delivery: running.delivery,
-        code,
-        after,
-        register,
-    };
     match op {
         Op::True => Ok(proceed(true, after)),
         Op::False => Ok(proceed(false, after)),
         Op::Not => Ok(proceed(!register, after)),
-        Op::Compares { test, keys } => ask_compares(turn, test, keys, fields, state),
-        Op::Exists { names } => ask_exists(turn, names, state),
-        Op::Over { limit } => Ok(ask_over(turn, limit)),
-        Op::Under { limit } => Ok(ask_under(turn, limit)),
-        Op::MailboxExists { names } => ask_mailboxes(turn, names, state),
-        Op::Duplicate => Ok(ask_duplicate(turn)),
-        Op::Jump(left) => Ok(proceed(register, code.jump_place(left))),
+        Op::Test(asked) => tested(ask(running.delivery, code, asked, fields, state), after),
+        Op::Jump(left) => Ok(proceed(register, code.jump_place(*left))),
         Op::JumpIfFalse(left) => {
-            Ok(proceed(register, chosen(register, after, code.jump_place(left))))
+            Ok(proceed(register, chosen(register, after, code.jump_place(*left))))
         }
         Op::JumpIfTrue(left) => {
-            Ok(proceed(register, chosen(register, code.jump_place(left), after)))
+            Ok(proceed(register, chosen(register, code.jump_place(*left), after)))
         }
-        Op::Keep { line, flags } => act_keep(turn, line, flags, state),
-        Op::Fileinto {
-            line,
-            mailbox,
-            settings,
-        } => act_fileinto(turn, line, mailbox, settings, state),
-        Op::Redirect {
-            line,
-            address,
-            copy,
-        } => act_redirect(turn, line, address, copy, state),
-        Op::Discard { line } => act_discard(turn, line, state),
-        Op::Set {
-            line,
-            target,
-            value,
-        } => act_set(turn, line, target, value, state),
-        Op::Flags {
-            change,
-            line,
-            variable,
-            flags,
-        } => act_flags(turn, change, line, variable, flags, state),
-        Op::Include(inclusion) => turn.acted(include_named(running, inclusion, fields, state)),
-        Op::Vacation { line, vacation } => act_vacation(turn, line, vacation, state),
-        Op::Reject { how, line, reason } => act_reject(turn, how, line, reason, state),
+        Op::Act { leaf, line } => acted(act(running, leaf, *line, fields, state), after, register),
         Op::Stop => Ok(Step::Ended(Flow::Stopped)),
         Op::Return => Ok(Step::Ended(Flow::Returned)),
     }
 }
 
-/// Includes the script that an operation names.
+/// Does what a command does.
+#[cycle(execute)]
+fn act<L: Library>(
+    running: &Running<'_, L>,
+    leaf: &PackedLeaf,
+    line: u32,
+    fields: &mut FieldCache<'_>,
+    state: &mut State,
+) -> Result<Flow, AllocError>
+    requires { fields.old ≡ (delivery_as running.now.delivery.now).arrival }
+    ensures arrival { fields.new ≡ fields.old }
+    ensures ending { IfOk result (λ flow. ending_by flow (state_of state.new) ≡ act_of
+        (library_of (L.profile running.now.lib.now) (L.texts running.now.lib.now)) running.now.depth
+        (delivery_as running.now.delivery.now) (leaf_in (pool_of running.now.code.now) leaf.now)
+        line (state_of state.old)) }
+{
+    let code = running.code;
+    let delivery = running.delivery;
+    let at = line as u64;
+    match leaf {
+        Leaf::Keep { flags } => keep(delivery, code.given_list(*flags), at, state),
+        Leaf::Fileinto { mailbox, settings } => file_into(
+            delivery,
+            code.string(*mailbox),
+            &code.settings(*settings),
+            at,
+            state,
+        ),
+        Leaf::Redirect { address, copy } => {
+            redirect(delivery, code.string(*address), *copy, at, state)
+        }
+        Leaf::Discard => discard(delivery, at, state),
+        Leaf::Set {
+            variable,
+            modifiers,
+            value,
+        } => set(
+            delivery,
+            variable,
+            *modifiers,
+            code.string(*value),
+            at,
+            state,
+        ),
+        Leaf::Flags {
+            change: how,
+            variable,
+            flags,
+        } => change(
+            delivery,
+            *how,
+            variable.as_ref(),
+            &code.list(*flags),
+            at,
+            state,
+        ),
+        Leaf::Include {
+            location,
+            once,
+            optional,
+            name,
+        } => {
+            let inclusion = Inclusion {
+                once: *once,
+                optional: *optional,
+                line,
+            };
+            include_named(running, *location, name, inclusion, fields, state)
+        }
+        Leaf::Vacation { vacation } => respond(delivery, &code.vacation(**vacation), at, state),
+        Leaf::Reject { how, reason } => reject(delivery, *how, code.string(*reason), at, state),
+    }
+}
+
+/// Includes the script of a location and a name.
 #[cycle(execute)]
 fn include_named<L: Library>(
     running: &Running<'_, L>,
+    location: Location,
+    name: &Literal,
     inclusion: Inclusion,
     fields: &mut FieldCache<'_>,
     state: &mut State,
@@ -170,15 +224,12 @@ fn include_named<L: Library>(
     ensures arrival { fields.new ≡ fields.old }
     ensures ending { IfOk result (λ flow. ending_by flow (state_of state.new) ≡ included
         (library_of (L.profile running.now.lib.now) (L.texts running.now.lib.now)) running.now.depth
-        (delivery_as running.now.delivery.now) (record {
-          location = inclusion.location;
-          name = slice_index_or (pool_of running.now.code.now).scripts inclusion.name [];
-        })
+        (delivery_as running.now.delivery.now) (record { location = location; name = name.now })
         inclusion.once inclusion.optional inclusion.line (state_of state.old)) }
 {
     let name = ScriptName {
-        location: inclusion.location,
-        name: Octets::copied(running.delivery.alloc, running.code.script(inclusion.name))?,
+        location,
+        name: Octets::copied(running.delivery.alloc, name.as_slice())?,
     };
     include(running, &name, inclusion, fields, state)
 }

@@ -1,148 +1,119 @@
-//! Checked trees, and a breach. The faults of texts stand in `examples/rows`. What is expected was written by hand from RFC 5228.
+//! Checked scripts, and a breach. The faults of texts stand in `examples/rows`. What is expected was written by hand from RFC 5228.
 
 use super::{holds, same};
 use sieve_check::{CheckFault, Checked, Rule, check};
 use sieve_profile::Profile;
 use sieve_reading::{
-    Argument, Ask, Command, CommandKind, CommandName, CommandReading, Comparison, Leaf, MatchType,
-    PartRef, Test, TestKind, TestName, TestReading, Tests, Text, ValueSource, read_command,
-    read_test,
+    Ask, Branch, Comparison, Condition, Leaf, MatchType, PartRef, Statement, Text, ValueSource,
 };
 use sieve_syntax::{ParsedScript, parse};
 use std::alloc::Global;
 use std::process::Abort;
 use std::test::Fail;
 
-/// The name, the line and the kind of a command.
-fn check_named(rt: &impl Abort, command: &Command, name: &[u8], line: u32, kind: CommandKind) {
-    same(rt, "the name of a command", command.name.as_slice(), name);
-    holds(rt, "its line", command.line == line);
-    holds(rt, "its kind", command.name.kind() == Some(kind));
-}
-
-/// What a command of that name and with these arguments is read as.
-fn read_by(alloc: Global, name: &CommandName, args: Vec<Argument>) -> Option<CommandReading> {
-    match name.kind() {
-        Some(kind) => Some(read_command(alloc, kind, args)),
-        None => None,
-    }
-}
-
-/// What a test of that name and with these arguments is read as.
-fn test_by(alloc: Global, name: &TestName, args: Vec<Argument>) -> Option<TestReading> {
-    match name.kind() {
-        Some(kind) => Some(read_test(alloc, kind, args)),
-        None => None,
-    }
-}
-
-/// Whether a command of that name and with these arguments reads as `keep` without flags.
-fn is_plain_keep(alloc: Global, name: &CommandName, args: Vec<Argument>) -> bool {
-    match read_by(alloc, name, args) {
-        Some(CommandReading::Act(Leaf::Keep { flags })) => flags.is_none(),
+/// Whether it is the first command of `keep;\nif NOT size :over 2K {\nStop; }`.
+fn is_keep(statement: &Statement) -> bool {
+    match statement {
+        Statement::Act {
+            leaf: Leaf::Keep { flags },
+            line,
+        } => flags.is_none() && *line == 1,
         _ => false,
     }
 }
 
-/// The first command of `keep;\nif NOT size :over 2K {\nStop; }`.
-fn check_keep(rt: &impl Abort, alloc: Global, keep: Command) {
-    check_named(rt, &keep, b"keep", 1, CommandKind::Keep);
-    holds(
-        rt,
-        "the rest of keep",
-        keep.args.is_empty() && keep.block.is_none(),
-    );
-    let Command { name, args, .. } = keep;
-    holds(rt, "the reading of keep", is_plain_keep(alloc, &name, args));
-}
-
-/// The test of the `if`.
-fn check_negation(rt: &impl Abort, alloc: Global, negation: Test) {
-    let Test {
-        name,
-        args,
-        tests,
-        ..
-    } = negation;
-    same(rt, "the name of the test", name.as_slice(), b"NOT");
-    holds(rt, "its kind", name.kind() == Some(TestKind::Not));
-    let negates = matches!(test_by(alloc, &name, args), Some(TestReading::Not));
-    holds(rt, "the reading of not", negates);
-    match tests {
-        Tests::One(size) => holds(
-            rt,
-            "the reading of size",
-            is_over(alloc, Box::into_inner(size)),
-        ),
-        _ => panic!(rt; "not one test"),
-    }
-}
-
-/// Whether a test asks for more than 2,048 octets.
-fn is_over(alloc: Global, test: Test) -> bool {
-    let Test { name, args, .. } = test;
-    match test_by(alloc, &name, args) {
-        Some(TestReading::Asks(Ask::Over { limit })) => limit == 2048,
+/// Whether a condition is that of `NOT size :over 2K`.
+fn is_not_over(condition: Condition) -> bool {
+    match condition {
+        Condition::Not(inner) => match Box::into_inner(inner) {
+            Condition::Asks(Ask::Over { limit }) => limit == 2048,
+            _ => false,
+        },
         _ => false,
     }
 }
 
-/// The block of the `if`.
-fn check_stop(rt: &impl Abort, alloc: Global, block: Vec<Command>) {
-    let mut commands = block.into_iter();
-    match (commands.next(), commands.next()) {
-        (Some(stop), None) => {
-            check_named(rt, &stop, b"Stop", 3, CommandKind::Stop);
-            let Command { name, args, .. } = stop;
-            let stops = matches!(read_by(alloc, &name, args), Some(CommandReading::Stop));
-            holds(rt, "the reading of stop", stops);
-        }
-        _ => panic!(rt; "not one command"),
-    }
+/// Whether statements are those of `Stop;`.
+fn are_stop(statements: Vec<Statement>) -> bool {
+    matches!(statements.as_slice(), [Statement::Stop])
 }
 
 /// The second command, an `if`.
-fn check_choice(rt: &impl Abort, alloc: Global, choice: Command) {
-    check_named(rt, &choice, b"if", 2, CommandKind::If);
-    let Command {
-        name,
-        args,
-        tests,
-        block,
-        ..
-    } = choice;
-    let opens = matches!(read_by(alloc, &name, args), Some(CommandReading::If));
-    holds(rt, "the reading of if", opens);
-    match (tests, block) {
-        (Tests::One(negation), Some(block)) => {
-            check_negation(rt, alloc, Box::into_inner(negation));
-            check_stop(rt, alloc, block);
+fn check_choice(rt: &impl Abort, branches: Vec<Branch>) {
+    let mut branches = branches.into_iter();
+    match (branches.next(), branches.next()) {
+        (Some(Branch { condition, block }), None) => {
+            holds(rt, "the condition", is_not_over(condition));
+            holds(rt, "the block", are_stop(block));
         }
-        _ => panic!(rt; "another tree"),
+        _ => panic!(rt; "not one branch"),
     }
 }
 
-fn check_both(rt: &impl Abort, alloc: Global, checked: Checked) {
-    let mut commands = checked.into_commands().into_iter();
-    match (commands.next(), commands.next(), commands.next()) {
-        (Some(keep), Some(choice), None) => {
-            check_keep(rt, alloc, keep);
-            check_choice(rt, alloc, choice);
+/// The last command stands first.
+fn check_both(rt: &impl Abort, checked: Checked) {
+    let mut statements = checked.into_statements().into_iter();
+    match (statements.next(), statements.next(), statements.next()) {
+        (
+            Some(
+                Statement::Choose {
+                    branches,
+                    otherwise: None,
+                },
+            ),
+            Some(keep),
+            None,
+        ) => {
+            holds(rt, "a keep", is_keep(&keep));
+            check_choice(rt, branches);
         }
-        _ => panic!(rt; "another tree"),
+        _ => panic!(rt; "another script"),
     }
 }
 
-/// The tree of a text that breaks no rule.
+/// The script of a text that breaks no rule.
 fn checked_text(alloc: Global, text: &[u8]) -> Result<Checked, Fail> {
     Ok(check(alloc, Profile::new(), parse(alloc, text)?)?)
 }
 
 #[test]
-fn a_sound_script_has_its_tree(rt: HostRuntime) -> Result<(), Fail> {
+fn a_sound_text_has_its_script(rt: HostRuntime) -> Result<(), Fail> {
     let checked = checked_text(rt.alloc(), b"keep;\nif NOT size :over 2K {\nStop; }")?;
-    holds(&rt, "how many commands", checked.commands().len() == 2);
-    check_both(&rt, rt.alloc(), checked);
+    holds(&rt, "how many commands", checked.statements().len() == 2);
+    check_both(&rt, checked);
+    Ok(())
+}
+
+/// How many branches with tests a statement has, and whether it has an `else`.
+fn branches_of(statement: &Statement) -> (usize, bool) {
+    match statement {
+        Statement::Choose {
+            branches,
+            otherwise,
+        } => (branches.len(), otherwise.is_some()),
+        _ => (0, false),
+    }
+}
+
+#[test]
+fn branches_belong_to_their_if(rt: HostRuntime) -> Result<(), Fail> {
+    let rows: &[(&[u8], &[(usize, bool)])] = &[
+        (b"if true {} else {}", &[(1, true)]),
+        (b"if true {}", &[(1, false)]),
+        (b"if true {} if true {}", &[(1, false), (1, false)]),
+        (
+            b"if true {} elsif true {} elsif false {} else {} keep;",
+            &[(0, false), (3, true)],
+        ),
+    ];
+    for (text, expected) in rows {
+        let checked = checked_text(rt.alloc(), *text)?;
+        let mut alike = checked.statements().len() == expected.len();
+        for (statement, row) in checked.statements().iter().zip(expected.iter()) {
+            alike = alike && branches_of(statement) == *row;
+        }
+        holds(&rt, "the branches", alike);
+    }
     Ok(())
 }
 
@@ -171,21 +142,18 @@ fn check_strings(rt: &impl Abort, names: &[Text], keys: &[Text]) {
     }
 }
 
-/// The test of `if header :comparator "i;octet" "a"\n["b", "c"] {}`.
-fn check_header(rt: &impl Abort, alloc: Global, test: Test) {
-    let Test { name, args, .. } = test;
-    match test_by(alloc, &name, args) {
-        Some(
-            TestReading::Asks(
-                Ask::Compares {
-                    source,
-                    comparison: Comparison {
-                        match_type: MatchType::Is,
-                        collation: match_text::Collation::Octet,
-                    },
-                    keys,
+/// The condition of `if header :comparator "i;octet" "a"\n["b", "c"] {}`.
+fn check_header(rt: &impl Abort, condition: Condition) {
+    match condition {
+        Condition::Asks(
+            Ask::Compares {
+                source,
+                comparison: Comparison {
+                    match_type: MatchType::Is,
+                    collation: match_text::Collation::Octet,
                 },
-            ),
+                keys,
+            },
         ) => check_source(rt, source, keys),
         _ => panic!(rt; "another test"),
     }
@@ -207,19 +175,18 @@ fn check_source<S: Drop>(
     }
 }
 
-fn check_choice_of_header(rt: &impl Abort, alloc: Global, checked: Checked) {
-    let mut commands = checked.into_commands().into_iter();
-    match (commands.next(), commands.next()) {
-        (Some(choice), None) => check_one_test(rt, alloc, choice),
-        _ => panic!(rt; "another tree"),
+fn check_choice_of_header(rt: &impl Abort, checked: Checked) {
+    let mut statements = checked.into_statements().into_iter();
+    match (statements.next(), statements.next()) {
+        (Some(Statement::Choose { branches, .. }), None) => check_one_test(rt, branches),
+        _ => panic!(rt; "another script"),
     }
 }
 
-fn check_one_test(rt: &impl Abort, alloc: Global, choice: Command) {
-    let Command { tests, .. } = choice;
-    match tests {
-        Tests::One(test) => check_header(rt, alloc, Box::into_inner(test)),
-        _ => panic!(rt; "not one test"),
+fn check_one_test(rt: &impl Abort, branches: Vec<Branch>) {
+    match branches.into_iter().next() {
+        Some(branch) => check_header(rt, branch.condition),
+        None => panic!(rt; "no branch"),
     }
 }
 
@@ -229,7 +196,7 @@ fn a_header_test_has_its_strings(rt: HostRuntime) -> Result<(), Fail> {
         rt.alloc(),
         b"if header :comparator \"i;octet\" \"a\"\n[\"b\", \"c\"] {}",
     )?;
-    check_choice_of_header(&rt, rt.alloc(), checked);
+    check_choice_of_header(&rt, checked);
     Ok(())
 }
 

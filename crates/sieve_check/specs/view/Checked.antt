@@ -1,8 +1,7 @@
--- The tree of a checked script.
-use Rattle.std.specs.Prelude.{List, map}
-use Rattle.sieve_reading.specs.Tree.{Node}
-use Rattle.sieve_reading.specs.view.Tree.{node_of}
+-- The abstract script of a checked script.
+use Rattle.sieve_reading.specs.Script.{Commands}
+use Rattle.sieve_reading.specs.view.Script.{commands_as}
 use Rattle.sieve_check.specs.declared.checked.Checked.{Checked}
 
-abbrev pub tree_of : Checked → List Node
-tree_of checked = map node_of checked.commands.items
+abbrev pub commands_of : Checked → Commands
+commands_of checked = commands_as checked.statements.items

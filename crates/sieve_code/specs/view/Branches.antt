@@ -1,22 +1,19 @@
 -- What the compiler knows of the branches at the front of a tail.
-use Rattle.std.specs.Prelude.{ℕ, ◌-◌, length, drop}
-use Rattle.sieve_reading.specs.Tree.{Node, node}
-use Rattle.sieve_code.specs.Choice.{Tail, Branches, block_before, branch_before, first_before}
-use Rattle.sieve_code.specs.declared.command_code.TailFront.{TailFront}
+use Rattle.std.specs.Prelude.{ℕ, ◌-◌, Bool, true, false, if◌then◌else◌, ◌∷◌, length, drop}
+use Rattle.sieve_reading.specs.Script.{Branches, Commands, Condition, no_branches, else_branch, test_branch}
+use Rattle.sieve_code.specs.Choice.{Tail, commands_before, condition_before}
+use Rattle.sieve_code.specs.Operation.{jump_op, jump_if_op}
 
 -- the last operations of a tail, `count` of them
 abbrev pub last : ℕ → Tail → Tail
 last count tail = drop (length tail - count) tail
 
-abbrev pub branches_as : TailFront → Tail → Branches
-branches_as front tail = record { has_branch = front.has_branch; with_branch = tail; after_branches = last front.after tail }
+-- whether there is a branch
+abbrev pub has_branch : Branches → Bool
+has_branch no_branches = false
+has_branch (else_branch inner) = true
+has_branch (test_branch condition inner others) = true
 
--- the block, the first test, and a branch, of a command
-abbrev pub block_at : Node → Tail → Tail
-block_at (node name line args ts ending) = block_before ending
-
-abbrev pub first_at : Node → Tail → Tail
-first_at (node name line args ts ending) = first_before ts
-
-abbrev pub branch_at : Node → Branches → Tail
-branch_at n branches = branch_before (first_at n) (block_at n) branches
+-- a branch with a test before a tail, by whether another branch follows, and how many operations stand after the branches
+abbrev pub branch_before : Condition → Commands → (follows : Bool) → (after : ℕ) → Tail → Tail
+branch_before condition inner follows after tail = condition_before condition (jump_if_op false (length tail) ∷ commands_before inner (if follows then jump_op after ∷ tail else tail))

@@ -3,4 +3,4 @@ use Rattle.sieve_code.specs.Pool.{Pool}
 use Rattle.sieve_code.specs.declared.pools.Pools.{Pools}
 
 abbrev pub pool_as : Pools → Pool
-pool_as p = record { strings = p.strings; lists = p.lists; names = p.names; targets = p.targets.items; scripts = p.scripts.items; tests = p.tests.items; settings = p.settings.items; vacations = p.vacations.items }
+pool_as p = record { strings = p.strings; lists = p.lists; names = p.names }

@@ -1,15 +1,16 @@
 -- What is kept of the fields of a message, and of what it is made of.
-use Rattle.std.specs.Prelude.{◌≡◌, ◌<◌, ◌-◌, ◌^◌, ℕ, List, length, map, slice_get, Option, None, Some, false, true}
+use Rattle.std.specs.Prelude.{◌≡◌, ◌<◌, ◌+◌, ◌-◌, ◌^◌, ℕ, List, ◌∷◌, drop, length, map, slice_get, Option, None, Some, false, true}
 use Rattle.std.specs.Cow.{cow_slice_items}
 use Rattle.std.specs.declared.alloc.Global.{Global}
 use Rattle.std.specs.declared.borrow.CowSlice.{CowSlice}
 use Rattle.std.specs.declared.vec.Vec.{Vec}
 use Rattle.sieve_profile.specs.Profile.{Profile}
 use Rattle.message_text.specs.Addresses.{AddrSpec, addresses_of}
-use Rattle.message_text.specs.Fields.{decoded_values_of, fields_of, is_field_named, values_of}
+use Rattle.message_text.specs.Fields.{Field, IsNextNamed, decoded_values_of, fields_of, is_field_named, values_of}
 use Rattle.mime_text.specs.Entities.{entities_of}
 use Rattle.mime_text.specs.declared.entities.Entity as entity
 use Rattle.mime_text.specs.view.Entities.{entity_as}
+use Rattle.sieve_matching.specs.Matching.{fields_named}
 use Rattle.sieve_matching.specs.declared.field_cache.NamedPlace.{NamedPlace}
 
 -- the addresses in the values of the fields, in order
@@ -28,6 +29,13 @@ AreDecoded profile message values = (i : ℕ) (value : CowSlice ℕ Global) → 
 abbrev pub AreEntities : List ℕ → Option (Vec entity.Entity Global) → Type 0
 AreEntities message None = Unit {0}
 AreEntities message (Some kept) = map entity_as kept.items ≡ entities_of message
+
+-- field i is the first of that name at or after a place
+pub record IsNextField (message name : List ℕ) (start i : ℕ) : Type 0 where
+  pub field : Field
+  pub at : slice_get (fields_of message) i ≡ Some field
+  pub next : IsNextNamed (fields_of message) name start i
+  pub rest : fields_named (drop start (fields_of message)) name ≡ field ∷ fields_named (drop (i + 1) (fields_of message)) name
 
 -- The field at the first place is there, and the first that has its name; the next place is after it, and no field of that name stands
 -- between the two.

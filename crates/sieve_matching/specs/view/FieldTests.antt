@@ -1,20 +1,21 @@
--- What tests find in one value, one field, one name and one entity.
-use Rattle.std.specs.Prelude.{ℕ, Bool, true, false, List, [], ◌∷◌, map, Option, None, Some, if◌then◌else◌}
+-- What tests find in one value, one field and one entity.
+use Rattle.std.specs.Prelude.{ℕ, ◌+◌, Bool, true, false, List, [], ◌∷◌, length, map, Option}
 use Rattle.std.specs.List.{flat_map}
-use Rattle.std.specs.Option.{option_and_then}
+use Rattle.std.specs.Option.{option_and_then, option_map, option_or}
 use Rattle.match_text.specs.Flags.{flag_keys}
-use Rattle.encoded_words.specs.Scan.{decoded_of}
 use Rattle.sieve_profile.specs.Profile.{Profile}
-use Rattle.message_text.specs.Addresses.{AddrSpec, addresses_of, part_of_address, part_of_path}
-use Rattle.message_text.specs.Fields.{Field, is_field_named}
+use Rattle.message_text.specs.Addresses.{AddrSpec, part_of_address, part_of_path}
+use Rattle.message_text.specs.Fields.{Field}
 use Rattle.message_text.specs.declared.addressing.AddressPart.{AddressPart}
+use Rattle.message_text.specs.declared.addressing.AddressPart.TheVariants.{All}
 use Rattle.mime_text.specs.Entities.{Entity}
 use Rattle.mime_text.specs.Values.{texts_if_named}
 use Rattle.sieve_reading.specs.Reading.{ValueSource, flag_values}
 use Rattle.sieve_variables.specs.Part.{Part}
 use Rattle.sieve_variables.specs.Value.{text_value}
-use Rattle.sieve_table.specs.Address.{is_address_field}
-use Rattle.sieve_matching.specs.Matching.{envelope_text, first_match, first_some, pairs_with}
+use Rattle.sieve_matching.specs.Matching.{envelope_text, first_match, first_some, pairs_with, values_in}
+use Rattle.sieve_matching.specs.declared.counting.Counter.{Counter}
+use Rattle.sieve_matching.specs.declared.field_values.Finder.{Finder}
 use Rattle.sieve_matching.specs.declared.matcher.Matcher.{Matcher}
 use Rattle.sieve_actions.specs.declared.envelope.Envelope.{Envelope}
 
@@ -39,11 +40,6 @@ abbrev pub cuts_keys : ValueSource → Bool
 cuts_keys (flag_values variables) = true
 cuts_keys other = false
 
--- whether fields of that name are looked at
-abbrev pub is_looked_at : Option AddressPart → List ℕ → Bool
-is_looked_at None name = true
-is_looked_at (Some part) name = is_address_field name
-
 -- where `find` says what a value that matches gives
 module _ (find : List ℕ → Option (List (List ℕ))) where
   -- a part of an address that is there
@@ -57,21 +53,13 @@ module _ (find : List ℕ → Option (List (List ℕ))) where
   abbrev pub path_name_found : AddressPart → Envelope → List ℕ → Option (List (List ℕ))
   path_name_found part envelope name = option_and_then (path_found part) (envelope_text envelope name)
 
--- where the profile says besides which charsets are known
-module _ (find : List ℕ → Option (List (List ℕ))) (profile : Profile) where
-  -- all of a value with its encoded words replaced, or that part of the addresses in it as it is written
-  abbrev pub value_found : Option AddressPart → List ℕ → Option (List (List ℕ))
-  value_found None value = find (decoded_of profile value)
-  value_found (Some part) value = first_some (part_found find part) (addresses_of value)
-
-  -- the value of a field, where it has that name
-  abbrev pub field_found : Option AddressPart → List ℕ → Field → Option (List (List ℕ))
-  field_found part name field = if is_field_named name field then value_found part field.value else None
-
-  -- the values of the fields of a name, where they are looked at
-  abbrev pub name_found : Option AddressPart → List Field → List ℕ → Option (List (List ℕ))
-  name_found part fields name = if is_looked_at part name then first_some (field_found part name) fields else None
-
   -- the texts of an entity, if one of these entries names it
-  abbrev pub entity_found : (entries : List (List ℕ)) → Entity → Option (List (List ℕ))
-  entity_found entries entity = first_some find (texts_if_named profile entries entity)
+  abbrev pub entity_found : Profile → (entries : List (List ℕ)) → Entity → Option (List (List ℕ))
+  entity_found profile entries entity = first_some find (texts_if_named profile entries entity)
+
+-- what has been found after one more field, and how many values have been counted
+abbrev pub found_after : Profile → Option AddressPart → Finder → Field → Finder
+found_after profile part finder field = record finder { found = option_or finder.found (first_some (found_with finder.matcher.now) (values_in profile part field)) }
+
+abbrev pub counted_after : Profile → Option AddressPart → Counter → Field → Counter
+counted_after profile part counter field = record counter { count = counter.count + length (values_in profile (option_map (λ one. All) part) field) }

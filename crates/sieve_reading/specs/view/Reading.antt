@@ -5,6 +5,7 @@ use Rattle.std.specs.declared.alloc.Global.{Global}
 use Rattle.std.specs.declared.vec.Vec.{Vec}
 use Rattle.sieve_reading.specs.Reading as reading
 use Rattle.sieve_reading.specs.view.Tree.{text_of}
+use Rattle.sieve_syntax.specs.declared.tree.Text.{Text}
 use Rattle.sieve_variables.specs.Part.{Part}
 use Rattle.sieve_reading.specs.declared.reading.Ask.{Ask}
 use Rattle.sieve_reading.specs.declared.reading.Ask.TheVariants.{Compares, Exists, Over, Under, MailboxExists, Duplicate}
@@ -22,7 +23,6 @@ use Rattle.sieve_reading.specs.declared.reading.ValueSource.{ValueSource}
 use Rattle.sieve_reading.specs.declared.reading.ValueSource.TheVariants as source
 use Rattle.sieve_reading.specs.declared.reading.TestReading.{TestReading}
 use Rattle.sieve_reading.specs.declared.reading.TestReading.TheVariants.{Always, Never, Asks, AllOf, AnyOf, Not}
-use Rattle.sieve_syntax.specs.declared.tree.Text.{Text}
 
 -- strings, each as its parts
 abbrev pub texts_as : List Text → List (List Part)
@@ -69,6 +69,27 @@ answered_by string given_list given_string v = record {
   handle = given_string v.handle;
 }
 
+-- what a test asks, and what a command does that acts, by the same, and by what the thing is that a `vacation` says
+abbrev pub ask_by : {N L S : Type 0} → (N → List (List Part)) → (L → List (List Part)) → (Option L → Option (List (List Part))) → (S → List Part) → Ask N L S → reading.Ask
+ask_by names list given_list string (Compares source comparison keys) = reading.compares (source_by names list given_list string source) comparison (list keys)
+ask_by names list given_list string (Exists fields) = reading.exists_ask (names fields)
+ask_by names list given_list string (Over limit) = reading.over_ask limit
+ask_by names list given_list string (Under limit) = reading.under_ask limit
+ask_by names list given_list string (MailboxExists mailboxes) = reading.mailboxes_ask (list mailboxes)
+ask_by names list given_list string Duplicate = reading.duplicate_ask
+
+abbrev pub leaf_by :
+    {L S V : Type 0} → (L → List (List Part)) → (Option L → Option (List (List Part))) → (S → List Part) → (Option S → Option (List Part)) → (V → reading.Vacation) → Leaf L S V → reading.Leaf
+leaf_by list given_list string given_string answer (Keep flags) = reading.keep_leaf (given_list flags)
+leaf_by list given_list string given_string answer (Fileinto mailbox settings) = reading.fileinto_leaf (string mailbox) (filed_by given_list given_string settings)
+leaf_by list given_list string given_string answer (Redirect address copy) = reading.redirect_leaf (string address) copy
+leaf_by list given_list string given_string answer Discard = reading.discard_leaf
+leaf_by list given_list string given_string answer (Set variable modifiers value) = reading.set_leaf variable modifiers (string value)
+leaf_by list given_list string given_string answer (Flags change variable flags) = reading.flag_leaf change variable (list flags)
+leaf_by list given_list string given_string answer (Include location once optional name) = reading.include_leaf location once optional name
+leaf_by list given_list string given_string answer (Vacation vacation) = reading.vacation_leaf (answer vacation)
+leaf_by list given_list string given_string answer (Reject how reason) = reading.reject_leaf how (string reason)
+
 -- those of a script
 abbrev pub date_zone_as : DateZone (List Part) → reading.DateZone
 date_zone_as = date_zone_by (λ parts. parts)
@@ -85,13 +106,15 @@ settings_as = filed_by (option_map list_as) (λ string. string)
 abbrev pub vacation_as : vacations.Vacation (Vec Text Global) (List Part) → reading.Vacation
 vacation_as = answered_by (λ parts. parts) (option_map list_as) (λ string. string)
 
-abbrev pub ask_as : Ask → reading.Ask
-ask_as (Compares source comparison keys) = reading.compares (source_as source) comparison (texts_as keys.items)
-ask_as (Exists names) = reading.exists_ask (texts_as names.items)
-ask_as (Over limit) = reading.over_ask limit
-ask_as (Under limit) = reading.under_ask limit
-ask_as (MailboxExists names) = reading.mailboxes_ask (texts_as names.items)
-ask_as Duplicate = reading.duplicate_ask
+-- what a test asks, and what a command does, as they are read
+abbrev pub ReadAsk : Type 0
+ReadAsk = Ask (Vec Text Global) (Vec Text Global) (List Part)
+
+abbrev pub ReadLeaf : Type 0
+ReadLeaf = Leaf (Vec Text Global) (List Part) (vacations.Vacation (Vec Text Global) (List Part))
+
+abbrev pub ask_as : ReadAsk → reading.Ask
+ask_as = ask_by list_as list_as (option_map list_as) (λ parts. parts)
 
 abbrev pub test_reading_as : TestReading → reading.TestReading
 test_reading_as Always = reading.reads_always
@@ -101,16 +124,8 @@ test_reading_as AllOf = reading.reads_all
 test_reading_as AnyOf = reading.reads_any
 test_reading_as Not = reading.reads_not
 
-abbrev pub leaf_as : Leaf → reading.Leaf
-leaf_as (Keep flags) = reading.keep_leaf (option_map (λ texts. texts_as texts.items) flags)
-leaf_as (Fileinto mailbox settings) = reading.fileinto_leaf mailbox (settings_as settings)
-leaf_as (Redirect address copy) = reading.redirect_leaf address copy
-leaf_as Discard = reading.discard_leaf
-leaf_as (Set variable modifiers value) = reading.set_leaf variable modifiers value
-leaf_as (Flags change variable flags) = reading.flag_leaf change variable (texts_as flags.items)
-leaf_as (Include location once optional name) = reading.include_leaf location once optional name
-leaf_as (Vacation vacation) = reading.vacation_leaf (vacation_as vacation)
-leaf_as (Reject how reason) = reading.reject_leaf how reason
+abbrev pub leaf_as : ReadLeaf → reading.Leaf
+leaf_as = leaf_by list_as (option_map list_as) (λ parts. parts) (λ string. string) vacation_as
 
 abbrev pub command_reading_as : CommandReading → reading.CommandReading
 command_reading_as If = reading.reads_if

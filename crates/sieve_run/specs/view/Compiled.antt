@@ -7,9 +7,9 @@ use Rattle.sieve_code.specs.view.Code.{ops_of}
 use Rattle.sieve_run.specs.declared.script.Compiled.{Compiled}
 use Rattle.sieve_run.specs.declared.script.Compiled.TheVariants as compiled
 
--- the text is sound, and these operations are the code of its tree
+-- the text is sound, and these operations are the code of its script
 abbrev pub IsSound : List Operation → Judgement → Type 0
-IsSound ops (sound tree) = Compiles tree ops
+IsSound ops (sound program) = Compiles program ops
 IsSound ops (faulty line kind) = ⊥
 
 abbrev pub CompiledFrom : Compiled → Judgement → Type 0

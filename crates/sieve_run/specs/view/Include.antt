@@ -1,6 +1,5 @@
 -- What the interpreter does where a script is included.
 use Rattle.std.specs.Prelude.{ℕ, Bool, true, false, List, length}
-use Rattle.sieve_reading.specs.Script.{script_of}
 use Rattle.sieve_code.specs.Operation.{Operation}
 use Rattle.sieve_code.specs.Walk.{code_walk}
 use Rattle.sieve_actions.specs.Delivery.{Delivery, inside}
@@ -33,4 +32,4 @@ enters find depth delivery name ops state = resumed state.values (doing (act_of 
 -- looking a script up and including it
 abbrev pub looks_up : (ScriptName → Lookup) → (depth : ℕ) → Delivery → ScriptName → Bool → ℕ → RunState → Ending
 looks_up find depth delivery name optional line state =
-    with_found_script delivery optional line (λ tree. exec (answer_of (inside name delivery)) (act_of find depth (inside name delivery)) (script_of tree)) name (found_at find name) (looked_up name (found_at find name) state)
+    with_found_script delivery optional line (λ program. exec (answer_of (inside name delivery)) (act_of find depth (inside name delivery)) program) name (found_at find name) (looked_up name (found_at find name) state)

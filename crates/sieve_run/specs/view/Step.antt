@@ -2,8 +2,6 @@
 use Rattle.std.specs.Prelude.{◌≡◌, ◌+◌, ℕ, Bool, Some, Result, Ok}
 use Rattle.sieve_reading.specs.Reading.{Leaf}
 use Rattle.sieve_code.specs.Operation.{Operation}
-use Rattle.sieve_code.specs.declared.op.Op.{Op}
-use Rattle.sieve_code.specs.view.Code.{op_of}
 use Rattle.sieve_code.specs.Walk as walk
 use Rattle.sieve_code.specs.Walk.{Walk}
 use Rattle.sieve_actions.specs.Delivery.{Delivery}
@@ -15,8 +13,6 @@ use Rattle.sieve_actions.specs.declared.flow.Flow.{Flow}
 use Rattle.sieve_actions.specs.declared.flow.Flow.TheVariants as flow
 use Rattle.sieve_run.specs.declared.turn.Step.{Step}
 use Rattle.sieve_run.specs.declared.turn.Step.TheVariants.{Next, Ended}
-use Rattle.sieve_run.specs.declared.turn.Turn.{Turn}
-use Rattle.sieve_actions.specs.view.Delivery.{delivery_as}
 use Rattle.sieve_actions.specs.view.Flow.{ending_by}
 use Rattle.script_names.specs.declared.name.ScriptName.{ScriptName}
 
@@ -40,10 +36,6 @@ doing_after act delivery go (Ended flow) state = ending_by flow state
 -- a step does its operation, whatever the walk after it; `after` is the place after the operation's
 pub record StepsTo (act : Acts) (delivery : Delivery) (op : Operation) (after : ℕ) (register : Bool) (old : RunState) (step : Step) (new : RunState) : Type 0 where
   pub before : (place : ℕ) (go : ℕ → Bool → Walk) → after ≡ place + 1 → doing act delivery (walk.step go (Some op) place register) old ≡ doing_after act delivery go step new
-
--- a step does an operation in its turn
-abbrev pub Carries : Acts → Turn → Op → RunState → Step → RunState → Type 0
-Carries act turn op old step new = StepsTo act (delivery_as turn.delivery.now) (op_of turn.code.now op) turn.after turn.register old step new
 
 -- the step after a command that ended so, where this is the place after its operation's
 abbrev pub step_after : Flow → ℕ → Bool → Step

@@ -1,5 +1,8 @@
-use Rattle.sieve_check.proofs.Unused.{same_judgement}
+use Rattle.sieve_check.proofs.Unused.{same_judgement, same_tree}
 use Rattle.sieve_check.proofs.laws.unused_changes_no_sound_script.Goals as goal
 
-pub returns : goal.returns
-returns c = same_judgement
+pub returns-clause-sound : goal.returns-clause-sound
+returns-clause-sound c = same_judgement
+
+pub returns-clause-tree : goal.returns-clause-tree
+returns-clause-tree c = same_tree

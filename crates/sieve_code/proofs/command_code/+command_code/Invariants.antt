@@ -1,15 +1,16 @@
-use Rattle.std.proofs.Common.{◌≡◌, ◌++◌, ◌≤◌, drop, length}
-use Rattle.sieve_code.specs.view.Branches.{branches_as}
-use Rattle.sieve_code.proofs.Putting.{branches_on}
+use Rattle.std.proofs.Common.{◌≡◌, List, length}
+use Rattle.sieve_reading.specs.Script.{Branches}
+use Rattle.sieve_reading.specs.view.Script.{branches_as, commands_as}
+use Rattle.sieve_code.specs.Choice.{branches_before}
+use Rattle.sieve_code.specs.Operation.{Operation}
+use Rattle.sieve_code.specs.view.Branches.{has_branch}
+use Rattle.sieve_code.proofs.Putting.{BranchesPut, CommandsPut}
 use Rattle.sieve_code.proofs.command_code.+command_code.Given as goal
 
--- the commands that were taken from the end stand before the given tail, with the branches that `front` says of, which end within the tail; and all commands are those that are left and those that were taken
-abbrev pub invariant-put_commands-loop-command : goal.invariant-put_commands-loop-command
-invariant-put_commands-loop-command l = record {
-  within : l.front.after ≤ length l.tail;
-  value : branches_as l.front l.tail ≡ branches_on (drop (length l.commands.items) l.fn.commands.items) l.fn.tail;
-  left : l.fn.commands.items ≡ l.commands.items ++ drop (length l.commands.items) l.fn.commands.items;
-}
+-- some commands stand before the given tail, and the others are left
+abbrev pub invariant-put_commands-loop-statement : goal.invariant-put_commands-loop-statement
+invariant-put_commands-loop-statement l = CommandsPut l.tail l.fn.tail l.statement-iterator.rest.items (commands_as l.fn.commands.items)
 
-abbrev pub decreases-put_commands-loop-command : goal.decreases-put_commands-loop-command
-decreases-put_commands-loop-command l = length l.commands.items
+-- some branches stand before those that stood there, and the others are left
+abbrev pub invariant-put_branches-loop-branch : goal.invariant-put_branches-loop-branch
+invariant-put_branches-loop-branch l = (others : Branches) (rest : List Operation) → l.fn.otherwise ≡ has_branch others → l.fn.after ≡ length rest → l.fn.tail ≡ branches_before others rest → BranchesPut l.tail rest l.follows l.branch-iterator.rest.items (branches_as l.fn.branches.items others)

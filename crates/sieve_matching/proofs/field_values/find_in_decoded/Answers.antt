@@ -1,20 +1,22 @@
-use Rattle.std.proofs.Common.{Some, sym, ap, ◌∙◌}
-use Rattle.std.specs.Cow.{cow_slice_items}
+use Rattle.std.proofs.Common.{sym, ap, ◌∙◌}
 use Rattle.encoded_words.specs.Scan.{decoded_of}
-use Rattle.message_text.specs.Fields.{fields_of}
+use Rattle.message_text.specs.Fields.{Field, fields_of}
 use Rattle.sieve_matching.specs.view.FieldTests.{found_with}
-use Rattle.sieve_matching.proofs.Searching.{get-mapped-twice}
+use Rattle.sieve_matching.proofs.Searching.{made_twice, or_none}
 use Rattle.sieve_matching.proofs.field_values.find_in_decoded.Goals as goal
 
 pub returns-clause-found : goal.returns-clause-found
-returns-clause-found c =
+returns-clause-found c field at =
     let find = found_with c.args.matcher.now in
-    get-mapped-twice (λ field. field.value) (decoded_of c.args.fields.now.profile) find (fields_of c.args.fields.now.message) c.args.i (cow_slice_items c.in_ok-value.value) c.in_ok-value.ensures.decoded
-    ∙ ap (λ value. Some (find value)) (sym c.as_slice.ensures.value)
-    ∙ ap Some (sym c.in_ok-found.ensures)
+    let profile = c.args.fields.now.profile in
+    c.in_ok-found.ensures
+    ∙ ap find (c.as_slice.ensures.value ∙ made_twice (λ (f : Field). f.value) (decoded_of profile) (fields_of c.args.fields.now.message) c.args.i field _ at c.in_ok-value.ensures.decoded)
+    ∙ sym (or_none (find (decoded_of profile field.value)))
 
 pub returns-in-Some-clause-found : goal.returns-in-Some-clause-found
-returns-in-Some-clause-found c =
+returns-in-Some-clause-found c field at =
     let find = found_with c.args.matcher.now in
-    get-mapped-twice (λ field. field.value) (decoded_of c.args.fields.now.profile) find (fields_of c.args.fields.now.message) c.args.i c.in-Some.value.now c.in-Some.ensures
-    ∙ ap Some (sym c.in_ok-matched.ensures)
+    let profile = c.args.fields.now.profile in
+    c.in_ok-matched.ensures
+    ∙ ap find (made_twice (λ (f : Field). f.value) (decoded_of profile) (fields_of c.args.fields.now.message) c.args.i field _ at c.in-Some.ensures)
+    ∙ sym (or_none (find (decoded_of profile field.value)))

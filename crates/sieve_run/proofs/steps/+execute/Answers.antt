@@ -1,10 +1,10 @@
-use Rattle.std.proofs.Common.{◌≡◌, ◌&&◌, ◌∙◌, ◌<◌, ◌≤◌, ◌+◌, ◌-◌, true, false, IfOk, List, length, map, nat_lt, sym, ap, subst, arith, Bor, [], slice_index_or}
+use Rattle.std.proofs.Common.{◌≡◌, ◌&&◌, ◌∙◌, ◌<◌, ◌≤◌, ◌+◌, ◌-◌, true, false, IfOk, List, length, map, nat_lt, sym, ap, subst, arith, Bor}
 use Rattle.std.proofs.lemmas.Bool.Decides.{nat_tests}
 use Rattle.std.proofs.lemmas.Result.{IfOk-weaker}
+use Rattle.sieve_code.specs.Pool.{ask_in, leaf_in}
 use Rattle.sieve_code.specs.Walk.{code_walk, walk_from}
 use Rattle.sieve_code.specs.view.Code.{op_of, ops_of, pool_of}
 use Rattle.sieve_limits.specs.Limits.{include_limit}
-use Rattle.sieve_reading.specs.Reading.{include_leaf}
 use Rattle.sieve_run.specs.Library.{Lookup, found_at, library_of}
 use Rattle.sieve_run.specs.Run.{act_of, included, is_script}
 use Rattle.sieve_actions.specs.declared.flow.Flow.{Flow}
@@ -20,58 +20,25 @@ use Rattle.sieve_actions.specs.view.State.{state_of}
 use Rattle.sieve_run.specs.view.Step.{doing, doing_after}
 use Rattle.sieve_variables.specs.Value.{with_own}
 use Rattle.sieve_run.proofs.Includes.{enters_by, fails_deep, fails_many, fails_running, looks_included, looks_present, not_entered, not_once, skips_included}
-use Rattle.sieve_run.proofs.Stepping.{acts_follow, past_end, runs_out, turns}
+use Rattle.sieve_run.proofs.Stepping.{acts_follow, asks_follow, past_end, runs_out, turns}
 use Rattle.sieve_run.proofs.steps.+execute.Goals as goal
 use Rattle.sieve_run.proofs.steps.+execute.Goals.{include-else-inclusion-via-then-inclusion+else-is_script, include-else-inclusion-via-else-inclusion}
 
-pub carry_out-returns-in-Keep-clause-step : goal.carry_out-returns-in-Keep-clause-step
-carry_out-returns-in-Keep-clause-step g t c =
-    let find : ScriptName → Lookup = library_of (g.L.Library.profile c.args.running.now.lib.now) (g.L.Library.texts c.args.running.now.lib.now) in
-    rw c.in-Keep.is (c.act_keep.ensures (included find c.args.running.now.depth (delivery_as c.args.running.now.delivery.now)))
-
-pub carry_out-returns-in-Fileinto-clause-step : goal.carry_out-returns-in-Fileinto-clause-step
-carry_out-returns-in-Fileinto-clause-step g t c =
-    let find : ScriptName → Lookup = library_of (g.L.Library.profile c.args.running.now.lib.now) (g.L.Library.texts c.args.running.now.lib.now) in
-    rw c.in-Fileinto.is (c.act_fileinto.ensures (included find c.args.running.now.depth (delivery_as c.args.running.now.delivery.now)))
-
-pub carry_out-returns-in-Redirect-clause-step : goal.carry_out-returns-in-Redirect-clause-step
-carry_out-returns-in-Redirect-clause-step g t c =
-    let find : ScriptName → Lookup = library_of (g.L.Library.profile c.args.running.now.lib.now) (g.L.Library.texts c.args.running.now.lib.now) in
-    rw c.in-Redirect.is (c.act_redirect.ensures (included find c.args.running.now.depth (delivery_as c.args.running.now.delivery.now)))
-
-pub carry_out-returns-in-Discard-clause-step : goal.carry_out-returns-in-Discard-clause-step
-carry_out-returns-in-Discard-clause-step g t c =
-    let find : ScriptName → Lookup = library_of (g.L.Library.profile c.args.running.now.lib.now) (g.L.Library.texts c.args.running.now.lib.now) in
-    rw c.in-Discard.is (c.act_discard.ensures (included find c.args.running.now.depth (delivery_as c.args.running.now.delivery.now)))
-
-pub carry_out-returns-in-Set-clause-step : goal.carry_out-returns-in-Set-clause-step
-carry_out-returns-in-Set-clause-step g t c =
-    let find : ScriptName → Lookup = library_of (g.L.Library.profile c.args.running.now.lib.now) (g.L.Library.texts c.args.running.now.lib.now) in
-    rw c.in-Set.is (c.act_set.ensures (included find c.args.running.now.depth (delivery_as c.args.running.now.delivery.now)))
-
-pub carry_out-returns-in-Flags-clause-step : goal.carry_out-returns-in-Flags-clause-step
-carry_out-returns-in-Flags-clause-step g t c =
-    let find : ScriptName → Lookup = library_of (g.L.Library.profile c.args.running.now.lib.now) (g.L.Library.texts c.args.running.now.lib.now) in
-    rw c.in-Flags.is (c.act_flags.ensures (included find c.args.running.now.depth (delivery_as c.args.running.now.delivery.now)))
-
-pub carry_out-returns-in-Include-clause-step : goal.carry_out-returns-in-Include-clause-step
-carry_out-returns-in-Include-clause-step g t c =
+pub carry_out-returns-in-Test-clause-step : goal.carry_out-returns-in-Test-clause-step
+carry_out-returns-in-Test-clause-step g t c =
     let find : ScriptName → Lookup = library_of (g.L.Library.profile c.args.running.now.lib.now) (g.L.Library.texts c.args.running.now.lib.now) in
     let d = delivery_as c.args.running.now.delivery.now in
-    let i = c.in-Include.inclusion in
-    acts_follow (act_of find c.args.running.now.depth d) d (include_leaf i.location i.once i.optional (slice_index_or (pool_of c.args.running.now.code.now).scripts i.name [])) i.line _ _ _ _ _ _ _
-    (ap (op_of c.args.running.now.code.now) c.in-Include.is)
-    c.include_named.ensures.ending c.acted.ensures
+    let code = c.args.running.now.code.now in
+    asks_follow (act_of find c.args.running.now.depth d) d (ask_in (pool_of code) c.in-Test.asked) _ _ _ _ _ _ _
+    (ap (op_of code) c.in-Test.is) c.ask.ensures.truth c.ask.ensures.after c.tested.ensures
 
-pub carry_out-returns-in-Vacation-clause-step : goal.carry_out-returns-in-Vacation-clause-step
-carry_out-returns-in-Vacation-clause-step g t c =
+pub carry_out-returns-in-Act-clause-step : goal.carry_out-returns-in-Act-clause-step
+carry_out-returns-in-Act-clause-step g t c =
     let find : ScriptName → Lookup = library_of (g.L.Library.profile c.args.running.now.lib.now) (g.L.Library.texts c.args.running.now.lib.now) in
-    rw c.in-Vacation.is (c.act_vacation.ensures (included find c.args.running.now.depth (delivery_as c.args.running.now.delivery.now)))
-
-pub carry_out-returns-in-Reject-clause-step : goal.carry_out-returns-in-Reject-clause-step
-carry_out-returns-in-Reject-clause-step g t c =
-    let find : ScriptName → Lookup = library_of (g.L.Library.profile c.args.running.now.lib.now) (g.L.Library.texts c.args.running.now.lib.now) in
-    rw c.in-Reject.is (c.act_reject.ensures (included find c.args.running.now.depth (delivery_as c.args.running.now.delivery.now)))
+    let d = delivery_as c.args.running.now.delivery.now in
+    let code = c.args.running.now.code.now in
+    acts_follow (act_of find c.args.running.now.depth d) d (leaf_in (pool_of code) c.in-Act.leaf) c.in-Act.line _ _ _ _ _ _ _
+    (ap (op_of code) c.in-Act.is) c.act.ensures.ending c.acted.ensures
 
 pub execute_inside-returns-clause-ending : goal.execute_inside-returns-clause-ending
 execute_inside-returns-clause-ending g t c =
@@ -108,7 +75,7 @@ execute-returns-in-Ended-clause-ending g t c =
     let act = act_of (library_of (g.L.Library.profile c.args.running.now.lib.now) (g.L.Library.texts c.args.running.now.lib.now)) c.args.running.now.depth d in
     let ops = ops_of c.args.running.now.code.now in
     sym c.loop-turn.invariant.1
-    ∙ turns act d ops c.loop-turn._turn c.loop-turn.place c.loop-turn.register (op_of c.args.running.now.code.now c.op.result) (state_of c.loop-turn.state) c.in_ok-next.field-0 (state_of c.carry_out.new.state) (subst (λ n. c.loop-turn._turn < n) c.len-turn-end.ensures c.loop-turn-test.true) c.op.ensures c.in_ok-next.ensures.step
+    ∙ turns act d ops c.loop-turn._turn c.loop-turn.place c.loop-turn.register (op_of c.args.running.now.code.now c.op.result.now) (state_of c.loop-turn.state) c.in_ok-next.field-0 (state_of c.carry_out.new.state) (subst (λ n. c.loop-turn._turn < n) c.len-turn-end.ensures c.loop-turn-test.true) c.op.ensures c.in_ok-next.ensures.step
     ∙ ap (λ step. doing_after act d (walk_from ops (length ops - (c.loop-turn._turn + 1))) step (state_of c.carry_out.new.state)) c.in-Ended.is
 
 pub execute-loop-turn-preserved : goal.execute-loop-turn-preserved
@@ -117,7 +84,7 @@ execute-loop-turn-preserved g t c =
     let act = act_of (library_of (g.L.Library.profile c.args.running.now.lib.now) (g.L.Library.texts c.args.running.now.lib.now)) c.args.running.now.depth d in
     let ops = ops_of c.args.running.now.code.now in (
       c.carry_out.ensures.arrival ∙ c.loop-turn.invariant.0,
-      sym (turns act d ops c.loop-turn._turn c.loop-turn.place c.loop-turn.register (op_of c.args.running.now.code.now c.op.result) (state_of c.loop-turn.state) c.in_ok-next.field-0 (state_of c.carry_out.new.state) (subst (λ n. c.loop-turn._turn < n) c.len-turn-end.ensures c.loop-turn-test.true) c.op.ensures c.in_ok-next.ensures.step
+      sym (turns act d ops c.loop-turn._turn c.loop-turn.place c.loop-turn.register (op_of c.args.running.now.code.now c.op.result.now) (state_of c.loop-turn.state) c.in_ok-next.field-0 (state_of c.carry_out.new.state) (subst (λ n. c.loop-turn._turn < n) c.len-turn-end.ensures c.loop-turn-test.true) c.op.ensures c.in_ok-next.ensures.step
           ∙ ap (λ step. doing_after act d (walk_from ops (length ops - (c.loop-turn._turn + 1))) step (state_of c.carry_out.new.state)) c.in-Next.is)
           ∙ c.loop-turn.invariant.1,
     )

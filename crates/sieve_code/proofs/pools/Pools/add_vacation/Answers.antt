@@ -1,10 +1,8 @@
 use Rattle.std.proofs.Common.{ℕ}
-use Rattle.std.proofs.lemmas.Result.{IfOk-weaker}
 use Rattle.std.specs.Option.{option_map}
-use Rattle.sieve_reading.specs.view.Reading.{texts_as, vacation_as}
-use Rattle.sieve_code.specs.Pool.{Pool, vacation_packed_in, vacation_unpacked}
+use Rattle.sieve_reading.specs.view.Reading.{texts_as}
 use Rattle.sieve_reading.specs.declared.reading.Vacation.{Vacation}
-use Rattle.sieve_code.proofs.Keeping.{kept_by, said_kept}
+use Rattle.sieve_code.proofs.Keeping.{said_kept}
 use Rattle.sieve_code.proofs.pools.Pools.add_vacation.Goals as goal
 
 pub returns : goal.returns
@@ -12,7 +10,4 @@ returns c =
     let v = c.args.vacation in
     let packed : Vacation ℕ ℕ = record { reason = c.in_ok-reason.reason; days = v.days; subject = c.in_ok-subject.subject; from = c.in_ok-from.from; addresses = c.in_ok-addresses.addresses; mime = v.mime; handle = c.in_ok-handle.handle } in
     let addresses = option_map (λ given. texts_as given.items) v.addresses in
-    let strings = said_kept _ _ _ _ _ _ packed v.reason v.subject v.from addresses v.handle c.in_ok-reason.ensures c.in_ok-subject.ensures c.in_ok-from.ensures c.in_ok-addresses.ensures c.in_ok-handle.ensures in
-    IfOk-weaker c.put_vacation.result _ _
-    (λ at kept. kept_by (λ (s : Vacation ℕ ℕ) (p : Pool). vacation_unpacked p s) _ _ _ (λ (p : Pool). vacation_packed_in p at) (vacation_as v) packed strings kept)
-    c.put_vacation.ensures
+    said_kept _ _ _ _ _ _ packed v.reason v.subject v.from addresses v.handle c.in_ok-reason.ensures c.in_ok-subject.ensures c.in_ok-from.ensures c.in_ok-addresses.ensures c.in_ok-handle.ensures
