@@ -1,12 +1,13 @@
 -- What is kept in pools stays where it is.
-use Rattle.std.proofs.Common.{◌≡◌, ℕ, true, false, List, [], ◌∷◌, ◌++◌, length, map, get_or, Option, refl, sym, ap, ◌∙◌, subst}
+use Rattle.std.proofs.Common.{◌≡◌, ℕ, zero, suc, true, false, List, [], ◌∷◌, ◌++◌, length, map, get_or, slice_get, Option, Some, refl, sym, ap, ◌∙◌, subst}
 use Rattle.std.proofs.Math.Seq.{get_or-append_seam}
 use Rattle.std.proofs.lemmas.List.{append-nil, append_assoc}
 use Rattle.sieve_operations.specs.Joined.{Lists, list_in, lists_plus, lists_with, no_lists}
 use Rattle.sieve_reading.specs.Reading as reading
 use Rattle.sieve_reading.specs.declared.reading.Vacation.{Vacation}
 use Rattle.sieve_variables.specs.Part.{Part}
-use Rattle.sieve_code.specs.Pool.{Grows, Keeps, Kept, Pool, given_list, given_string, no_pool, plus, vacation_in}
+use Rattle.sieve_reading.specs.declared.reading.Ask.TheVariants as asked
+use Rattle.sieve_code.specs.Pool.{Grows, Keeps, Kept, PackedAsk, PackedLeaf, Pool, ask_at, ask_in, given_list, given_string, leaf_at, leaf_in, leaf_of, no_pool, plus, vacation_in}
 use Rattle.sieve_code.specs.Operation.{Operation}
 use Rattle.sieve_code.specs.view.Op.{is_plain, op_in, plain_as}
 use Rattle.sieve_code.specs.declared.op.Op.{Op}
@@ -23,6 +24,8 @@ plus_none p =
     ap (λ (s : List (List Part)). record (plus p no_pool) { strings = s }) (append-nil p.strings)
     ∙ ap (λ (l : Lists). record (plus p no_pool) { strings = p.strings; lists = l }) (lists_none p.lists)
     ∙ ap (λ (n : Lists). record (plus p no_pool) { strings = p.strings; lists = p.lists; names = n }) (lists_none p.names)
+    ∙ ap (λ (a : List PackedAsk). record p { asks = a; leaves = p.leaves ++ [] }) (append-nil p.asks)
+    ∙ ap (λ (l : List PackedLeaf). record p { leaves = l }) (append-nil p.leaves)
 
 pub grows_self : (p : Pool) → Grows p p
 grows_self p = λ more. (more, refl)
@@ -83,6 +86,60 @@ module _ (p q : Pool) (place : ℕ) (texts : List (List Part)) where
     keeps = λ more. ap (list_in (lists_plus (lists_with p.names texts) more.names)) at ∙ there more.names;
   })
 
+-- what the last list is already is kept there
+pub list_shared : (p : Pool) (place : ℕ) (texts : List (List Part)) → ((more : Lists) → list_in (lists_plus p.lists more) place ≡ texts) → Kept p p (λ r. list_in r.lists place) texts
+list_shared p place texts there = record { grows = grows_self p; keeps = λ more. there more.lists }
+
+pub names_shared : (p : Pool) (place : ℕ) (texts : List (List Part)) → ((more : Lists) → list_in (lists_plus p.names more) place ≡ texts) → Kept p p (λ r. list_in r.names place) texts
+names_shared p place texts there = record { grows = grows_self p; keeps = λ more. there more.names }
+
+-- WHAT TESTS ASK AND COMMANDS DO
+
+-- an item that is there is there with more after it
+there : {X : Type 0} (xs more : List X) (n : ℕ) (x : X) → slice_get xs n ≡ Some x → slice_get (xs ++ more) n ≡ Some x
+there [] more n x is = cc
+there (y ∷ xs) more zero x is = is
+there (y ∷ xs) more (suc n) x is = there xs more n x is
+
+-- an item that is added is there with more after it
+added : {X : Type 0} (xs more : List X) (n : ℕ) (x d : X) → n ≡ length xs → get_or ((xs ++ x ∷ []) ++ more) n d ≡ x
+added xs more n x d at = ap (λ l. get_or l n d) (append_assoc xs (x ∷ []) more) ∙ ap (λ n. get_or (xs ++ x ∷ more) n d) at ∙ get_or-append_seam xs x more d
+
+there_or : {X : Type 0} (xs more : List X) (n : ℕ) (x d : X) → slice_get xs n ≡ Some x → get_or (xs ++ more) n d ≡ x
+there_or [] more n x d is = cc
+there_or (y ∷ xs) more zero x d is = cc
+there_or (y ∷ xs) more (suc n) x d is = there_or xs more n x d is
+
+pub string_shared : (p : Pool) (place : ℕ) (string : List Part) → slice_get p.strings place ≡ Some string → Kept p p (λ r. get_or r.strings place []) string
+string_shared p place string at = record { grows = grows_self p; keeps = λ more. there_or p.strings more.strings place string [] at }
+
+seam : {X : Type 0} (xs : List X) (x : X) (ys : List X) → slice_get (xs ++ x ∷ ys) (length xs) ≡ Some x
+seam [] x ys = refl
+seam (y ∷ xs) x ys = seam xs x ys
+
+added_get : {X : Type 0} (xs more : List X) (n : ℕ) (x : X) → n ≡ length xs → slice_get ((xs ++ x ∷ []) ++ more) n ≡ Some x
+added_get xs more n x at = ap (λ l. slice_get l n) (append_assoc xs (x ∷ []) more) ∙ ap (slice_get (xs ++ x ∷ more)) at ∙ seam xs x more
+
+module _ (p q r : Pool) (place : ℕ) where
+  pub ask_kept : (ask : PackedAsk) (x : reading.Ask) → place ≡ length q.asks → r ≡ record q { asks = q.asks ++ ask ∷ [] } → Kept p q (λ s. ask_in s ask) x → Kept p r (λ s. ask_at s place) x
+  ask_kept ask x at is kept = subst (λ (r : Pool). Kept p r (λ s. ask_at s place) x) (sym is) (record {
+    grows = λ more. let rest = kept.grows (record more { asks = ask ∷ more.asks }) in (rest.0, ap (λ (a : List PackedAsk). record (plus q more) { asks = a }) (append_assoc q.asks (ask ∷ []) more.asks) ∙ rest.1);
+    keeps = λ more. ap (ask_in (plus q more)) (added q.asks more.asks place ask asked.Duplicate at) ∙ kept.keeps more;
+  })
+
+  pub leaf_kept : (leaf : PackedLeaf) (x : reading.Leaf) → place ≡ length q.leaves → r ≡ record q { leaves = q.leaves ++ leaf ∷ [] } → Kept p q (λ s. leaf_in s leaf) x → Kept p r (λ s. leaf_at s place) x
+  leaf_kept leaf x at is kept = subst (λ (r : Pool). Kept p r (λ s. leaf_at s place) x) (sym is) (record {
+    grows = λ more. let rest = kept.grows (record more { leaves = leaf ∷ more.leaves }) in (rest.0, ap (λ (l : List PackedLeaf). record (plus q more) { leaves = l }) (append_assoc q.leaves (leaf ∷ []) more.leaves) ∙ rest.1);
+    keeps = λ more. ap (leaf_of (plus q more)) (added_get q.leaves more.leaves place leaf at) ∙ kept.keeps more;
+  })
+
+-- what lies at a place already is kept there
+pub leaf_shared : (p q : Pool) (place : ℕ) (leaf : PackedLeaf) (x : reading.Leaf) → slice_get q.leaves place ≡ Some leaf → Kept p q (λ s. leaf_in s leaf) x → Kept p q (λ s. leaf_at s place) x
+leaf_shared p q place leaf x at kept = record {
+  grows = kept.grows;
+  keeps = λ more. ap (leaf_of (plus q more)) (there q.leaves more.leaves place leaf at) ∙ kept.keeps more;
+}
+
 -- WHAT A VACATION SAYS
 
 abbrev said : Vacation ℕ ℕ → List Part → (subject from : Option (List Part)) → (addresses : Option (List (List Part))) → (handle : Option (List Part)) → reading.Vacation
@@ -117,8 +174,8 @@ plain_in pool (op.JumpIfFalse left) plain = refl
 plain_in pool (op.JumpIfTrue left) plain = refl
 plain_in pool op.Stop plain = refl
 plain_in pool op.Return plain = refl
-plain_in pool (op.Test ask) plain = absurd (no_plain plain)
-plain_in pool (op.Act leaf line) plain = absurd (no_plain plain)
+plain_in pool (op.Test place) plain = absurd (no_plain plain)
+plain_in pool (op.Act place line) plain = absurd (no_plain plain)
 
 module _ (pool : Pool) (ops ops' : List Op) (stays : Stays pool ops) where
   pub stays_same : ops' ≡ ops → Stays pool ops'

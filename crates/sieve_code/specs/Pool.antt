@@ -1,9 +1,11 @@
 -- What operations of code say by its place.
-use Rattle.std.specs.Prelude.{◌≡◌, ℕ, Box, List, [], ◌++◌, Option, slice_index_or}
+use Rattle.std.specs.Prelude.{◌≡◌, ℕ, Box, List, [], ◌++◌, Option, Some, None, slice_get, slice_index_or}
 use Rattle.std.specs.Option.{option_map}
 use Rattle.std.specs.declared.alloc.Global.{Global}
 use Rattle.sieve_reading.specs.Reading as reading
+use Rattle.sieve_reading.specs.Reading.{discard_leaf}
 use Rattle.sieve_reading.specs.declared.reading.Ask.{Ask}
+use Rattle.sieve_reading.specs.declared.reading.Ask.TheVariants as asked
 use Rattle.sieve_reading.specs.declared.reading.BodyTransform.{BodyTransform}
 use Rattle.sieve_reading.specs.declared.reading.DateZone.{DateZone}
 use Rattle.sieve_reading.specs.declared.reading.Leaf.{Leaf}
@@ -14,18 +16,33 @@ use Rattle.sieve_reading.specs.view.Reading.{answered_by, ask_by, body_by, date_
 use Rattle.sieve_operations.specs.Joined.{Lists, list_in, lists_plus, no_lists}
 use Rattle.sieve_variables.specs.Part.{Part}
 
--- strings, each by its parts; lists of strings; and lists of names of fields
+-- what a test asks and what a command does, with the places of their strings
+abbrev pub PackedAsk : Type 0
+PackedAsk = Ask ℕ ℕ ℕ
+
+abbrev pub PackedLeaf : Type 0
+PackedLeaf = Leaf ℕ ℕ (Box (Vacation ℕ ℕ) Global)
+
+-- strings, each by its parts; lists of strings; lists of names of fields; what tests ask; and what commands do
 pub record Pool : Type 0 where
   pub strings : List (List Part)
   pub lists : Lists
   pub names : Lists
+  pub asks : List PackedAsk
+  pub leaves : List PackedLeaf
 
 abbrev pub no_pool : Pool
-no_pool = record { strings = []; lists = no_lists; names = no_lists }
+no_pool = record { strings = []; lists = no_lists; names = no_lists; asks = []; leaves = [] }
 
 -- with more after each; further lists end at numbers of strings that are counted from the first of all
 abbrev pub plus : Pool → Pool → Pool
-plus pool more = record { strings = pool.strings ++ more.strings; lists = lists_plus pool.lists more.lists; names = lists_plus pool.names more.names }
+plus pool more = record {
+  strings = pool.strings ++ more.strings;
+  lists = lists_plus pool.lists more.lists;
+  names = lists_plus pool.names more.names;
+  asks = pool.asks ++ more.asks;
+  leaves = pool.leaves ++ more.leaves;
+}
 
 -- a string
 abbrev pub string_in : Pool → ℕ → List Part
@@ -56,11 +73,23 @@ abbrev pub vacation_in : Pool → Vacation ℕ ℕ → reading.Vacation
 vacation_in pool = answered_by (string_in pool) (given_list pool) (given_string pool)
 
 -- what a test asks, and what a command does
-abbrev pub ask_in : Pool → Ask ℕ ℕ ℕ → reading.Ask
+abbrev pub ask_in : Pool → PackedAsk → reading.Ask
 ask_in pool = ask_by (list_in pool.names) (list_in pool.lists) (given_list pool) (string_in pool)
 
-abbrev pub leaf_in : Pool → Leaf ℕ ℕ (Box (Vacation ℕ ℕ) Global) → reading.Leaf
+abbrev pub leaf_in : Pool → PackedLeaf → reading.Leaf
 leaf_in pool = leaf_by (list_in pool.lists) (given_list pool) (string_in pool) (given_string pool) (λ vacation. vacation_in pool vacation.value)
+
+-- what a test asks, by its place; past the last, whether the message came before
+abbrev pub ask_at : Pool → ℕ → reading.Ask
+ask_at pool place = ask_in pool (slice_index_or pool.asks place asked.Duplicate)
+
+-- what a command does, by its place; past the last it discards
+abbrev pub leaf_of : Pool → Option PackedLeaf → reading.Leaf
+leaf_of pool None = discard_leaf
+leaf_of pool (Some leaf) = leaf_in pool leaf
+
+abbrev pub leaf_at : Pool → ℕ → reading.Leaf
+leaf_at pool place = leaf_of pool (slice_get pool.leaves place)
 
 -- A pool with more after it, whatever stands after that.
 abbrev pub Grows : Pool → Pool → Type 0

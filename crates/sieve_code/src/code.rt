@@ -7,16 +7,16 @@ ghost use Rattle.sieve_operations.specs.view.Ops.{body_op_as, settings_op_as, so
 ghost use Rattle.sieve_code.specs.Choice.{AllGoForward};
 ghost use Rattle.sieve_code.specs.Compiles.{IsCode};
 ghost use Rattle.sieve_code.specs.Dump.{line_at};
-ghost use Rattle.sieve_code.specs.Pool.{body_in, given_list, given_string, settings_in, source_in, string_in, vacation_in, zone_in};
+ghost use Rattle.sieve_code.specs.Pool.{ask_at, ask_in, body_in, given_list, given_string, leaf_at, leaf_of, settings_in, source_in, string_in, vacation_in, zone_in};
 ghost use Rattle.sieve_code.specs.view.Op.{ops_in};
 ghost use Rattle.sieve_code.specs.view.Pools.{pool_as};
 
 use crate::dump::write_line;
-use crate::op::{Op, PackedSettings, PackedSource, PackedVacation};
+use crate::op::{Op, PackedAsk, PackedLeaf, PackedSettings, PackedSource, PackedVacation};
 use crate::pools::Pools;
 use devices::{Sink, WriteFault};
 use sieve_operations::{BodyOp, FieldNames, SettingsOp, SourceOp, Strings, VacationOp, ZoneOp};
-use sieve_reading::{BodyTransform, DateZone};
+use sieve_reading::{Ask, BodyTransform, DateZone};
 use sieve_variables::Part;
 
 /// The code of a checked script. It starts at the first operation and ends after the last. Each jump goes forward, and at most
@@ -40,18 +40,35 @@ impl Code {
     }
 
     /// The operation at a place. Takes no memory.
-    pub fn op(&self, i: usize) -> &Op
+    pub fn op(&self, i: usize) -> Op
         requires { i < length (ops_of self.now) }
-        ensures { slice_get (ops_of self.now) i ≡ Some (op_of self.now result.now) }
+        ensures { slice_get (ops_of self.now) i ≡ Some (op_of self.now result) }
     {
-        &self.ops[i]
+        self.ops[i]
+    }
+
+    /// What a test asks, by its place. Takes no memory.
+    pub fn ask(&self, place: u32) -> PackedAsk
+        ensures { ask_in (pool_of self.now) result ≡ ask_at (pool_of self.now) place }
+    {
+        match self.pools.asks.get(place as usize) {
+            Some(ask) => *ask,
+            None => Ask::Duplicate,
+        }
+    }
+
+    /// What a command does, by its place; past the last it discards. Takes no memory.
+    pub fn leaf(&self, place: u32) -> Option<&PackedLeaf>
+        ensures { leaf_of (pool_of self.now) (option_copied result) ≡ leaf_at (pool_of self.now) place }
+    {
+        self.pools.leaves.get(place as usize)
     }
 
     /// The place where so many operations are left, to which a jump goes that says this number. Takes no memory.
-    pub fn jump_place(&self, left: usize) -> usize
+    pub fn jump_place(&self, left: u32) -> usize
         ensures { result ≡ jump_place_of self.now left }
     {
-        self.len().saturating_sub(left)
+        self.len().saturating_sub(left as usize)
     }
 
     /// The parts of the string at a place. Takes no memory.

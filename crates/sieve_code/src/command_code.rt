@@ -13,7 +13,7 @@ use sieve_reading::{Branch, Statement};
 use std::alloc::AllocError;
 
 /// Puts a jump past the branches before a tail where a branch follows there; so many operations stand after them.
-fn put_past(follows: bool, after: usize, tail: &mut Tail) -> Result<(), AllocError>
+fn put_past(follows: bool, after: u32, tail: &mut Tail) -> Result<(), AllocError>
     ensures { OnOk result (tail.new ≡ (if follows then jump_op after ∷ tail.old else tail.old)) }
 {
     if follows {
@@ -48,7 +48,7 @@ fn put_command(statement: Statement, tail: &mut Tail) -> Result<(), AllocError>
             branches,
             otherwise,
         } => {
-            let after = tail.len();
+            let after = tail.target()?;
             match otherwise {
                 Some(commands) => {
                     put_commands(commands, tail)?;
@@ -65,7 +65,7 @@ fn put_command(statement: Statement, tail: &mut Tail) -> Result<(), AllocError>
 fn put_branches(
     branches: Vec<Branch>,
     otherwise: bool,
-    after: usize,
+    after: u32,
     tail: &mut Tail,
 ) -> Result<(), AllocError>
     ensures { (others : Branches) (rest : List Operation) → otherwise ≡ has_branch others
@@ -82,17 +82,12 @@ fn put_branches(
 
 /// Puts a branch with a test before a tail, by whether another branch follows, and how many operations stand after the branches.
 #[cycle(command_code)]
-fn put_branch(
-    branch: Branch,
-    follows: bool,
-    after: usize,
-    tail: &mut Tail,
-) -> Result<(), AllocError>
+fn put_branch(branch: Branch, follows: bool, after: u32, tail: &mut Tail) -> Result<(), AllocError>
     ensures { OnOk result (tail.new ≡ branch_before (condition_as branch.condition)
         (commands_as branch.block.items) follows after tail.old) }
 {
     let Branch { condition, block } = branch;
-    let next = tail.len();
+    let next = tail.target()?;
     put_past(follows, after, tail)?;
     put_commands(block, tail)?;
     tail.put(Op::JumpIfFalse(next))?;

@@ -19,7 +19,7 @@ fn constant(truth: bool) -> Op
 }
 
 /// The operation that jumps where the register has that truth.
-fn jump_if(truth: bool, target: usize) -> Op
+fn jump_if(truth: bool, target: u32) -> Op
     ensures op { plain_as result ≡ jump_if_op truth target }
     ensures plain { is_plain result ≡ true }
 {
@@ -31,7 +31,7 @@ fn jump_if(truth: bool, target: usize) -> Op
 }
 
 /// Puts a jump before a tail where other conditions follow there.
-fn put_joint(follows: bool, truth: bool, end: usize, tail: &mut Tail) -> Result<(), AllocError>
+fn put_joint(follows: bool, truth: bool, end: u32, tail: &mut Tail) -> Result<(), AllocError>
     ensures { OnOk result
         (tail.new ≡ (if follows then jump_if_op truth end ∷ tail.old else tail.old)) }
 {
@@ -69,7 +69,7 @@ fn put_joined(truth: bool, list: Vec<Condition>, tail: &mut Tail) -> Result<(), 
     if list.is_empty() {
         return tail.put(constant(!truth));
     }
-    let end = tail.len();
+    let end = tail.target()?;
     let mut follows = false;
     for condition in list {
         put_joint(follows, truth, end, tail)?;

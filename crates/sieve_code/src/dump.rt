@@ -2,7 +2,7 @@
 ghost use Rattle.std.specs.Prelude.{◌++◌, codes, decimal};
 ghost use Rattle.devices.specs.Writers.{Writes};
 ghost use Rattle.sieve_code.specs.Dump.{ask_text, at_line, leaf_text, line_text, operation_text};
-ghost use Rattle.sieve_code.specs.Pool.{ask_in, leaf_in};
+ghost use Rattle.sieve_code.specs.Pool.{ask_in, leaf_at, leaf_in};
 ghost use Rattle.sieve_code.specs.view.Code.{jump_place_of, op_of, pool_of};
 
 use crate::code::Code;
@@ -76,18 +76,24 @@ fn write_leaf<W: Sink>(code: &Code, leaf: &PackedLeaf, writer: &mut W) -> Result
     }
 }
 
-/// Writes what a command does, and its line.
-#[tactic(auto, using(devices::proofs::Writing::writing))]
-fn write_act<W: Sink>(
-    code: &Code,
-    leaf: &PackedLeaf,
-    line: u32,
-    writer: &mut W,
-) -> Result<(), WriteFault>
+/// Writes what the command of a place does.
+fn write_leaf_at<W: Sink>(code: &Code, place: u32, writer: &mut W) -> Result<(), WriteFault>
     ensures { Writes W.contents W.fault_count result writer.old writer.new
-        (leaf_text (leaf_in (pool_of code.now) leaf.now) ++ at_line line) }
+        (leaf_text (leaf_at (pool_of code.now) place)) }
 {
-    write_leaf(code, leaf, writer)?;
+    match code.leaf(place) {
+        Some(leaf) => write_leaf(code, leaf, writer),
+        None => write_out(b"discard", writer),
+    }
+}
+
+/// Writes what the command of a place does, and its line.
+#[tactic(auto, using(devices::proofs::Writing::writing))]
+fn write_act<W: Sink>(code: &Code, place: u32, line: u32, writer: &mut W) -> Result<(), WriteFault>
+    ensures { Writes W.contents W.fault_count result writer.old writer.new
+        (leaf_text (leaf_at (pool_of code.now) place) ++ at_line line) }
+{
+    write_leaf_at(code, place, writer)?;
     write_line_number(line, writer)
 }
 
@@ -95,7 +101,7 @@ fn write_act<W: Sink>(
 fn write_jump<W: Sink>(
     word: &[u8],
     code: &Code,
-    left: usize,
+    left: u32,
     writer: &mut W,
 ) -> Result<(), WriteFault>
     ensures { Writes W.contents W.fault_count result writer.old writer.new
@@ -106,19 +112,19 @@ fn write_jump<W: Sink>(
 
 /// Writes an operation.
 #[tactic(auto, unfolding(crate::specs::Dump::operation_text))]
-fn write_op<W: Sink>(code: &Code, op: &Op, writer: &mut W) -> Result<(), WriteFault>
+fn write_op<W: Sink>(code: &Code, op: Op, writer: &mut W) -> Result<(), WriteFault>
     ensures { Writes W.contents W.fault_count result writer.old writer.new
-        (operation_text (op_of code.now op.now)) }
+        (operation_text (op_of code.now op)) }
 {
     match op {
         Op::True => write_out(b"true", writer),
         Op::False => write_out(b"false", writer),
         Op::Not => write_out(b"not", writer),
-        Op::Test(ask) => write_ask(code, ask, writer),
-        Op::Jump(left) => write_jump(b"jump ", code, *left, writer),
-        Op::JumpIfFalse(left) => write_jump(b"jump-if-false ", code, *left, writer),
-        Op::JumpIfTrue(left) => write_jump(b"jump-if-true ", code, *left, writer),
-        Op::Act { leaf, line } => write_act(code, leaf, *line, writer),
+        Op::Test(place) => write_ask(code, &code.ask(place), writer),
+        Op::Jump(left) => write_jump(b"jump ", code, left, writer),
+        Op::JumpIfFalse(left) => write_jump(b"jump-if-false ", code, left, writer),
+        Op::JumpIfTrue(left) => write_jump(b"jump-if-true ", code, left, writer),
+        Op::Act { leaf, line } => write_act(code, leaf, line, writer),
         Op::Stop => write_out(b"stop", writer),
         Op::Return => write_out(b"return", writer),
     }
@@ -137,11 +143,11 @@ fn write_place<W: Sink>(place: usize, writer: &mut W) -> Result<(), WriteFault>
 pub(crate) fn write_line<W: Sink>(
     place: usize,
     code: &Code,
-    op: &Op,
+    op: Op,
     writer: &mut W,
 ) -> Result<(), WriteFault>
     ensures { Writes W.contents W.fault_count result writer.old writer.new
-        (line_text place (op_of code.now op.now)) }
+        (line_text place (op_of code.now op)) }
 {
     write_place(place, writer)?;
     write_op(code, op, writer)?;

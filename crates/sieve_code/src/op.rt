@@ -15,12 +15,12 @@ pub type PackedSettings = Settings<u32, u32>;
 /// What a `vacation` says (RFC 5230, section 4), with the places of its strings.
 pub type PackedVacation = Vacation<u32, u32>;
 
-/// What a command does that acts, with the places of its strings. What a `vacation` says lies after a pointer, so that it may grow.
+/// What a command does that acts, with the places of its strings. What a `vacation` says lies after a pointer, since it is the largest.
 pub type PackedLeaf = Leaf<u32, u32, Box<PackedVacation>>;
 
-/// An operation. Code has one truth register, which tests set. Where an operation has strings, it says their places, and the
-/// [`Code`](crate::Code) that it is one of has what lies there; it also knows to which place a jump goes.
-#[derive(Drop)]
+/// An operation. Code has one truth register, which tests set. An operation says the place of what it asks or does, and the
+/// [`Code`](crate::Code) that it is one of has what lies there. Code also knows to which place a jump goes.
+#[derive(Clone, Copy)]
 pub enum Op {
     /// Sets the register to true.
     True,
@@ -28,18 +28,18 @@ pub enum Op {
     False,
     /// Inverts it.
     Not,
-    /// Sets it to what a test finds in the delivery (RFC 5228, section 5).
-    Test(PackedAsk),
+    /// Sets it to what a test finds in the delivery (RFC 5228, section 5). What it asks lies at that place.
+    Test(u32),
     /// Goes on so many operations before the end.
-    Jump(usize),
+    Jump(u32),
     /// Goes on there where the register is false, and else after this operation.
-    JumpIfFalse(usize),
+    JumpIfFalse(u32),
     /// Goes on there where the register is true, and else after this operation.
-    JumpIfTrue(usize),
+    JumpIfTrue(u32),
     /// Does what a command does (RFC 5228, section 4).
     Act {
-        /// What the command does.
-        leaf: PackedLeaf,
+        /// The place of what the command does.
+        leaf: u32,
         /// The command's line.
         line: u32,
     },
@@ -49,5 +49,6 @@ pub enum Op {
     Return,
 }
 
-/// An operation takes seven words. Code can have two for nine octets of its text, as `if true{}`, so their size is much of what is kept.
-const _: () = prove!(size_of::<Op>() == 56);
+/// An operation takes twelve octets. Code can have two for five octets of its text, as `true,` in a long `anyof`, so their size is much
+/// of what is kept.
+const _: () = prove!(size_of::<Op>() == 12);

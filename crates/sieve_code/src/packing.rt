@@ -2,7 +2,7 @@
 ghost use Rattle.std.specs.Prelude.{◌≡◌, IfOk};
 ghost use Rattle.sieve_reading.specs.Reading.{compares, fileinto_leaf};
 ghost use Rattle.sieve_reading.specs.view.Reading.{ask_as, date_zone_as, leaf_as, settings_as, source_as, texts_as, transform_as, vacation_as};
-ghost use Rattle.sieve_code.specs.Pool.{Kept, ask_in, body_in, leaf_in, settings_in, source_in, vacation_in, zone_in};
+ghost use Rattle.sieve_code.specs.Pool.{Kept, ask_at, ask_in, body_in, leaf_at, leaf_in, settings_in, source_in, vacation_in, zone_in};
 ghost use Rattle.sieve_code.specs.view.Pools.{pool_as};
 
 use crate::op::{PackedAsk, PackedLeaf, PackedSettings, PackedSource, PackedVacation};
@@ -111,7 +111,7 @@ impl Pools {
     }
 
     /// Adds the strings of what a test asks.
-    pub(crate) fn pack_ask(&mut self, ask: ReadAsk) -> Result<PackedAsk, AllocError>
+    fn pack_ask(&mut self, ask: ReadAsk) -> Result<PackedAsk, AllocError>
         ensures { IfOk result (λ kept. Kept (pool_as self.old) (pool_as self.new)
             (λ p. ask_in p kept) (ask_as ask)) }
     {
@@ -193,11 +193,7 @@ impl Pools {
     }
 
     /// Adds the strings of what a command does.
-    pub(crate) fn pack_leaf(
-        &mut self,
-        alloc: Global,
-        leaf: ReadLeaf,
-    ) -> Result<PackedLeaf, AllocError>
+    fn pack_leaf(&mut self, alloc: Global, leaf: ReadLeaf) -> Result<PackedLeaf, AllocError>
         ensures { IfOk result (λ kept. Kept (pool_as self.old) (pool_as self.new)
             (λ p. leaf_in p kept) (leaf_as leaf)) }
     {
@@ -257,5 +253,23 @@ impl Pools {
                 Ok(Leaf::Reject { how, reason })
             }
         }
+    }
+
+    /// Adds what a test asks. Answers its place.
+    pub(crate) fn add_ask(&mut self, ask: ReadAsk) -> Result<u32, AllocError>
+        ensures { IfOk result (λ place. Kept (pool_as self.old) (pool_as self.new)
+            (λ p. ask_at p place) (ask_as ask)) }
+    {
+        let packed = self.pack_ask(ask)?;
+        self.push_ask(packed)
+    }
+
+    /// Adds what a command does. Answers its place.
+    pub(crate) fn add_leaf(&mut self, alloc: Global, leaf: ReadLeaf) -> Result<u32, AllocError>
+        ensures { IfOk result (λ place. Kept (pool_as self.old) (pool_as self.new)
+            (λ p. leaf_at p place) (leaf_as leaf)) }
+    {
+        let packed = self.pack_leaf(alloc, leaf)?;
+        self.push_leaf(packed)
     }
 }

@@ -1,26 +1,41 @@
-//! The strings of code, by their places.
-ghost use Rattle.std.specs.Prelude.{◌≡◌, ◌^◌, ◌≤◌, IfOk, OnErr};
+//! What operations of code say, by its place.
+ghost use Rattle.std.specs.Prelude.{◌≡◌, ◌^◌, ◌≤◌, true, IfOk, IfSome, OnErr, Some, slice_get};
 ghost use Rattle.std.specs.Option.{option_map};
 ghost use Rattle.sieve_operations.specs.Joined.{list_in};
 ghost use Rattle.sieve_reading.specs.view.Reading.{texts_as};
-ghost use Rattle.sieve_code.specs.Pool.{Kept, given_list, given_string, no_pool, string_in};
+ghost use Rattle.sieve_reading.specs.Reading as reading;
+ghost use Rattle.sieve_code.specs.Pool.{Kept, Pool, ask_at, ask_in, given_list, given_string, leaf_at, leaf_in, no_pool, string_in};
 ghost use Rattle.sieve_code.specs.view.Pools.{pool_as};
 
+use crate::op::{PackedAsk, PackedLeaf};
 use sieve_operations::{JoinedStrings, NameLists, StringLists};
-use sieve_reading::Text;
+use sieve_reading::{Leaf, Text};
 use sieve_variables::Parts;
 use std::alloc::{AllocError, Global};
 
-/// What operations of code say by its place.
+/// What operations of code say by its place. What a script says again right after lies there once.
 #[derive(Drop)]
 pub(crate) struct Pools {
     pub(crate) strings: JoinedStrings,
     pub(crate) lists: StringLists,
     pub(crate) names: NameLists,
+    pub(crate) asks: Vec<PackedAsk>,
+    pub(crate) leaves: Vec<PackedLeaf>,
+}
+
+/// Whether two leaves are the same and have no places, as `keep` and `discard`.
+fn are_same(one: &PackedLeaf, other: &PackedLeaf) -> bool
+    ensures { result ≡ true → one.now ≡ other.now }
+{
+    match (one, other) {
+        (Leaf::Keep { flags: None }, Leaf::Keep { flags: None }) => true,
+        (Leaf::Discard, Leaf::Discard) => true,
+        _ => false,
+    }
 }
 
 /// The number of items as the place of the next. More than 4,294,967,295 are answered as out of memory.
-fn place_of(len: usize) -> Result<u32, AllocError>
+pub(crate) fn place_of(len: usize) -> Result<u32, AllocError>
     ensures is { IfOk result (λ place. place ≡ len) }
     ensures err { OnErr result (2 ^ 32 ≤ len) }
 {
@@ -39,6 +54,8 @@ impl Pools {
             strings: JoinedStrings::new(alloc),
             lists: StringLists::new(alloc),
             names: NameLists::new(alloc),
+            asks: Vec::new(alloc),
+            leaves: Vec::new(alloc),
         }
     }
 
@@ -49,16 +66,23 @@ impl Pools {
         self.strings.shrink_to_fit();
         self.lists.shrink_to_fit();
         self.names.shrink_to_fit();
+        self.asks.shrink_to_fit();
+        self.leaves.shrink_to_fit();
     }
 
-    /// Adds a string. Answers its place.
+    /// Adds a string, unless it is the same literal as the last. Answers its place.
     pub(crate) fn add_string(&mut self, string: Parts) -> Result<u32, AllocError>
         ensures { IfOk result (λ place. Kept (pool_as self.old) (pool_as self.new)
             (λ p. string_in p place) string) }
     {
-        let place = place_of(self.strings.len())?;
-        self.strings.push(string)?;
-        Ok(place)
+        match self.strings.last_same(string.as_slice()) {
+            Some(place) => place_of(place),
+            None => {
+                let place = place_of(self.strings.len())?;
+                self.strings.push(string)?;
+                Ok(place)
+            }
+        }
     }
 
     /// Adds a string that may be left out. Answers its place.
@@ -78,14 +102,19 @@ impl Pools {
         }
     }
 
-    /// Adds a list. Answers its place.
+    /// Adds a list, unless it has the same literals as the last. Answers its place.
     pub(crate) fn add_list(&mut self, texts: Vec<Text>) -> Result<u32, AllocError>
         ensures { IfOk result (λ place. Kept (pool_as self.old) (pool_as self.new)
             (λ p. list_in p.lists place) (texts_as texts.items)) }
     {
-        let place = place_of(self.lists.len())?;
-        self.lists.push(texts)?;
-        Ok(place)
+        match self.lists.last_same(texts.as_slice()) {
+            Some(place) => place_of(place),
+            None => {
+                let place = place_of(self.lists.len())?;
+                self.lists.push(texts)?;
+                Ok(place)
+            }
+        }
     }
 
     /// Adds a list that may be left out. Answers its place.
@@ -102,13 +131,56 @@ impl Pools {
         }
     }
 
-    /// Adds names of fields. Answers the place of their list.
+    /// Adds names of fields, unless they are the same literals as the last. Answers the place of their list.
     pub(crate) fn add_names(&mut self, texts: Vec<Text>) -> Result<u32, AllocError>
         ensures { IfOk result (λ place. Kept (pool_as self.old) (pool_as self.new)
             (λ p. list_in p.names place) (texts_as texts.items)) }
     {
-        let place = place_of(self.names.len())?;
-        self.names.push(texts)?;
+        match self.names.last_same(texts.as_slice()) {
+            Some(place) => place_of(place),
+            None => {
+                let place = place_of(self.names.len())?;
+                self.names.push(texts)?;
+                Ok(place)
+            }
+        }
+    }
+
+    /// Adds what a test asks, whose strings are there. Answers its place.
+    pub(crate) fn push_ask(&mut self, ask: PackedAsk) -> Result<u32, AllocError>
+        ensures { IfOk result (λ place. (p : Pool) (x : reading.Ask)
+            → Kept p (pool_as self.old) (λ q. ask_in q ask) x
+            → Kept p (pool_as self.new) (λ q. ask_at q place) x) }
+    {
+        let place = place_of(self.asks.len())?;
+        self.asks.push(ask)?;
+        Ok(place)
+    }
+
+    /// The place of the last leaf, where it is the same as this one.
+    fn repeated(&self, leaf: &PackedLeaf) -> Option<u32>
+        ensures { IfSome result
+            (λ place. slice_get self.now.leaves.items place ≡ Some leaf.now) }
+    {
+        let last = self.leaves.len().checked_sub(1)?;
+        if are_same(&self.leaves[last], leaf) {
+            u32::try_from(last).ok()
+        } else {
+            None
+        }
+    }
+
+    /// Adds what a command does, whose strings are there. Answers its place. What is the same as the last and has no places lies there.
+    pub(crate) fn push_leaf(&mut self, leaf: PackedLeaf) -> Result<u32, AllocError>
+        ensures { IfOk result (λ place. (p : Pool) (x : reading.Leaf)
+            → Kept p (pool_as self.old) (λ q. leaf_in q leaf) x
+            → Kept p (pool_as self.new) (λ q. leaf_at q place) x) }
+    {
+        if let Some(place) = self.repeated(&leaf) {
+            return Ok(place);
+        }
+        let place = place_of(self.leaves.len())?;
+        self.leaves.push(leaf)?;
         Ok(place)
     }
 }

@@ -1,12 +1,12 @@
 //! Code that is made from its end.
-ghost use Rattle.std.specs.Prelude.{◌≡◌, [], ◌∷◌, length, map, true, OnOk};
+ghost use Rattle.std.specs.Prelude.{◌≡◌, [], ◌∷◌, length, map, true, IfOk, OnOk};
 ghost use Rattle.sieve_reading.specs.view.Reading.{ask_as, leaf_as};
 ghost use Rattle.sieve_code.specs.Operation.{act_op, test_op};
 ghost use Rattle.sieve_code.specs.view.Op.{is_plain, op_in, plain_as};
 ghost use Rattle.sieve_code.specs.view.Pools.{pool_as};
 
 use crate::op::Op;
-use crate::pools::Pools;
+use crate::pools::{Pools, place_of};
 use sieve_reading::{ReadAsk, ReadLeaf};
 use std::alloc::{AllocError, Global};
 use std::collections::VecDeque;
@@ -47,11 +47,11 @@ impl Tail {
         }
     }
 
-    /// How many operations there are.
-    pub(crate) fn len(&self) -> usize
-        ensures { result ≡ length self.now }
+    /// How many operations there are, as the target of a jump. More than 4,294,967,295 are answered as out of memory.
+    pub(crate) fn target(&self) -> Result<u32, AllocError>
+        ensures { IfOk result (λ target. target ≡ length self.now) }
     {
-        self.ops.len()
+        place_of(self.ops.len())
     }
 
     /// Puts an operation in front that neither asks nor acts.
@@ -67,9 +67,9 @@ impl Tail {
     pub(crate) fn put_ask(&mut self, ask: ReadAsk) -> Result<(), AllocError>
         ensures { OnOk result (self.new ≡ test_op (ask_as ask) ∷ self.old) }
     {
-        match self.pools.pack_ask(ask) {
-            Ok(ask) => {
-                self.ops.push_front(Op::Test(ask))?;
+        match self.pools.add_ask(ask) {
+            Ok(place) => {
+                self.ops.push_front(Op::Test(place))?;
                 Ok(())
             }
             Err(error) => {
@@ -83,7 +83,7 @@ impl Tail {
     pub(crate) fn put_act(&mut self, leaf: ReadLeaf, line: u32) -> Result<(), AllocError>
         ensures { OnOk result (self.new ≡ act_op (leaf_as leaf) line ∷ self.old) }
     {
-        match self.pools.pack_leaf(self.alloc, leaf) {
+        match self.pools.add_leaf(self.alloc, leaf) {
             Ok(leaf) => {
                 self.ops.push_front(Op::Act { leaf, line })?;
                 Ok(())

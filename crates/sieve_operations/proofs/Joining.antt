@@ -76,6 +76,29 @@ list_kept lists more texts e =
     ∙ ap (drop (length xs)) (take-append_seam (xs ++ texts) more.strings)
     ∙ drop-append_seam xs texts
 
+-- an end that is there, with the items that it ends
+end_within : (from : ℕ) (ends : List ℕ) (n i : ℕ) → EndAt from ends n → i < length ends → get_or ends i 0 ≤ n
+end_within from [] n i e below = absurd (omega (arith, below))
+end_within from (end ∷ ends) n zero e below = e.0
+end_within from (end ∷ ends) n (suc i) e below = end_within end ends n i e.1 (omega (arith, below))
+
+get_front : {X : Type 0} (xs ys : List X) (i : ℕ) (d : X) → i < length xs → get_or (xs ++ ys) i d ≡ get_or xs i d
+get_front [] ys i d below = absurd (omega (arith, below))
+get_front (x ∷ xs) ys zero d below = refl
+get_front (x ∷ xs) ys (suc i) d below = get_front xs ys i d (omega (arith, below))
+
+start_front : (ends more : List ℕ) (i : ℕ) → i < length ends → start (ends ++ more) i ≡ start ends i
+start_front ends more zero below = refl
+start_front ends more (suc i) below = get_front ends more i 0 (omega (arith, below))
+
+-- a list that is there is there, whatever lies after the last
+pub list_stays : (lists more : Lists) (i : ℕ) → EndAt 0 lists.ends (length lists.strings) → i < length lists.ends → list_in (lists_plus lists more) i ≡ list_in lists i
+list_stays lists more i e below =
+    let strings = lists.strings ++ more.strings in
+    ap (λ a. between a (get_or (lists.ends ++ more.ends) i 0) strings) (start_front lists.ends more.ends i below)
+    ∙ ap (λ b. between (start lists.ends i) b strings) (get_front lists.ends more.ends i 0 below)
+    ∙ ap (drop (start lists.ends i)) (take-append-le (get_or lists.ends i 0) lists.strings more.strings (end_within 0 lists.ends (length lists.strings) i e below))
+
 -- what lies between two places, of what is made of each
 pub between_map : {X Y : Type 0} (f : X → Y) (from to : ℕ) (xs : List X) → between from to (map f xs) ≡ map f (between from to xs)
 between_map f from to xs = ap (drop from) (take-map f to xs) ∙ drop-map f from (take to xs)
@@ -94,6 +117,10 @@ there (y ∷ ys) (suc i) x at = there ys i x at
 -- an item stands before those after it
 pub drop_at : {X : Type 0} (xs : List X) (i : ℕ) (x : X) → slice_get xs i ≡ Some x → drop i xs ≡ x ∷ drop (i + 1) xs
 drop_at xs i x at = there xs i x at ∙ ap (λ n. x ∷ drop n xs) (sym (add-one i))
+
+-- lists that are the same after an element are the same from it on
+pub same_from : {X : Type 0} (xs ys : List X) (i : ℕ) (x y : X) → slice_get xs i ≡ Some x → slice_get ys i ≡ Some y → x ≡ y → drop (i + 1) xs ≡ drop (i + 1) ys → drop i xs ≡ drop i ys
+same_from xs ys i x y one other is after = drop_at xs i x one ∙ ap (λ z. z ∷ drop (i + 1) xs) is ∙ ap (λ zs. y ∷ zs) after ∙ sym (drop_at ys i y other)
 
 -- an element after a function
 pub get_map : {X Y : Type 0} (f : X → Y) (xs : List X) (i : ℕ) (x : X) → slice_get xs i ≡ Some x → slice_get (map f xs) i ≡ Some (f x)

@@ -1,5 +1,5 @@
 //! The names of fields that tests look at, as compiled code keeps them.
-ghost use Rattle.std.specs.Prelude.{◌≡◌, ◌<◌, ◌++◌, length, map, slice_get, IfOk, OnOk, Some};
+ghost use Rattle.std.specs.Prelude.{◌≡◌, ◌<◌, ◌++◌, length, map, slice_get, IfOk, IfSome, OnOk, Some};
 ghost use Rattle.sieve_operations.specs.Joined.{Lists, lists_plus, lists_with, list_in, no_lists};
 ghost use Rattle.sieve_operations.specs.view.FieldNames.{kept_hash};
 ghost use Rattle.sieve_reading.specs.view.Reading.{texts_as};
@@ -76,6 +76,14 @@ impl NameLists {
         ensures { result ≡ length self.now.ends }
     {
         self.lists.len()
+    }
+
+    /// The place of the last list, where it and these are the same literals. Takes no memory.
+    pub fn last_same(&self, texts: &[Text]) -> Option<usize>
+        ensures { IfSome result (λ place. (more : Lists)
+            → list_in (lists_plus self.now more) place ≡ texts_as texts.now) }
+    {
+        self.lists.last_same(texts)
     }
 
     /// Adds a list. An error is out of memory.

@@ -1,7 +1,8 @@
 //! The strings of compiled code, one after another.
-ghost use Rattle.std.specs.Prelude.{◌≡◌, ◌∷◌, ◌++◌, ◌<◌, ◌≤◌, ◌^◌, [], length, slice_get, slice_index_or, IfOk, OnErr, OnOk, Some};
+ghost use Rattle.std.specs.Prelude.{◌≡◌, ◌∷◌, ◌++◌, ◌<◌, ◌≤◌, ◌^◌, [], length, slice_get, slice_index_or, true, IfOk, IfSome, OnErr, OnOk, Some};
 ghost use Rattle.sieve_operations.specs.Joined.{between, start};
 
+use sieve_reading::literal_in_parts;
 use sieve_variables::{Part, Parts};
 use std::alloc::{AllocError, Global};
 use std::marker::Model;
@@ -46,6 +47,16 @@ pub(crate) fn between<T>(items: &[T], from: usize, to: usize) -> &[T]
 {
     let front = &items[..to.min(items.len())];
     &front[from.min(front.len())..]
+}
+
+/// Whether two strings are one literal each, of the same octets.
+pub(crate) fn are_one_literal(one: &[Part], other: &[Part]) -> bool
+    ensures { result ≡ true → one.now ≡ other.now }
+{
+    match (literal_in_parts(one), literal_in_parts(other)) {
+        (Some(octets), Some(others)) => octets == others,
+        (_, _) => false,
+    }
 }
 
 /// Puts the parts of a string after those of others, and where they end after the ends of these.
@@ -94,6 +105,18 @@ impl JoinedStrings {
         ensures { result ≡ length self.now }
     {
         self.ends.len()
+    }
+
+    /// The place of the last string, where it and this one are the same literal. Takes no memory.
+    pub fn last_same(&self, string: &[Part]) -> Option<usize>
+        ensures { IfSome result (λ place. slice_get self.now place ≡ Some string.now) }
+    {
+        let last = self.len().checked_sub(1)?;
+        if are_one_literal(self.get(last), string) {
+            Some(last)
+        } else {
+            None
+        }
     }
 
     /// Adds a string. An error is out of memory.

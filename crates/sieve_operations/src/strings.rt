@@ -1,11 +1,11 @@
 //! Lists of strings of compiled code.
-ghost use Rattle.std.specs.Prelude.{◌≡◌, ◌∷◌, ◌++◌, ◌<◌, ◌+◌, [], drop, length, map, slice_get, slice_index_or, IfOk, OnOk, Some};
+ghost use Rattle.std.specs.Prelude.{◌≡◌, ◌∷◌, ◌++◌, ◌<◌, ◌+◌, [], drop, length, map, slice_get, slice_index_or, true, IfOk, IfSome, OnOk, Some};
 ghost use Rattle.octets.specs.view.Texts.{octets_of_each};
 ghost use Rattle.sieve_operations.specs.Joined.{Lists, between, lists_plus, lists_with, list_in, no_lists, start};
 ghost use Rattle.sieve_reading.specs.view.Reading.{texts_as};
 ghost use Rattle.sieve_variables.specs.Value.{text_value};
 
-use crate::joined::{JoinedStrings, bounds, end_of};
+use crate::joined::{JoinedStrings, are_one_literal, bounds, end_of};
 use sieve_reading::Text;
 use sieve_variables::{Part, Values};
 use std::alloc::{AllocError, Global};
@@ -26,6 +26,21 @@ fn put_after(
     }
     ends.push(end_of(strings.len())?)?;
     Ok(())
+}
+
+/// Whether strings of code and of a script are the same literals.
+fn are_same(strings: &Strings<'_>, texts: &[Text]) -> bool
+    ensures { result ≡ true → strings.now ≡ texts_as texts.now }
+{
+    if strings.len() != texts.len() {
+        return false;
+    }
+    for i in 0..texts.len() {
+        if !are_one_literal(strings.get(i), texts[i].string.as_slice()) {
+            return false;
+        }
+    }
+    true
 }
 
 /// Lists of strings, one after another: the strings, and where each list ends among them.
@@ -62,6 +77,19 @@ impl StringLists {
         ensures { result ≡ length self.now.ends }
     {
         self.ends.len()
+    }
+
+    /// The place of the last list, where it and these are the same literals. Takes no memory.
+    pub fn last_same(&self, texts: &[Text]) -> Option<usize>
+        ensures { IfSome result (λ place. (more : Lists)
+            → list_in (lists_plus self.now more) place ≡ texts_as texts.now) }
+    {
+        let last = self.ends.len().checked_sub(1)?;
+        if are_same(&self.list(last), texts) {
+            Some(last)
+        } else {
+            None
+        }
     }
 
     /// Adds a list. An error is out of memory.

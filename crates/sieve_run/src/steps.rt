@@ -1,6 +1,6 @@
 //! Carries out code.
 ghost use Rattle.std.specs.Prelude.{◌≡◌, if◌then◌else◌, length, IfOk};
-ghost use Rattle.sieve_code.specs.Pool.{leaf_in};
+ghost use Rattle.sieve_code.specs.Pool.{leaf_at, leaf_in};
 ghost use Rattle.sieve_code.specs.Walk.{code_walk};
 ghost use Rattle.sieve_code.specs.view.Code.{op_of, ops_of, pool_of};
 ghost use Rattle.sieve_run.specs.Library.{library_of};
@@ -104,7 +104,7 @@ pub(crate) fn execute<L: Library>(
 #[tactic(auto, using(crate::proofs::Stepping::stop_steps, crate::proofs::Stepping::return_steps))]
 fn carry_out<L: Library>(
     running: &Running<'_, L>,
-    op: &Op,
+    op: Op,
     after: usize,
     register: bool,
     fields: &mut FieldCache<'_>,
@@ -114,7 +114,7 @@ fn carry_out<L: Library>(
     ensures arrival { fields.new ≡ fields.old }
     ensures step { IfOk result (λ step. StepsTo (act_of (library_of (L.profile running.now.lib.now)
         (L.texts running.now.lib.now)) running.now.depth (delivery_as running.now.delivery.now))
-        (delivery_as running.now.delivery.now) (op_of running.now.code.now op.now) after register
+        (delivery_as running.now.delivery.now) (op_of running.now.code.now op) after register
         (state_of state.old) step (state_of state.new)) }
 {
     let code = running.code;
@@ -122,17 +122,46 @@ fn carry_out<L: Library>(
         Op::True => Ok(proceed(true, after)),
         Op::False => Ok(proceed(false, after)),
         Op::Not => Ok(proceed(!register, after)),
-        Op::Test(asked) => tested(ask(running.delivery, code, asked, fields, state), after),
-        Op::Jump(left) => Ok(proceed(register, code.jump_place(*left))),
+        Op::Test(place) => {
+            let asked = code.ask(place);
+            tested(ask(running.delivery, code, &asked, fields, state), after)
+        }
+        Op::Jump(left) => Ok(proceed(register, code.jump_place(left))),
         Op::JumpIfFalse(left) => {
-            Ok(proceed(register, chosen(register, after, code.jump_place(*left))))
+            Ok(proceed(register, chosen(register, after, code.jump_place(left))))
         }
         Op::JumpIfTrue(left) => {
-            Ok(proceed(register, chosen(register, code.jump_place(*left), after)))
+            Ok(proceed(register, chosen(register, code.jump_place(left), after)))
         }
-        Op::Act { leaf, line } => acted(act(running, leaf, *line, fields, state), after, register),
+        Op::Act { leaf, line } => acted(
+            act_at(running, leaf, line, fields, state),
+            after,
+            register,
+        ),
         Op::Stop => Ok(Step::Ended(Flow::Stopped)),
         Op::Return => Ok(Step::Ended(Flow::Returned)),
+    }
+}
+
+/// Does what the command of a place does.
+#[cycle(execute)]
+fn act_at<L: Library>(
+    running: &Running<'_, L>,
+    place: u32,
+    line: u32,
+    fields: &mut FieldCache<'_>,
+    state: &mut State,
+) -> Result<Flow, AllocError>
+    requires { fields.old ≡ (delivery_as running.now.delivery.now).arrival }
+    ensures arrival { fields.new ≡ fields.old }
+    ensures ending { IfOk result (λ flow. ending_by flow (state_of state.new) ≡ act_of
+        (library_of (L.profile running.now.lib.now) (L.texts running.now.lib.now)) running.now.depth
+        (delivery_as running.now.delivery.now) (leaf_at (pool_of running.now.code.now) place)
+        line (state_of state.old)) }
+{
+    match running.code.leaf(place) {
+        Some(leaf) => act(running, leaf, line, fields, state),
+        None => discard(running.delivery, line as u64, state),
     }
 }
 

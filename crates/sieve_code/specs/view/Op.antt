@@ -1,7 +1,7 @@
 -- The operations that code keeps.
 use Rattle.std.specs.Prelude.{ℕ, ◌-◌, Bool, true, false, List, map, length}
 use Rattle.sieve_code.specs.Operation.{Operation, set_op, invert_op, test_op, jump_op, jump_if_op, act_op, stop_op, return_op, targeting}
-use Rattle.sieve_code.specs.Pool.{Pool, no_pool, ask_in, leaf_in}
+use Rattle.sieve_code.specs.Pool.{Pool, no_pool, ask_at, leaf_at}
 use Rattle.sieve_code.specs.declared.op.Op.{Op}
 use Rattle.sieve_code.specs.declared.op.Op.TheVariants as op
 
@@ -10,11 +10,11 @@ abbrev pub op_in : Pool → Op → Operation
 op_in pool op.True = set_op true
 op_in pool op.False = set_op false
 op_in pool op.Not = invert_op
-op_in pool (op.Test ask) = test_op (ask_in pool ask)
+op_in pool (op.Test place) = test_op (ask_at pool place)
 op_in pool (op.Jump left) = jump_op left
 op_in pool (op.JumpIfFalse left) = jump_if_op false left
 op_in pool (op.JumpIfTrue left) = jump_if_op true left
-op_in pool (op.Act leaf line) = act_op (leaf_in pool leaf) line
+op_in pool (op.Act place line) = act_op (leaf_at pool place) line
 op_in pool op.Stop = stop_op
 op_in pool op.Return = return_op
 
@@ -24,8 +24,8 @@ placed_in count pool op = targeting (λ left. count - left) (op_in pool op)
 
 -- whether an operation neither asks nor acts, and what it is then
 abbrev pub is_plain : Op → Bool
-is_plain (op.Test ask) = false
-is_plain (op.Act leaf line) = false
+is_plain (op.Test place) = false
+is_plain (op.Act place line) = false
 is_plain other = true
 
 abbrev pub plain_as : Op → Operation

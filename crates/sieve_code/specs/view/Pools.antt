@@ -1,6 +1,6 @@
--- What the program keeps of strings, variables and names.
+-- What lies where operations say.
 use Rattle.sieve_code.specs.Pool.{Pool}
 use Rattle.sieve_code.specs.declared.pools.Pools.{Pools}
 
 abbrev pub pool_as : Pools → Pool
-pool_as p = record { strings = p.strings; lists = p.lists; names = p.names }
+pool_as p = record { strings = p.strings; lists = p.lists; names = p.names; asks = p.asks.items; leaves = p.leaves.items }

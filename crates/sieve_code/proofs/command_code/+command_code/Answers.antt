@@ -79,7 +79,7 @@ put_branch-returns t c =
     on_ok_along _ _ _ _
     (ap (condition_before (condition_as c.args.branch.condition))
     (c.in_ok-put.ensures
-    ∙ ap (λ k. jump_if_op _ k ∷ c.put_commands.new.tail) c.len-next.ensures
+    ∙ ap (λ k. jump_if_op _ k ∷ c.put_commands.new.tail) c.in_ok-next.ensures
     ∙ ap (λ tail. jump_if_op _ (length c.args.tail.now) ∷ tail) (c.in_ok-put_commands.ensures ∙ ap (commands_before (commands_as c.args.branch.block.items)) c.in_ok-put_past.ensures)))
     c.put_condition.ensures
 
@@ -88,10 +88,10 @@ put_command-returns-in_ok-put_commands-in-Some t c =
     let inner = commands_as c.in-Some.commands.items in
     on_ok_along _ _ _ _
     (ap (λ o. branches_before (branches_as c.in-Choose.branches.items (else_as o)) c.args.tail.now) (sym c.in-Some.is) ∙ put_choice c.args.statement c.in-Choose.branches c.in-Choose.otherwise c.args.tail.now c.in-Choose.is)
-    (c.put_branches.ensures (else_branch inner) c.args.tail.now refl c.len-after.ensures (c.in_ok-put_commands-in-Some.ensures ∙ else_before inner c.args.tail.now))
+    (c.put_branches.ensures (else_branch inner) c.args.tail.now refl c.in_ok-after-in-Choose.ensures (c.in_ok-put_commands-in-Some.ensures ∙ else_before inner c.args.tail.now))
 
 pub put_command-returns-in-None : goal.put_command-returns-in-None
 put_command-returns-in-None t c =
     on_ok_along _ _ _ _
     (ap (λ o. branches_before (branches_as c.in-Choose.branches.items (else_as o)) c.args.tail.now) (sym c.in-None.is) ∙ put_choice c.args.statement c.in-Choose.branches c.in-Choose.otherwise c.args.tail.now c.in-Choose.is)
-    (c.put_branches-in-None.ensures no_branches c.args.tail.now refl c.len-after.ensures (none_before c.args.tail.now))
+    (c.put_branches-in-None.ensures no_branches c.args.tail.now refl c.in_ok-after-in-Choose.ensures (none_before c.args.tail.now))

@@ -52,7 +52,7 @@ put_joined-loop-condition-preserved t c =
       seen = one_condition (condition_as condition) inv.seen;
       put =
           condition_put c.args.truth (condition_as condition) inv.seen c.args.tail.now c.loop-condition.tail c.put_condition.new.tail c.loop-condition.follows inv.put inv.follows_is
-          (c.in_ok-put_condition.ensures ∙ ap (condition_before (condition_as condition)) (c.in_ok-put_joint.ensures ∙ ap (λ n. if c.loop-condition.follows then jump_if_op c.args.truth n ∷ c.loop-condition.tail else c.loop-condition.tail) c.len-end.ensures));
+          (c.in_ok-put_condition.ensures ∙ ap (condition_before (condition_as condition)) (c.in_ok-put_joint.ensures ∙ ap (λ n. if c.loop-condition.follows then jump_if_op c.args.truth n ∷ c.loop-condition.tail else c.loop-condition.tail) c.in_ok-end.ensures));
       follows_is = refl;
       goes_on = sym (ap (λ l. conditions_with l inv.seen) first) ∙ inv.goes_on;
     }

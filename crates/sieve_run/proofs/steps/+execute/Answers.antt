@@ -1,7 +1,8 @@
 use Rattle.std.proofs.Common.{◌≡◌, ◌&&◌, ◌∙◌, ◌<◌, ◌≤◌, ◌+◌, ◌-◌, true, false, IfOk, List, length, map, nat_lt, sym, ap, subst, arith, Bor}
 use Rattle.std.proofs.lemmas.Bool.Decides.{nat_tests}
 use Rattle.std.proofs.lemmas.Result.{IfOk-weaker}
-use Rattle.sieve_code.specs.Pool.{ask_in, leaf_in}
+use Rattle.sieve_code.specs.Operation.{test_op}
+use Rattle.sieve_code.specs.Pool.{ask_in, leaf_at}
 use Rattle.sieve_code.specs.Walk.{code_walk, walk_from}
 use Rattle.sieve_code.specs.view.Code.{op_of, ops_of, pool_of}
 use Rattle.sieve_limits.specs.Limits.{include_limit}
@@ -29,16 +30,16 @@ carry_out-returns-in-Test-clause-step g t c =
     let find : ScriptName → Lookup = library_of (g.L.Library.profile c.args.running.now.lib.now) (g.L.Library.texts c.args.running.now.lib.now) in
     let d = delivery_as c.args.running.now.delivery.now in
     let code = c.args.running.now.code.now in
-    asks_follow (act_of find c.args.running.now.depth d) d (ask_in (pool_of code) c.in-Test.asked) _ _ _ _ _ _ _
-    (ap (op_of code) c.in-Test.is) c.ask.ensures.truth c.ask.ensures.after c.tested.ensures
+    asks_follow (act_of find c.args.running.now.depth d) d (ask_in (pool_of code) c.ask-asked.result) _ _ _ _ _ _ _
+    (ap (op_of code) c.in-Test.is ∙ ap test_op (sym c.ask-asked.ensures)) c.ask.ensures.truth c.ask.ensures.after c.tested.ensures
 
 pub carry_out-returns-in-Act-clause-step : goal.carry_out-returns-in-Act-clause-step
 carry_out-returns-in-Act-clause-step g t c =
     let find : ScriptName → Lookup = library_of (g.L.Library.profile c.args.running.now.lib.now) (g.L.Library.texts c.args.running.now.lib.now) in
     let d = delivery_as c.args.running.now.delivery.now in
     let code = c.args.running.now.code.now in
-    acts_follow (act_of find c.args.running.now.depth d) d (leaf_in (pool_of code) c.in-Act.leaf) c.in-Act.line _ _ _ _ _ _ _
-    (ap (op_of code) c.in-Act.is) c.act.ensures.ending c.acted.ensures
+    acts_follow (act_of find c.args.running.now.depth d) d (leaf_at (pool_of code) c.in-Act.leaf) c.in-Act.line _ _ _ _ _ _ _
+    (ap (op_of code) c.in-Act.is) c.act_at.ensures.ending c.acted.ensures
 
 pub execute_inside-returns-clause-ending : goal.execute_inside-returns-clause-ending
 execute_inside-returns-clause-ending g t c =
@@ -75,7 +76,7 @@ execute-returns-in-Ended-clause-ending g t c =
     let act = act_of (library_of (g.L.Library.profile c.args.running.now.lib.now) (g.L.Library.texts c.args.running.now.lib.now)) c.args.running.now.depth d in
     let ops = ops_of c.args.running.now.code.now in
     sym c.loop-turn.invariant.1
-    ∙ turns act d ops c.loop-turn._turn c.loop-turn.place c.loop-turn.register (op_of c.args.running.now.code.now c.op.result.now) (state_of c.loop-turn.state) c.in_ok-next.field-0 (state_of c.carry_out.new.state) (subst (λ n. c.loop-turn._turn < n) c.len-turn-end.ensures c.loop-turn-test.true) c.op.ensures c.in_ok-next.ensures.step
+    ∙ turns act d ops c.loop-turn._turn c.loop-turn.place c.loop-turn.register (op_of c.args.running.now.code.now c.op.result) (state_of c.loop-turn.state) c.in_ok-next.field-0 (state_of c.carry_out.new.state) (subst (λ n. c.loop-turn._turn < n) c.len-turn-end.ensures c.loop-turn-test.true) c.op.ensures c.in_ok-next.ensures.step
     ∙ ap (λ step. doing_after act d (walk_from ops (length ops - (c.loop-turn._turn + 1))) step (state_of c.carry_out.new.state)) c.in-Ended.is
 
 pub execute-loop-turn-preserved : goal.execute-loop-turn-preserved
@@ -84,7 +85,7 @@ execute-loop-turn-preserved g t c =
     let act = act_of (library_of (g.L.Library.profile c.args.running.now.lib.now) (g.L.Library.texts c.args.running.now.lib.now)) c.args.running.now.depth d in
     let ops = ops_of c.args.running.now.code.now in (
       c.carry_out.ensures.arrival ∙ c.loop-turn.invariant.0,
-      sym (turns act d ops c.loop-turn._turn c.loop-turn.place c.loop-turn.register (op_of c.args.running.now.code.now c.op.result.now) (state_of c.loop-turn.state) c.in_ok-next.field-0 (state_of c.carry_out.new.state) (subst (λ n. c.loop-turn._turn < n) c.len-turn-end.ensures c.loop-turn-test.true) c.op.ensures c.in_ok-next.ensures.step
+      sym (turns act d ops c.loop-turn._turn c.loop-turn.place c.loop-turn.register (op_of c.args.running.now.code.now c.op.result) (state_of c.loop-turn.state) c.in_ok-next.field-0 (state_of c.carry_out.new.state) (subst (λ n. c.loop-turn._turn < n) c.len-turn-end.ensures c.loop-turn-test.true) c.op.ensures c.in_ok-next.ensures.step
           ∙ ap (λ step. doing_after act d (walk_from ops (length ops - (c.loop-turn._turn + 1))) step (state_of c.carry_out.new.state)) c.in-Next.is)
           ∙ c.loop-turn.invariant.1,
     )

@@ -19,25 +19,28 @@ invariant-execute-loop-turn g l =
 
 -- how deep scripts may still be included, and within one depth the way from a script's code to the script that it includes
 abbrev pub decreases-execute : goal.decreases-execute
-decreases-execute g l = 8 * l.running.now.depth + 5
+decreases-execute g l = 9 * l.running.now.depth + 6
 
 abbrev pub decreases-carry_out : goal.decreases-carry_out
-decreases-carry_out g l = 8 * l.running.now.depth + 4
+decreases-carry_out g l = 9 * l.running.now.depth + 5
+
+abbrev pub decreases-act_at : goal.decreases-act_at
+decreases-act_at g l = 9 * l.running.now.depth + 4
 
 abbrev pub decreases-act : goal.decreases-act
-decreases-act g l = 8 * l.running.now.depth + 3
+decreases-act g l = 9 * l.running.now.depth + 3
 
 abbrev pub decreases-include_named : goal.decreases-include_named
-decreases-include_named g l = 8 * l.running.now.depth + 2
+decreases-include_named g l = 9 * l.running.now.depth + 2
 
 abbrev pub decreases-include : goal.decreases-include
-decreases-include g l = 8 * l.running.now.depth + 1
+decreases-include g l = 9 * l.running.now.depth + 1
 
 abbrev pub decreases-look_up : goal.decreases-look_up
-decreases-look_up g l = 8 * l.running.now.depth + 8
+decreases-look_up g l = 9 * l.running.now.depth + 9
 
 abbrev pub decreases-enter : goal.decreases-enter
-decreases-enter g l = 8 * l.running.now.depth + 7
+decreases-enter g l = 9 * l.running.now.depth + 8
 
 abbrev pub decreases-execute_inside : goal.decreases-execute_inside
-decreases-execute_inside g l = 8 * l.running.now.depth + 6
+decreases-execute_inside g l = 9 * l.running.now.depth + 7
