@@ -23,14 +23,26 @@ pub(crate) struct Pools {
     pub(crate) leaves: Vec<PackedLeaf>,
 }
 
-/// Whether two leaves are the same and have no places, as `keep` and `discard`.
+/// Whether two leaves are the same, of those that name no variable and no script and lie in no box.
 fn are_same(one: &PackedLeaf, other: &PackedLeaf) -> bool
     ensures { result ≡ true → one.now ≡ other.now }
 {
     match (one, other) {
         (Leaf::Keep { flags: None }, Leaf::Keep { flags: None }) => true,
         (Leaf::Discard, Leaf::Discard) => true,
-        _ => false,
+        (
+            Leaf::Flags {
+                change,
+                variable: None,
+                flags,
+            },
+            Leaf::Flags {
+                change: other,
+                variable: None,
+                flags: others,
+            },
+        ) => change == other && flags == others,
+        (_, _) => false,
     }
 }
 
@@ -70,7 +82,7 @@ impl Pools {
         self.leaves.shrink_to_fit();
     }
 
-    /// Adds a string, unless it is the same literal as the last. Answers its place.
+    /// Adds a string, unless it is the same as the last. Answers its place.
     pub(crate) fn add_string(&mut self, string: Parts) -> Result<u32, AllocError>
         ensures { IfOk result (λ place. Kept (pool_as self.old) (pool_as self.new)
             (λ p. string_in p place) string) }
@@ -102,7 +114,7 @@ impl Pools {
         }
     }
 
-    /// Adds a list, unless it has the same literals as the last. Answers its place.
+    /// Adds a list, unless it has the same strings as the last. Answers its place.
     pub(crate) fn add_list(&mut self, texts: Vec<Text>) -> Result<u32, AllocError>
         ensures { IfOk result (λ place. Kept (pool_as self.old) (pool_as self.new)
             (λ p. list_in p.lists place) (texts_as texts.items)) }
@@ -131,7 +143,7 @@ impl Pools {
         }
     }
 
-    /// Adds names of fields, unless they are the same literals as the last. Answers the place of their list.
+    /// Adds names of fields, unless they are the same as the last. Answers the place of their list.
     pub(crate) fn add_names(&mut self, texts: Vec<Text>) -> Result<u32, AllocError>
         ensures { IfOk result (λ place. Kept (pool_as self.old) (pool_as self.new)
             (λ p. list_in p.names place) (texts_as texts.items)) }
@@ -170,7 +182,7 @@ impl Pools {
         }
     }
 
-    /// Adds what a command does, whose strings are there. Answers its place. What is the same as the last and has no places lies there.
+    /// Adds what a command does, whose strings are there. Answers its place, which is that of the last where this is the same.
     pub(crate) fn push_leaf(&mut self, leaf: PackedLeaf) -> Result<u32, AllocError>
         ensures { IfOk result (λ place. (p : Pool) (x : reading.Leaf)
             → Kept p (pool_as self.old) (λ q. leaf_in q leaf) x

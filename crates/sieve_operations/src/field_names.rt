@@ -78,7 +78,7 @@ impl NameLists {
         self.lists.len()
     }
 
-    /// The place of the last list, where it and these are the same literals. Takes no memory.
+    /// The place of the last list, where it has the same strings as these. Takes no memory.
     pub fn last_same(&self, texts: &[Text]) -> Option<usize>
         ensures { IfSome result (λ place. (more : Lists)
             → list_in (lists_plus self.now more) place ≡ texts_as texts.now) }

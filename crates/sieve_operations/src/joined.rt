@@ -1,9 +1,9 @@
 //! The strings of compiled code, one after another.
 ghost use Rattle.std.specs.Prelude.{◌≡◌, ◌∷◌, ◌++◌, ◌<◌, ◌≤◌, ◌^◌, [], length, slice_get, slice_index_or, true, IfOk, IfSome, OnErr, OnOk, Some};
 ghost use Rattle.sieve_operations.specs.Joined.{between, start};
+ghost use Rattle.sieve_variables.specs.view.Variable.{variable_ref_as};
 
-use sieve_reading::literal_in_parts;
-use sieve_variables::{Part, Parts};
+use sieve_variables::{Part, PartRef, Parts, VariableRef};
 use std::alloc::{AllocError, Global};
 use std::marker::Model;
 
@@ -49,14 +49,44 @@ pub(crate) fn between<T>(items: &[T], from: usize, to: usize) -> &[T]
     &front[from.min(front.len())..]
 }
 
-/// Whether two strings are one literal each, of the same octets.
-pub(crate) fn are_one_literal(one: &[Part], other: &[Part]) -> bool
-    ensures { result ≡ true → one.now ≡ other.now }
+/// Whether two variables have the same name and are whose they are.
+fn are_one_variable(one: VariableRef<'_>, other: VariableRef<'_>) -> bool
+    ensures { result ≡ true → variable_ref_as one.entry ≡ variable_ref_as other.entry }
 {
-    match (literal_in_parts(one), literal_in_parts(other)) {
-        (Some(octets), Some(others)) => octets == others,
+    match (one, other) {
+        (VariableRef::Local(name), VariableRef::Local(other)) => name == other,
+        (VariableRef::Global(name), VariableRef::Global(other)) => name == other,
         (_, _) => false,
     }
+}
+
+/// Whether two parts are the same.
+fn is_same(one: &Part, other: &Part) -> bool
+    ensures { result ≡ true → one.now ≡ other.now }
+{
+    match (one.as_ref(), other.as_ref()) {
+        (PartRef::Literal(octets), PartRef::Literal(others)) => octets == others,
+        (PartRef::Variable(variable), PartRef::Variable(other)) => {
+            are_one_variable(variable, other)
+        }
+        (PartRef::Match(index), PartRef::Match(other)) => index == other,
+        (_, _) => false,
+    }
+}
+
+/// Whether two strings have the same parts.
+pub(crate) fn are_same(one: &[Part], other: &[Part]) -> bool
+    ensures { result ≡ true → one.now ≡ other.now }
+{
+    if one.len() != other.len() {
+        return false;
+    }
+    for i in 0..one.len() {
+        if !is_same(&one[i], &other[i]) {
+            return false;
+        }
+    }
+    true
 }
 
 /// Puts the parts of a string after those of others, and where they end after the ends of these.
@@ -107,12 +137,12 @@ impl JoinedStrings {
         self.ends.len()
     }
 
-    /// The place of the last string, where it and this one are the same literal. Takes no memory.
+    /// The place of the last string, where it is the same as this one. Takes no memory.
     pub fn last_same(&self, string: &[Part]) -> Option<usize>
         ensures { IfSome result (λ place. slice_get self.now place ≡ Some string.now) }
     {
         let last = self.len().checked_sub(1)?;
-        if are_one_literal(self.get(last), string) {
+        if are_same(self.get(last), string) {
             Some(last)
         } else {
             None

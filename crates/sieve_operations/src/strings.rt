@@ -5,7 +5,7 @@ ghost use Rattle.sieve_operations.specs.Joined.{Lists, between, lists_plus, list
 ghost use Rattle.sieve_reading.specs.view.Reading.{texts_as};
 ghost use Rattle.sieve_variables.specs.Value.{text_value};
 
-use crate::joined::{JoinedStrings, are_one_literal, bounds, end_of};
+use crate::joined::{JoinedStrings, are_same, bounds, end_of};
 use sieve_reading::Text;
 use sieve_variables::{Part, Values};
 use std::alloc::{AllocError, Global};
@@ -28,15 +28,15 @@ fn put_after(
     Ok(())
 }
 
-/// Whether strings of code and of a script are the same literals.
-fn are_same(strings: &Strings<'_>, texts: &[Text]) -> bool
+/// Whether strings of code and of a script are the same.
+fn are_these(strings: &Strings<'_>, texts: &[Text]) -> bool
     ensures { result ≡ true → strings.now ≡ texts_as texts.now }
 {
     if strings.len() != texts.len() {
         return false;
     }
     for i in 0..texts.len() {
-        if !are_one_literal(strings.get(i), texts[i].string.as_slice()) {
+        if !are_same(strings.get(i), texts[i].string.as_slice()) {
             return false;
         }
     }
@@ -79,13 +79,13 @@ impl StringLists {
         self.ends.len()
     }
 
-    /// The place of the last list, where it and these are the same literals. Takes no memory.
+    /// The place of the last list, where it has the same strings as these. Takes no memory.
     pub fn last_same(&self, texts: &[Text]) -> Option<usize>
         ensures { IfSome result (λ place. (more : Lists)
             → list_in (lists_plus self.now more) place ≡ texts_as texts.now) }
     {
         let last = self.ends.len().checked_sub(1)?;
-        if are_same(&self.list(last), texts) {
+        if are_these(&self.list(last), texts) {
             Some(last)
         } else {
             None

@@ -1,9 +1,9 @@
-use Rattle.std.proofs.Common.{◌≡◌, ◌<◌, ◌+◌, Some, drop, length, map, rules, ap, sym, ◌∙◌}
+use Rattle.std.proofs.Common.{◌≡◌, ◌<◌, Some, length, map, rules, ap, sym, ◌∙◌}
 use Rattle.std.proofs.lemmas.Option.{slice_get-get_or}
 use Rattle.sieve_reading.specs.view.Reading.{texts_as}
 use Rattle.sieve_reading.specs.view.Tree.{text_of}
 use Rattle.sieve_operations.proofs.Joining.{get_map, same_from}
-use Rattle.sieve_operations.proofs.strings.are_same.Goals as goal
+use Rattle.sieve_operations.proofs.strings.are_these.Goals as goal
 
 pub loop-i-preserved : goal.loop-i-preserved
 loop-i-preserved c = λ after.
