@@ -9,7 +9,7 @@ use Rattle.sieve_profile.specs.Profile.{Profile}
 use Rattle.sieve_syntax.specs.Tree.{Argument, Block, Node, Tests}
 use Rattle.sieve_check.specs.Absent.{command_lacks, comparator_lacks, is_absent_tag, lacks, row_lacks, said_lacks, test_lacks}
 use Rattle.sieve_check.specs.Breach.{breaches_in, breaches_of, breaks, command_breaks, said_breaks, test_breaks}
-use Rattle.sieve_check.specs.Context.{Context}
+use Rattle.sieve_check.specs.Context.{Context, under}
 use Rattle.sieve_check.specs.Element.{Element, elements_of, the_command, the_number, the_test, the_text}
 use Rattle.sieve_check.specs.Said.{said}
 use Rattle.sieve_check.specs.Use.{has_bad_tag, has_late_tag, has_repeated, is_other_tag}
@@ -24,10 +24,38 @@ use Rattle.sieve_table.specs.declared.rule.Rule.TheVariants.{BadTag, UnknownCapa
 use Rattle.sieve_table.specs.declared.table.CommandKind.{CommandKind}
 use Rattle.sieve_table.specs.declared.table.Tag.{Tag}
 use Rattle.sieve_table.specs.declared.table.TestKind.{TestKind}
-use Rattle.sieve_check.proofs.Readable.{row_known}
-use Rattle.sieve_check.proofs.Reprofiled.{elements_again, reprofiled, under}
+use Rattle.sieve_check.proofs.Reprofiled.{elements_again, reprofiled}
 use Rattle.sieve_check.proofs.Truth.{never_both}
 use Rattle.sieve_check.proofs.Unbroken.{keeps, nothing_before}
+
+-- where no tag is another, each tag that is taken is known, so all tags are seen as they are where
+-- all are known
+module _ (profile : Profile) where
+  kept_tag : (expected : Expected) (t : Tag) (known : Bool) → is_other_tag (label_at expected (shape.Tag (if known then Some t else None))) ≡ false → shape.Tag (if known then Some t else None) ≡ shape.Tag (Some t)
+  kept_tag expected t true other = refl
+  kept_tag expected t false other = absurd (never_both other)
+
+  kept_shape : (expected : Expected) (s : Shape) → is_other_tag (label_at expected (known_shape profile s)) ≡ false → known_shape profile s ≡ s
+  kept_shape expected shape.Text other = refl
+  kept_shape expected shape.Texts other = refl
+  kept_shape expected shape.Number other = refl
+  kept_shape expected (shape.Tag None) other = refl
+  kept_shape expected (shape.Tag (Some t)) other = kept_tag expected t (is_known_tag profile t) other
+
+  all_known : (tags : List Tag) (args : List Argument) (expected : Expected) → list_any is_other_tag (labels_from expected (known_shapes profile tags args)) ≡ false → known_shapes profile tags args ≡ shapes_of tags args
+  all_known tags [] expected none = refl
+  all_known tags (a ∷ args) expected none =
+      let s = shape_of tags a in
+      let seen = known_shape profile s in
+      let parts = or_parts (is_other_tag (label_at expected seen)) (list_any is_other_tag (labels_from (expected_after expected seen) (known_shapes profile tags args))) none in
+      ap (λ x. x ∷ known_shapes profile tags args) (kept_shape expected s parts.0)
+      ∙ ap (λ l. s ∷ l) (all_known tags args (expected_after expected seen) parts.1)
+
+  -- a row whose tags aren't bad
+  row_known : (row : Row) (args : List Argument) → has_bad_tag (known_labels profile row args) ≡ false → known_shapes profile row.tags args ≡ shapes_of row.tags args
+  row_known row args fine =
+      all_known row.tags args (expecting (slots_of row (known_shapes profile row.tags args)))
+      (or_parts (list_any is_other_tag (known_labels profile row args)) (has_repeated (known_labels profile row args) || has_late_tag (known_labels profile row args)) fine).0
 
 module _ (p : Profile) where
   -- TAGS

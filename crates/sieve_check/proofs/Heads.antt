@@ -16,7 +16,7 @@ use Rattle.sieve_table.specs.Known.{known_command, known_test}
 use Rattle.sieve_table.specs.Table.{Row, command_row, test_row}
 use Rattle.sieve_check.specs.Use.{has_block}
 use Rattle.sieve_reading.specs.Shape.{known_shapes}
-use Rattle.sieve_check.specs.view.Finds.{Finds, FindsIn}
+use Rattle.sieve_check.specs.view.Finds.{Finds}
 use Rattle.sieve_check.specs.view.Head.{test_head, command_head, kind_found}
 use Rattle.sieve_check.specs.view.Use.{row_found}
 use Rattle.sieve_table.specs.declared.rule.Rule.TheVariants.{RequirePlace, UnknownCommand}
@@ -53,9 +53,12 @@ known_by t context kind row line xs is l same a =
     ∙ ap (λ k. breaches_by (test_breaks context k args ts) o.line all_rules ++ breaches_in (test_arguments context k args ts)) is
     ∙ sym (cons_in (the_test context o.name o.line args ts) (test_arguments context (known_test context.profile o.name) args ts))
 
-pub test_known : {A : Type 0} (t : one_tests.Test) (context : Context) (kind : TestKind) (row : Row) (line : ℕ) (xs : List arguments.Argument) (r : Result A CheckFault) → let o = one_tests.out-Test t in
-    Some kind ≡ known_test context.profile o.name → line ≡ o.line → row ≡ test_row kind → xs ≡ o.args.items → Finds (row_found false context line row (map argument_of xs) (tests_of o.tests) false) r → FindsIn (test_head context t) r
-test_known t context kind row line xs r is l same a found = subst (λ bs. Finds bs r) (known_by t context kind row line xs is l same a) found
+module _ (t : one_tests.Test) (context : Context) (kind : TestKind) (row : Row) (line : ℕ) (xs : List arguments.Argument) (is : Some kind ≡ known_test context.profile (one_tests.out-Test t).name) (l : line ≡ (one_tests.out-Test t).line) (same : row ≡ test_row kind) (a : xs ≡ (one_tests.out-Test t).args.items) where
+  pub test_stops : (fault : CheckFault) → IsFirst (row_found false context line row (map argument_of xs) (tests_of (one_tests.out-Test t).tests) false) fault → IsFirst (breaches_in (test_head context t)) fault
+  test_stops fault h = subst (λ bs. IsFirst bs fault) (known_by t context kind row line xs is l same a) h
+
+  pub test_passes : row_found false context line row (map argument_of xs) (tests_of (one_tests.out-Test t).tests) false ≡ [] → breaches_in (test_head context t) ≡ []
+  test_passes none = sym (known_by t context kind row line xs is l same a) ∙ none
 
 -- COMMANDS
 

@@ -9,15 +9,19 @@ use Rattle.sieve_syntax.specs.Tree.{Argument, strings, number, tag, Text, Test, 
 use Rattle.match_text.specs.Comparator.{collation_named}
 use Rattle.sieve_check.specs.Breach.{use_lacks}
 use Rattle.sieve_check.specs.Collating.{argument_lacks, arguments_lack, collation_lacks, known_collation, name_lacks, needed_for, text_lacks}
-use Rattle.sieve_check.specs.Context.{Context, after, after_block, after_kind, after_nodes, inside, naming_said, script_start}
+use Rattle.sieve_check.specs.Context.{Context, after, after_block, after_kind, after_nodes, inside, naming_said, script_start, under}
 use Rattle.sieve_check.specs.Element.{Element, among, argument_elements, block_elements, command_arguments, elements_of, judged_labels, labelled_elements, node_elements, nodes_elements, row_elements, test_arguments, test_elements, test_list_elements, tests_elements, text_elements, the_command, the_number, the_test, the_text}
-use Rattle.sieve_check.specs.Parted.{parted, parted_argument, parted_block, parted_labelled, parted_node, parted_nodes, parted_said, parted_test, parted_test_list, parted_tests, parted_text, command_labels, test_labels}
+use Rattle.sieve_check.specs.Parted.{parted_argument, parted_labelled, parted_row, parted_said, parted_text}
 use Rattle.sieve_check.specs.Said.{said, said_arguments}
+use Rattle.sieve_check.specs.Script.{block_commands, chain_of, chain_with, command_reading, condition_of, conditions, conditions_in, script_of, test_reading}
+use Rattle.sieve_reading.specs.CommandReading.{command_reading_by}
+use Rattle.sieve_reading.specs.Script.{Chain, chain_with_command, first_condition, joined, no_conditions, one_condition}
+use Rattle.sieve_reading.specs.TestReading.{test_reading_by}
 use Rattle.sieve_check.specs.Use.{has_block, is_well_used, lacks_required}
 use Rattle.sieve_reading.specs.Label.{labels_of}
 use Rattle.sieve_reading.specs.Role.{first_role}
 use Rattle.sieve_reading.specs.Shape.{known_labels, known_shape, known_shapes, shape_of}
-use Rattle.sieve_reading.specs.Tree as checked
+use Rattle.sieve_reading.specs.Tree as cut
 use Rattle.sieve_reading.specs.declared.label.Label.{Label}
 use Rattle.sieve_reading.specs.declared.label.Shape.{Shape}
 use Rattle.sieve_reading.specs.declared.label.Shape.TheVariants as shape
@@ -32,10 +36,7 @@ use Rattle.sieve_table.specs.declared.table.Tag.{Tag}
 use Rattle.sieve_table.specs.declared.table.TestKind.{TestKind}
 use Rattle.sieve_check.proofs.Profiles.{kind_profile, node_profile}
 
--- a context, and an element, where the script is judged by another profile
-abbrev pub under : Profile → Context → Context
-under profile context = record context { profile = profile }
-
+-- an element, where the script is judged by another profile
 abbrev pub reprofiled : Profile → Element → Element
 reprofiled profile (the_command context name line args ts ending) = the_command (under profile context) name line args ts ending
 reprofiled profile (the_test context name line args ts) = the_test (under profile context) name line args ts
@@ -222,7 +223,7 @@ module _ (p q : Profile) (same : is_known p ≡ is_known q) where
   pub elements_again : (tree : List Node) → elements_of p tree ≡ map again (elements_of q tree)
   elements_again tree = nodes_again (nodes tree) (script_start q)
 
-  -- THE TREE
+  -- THE SCRIPT
 
   module _ (c : Context) where
     texts_cut : (role : Option Role) (ts : List Text) → map (parted_text (under p c) role) ts ≡ map (parted_text (under q c) role) ts
@@ -230,7 +231,7 @@ module _ (p q : Profile) (same : is_known p ≡ is_known q) where
     texts_cut role (t ∷ ts) = ap (λ l. parted_text (under q c) role t ∷ l) (texts_cut role ts)
 
     argument_cut : (role : Option Role) (a : Argument) → parted_argument (under p c) role a ≡ parted_argument (under q c) role a
-    argument_cut role (strings items bracketed) = ap (λ l. checked.strings l bracketed) (texts_cut role items)
+    argument_cut role (strings items bracketed) = ap (λ l. cut.strings l bracketed) (texts_cut role items)
     argument_cut role (number value line) = refl
     argument_cut role (tag name line) = refl
 
@@ -240,57 +241,66 @@ module _ (p q : Profile) (same : is_known p ≡ is_known q) where
         ap (λ x. x ∷ parted_labelled (under p c) (drop 1 labels) args) (argument_cut (first_role labels) a)
         ∙ ap (λ l. parted_argument (under q c) (first_role labels) a ∷ l) (arguments_cut (drop 1 labels) args)
 
-    test_cut_by : (k : Option TestKind) (args : List Argument) → test_labels p k args ≡ test_labels q k args
-    test_cut_by None args = refl
-    test_cut_by (Some kind) args = labels_again (test_row kind) args
+    pub row_cut : (row : Row) (args : List Argument) → parted_row (under p c) row args ≡ parted_row (under q c) row args
+    row_cut row args =
+        ap (λ labels. parted_said (under p c) labels args) (labels_again row args)
+        ∙ arguments_cut (known_labels q row args) (said_arguments c.required (known_labels q row args) args)
 
-    command_cut_by : (k : Option CommandKind) (args : List Argument) → command_labels p k args ≡ command_labels q k args
-    command_cut_by None args = refl
-    command_cut_by (Some kind) args = labels_again (command_row kind) args
+    test_reads_again : (k : Option TestKind) (args : List Argument) → test_reading (under p c) k args ≡ test_reading (under q c) k args
+    test_reads_again None args = refl
+    test_reads_again (Some kind) args =
+        ap (λ labels. Some (test_reading_by kind labels (parted_row (under p c) (test_row kind) args))) (labels_again (test_row kind) args)
+        ∙ ap (λ cut. Some (test_reading_by kind (known_labels q (test_row kind) args) cut)) (row_cut (test_row kind) args)
+
+    command_reads_again : (k : Option CommandKind) (args : List Argument) → command_reading (under p c) k args ≡ command_reading (under q c) k args
+    command_reads_again None args = refl
+    command_reads_again (Some kind) args =
+        ap (λ labels. Some (command_reading_by kind labels (parted_row (under p c) (command_row kind) args))) (labels_again (command_row kind) args)
+        ∙ ap (λ cut. Some (command_reading_by kind (known_labels q (command_row kind) args) cut)) (row_cut (command_row kind) args)
 
     mutual
-      test_cut : (t : Test) → parted_test (under p c) t ≡ parted_test (under q c) t
-      test_cut (test name line args ts) =
-          ap (λ k. checked.test name line (parted_said (under p c) (test_labels p k args) args) (parted_tests (under p c) ts)) (test_again name)
-          ∙ ap (λ l. checked.test name line (parted_said (under p c) l args) (parted_tests (under p c) ts)) (test_cut_by (known_test q name) args)
-          ∙ ap (λ x. checked.test name line x (parted_tests (under p c) ts)) (arguments_cut (test_labels q (known_test q name) args) (said_arguments c.required (test_labels q (known_test q name) args) args))
-          ∙ ap (λ x. checked.test name line (parted_said (under q c) (test_labels q (known_test q name) args) args) x) (tests_cut ts)
+      unfolding condition_of conditions_in conditions
 
-      tests_cut : (ts : Tests) → parted_tests (under p c) ts ≡ parted_tests (under q c) ts
-      tests_cut no_tests = refl
-      tests_cut (one_test t) = ap (λ x. checked.one_test x) (test_cut t)
-      tests_cut (test_list ts) = ap (λ x. checked.test_list x) (test_list_cut ts)
+      condition_again : (t : Test) → condition_of (under p c) t ≡ condition_of (under q c) t
+      condition_again (test name line args ts) =
+          ap (λ k. joined (test_reading (under p c) k args) (conditions_in (under p c) ts)) (test_again name)
+          ∙ ap (λ r. joined r (conditions_in (under p c) ts)) (test_reads_again (known_test q name) args)
+          ∙ ap (joined (test_reading (under q c) (known_test q name) args)) (conditions_again ts)
 
-      test_list_cut : (ts : TestList) → parted_test_list (under p c) ts ≡ parted_test_list (under q c) ts
-      test_list_cut end_tests = refl
-      test_list_cut (more_tests t ts) = ap (λ x. checked.more_tests x (parted_test_list (under p c) ts)) (test_cut t) ∙ ap (λ x. checked.more_tests (parted_test (under q c) t) x) (test_list_cut ts)
+      conditions_again : (ts : Tests) → conditions_in (under p c) ts ≡ conditions_in (under q c) ts
+      conditions_again no_tests = refl
+      conditions_again (one_test t) = ap (λ x. one_condition x no_conditions) (condition_again t)
+      conditions_again (test_list ts) = list_again ts
+
+      list_again : (ts : TestList) → conditions (under p c) ts ≡ conditions (under q c) ts
+      list_again end_tests = refl
+      list_again (more_tests t ts) = ap (λ x. one_condition x (conditions (under p c) ts)) (condition_again t) ∙ ap (one_condition (condition_of (under q c) t)) (list_again ts)
 
   mutual
-    node_cut : (n : Node) (c : Context) → parted_node (under p c) n ≡ parted_node (under q c) n
-    node_cut (node name line args ts ending) c =
+    unfolding chain_with block_commands chain_of
+
+    node_chain : (n : Node) (c : Context) (chain : Chain) → chain_with (under p c) n chain ≡ chain_with (under q c) n chain
+    node_chain (node name line args ts ending) c chain =
         let k = known_command q name in
         let within = after_kind (under q c) k args in
-        let cut = parted_said (under q c) (command_labels q k args) args in
-        ap (λ k. checked.node name line (parted_said (under p c) (command_labels p k args) args) (parted_tests (under p c) ts) (parted_block (after_kind (under p c) k args) ending)) (command_again name)
-        ∙ ap (λ l. checked.node name line (parted_said (under p c) l args) (parted_tests (under p c) ts) (parted_block (after_kind (under p c) k args) ending)) (command_cut_by c k args)
-        ∙ ap (λ x. checked.node name line x (parted_tests (under p c) ts) (parted_block (after_kind (under p c) k args) ending)) (arguments_cut c (command_labels q k args) (said_arguments c.required (command_labels q k args) args))
-        ∙ ap (λ x. checked.node name line cut x (parted_block (after_kind (under p c) k args) ending)) (tests_cut c ts)
-        ∙ ap (λ x. checked.node name line cut (parted_tests (under q c) ts) (parted_block x ending)) (kind_again c k args)
-        ∙ ap (λ x. checked.node name line cut (parted_tests (under q c) ts) x)
-        (block_cut ending within ∙ ap (λ x. parted_block x ending) (set within (kind_profile (under q c) k args)))
+        ap (λ k. chain_with_command (command_reading (under p c) k args) line (first_condition (conditions_in (under p c) ts)) (block_commands (after_kind (under p c) k args) ending) chain) (command_again name)
+        ∙ ap (λ r. chain_with_command r line (first_condition (conditions_in (under p c) ts)) (block_commands (after_kind (under p c) k args) ending) chain) (command_reads_again c k args)
+        ∙ ap (λ x. chain_with_command (command_reading (under q c) k args) line (first_condition x) (block_commands (after_kind (under p c) k args) ending) chain) (conditions_again c ts)
+        ∙ ap (λ x. chain_with_command (command_reading (under q c) k args) line (first_condition (conditions_in (under q c) ts)) x chain)
+        (ap (λ x. block_commands x ending) (kind_again c k args) ∙ block_chain ending within ∙ ap (λ x. block_commands x ending) (set within (kind_profile (under q c) k args)))
 
-    block_cut : (b : Block) (c : Context) → parted_block (under p c) b ≡ parted_block (under q c) b
-    block_cut no_block c = refl
-    block_cut (block ns) c = ap (λ x. checked.block x) (nodes_cut ns (inside c))
+    block_chain : (b : Block) (c : Context) → block_commands (under p c) b ≡ block_commands (under q c) b
+    block_chain no_block c = refl
+    block_chain (block ns) c = ap (λ x. x.rest) (nodes_chain ns (inside c))
 
-    nodes_cut : (ns : Nodes) (c : Context) → parted_nodes (under p c) ns ≡ parted_nodes (under q c) ns
-    nodes_cut end_nodes c = refl
-    nodes_cut (more_nodes n ns) c =
+    nodes_chain : (ns : Nodes) (c : Context) → chain_of (under p c) ns ≡ chain_of (under q c) ns
+    nodes_chain end_nodes c = refl
+    nodes_chain (more_nodes n ns) c =
         let next = after (under q c) n in
-        ap (λ x. checked.more_nodes x (parted_nodes (after (under p c) n) ns)) (node_cut n c)
-        ∙ ap (λ x. checked.more_nodes (parted_node (under q c) n) (parted_nodes x ns)) (node_after n c)
-        ∙ ap (λ x. checked.more_nodes (parted_node (under q c) n) x) (nodes_cut ns next ∙ ap (λ x. parted_nodes x ns) (set next (node_profile n (under q c))))
+        node_chain n c (chain_of (after (under p c) n) ns)
+        ∙ ap (λ x. chain_with (under q c) n (chain_of x ns)) (node_after n c)
+        ∙ ap (chain_with (under q c) n) (nodes_chain ns next ∙ ap (λ x. chain_of x ns) (set next (node_profile n (under q c))))
 
-  -- the tree is cut alike
-  pub parted_again : (tree : List Node) → parted p tree ≡ parted q tree
-  parted_again tree = ap (λ ns. checked.items ns) (nodes_cut (nodes tree) (script_start q))
+  -- the script is the same
+  pub script_again : (tree : List Node) → script_of p tree ≡ script_of q tree
+  script_again tree = ap (λ x. x.rest) (nodes_chain (nodes tree) (script_start q))

@@ -1,4 +1,5 @@
--- A script without a breach has none either where capabilities that aren't known may be required, and is the same tree then.
+-- A script without a breach has none either where capabilities that aren't known may be required,
+-- and is the same script then.
 use Rattle.std.proofs.Common.{◌≡◌, ℕ, Bool, true, false, not, ◌&&◌, ◌||◌, List, [], ◌∷◌, ◌++◌, map, Option, None, Some, Result, Ok, Err, is_none, slice_get, refl, sym, ap, ◌∙◌}
 use Rattle.std.specs.List.{list_any}
 use Rattle.sieve_profile.proofs.Each.{of_each}
@@ -11,19 +12,20 @@ use Rattle.sieve_syntax.specs.Syntax.{syntax_of}
 use Rattle.sieve_syntax.specs.Tree.{Argument, Block, Node, Tests}
 use Rattle.sieve_check.specs.Breach.{Breach, breaches_at, breaches_by, breaches_in, breaches_of, breaks, command_breaks, first_breach, kind_breaks, row_breaks, said_breaks, test_breaks, text_breaks, use_lacks}
 use Rattle.sieve_check.specs.Collating.{lacks_substrings}
-use Rattle.sieve_check.specs.Context.{Context, continues_if, is_require}
+use Rattle.sieve_check.specs.Context.{Context, continues_if, is_require, under}
 use Rattle.sieve_check.specs.Element.{Element, elements_of, the_command, the_number, the_test, the_text}
 use Rattle.sieve_check.specs.Judgement.{judgement_by, judgement_from, judgement_of, sound}
-use Rattle.sieve_check.specs.Parted.{parted}
 use Rattle.sieve_check.specs.Said.{said}
 use Rattle.sieve_check.specs.Use.{has_block}
 use Rattle.sieve_reading.specs.Shape.{known_shapes}
-use Rattle.sieve_reading.specs.Script.{Commands, script_of}
+use Rattle.sieve_check.specs.Script.{script_of}
+use Rattle.sieve_check.specs.Parted.{parted_row}
+use Rattle.sieve_reading.specs.Script.{Commands}
 use Rattle.sieve_table.specs.Capability.{capabilities, is_name_of}
 use Rattle.sieve_table.specs.Known.{extension_of, is_asked_for, is_known, is_shown_by_no_word, known_command, known_test, may_be_required, names_known}
 use Rattle.sieve_table.specs.Role.{has_role}
 use Rattle.sieve_table.specs.Rule.{all_rules}
-use Rattle.sieve_table.specs.Table.{command_row, test_row}
+use Rattle.sieve_table.specs.Table.{Row, command_row, test_row}
 use Rattle.sieve_table.specs.contracts.capability.Capability as every_capability
 use Rattle.sieve_table.specs.declared.capability.Capability.{Capability}
 use Rattle.sieve_table.specs.declared.row.Role.{Role}
@@ -32,7 +34,7 @@ use Rattle.sieve_table.specs.declared.rule.Rule.{Rule}
 use Rattle.sieve_table.specs.declared.rule.Rule.TheVariants.{RequirePlace, UnknownCapability, UnknownCommand, NotRequired, ElsePlace, BadTag, BadArguments, UnknownComparator, BadVariableName, GlobalAfterSet, BadNamespace, MatchIndex, NumberTooLarge, BadEnvelopePart, NotAddressHeader, TooManyVariables, BadCharacter, BadRelation, UnfitComparator, BadDatePart}
 use Rattle.sieve_table.specs.declared.table.CommandKind.{CommandKind}
 use Rattle.sieve_table.specs.declared.table.TestKind.{TestKind}
-use Rattle.sieve_check.proofs.Reprofiled.{collation_again, command_again, elements_again, parted_again, reprofiled, shapes_again, test_again, under, use_lacks_again}
+use Rattle.sieve_check.proofs.Reprofiled.{collation_again, command_again, elements_again, reprofiled, row_cut, script_again, shapes_again, test_again, use_lacks_again}
 use Rattle.sieve_check.proofs.Searches.{cons_in}
 use Rattle.sieve_check.proofs.Unbroken.{keeps, no_breach, none_first, nothing_before}
 
@@ -152,17 +154,20 @@ module _ (p : Profile) where
       ap breaches_in (elements_again lenient p (known_alike p) tree)
       ∙ all_pass (elements_of p tree) (ap breaches_in (sym (elements_again p p refl tree)) ∙ none)
 
-  pub same_tree : (tree : List Node) → parted lenient tree ≡ parted p tree
-  same_tree tree = parted_again lenient p (known_alike p) tree
+  pub same_script : (tree : List Node) → script_of lenient tree ≡ script_of p tree
+  same_script tree = script_again lenient p (known_alike p) tree
 
-  by_breach : (tree : List Node) (first : Option Breach) (t : Commands) → first_breach p tree ≡ first → judgement_by first (script_of (parted p tree)) ≡ sound t → judgement_by (first_breach lenient tree) (script_of (parted lenient tree)) ≡ sound t
+  pub same_strings : (context : Context) (row : Row) (args : List Argument) → parted_row (under lenient context) row args ≡ parted_row (under p context) row args
+  same_strings context row args = row_cut lenient p (known_alike p) context row args
+
+  by_breach : (tree : List Node) (first : Option Breach) (t : Commands) → first_breach p tree ≡ first → judgement_by first (script_of p tree) ≡ sound t → judgement_by (first_breach lenient tree) (script_of lenient tree) ≡ sound t
   by_breach tree None t is so =
-      ap (λ bs. judgement_by (slice_get bs 0) (script_of (parted lenient tree))) (still_none tree (none_first (breaches_of p tree) is))
-      ∙ ap (λ t. sound (script_of t)) (same_tree tree)
+      ap (λ bs. judgement_by (slice_get bs 0) (script_of lenient tree)) (still_none tree (none_first (breaches_of p tree) is))
+      ∙ ap (λ script. sound script) (same_script tree)
       ∙ so
   by_breach tree (Some breach) t is so = absurd (not_sound so)
     where
-      not_sound : judgement_by (Some breach) (script_of (parted p tree)) ≡ sound t → ⊥
+      not_sound : judgement_by (Some breach) (script_of p tree) ≡ sound t → ⊥
       not_sound e = cc
 
   by_syntax : (read : Result (List Node) ℕ) (t : Commands) → judgement_from p read ≡ sound t → judgement_from lenient read ≡ sound t

@@ -1,23 +1,31 @@
--- The walk over tests and commands: what is found in them, and what stands after them.
-use Rattle.std.proofs.Common.{◌≡◌, List, [], ◌∷◌, ◌++◌, map, None, Some, refl, sym, ap, ◌∙◌, subst}
+-- The walk over tests and commands: what is found in them, what is read of them, and what stands
+-- after them.
+use Rattle.std.proofs.Common.{◌≡◌, List, [], ◌∷◌, ◌++◌, map, None, Option, Some, refl, sym, ap, ◌∙◌, subst}
+use Rattle.std.specs.declared.boxed.Box.{Box}
 use Rattle.std.specs.declared.vec.Vec.{Vec}
 use Rattle.std.specs.declared.alloc.Global.{Global}
-use Rattle.sieve_syntax.specs.Tree.{block, nodes, tests}
+use Rattle.sieve_syntax.specs.Tree.{Block, no_block, block, Nodes, end_nodes, nodes, tests}
 use Rattle.sieve_syntax.specs.view.Tree.{argument_of, block_of, node_of, octets_of, test_of, tests_of}
 use Rattle.sieve_syntax.specs.declared.tree.Command as commands
 use Rattle.sieve_syntax.specs.declared.tree.Test as one_tests
+use Rattle.sieve_syntax.specs.declared.tree.Tests.TheVariants as test_variants
 use Rattle.sieve_check.specs.Breach.{breaches_in}
 use Rattle.sieve_check.specs.CheckFault.{IsFirst}
 use Rattle.sieve_check.specs.Scope.{Scope}
 use Rattle.sieve_check.specs.Context.{Context, after, after_block, after_kind, after_nodes, inside}
 use Rattle.sieve_check.specs.Element.{Element, block_elements, node_elements, nodes_elements, test_elements, test_list_elements, tests_elements}
 use Rattle.sieve_check.specs.view.Context.{at_spot}
+use Rattle.sieve_check.specs.Script.{block_commands, chain_of, chain_with, command_kind_reading, command_reading, condition_of, conditions, conditions_in, test_kind_reading, test_reading}
 use Rattle.sieve_check.specs.view.Head.{command_head, test_head}
-use Rattle.sieve_table.specs.Known.{known_command}
+use Rattle.sieve_reading.specs.Reading.{CommandReading, TestReading}
+use Rattle.sieve_reading.specs.Script.{Chain, Commands, Condition, Conditions, chain_with_command, first_condition, joined, no_branches, no_commands, no_conditions, one_condition}
+use Rattle.sieve_table.specs.Known.{known_command, known_test}
+use Rattle.sieve_table.specs.declared.table.CommandKind.{CommandKind}
+use Rattle.sieve_table.specs.declared.table.TestKind.{TestKind}
 use Rattle.sieve_check.specs.declared.context.Spot.{Spot}
 use Rattle.sieve_check.specs.declared.validator.CheckFault.{CheckFault}
 use Rattle.sieve_check.proofs.Searches.{front_stops, front_passes, none_in}
-use Rattle.sieve_syntax.proofs.Views.{seen_command, seen_test}
+use Rattle.sieve_syntax.proofs.Views.{seen_command, seen_list, seen_none, seen_one, seen_test}
 
 -- TESTS
 
@@ -39,6 +47,39 @@ module _ (t : one_tests.Test) (context : Context) where
   pub test_ends : breaches_in (test_head context t) ≡ [] → breaches_in (tests_elements context (tests_of (one_tests.out-Test t).tests)) ≡ [] → breaches_in (test_elements context (test_of t)) ≡ []
   test_ends none fine = test_left none ∙ fine
 
+-- what is read of a test by its parts
+pub test_reads : (t : one_tests.Test) (context : Context) (kind : TestKind) (reading : TestReading) (inner : Conditions) → let o = one_tests.out-Test t in
+    known_test context.profile o.name ≡ Some kind → reading ≡ test_kind_reading context kind (map argument_of o.args.items) → inner ≡ conditions_in context (tests_of o.tests) → joined (Some reading) inner ≡ condition_of context (test_of t)
+unfolding condition_of
+test_reads t context kind reading inner known read holds =
+    let o = one_tests.out-Test t in
+    let args = map argument_of o.args.items in
+    ap (λ r. joined (Some r) inner) read
+    ∙ ap (λ k. joined (test_reading context k args) inner) (sym known)
+    ∙ ap (joined (test_reading context (known_test context.profile o.name) args)) holds
+    ∙ sym (ap (condition_of context) (seen_test octets_of t))
+
+-- the tests after arguments, by whether they are none, one or a list
+pub none_read : (ts : test_variants.the_data) (context : Context) → ts ≡ test_variants.None → no_conditions ≡ conditions_in context (tests_of ts)
+unfolding conditions_in
+none_read ts context is = sym (ap (conditions_in context) (seen_none octets_of ts is))
+
+pub one_read : (ts : test_variants.the_data) (b : Box one_tests.Test Global) (t : one_tests.Test) (context : Context) → ts ≡ test_variants.One b → t ≡ b.value → one_condition (condition_of context (test_of t)) no_conditions ≡ conditions_in context (tests_of ts)
+unfolding conditions_in
+one_read ts b t context is same = sym (ap (conditions_in context) (seen_one octets_of ts b t is same))
+
+pub list_read : (ts : test_variants.the_data) (b : Box (Vec one_tests.Test Global) Global) (v : Vec one_tests.Test Global) (context : Context) → ts ≡ test_variants.List b → v ≡ b.value → conditions context (tests (map test_of v.items)) ≡ conditions_in context (tests_of ts)
+unfolding conditions_in
+list_read ts b v context is same = sym (ap (conditions_in context) (seen_list octets_of ts b v.items is (ap (λ x. x.items) same)))
+
+pub one_found : (ts : test_variants.the_data) (b : Box one_tests.Test Global) (t : one_tests.Test) (context : Context) → ts ≡ test_variants.One b → t ≡ b.value → test_elements context (test_of t) ≡ tests_elements context (tests_of ts)
+unfolding tests_elements
+one_found ts b t context is same = sym (ap (tests_elements context) (seen_one octets_of ts b t is same))
+
+pub list_found : (ts : test_variants.the_data) (b : Box (Vec one_tests.Test Global) Global) (v : Vec one_tests.Test Global) (context : Context) → ts ≡ test_variants.List b → v ≡ b.value → test_list_elements context (tests (map test_of v.items)) ≡ tests_elements context (tests_of ts)
+unfolding tests_elements
+list_found ts b v context is same = sym (ap (tests_elements context) (seen_list octets_of ts b v.items is (ap (λ x. x.items) same)))
+
 -- the breaches of a list of tests are those of the first, and then of the others
 module _ (context : Context) (all rest : List one_tests.Test) (t : one_tests.Test) (same : all ≡ t ∷ rest) where
   list_at : test_list_elements context (tests (map test_of all)) ≡ test_elements context (test_of t) ++ test_list_elements context (tests (map test_of rest))
@@ -51,9 +92,49 @@ module _ (context : Context) (all rest : List one_tests.Test) (t : one_tests.Tes
   pub list_goes_on : breaches_in (test_elements context (test_of t)) ≡ [] → breaches_in (test_list_elements context (tests (map test_of rest))) ≡ breaches_in (test_list_elements context (tests (map test_of all)))
   list_goes_on none = sym (ap breaches_in list_at ∙ front_passes _ _ none)
 
+  pub list_more : conditions context (tests (map test_of all)) ≡ one_condition (condition_of context (test_of t)) (conditions context (tests (map test_of rest)))
+  unfolding conditions
+  list_more = ap (λ l. conditions context (tests (map test_of l))) same
+
+pub list_none : (context : Context) → conditions context (tests []) ≡ no_conditions
+unfolding conditions
+list_none context = refl
+
 pub list_ends : (context : Context) → breaches_in (test_list_elements context (tests [])) ≡ []
 unfolding test_list_elements
 list_ends context = none_in
+
+-- A BLOCK
+
+-- the commands of a block, none where there is no block
+abbrev pub inner_nodes : Block → Nodes
+inner_nodes no_block = end_nodes
+inner_nodes (block ns) = ns
+
+pub some_inside : (b : Option (Vec commands.Command Global)) (v cs : Vec commands.Command Global) → b ≡ Some v → cs ≡ v → nodes (map node_of cs.items) ≡ inner_nodes (block_of b)
+some_inside b v cs is same = ap (λ l. nodes (map node_of l.items)) same ∙ sym (ap (λ x. inner_nodes (block_of x)) is)
+
+pub none_inside : (b : Option (Vec commands.Command Global)) (v cs : Vec commands.Command Global) → b ≡ None → v.items ≡ [] → cs ≡ v → nodes (map node_of cs.items) ≡ inner_nodes (block_of b)
+none_inside b v cs is empty same = ap (λ l. nodes (map node_of l.items)) same ∙ ap (λ l. nodes (map node_of l)) empty ∙ sym (ap (λ x. inner_nodes (block_of x)) is)
+
+in_block : (b : Block) (context : Context) → block_elements context b ≡ nodes_elements (inside context) (inner_nodes b)
+unfolding block_elements nodes_elements
+in_block no_block context = refl
+in_block (block ns) context = refl
+
+-- what stands after commands in a block
+abbrev past_nodes : Context → Nodes → Context
+past_nodes context ns = record context { scope = (after_nodes (inside context) ns).scope }
+
+past_block : (b : Block) (context : Context) → after_block context b ≡ past_nodes context (inner_nodes b)
+unfolding after_block after_nodes
+past_block no_block context = refl
+past_block (block ns) context = refl
+
+block_does : (b : Block) (context : Context) → block_commands context b ≡ (chain_of (inside context) (inner_nodes b)).rest
+unfolding block_commands chain_of
+block_does no_block context = refl
+block_does (block ns) context = refl
 
 -- A COMMAND
 
@@ -82,42 +163,57 @@ module _ (c : commands.Command) (context : Context) where
   block_left : breaches_in (command_head context c) ≡ [] → breaches_in of_tests ≡ [] → breaches_in (node_elements context (node_of c)) ≡ breaches_in (block_elements before_block (block_of (commands.out-Command c).block))
   block_left none fine = tests_left none ∙ front_passes _ _ fine
 
-  pub command_ends : breaches_in (command_head context c) ≡ [] → breaches_in of_tests ≡ [] → (commands.out-Command c).block ≡ None → breaches_in (node_elements context (node_of c)) ≡ []
-  unfolding block_elements
-  command_ends none fine is = block_left none fine ∙ ap (λ b. breaches_in (block_elements before_block (block_of b))) is ∙ none_in
-
   after_at : after context (node_of c) ≡ after_block before_block (block_of (commands.out-Command c).block)
   unfolding after
   after_at = ap (after context) (seen_command octets_of c)
 
-  pub command_moves : (next : Context) → next ≡ before_block → (commands.out-Command c).block ≡ None → next ≡ after context (node_of c)
-  unfolding after_block
-  command_moves next goes is = goes ∙ sym (after_at ∙ ap (λ b. after_block before_block (block_of b)) is)
+  -- what is read of a command by its parts
+  read_at : (chain : Chain) → let o = commands.out-Command c in
+      chain_with_command (command_reading context (known_command context.profile o.name) (map argument_of o.args.items)) o.line (first_condition (conditions_in context (tests_of o.tests))) (block_commands before_block (block_of o.block)) chain ≡ chain_with context (node_of c) chain
+  unfolding chain_with
+  read_at chain = sym (ap (λ n. chain_with context n chain) (seen_command octets_of c))
 
-  -- a block, at whose start `within` stands with these names
-  module _ (next within : Spot) (names : Scope) (inner : Vec commands.Command Global) (goes : at_spot next names ≡ before_block) (start : (scope : Scope) → at_spot within scope ≡ inside (at_spot next scope)) (is : (commands.out-Command c).block ≡ Some inner) where
-    pub within_block : at_spot within names ≡ inside before_block
+  -- its block, at whose start `within` stands with these names
+  module _ (next within : Spot) (names : Scope) (inner : List commands.Command) (goes : at_spot next names ≡ before_block) (start : (scope : Scope) → at_spot within scope ≡ inside (at_spot next scope)) (is : nodes (map node_of inner) ≡ inner_nodes (block_of (commands.out-Command c).block)) where
+    within_block : at_spot within names ≡ inside before_block
     within_block = start names ∙ ap inside goes
 
-    block_found : breaches_in (command_head context c) ≡ [] → breaches_in of_tests ≡ [] → breaches_in (node_elements context (node_of c)) ≡ breaches_in (nodes_elements (at_spot within names) (nodes (map node_of inner.items)))
-    unfolding block_elements
+    abbrev of_inner : List Element
+    of_inner = nodes_elements (at_spot within names) (nodes (map node_of inner))
+
+    block_found : breaches_in (command_head context c) ≡ [] → breaches_in of_tests ≡ [] → breaches_in (node_elements context (node_of c)) ≡ breaches_in of_inner
     block_found none fine =
         block_left none fine
-        ∙ ap (λ b. breaches_in (block_elements before_block (block_of b))) is
-        ∙ sym (ap (λ w. breaches_in (nodes_elements w (nodes (map node_of inner.items)))) within_block)
+        ∙ ap breaches_in (in_block (block_of (commands.out-Command c).block) before_block)
+        ∙ sym (ap (λ w. breaches_in (nodes_elements w (nodes (map node_of inner)))) within_block ∙ ap (λ ns. breaches_in (nodes_elements (inside before_block) ns)) is)
 
-    pub block_stops : (fault : CheckFault) → breaches_in (command_head context c) ≡ [] → breaches_in of_tests ≡ [] → IsFirst (breaches_in (nodes_elements (at_spot within names) (nodes (map node_of inner.items)))) fault → IsFirst (breaches_in (node_elements context (node_of c))) fault
+    pub block_stops : (fault : CheckFault) → breaches_in (command_head context c) ≡ [] → breaches_in of_tests ≡ [] → IsFirst (breaches_in of_inner) fault → IsFirst (breaches_in (node_elements context (node_of c))) fault
     block_stops fault none fine h = subst (λ bs. IsFirst bs fault) (sym (block_found none fine)) h
 
-    pub block_ends : breaches_in (command_head context c) ≡ [] → breaches_in of_tests ≡ [] → breaches_in (nodes_elements (at_spot within names) (nodes (map node_of inner.items))) ≡ [] → breaches_in (node_elements context (node_of c)) ≡ []
+    pub block_ends : breaches_in (command_head context c) ≡ [] → breaches_in of_tests ≡ [] → breaches_in of_inner ≡ [] → breaches_in (node_elements context (node_of c)) ≡ []
     block_ends none fine h = block_found none fine ∙ h
 
-    pub block_moves : (scope : Scope) → scope ≡ (after_nodes (at_spot within names) (nodes (map node_of inner.items))).scope → at_spot next scope ≡ after context (node_of c)
-    unfolding after_block
+    pub block_moves : (scope : Scope) → scope ≡ (after_nodes (at_spot within names) (nodes (map node_of inner))).scope → at_spot next scope ≡ after context (node_of c)
     block_moves scope ends =
-        ap (at_spot next) (ends ∙ ap (λ w. (after_nodes w (nodes (map node_of inner.items))).scope) (start names))
-        ∙ ap (λ w. after_block w (block (nodes (map node_of inner.items)))) goes
-        ∙ sym (after_at ∙ ap (λ b. after_block before_block (block_of b)) is)
+        ap (at_spot next) (ends ∙ ap (λ w. (after_nodes w (nodes (map node_of inner))).scope) (start names))
+        ∙ ap (λ w. past_nodes w (nodes (map node_of inner))) goes
+        ∙ ap (past_nodes before_block) is
+        ∙ sym (after_at ∙ past_block (block_of (commands.out-Command c).block) before_block)
+
+    -- and what is read of the command, where that of its parts is
+    pub block_reads : (kind : CommandKind) (reading : CommandReading) (condition : Condition) (does : Commands) → let o = commands.out-Command c in
+        known_command context.profile o.name ≡ Some kind → reading ≡ command_kind_reading context kind (map argument_of o.args.items) → condition ≡ first_condition (conditions_in context (tests_of o.tests)) → does ≡ (chain_of (at_spot within names) (nodes (map node_of inner))).rest
+        → (chain : Chain) → chain_with_command (Some reading) o.line condition does chain ≡ chain_with context (node_of c) chain
+    block_reads kind reading condition does known read holds same chain =
+        let o = commands.out-Command c in
+        let args = map argument_of o.args.items in
+        let done : does ≡ block_commands before_block (block_of o.block) =
+        same ∙ ap (λ w. (chain_of w (nodes (map node_of inner))).rest) within_block ∙ ap (λ ns. (chain_of (inside before_block) ns).rest) is ∙ sym (block_does (block_of o.block) before_block) in
+        ap (λ r. chain_with_command (Some r) o.line condition does chain) read
+        ∙ ap (λ k. chain_with_command (command_reading context k args) o.line condition does chain) (sym known)
+        ∙ ap (λ x. chain_with_command (command_reading context (known_command context.profile o.name) args) o.line x does chain) holds
+        ∙ ap (λ x. chain_with_command (command_reading context (known_command context.profile o.name) args) o.line (first_condition (conditions_in context (tests_of o.tests))) x chain) done
+        ∙ read_at chain
 
 -- COMMANDS
 
@@ -141,6 +237,12 @@ module _ (context : Context) (all rest : List commands.Command) (c : commands.Co
       ap (λ p. after_nodes p (nodes (map node_of rest))) goes
       ∙ sym (ap (λ l. after_nodes context (nodes (map node_of l))) same)
 
+  pub commands_more : (next : Context) → next ≡ after context (node_of c) → chain_of context (nodes (map node_of all)) ≡ chain_with context (node_of c) (chain_of next (nodes (map node_of rest)))
+  unfolding chain_of
+  commands_more next goes =
+      ap (λ l. chain_of context (nodes (map node_of l))) same
+      ∙ sym (ap (λ p. chain_with context (node_of c) (chain_of p (nodes (map node_of rest)))) goes)
+
 pub commands_end : (context : Context) → breaches_in (nodes_elements context (nodes [])) ≡ []
 unfolding nodes_elements
 commands_end context = none_in
@@ -149,6 +251,10 @@ pub commands_moved : (context : Context) → after_nodes context (nodes []) ≡ 
 unfolding after_nodes
 commands_moved context = refl
 
+pub commands_read : (context : Context) → chain_of context (nodes []) ≡ record { otherwise = no_branches; rest = no_commands }
+unfolding chain_of
+commands_read context = refl
+
 pub ruleset test_steps = (test_stops, inner_stop, test_ends)
 
-pub ruleset command_steps = (head_stops, tests_stop, command_ends, command_moves)
+pub ruleset command_steps = (head_stops, tests_stop)

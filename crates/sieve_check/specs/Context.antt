@@ -49,6 +49,10 @@ pub record Context : Type 0 where
   -- the names of variables in the text before it (RFC 5229, section 4; RFC 6609, section 3.4.1)
   pub scope : Scope
 
+-- a context, where the script is judged by another profile
+abbrev pub under : Profile → Context → Context
+under profile context = record context { profile = profile }
+
 -- the context at the start of a script
 abbrev pub script_start : Profile → Context
 script_start profile = record { profile = profile; leads = true; follows_if = false; required = nothing_required; finds_parts = false; scope = no_names }

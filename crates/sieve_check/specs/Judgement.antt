@@ -5,8 +5,8 @@ use Rattle.sieve_syntax.specs.Tree as syntax
 use Rattle.sieve_syntax.specs.Syntax.{syntax_of}
 use Rattle.sieve_check.specs.Breach as breaches
 use Rattle.sieve_check.specs.Breach.{first_breach}
-use Rattle.sieve_check.specs.Parted.{parted}
-use Rattle.sieve_reading.specs.Script.{Commands, script_of}
+use Rattle.sieve_check.specs.Script.{script_of}
+use Rattle.sieve_reading.specs.Script.{Commands}
 use Rattle.sieve_table.specs.Rule.{rule_word}
 use Rattle.sieve_check.specs.declared.judged.FaultKind.{FaultKind}
 use Rattle.sieve_check.specs.declared.judged.FaultKind.TheVariants.{Syntax, Breach}
@@ -32,7 +32,7 @@ judgement_by (Some breach) script = faulty breach.line (Breach breach.rule)
 
 -- a text that no tree writes has a fault of syntax, on the line that the syntax says
 abbrev pub judgement_from : Profile → Result (List syntax.Node) ℕ → Judgement
-judgement_from profile (Ok tree) = judgement_by (first_breach profile tree) (script_of (parted profile tree))
+judgement_from profile (Ok tree) = judgement_by (first_breach profile tree) (script_of profile tree)
 judgement_from profile (Err line) = faulty line Syntax
 
 unfoldable pub judgement_of : Profile → List ℕ → Judgement

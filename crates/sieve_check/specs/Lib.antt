@@ -14,6 +14,7 @@ pub mod Parted
 pub mod Readable
 pub mod Requirement
 pub mod Said
+pub mod Script
 pub mod Scope
 pub mod Use
 pub mod view

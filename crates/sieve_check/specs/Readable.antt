@@ -1,14 +1,17 @@
--- A tree of which each command and each test is read as something: it has a row, its arguments are what the row says, and it
--- stands where it may. Nothing of such a tree vanishes from the abstract script.
+-- A tree of which each command and each test is read as something: it has a row that is known, its
+-- arguments are what the row says, and it stands where it may. Nothing of such a tree vanishes from
+-- the abstract script.
 use Rattle.std.specs.Prelude.{◌≡◌, ℕ, Bool, true, false, List, [], ◌∷◌, ◌++◌, Option, Some, None}
 use Rattle.sieve_reading.specs.Reading as reading
 use Rattle.sieve_reading.specs.Reading.{TestReading, reads_always, reads_never, reads_ask, reads_all, reads_any, reads_not, CommandReading, Leaf}
-use Rattle.sieve_reading.specs.CommandReading.{command_reading}
-use Rattle.sieve_reading.specs.TestReading.{test_reading}
-use Rattle.sieve_reading.specs.Shape.{shapes_of}
-use Rattle.sieve_reading.specs.Script.{Commands, no_commands, stops, returns, acts, chooses, Branches, no_branches, else_branch, test_branch, Condition, first_condition, conditions_in, script_of}
-use Rattle.sieve_table.specs.Table.{command_named, test_named, command_row, test_row}
-use Rattle.sieve_reading.specs.Tree.{Argument, Test, test, Tests, no_tests, one_test, test_list, TestList, end_tests, more_tests, Node, node, Block, no_block, block, Nodes, end_nodes, more_nodes, nodes}
+use Rattle.sieve_reading.specs.Shape.{known_shapes}
+use Rattle.sieve_reading.specs.Script.{Commands, no_commands, stops, returns, acts, chooses, Branches, no_branches, else_branch, test_branch, Condition, first_condition}
+use Rattle.sieve_check.specs.Context.{Context, after, after_kind, inside, script_start}
+use Rattle.sieve_check.specs.Script.{command_reading, conditions_in, node_reading, script_of, test_reading}
+use Rattle.sieve_profile.specs.Profile.{Profile}
+use Rattle.sieve_table.specs.Known.{known_command, known_test}
+use Rattle.sieve_table.specs.Table.{command_row, test_row}
+use Rattle.sieve_syntax.specs.Tree.{Argument, Test, test, Tests, no_tests, one_test, test_list, TestList, end_tests, more_tests, Node, node, Block, no_block, block, Nodes, end_nodes, more_nodes, nodes}
 use Rattle.sieve_check.specs.Use.{block_fits, has_block, is_well_used, tests_fit}
 use Rattle.sieve_table.specs.declared.row.Inner.{Inner}
 use Rattle.sieve_table.specs.declared.row.Inner.TheVariants as inner
@@ -29,29 +32,31 @@ abbrev pub Joins : Option TestReading → Tests → Type 0
 Joins None ts = ⊥
 Joins (Some r) ts = tests_fit (tests_of_reading r) ts ≡ true
 
--- There is such a test, and such a command, and it takes these arguments, tests and block: the tags are its row's own, of each kind one at
--- most, and stand before the positional arguments; these are there and no others; each tag has its own argument; the kind that is needed is
--- there, and so are the tests and the block.
-abbrev pub test_takes : Option TestKind → List Argument → Tests → Bool
-test_takes None args ts = false
-test_takes (Some kind) args ts = is_well_used (test_row kind) (shapes_of (test_row kind).tags args) ts false
+-- There is such a test, and such a command, and it takes these arguments, tests and block: the tags
+-- are known and its row's own, of each kind one at most, and stand before the positional arguments;
+-- these are there and no others; each tag has its own argument; the kind that is needed is there,
+-- and so are the tests and the block.
+abbrev pub test_takes : Profile → Option TestKind → List Argument → Tests → Bool
+test_takes profile None args ts = false
+test_takes profile (Some kind) args ts = is_well_used (test_row kind) (known_shapes profile (test_row kind).tags args) ts false
 
-abbrev pub command_takes : Option CommandKind → List Argument → Tests → Block → Bool
-command_takes None args ts ending = false
-command_takes (Some kind) args ts ending = is_well_used (command_row kind) (shapes_of (command_row kind).tags args) ts (has_block ending)
+abbrev pub command_takes : Profile → Option CommandKind → List Argument → Tests → Block → Bool
+command_takes profile None args ts ending = false
+command_takes profile (Some kind) args ts ending = is_well_used (command_row kind) (known_shapes profile (command_row kind).tags args) ts (has_block ending)
 
 unfoldable mutual
-  pub ReadsTest : Test → Type 0
-  ReadsTest (test name line args ts) = (test_takes (test_named name) args ts ≡ true) × Joins (test_reading (test name line args ts)) ts × ReadsTests ts
+  pub ReadsTest : Context → Test → Type 0
+  ReadsTest context (test name line args ts) =
+      (test_takes context.profile (known_test context.profile name) args ts ≡ true) × Joins (test_reading context (known_test context.profile name) args) ts × ReadsTests context ts
 
-  pub ReadsTests : Tests → Type 0
-  ReadsTests no_tests = Unit {0}
-  ReadsTests (one_test t) = ReadsTest t
-  ReadsTests (test_list ts) = ReadsTestList ts
+  pub ReadsTests : Context → Tests → Type 0
+  ReadsTests context no_tests = Unit {0}
+  ReadsTests context (one_test t) = ReadsTest context t
+  ReadsTests context (test_list ts) = ReadsTestList context ts
 
-  pub ReadsTestList : TestList → Type 0
-  ReadsTestList end_tests = Unit {0}
-  ReadsTestList (more_tests t ts) = ReadsTest t × ReadsTestList ts
+  pub ReadsTestList : Context → TestList → Type 0
+  ReadsTestList context end_tests = Unit {0}
+  ReadsTestList context (more_tests t ts) = ReadsTest context t × ReadsTestList context ts
 
 -- What a command of such a reading needs: which tests, whether a block, and whether an `if` with which it goes on (RFC 5228, section 3.1).
 pub record Needs : Type 0 where
@@ -83,20 +88,24 @@ may_go_on (Some reading.reads_elsif) = true
 may_go_on other = false
 
 unfoldable mutual
-  pub ReadsNode : (follows_if : Bool) → Node → Type 0
-  ReadsNode follows_if (node name line args ts ending) = (command_takes (command_named name) args ts ending ≡ true) × Stands follows_if (command_reading (node name line args ts ending)) ts ending × ReadsTests ts × ReadsBlock ending
+  pub ReadsNode : Context → (follows_if : Bool) → Node → Type 0
+  ReadsNode context follows_if (node name line args ts ending) =
+      (command_takes context.profile (known_command context.profile name) args ts ending ≡ true)
+      × Stands follows_if (command_reading context (known_command context.profile name) args) ts ending
+      × ReadsTests context ts
+      × ReadsBlock (after_kind context (known_command context.profile name) args) ending
 
-  pub ReadsBlock : Block → Type 0
-  ReadsBlock no_block = Unit {0}
-  ReadsBlock (block ns) = ReadsNodes false ns
+  pub ReadsBlock : Context → Block → Type 0
+  ReadsBlock context no_block = Unit {0}
+  ReadsBlock context (block ns) = ReadsNodes (inside context) false ns
 
-  pub ReadsNodes : (follows_if : Bool) → Nodes → Type 0
-  ReadsNodes follows_if end_nodes = Unit {0}
-  ReadsNodes follows_if (more_nodes n ns) = ReadsNode follows_if n × ReadsNodes (may_go_on (command_reading n)) ns
+  pub ReadsNodes : Context → (follows_if : Bool) → Nodes → Type 0
+  ReadsNodes context follows_if end_nodes = Unit {0}
+  ReadsNodes context follows_if (more_nodes n ns) = ReadsNode context follows_if n × ReadsNodes (after context n) (may_go_on (node_reading context n)) ns
 
--- each command and test of the tree is read as something
-abbrev pub IsReadable : List Node → Type 0
-IsReadable tree = ReadsNodes false (nodes tree)
+-- each command and test of the tree is read as something, where it is judged by a profile
+abbrev pub IsReadable : Profile → List Node → Type 0
+IsReadable profile tree = ReadsNodes (script_start profile) false (nodes tree)
 
 -- WHAT A SCRIPT DOES, IN THE ORDER OF ITS TEXT
 
@@ -155,25 +164,26 @@ closing (Some reading.reads_else) continued = branch_closing continued
 closing other continued = []
 
 -- whether the first of some commands is an `elsif` or `else`
-abbrev pub begins_continued : Nodes → Bool
-begins_continued end_nodes = false
-begins_continued (more_nodes n ns) = continues (command_reading n)
+abbrev pub begins_continued : Context → Nodes → Bool
+begins_continued context end_nodes = false
+begins_continued context (more_nodes n ns) = continues (node_reading context n)
 
 unfoldable mutual
   -- the marks of a tree: each command's own, those of its block, and what ends there; an `if` goes on with each `elsif` and the `else` right
   -- after it
-  pub node_marks : Node → (continued : Bool) → List Mark
-  node_marks (node name line args ts ending) continued =
-      opening (command_reading (node name line args ts ending)) line (first_condition (conditions_in ts)) ++ (block_marks ending ++ closing (command_reading (node name line args ts ending)) continued)
+  pub node_marks : Context → Node → (continued : Bool) → List Mark
+  node_marks context (node name line args ts ending) continued =
+      opening (command_reading context (known_command context.profile name) args) line (first_condition (conditions_in context ts))
+      ++ (block_marks (after_kind context (known_command context.profile name) args) ending ++ closing (command_reading context (known_command context.profile name) args) continued)
 
-  pub block_marks : Block → List Mark
-  block_marks no_block = []
-  block_marks (block ns) = nodes_marks ns
+  pub block_marks : Context → Block → List Mark
+  block_marks context no_block = []
+  block_marks context (block ns) = nodes_marks (inside context) ns
 
-  pub nodes_marks : Nodes → List Mark
-  nodes_marks end_nodes = []
-  nodes_marks (more_nodes n ns) = node_marks n (begins_continued ns) ++ nodes_marks ns
+  pub nodes_marks : Context → Nodes → List Mark
+  nodes_marks context end_nodes = []
+  nodes_marks context (more_nodes n ns) = node_marks context n (begins_continued (after context n) ns) ++ nodes_marks (after context n) ns
 
 -- the abstract script of a tree does what the tree's commands say, each once and in the order of the text, and each block in its branch
-abbrev pub DoesAll : List Node → Type 0
-DoesAll tree = marks (script_of tree) ≡ nodes_marks (nodes tree)
+abbrev pub DoesAll : Profile → List Node → Type 0
+DoesAll profile tree = marks (script_of profile tree) ≡ nodes_marks (script_start profile) (nodes tree)

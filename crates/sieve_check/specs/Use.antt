@@ -2,7 +2,7 @@
 use Rattle.std.specs.Prelude.{Bool, true, false, not, ◌||◌, ◌&&◌, List, [], ◌∷◌, Option, Some, None, is_some, if◌then◌else◌}
 use Rattle.std.specs.List.{list_any}
 use denote.Enum.Bare.{sameb}
-use Rattle.sieve_syntax.specs.TreeOf.{Tests, no_tests, one_test, test_list, Block, no_block, block}
+use Rattle.sieve_syntax.specs.Tree.{Tests, no_tests, one_test, test_list, Block, no_block, block}
 use Rattle.sieve_table.specs.Required.{Required, is_required}
 use Rattle.sieve_reading.specs.Given.{is_of_kind}
 use Rattle.sieve_reading.specs.Positional.{is_positional_label}
@@ -91,17 +91,17 @@ lacks_kind None labels = false
 lacks_kind (Some k) labels = not (list_any (is_of_kind k) labels)
 
 -- which tests there are
-abbrev pub tests_there : {S : Type 0} → Tests S → Inner
+abbrev pub tests_there : Tests → Inner
 tests_there no_tests = inner.None
 tests_there (one_test t) = inner.One
 tests_there (test_list ts) = inner.List
 
 -- whether these tests are there
-abbrev pub tests_fit : {S : Type 0} → Inner → Tests S → Bool
+abbrev pub tests_fit : Inner → Tests → Bool
 tests_fit taken ts = sameb the_type taken (tests_there ts)
 
 -- whether a command ends by a block
-abbrev pub has_block : {S : Type 0} → Block S → Bool
+abbrev pub has_block : Block → Bool
 has_block no_block = false
 has_block (block ns) = true
 
@@ -113,13 +113,13 @@ block_fits false true = false
 block_fits false false = true
 
 -- arguments, tests or a block that aren't what is taken, a tag without its own argument, or none of a kind that is needed
-abbrev pub are_bad : {S : Type 0} → (filled : Bool) → Row → List Label → Tests S → (ends_by_block : Bool) → Bool
+abbrev pub are_bad : (filled : Bool) → Row → List Label → Tests → (ends_by_block : Bool) → Bool
 are_bad filled row labels ts ends_by_block =
     (not filled || (not (tests_fit row.tests ts) || not (block_fits row.has_block ends_by_block))) || (lacks_own labels || lacks_kind row.one_of labels)
 
-abbrev pub has_bad_arguments : {S : Type 0} → Row → List Shape → Tests S → (ends_by_block : Bool) → Bool
+abbrev pub has_bad_arguments : Row → List Shape → Tests → (ends_by_block : Bool) → Bool
 has_bad_arguments row shapes ts ends_by_block = are_bad (row_is_filled row shapes) row (labels_of row shapes) ts ends_by_block
 
 -- whether all is as the row says
-abbrev pub is_well_used : {S : Type 0} → Row → List Shape → Tests S → (ends_by_block : Bool) → Bool
+abbrev pub is_well_used : Row → List Shape → Tests → (ends_by_block : Bool) → Bool
 is_well_used row shapes ts ends_by_block = not (has_bad_tag (labels_of row shapes)) && not (has_bad_arguments row shapes ts ends_by_block)

@@ -19,13 +19,12 @@ ghost use Rattle.sieve_variables.specs.Name.{is_global_name, is_identifier};
 
 use crate::collating::{arguments_lack, known_collation, lacks_substrings};
 use crate::context::{Context, takes_references};
-use crate::labels::{after_first, first_role};
 use crate::said::said;
 use crate::usage::{has_bad_arguments, has_bad_tag, lacks_required};
 use crate::validator::CheckFault;
 use date_text::DatePart;
 use match_text::relation_named;
-use sieve_reading::{AsOctets, Label, RowLabels, known_labels};
+use sieve_reading::{Label, RowLabels, after_first, first_role, known_labels};
 use sieve_syntax::{Argument, Tests, Text};
 use sieve_table::{
     Capability, Required, Role, Row, Rule, has_role, is_address_field, is_envelope_part,
@@ -352,12 +351,7 @@ pub(crate) fn check_use(
         ends_by_block,
         stands_alone,
     } = used;
-    let RowLabels { labels, filled } = known_labels::<AsOctets>(
-        alloc,
-        context.spot.profile,
-        row,
-        args,
-    )?;
+    let RowLabels { labels, filled } = known_labels(alloc, context.spot.profile, row, args)?;
     if use_lacks(alloc, context, row, &labels, args)? {
         let rule = Rule::NotRequired;
         return Err(CheckFault::Breach { line, rule });

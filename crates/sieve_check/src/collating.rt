@@ -6,11 +6,10 @@ ghost use Rattle.sieve_profile.specs.view.Profile.{profile_as};
 ghost use Rattle.sieve_syntax.specs.view.Tree.{argument_of, text_of};
 ghost use Rattle.sieve_table.specs.view.Required.{required_as};
 
-use crate::labels::{after_first, first_role};
 use crate::said::said;
 use match_text::{Collation, collation_named};
 use sieve_profile::Profile;
-use sieve_reading::Label;
+use sieve_reading::{Label, after_first, first_role};
 use sieve_syntax::{Argument, Text};
 use sieve_table::{Capability, Required, Role, has_role, is_known};
 use std::alloc::{AllocError, Global};

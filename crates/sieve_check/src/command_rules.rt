@@ -1,14 +1,17 @@
-//! The breaches in commands, whose strings are cut where they break no rule.
+//! The breaches in commands, and what commands without a breach are read as.
 ghost use Rattle.std.specs.Prelude.{◌≡◌, ◌&&◌, not, map, Some, IfOk, OnOk};
 ghost use Rattle.sieve_syntax.specs.Tree.{nodes};
 ghost use Rattle.sieve_syntax.specs.view.Tree as seen;
 ghost use Rattle.sieve_syntax.specs.declared.tree.Command.{out-Command};
 ghost use Rattle.sieve_check.specs.Context.{after, after_kind, after_nodes, continues_if, is_require, naming_said};
 ghost use Rattle.sieve_check.specs.Element.{node_elements, nodes_elements, tests_elements};
-ghost use Rattle.sieve_check.specs.Parted.{parted_said, parted_node, parted_nodes, parted_tests};
+ghost use Rattle.sieve_check.specs.Parted.{parted_said};
+ghost use Rattle.sieve_check.specs.Script.{chain_of, chain_with, command_kind_reading, conditions_in};
+ghost use Rattle.sieve_reading.specs.Script.{Chain, chain_with_command, first_condition};
 ghost use Rattle.sieve_reading.specs.Shape.{known_labels};
-ghost use Rattle.sieve_reading.specs.Tree.{items};
-ghost use Rattle.sieve_reading.specs.view.Tree.{argument_of, node_of, tests_of};
+ghost use Rattle.sieve_reading.specs.view.Reading.{command_reading_as};
+ghost use Rattle.sieve_reading.specs.view.Script.{commands_as, condition_as};
+ghost use Rattle.sieve_reading.specs.view.Tree.{argument_of};
 ghost use Rattle.sieve_profile.specs.view.Profile.{profile_as};
 ghost use Rattle.sieve_table.specs.Known as spec;
 ghost use Rattle.sieve_table.specs.Table.{command_row};
@@ -25,11 +28,13 @@ use crate::scope::Scope;
 use crate::test_rules::check_tests;
 use crate::validator::CheckFault;
 use sieve_profile::Profile;
-use sieve_reading::Label;
+use sieve_reading::{
+    Branch, CommandReading, Condition, Label, ScriptBuilder, Statement, first_condition,
+    read_command,
+};
 use sieve_syntax::{Argument, Command, Tests};
 use sieve_table::{CommandKind, Rule, known_command};
 use std::alloc::{AllocError, Global};
-use std::mem;
 
 /// Whether a `require` of this kind stands where none may.
 fn is_misplaced(context: Context<'_>, kind: CommandKind) -> bool
@@ -138,95 +143,134 @@ fn cut_and_name(
     scope.declare(alloc, labels, args)
 }
 
-/// Checks the tests of a command of a kind whose arguments are checked, cuts its strings but for those of its block, and answers what
-/// stands before that.
+/// A command before its block: what stands before that, what the command is read as, and the
+/// condition of its test.
+#[derive(Drop)]
+struct Front {
+    next: Spot,
+    reading: CommandReading,
+    condition: Condition,
+}
+
+/// Checks the tests of a command of a kind whose arguments are checked, and cuts its strings.
 fn check_front(
     alloc: Global,
     spot: Spot,
     scope: &mut Scope,
     head: Head,
-    args: &mut Vec<Argument>,
-    tests: &mut Tests,
-) -> Result<Spot, CheckFault>
+    args: Vec<Argument>,
+    tests: Tests,
+) -> Result<Front, CheckFault>
     requires { head.labels.items ≡ known_labels (profile_as spot.profile) (command_row head.kind)
-        (map seen.argument_of args.old.items) }
-    ensures found { FindsIn
-        (tests_elements (at_spot spot scope.old) (seen.tests_of tests.old)) result }
-    ensures goes { IfOk result (λ next. at_spot next scope.new ≡ after_kind
-        (at_spot spot scope.old) (Some head.kind) (map seen.argument_of args.old.items)) }
-    ensures args { OnOk result (map argument_of args.new.items ≡ parted_said
-        (at_spot spot scope.old) head.labels.items (map seen.argument_of args.old.items)) }
-    ensures tests { OnOk result
-        (tests_of tests.new ≡ parted_tests (at_spot spot scope.old) (seen.tests_of tests.old)) }
+        (map seen.argument_of args.items) }
+    ensures found { FindsIn (tests_elements (at_spot spot scope.old) (seen.tests_of tests)) result }
+    ensures goes { IfOk result (λ front. at_spot front.next scope.new ≡ after_kind
+        (at_spot spot scope.old) (Some head.kind) (map seen.argument_of args.items)) }
+    ensures reading { IfOk result (λ front. command_reading_as front.reading
+        ≡ command_kind_reading (at_spot spot scope.old) head.kind
+        (map seen.argument_of args.items)) }
+    ensures condition { IfOk result (λ front. condition_as front.condition
+        ≡ first_condition (conditions_in (at_spot spot scope.old) (seen.tests_of tests))) }
 {
+    let Head { kind, labels } = head;
     let context = Context {
         spot,
         scope: &*scope,
     };
-    *tests = check_tests(alloc, context, mem::replace(tests, Tests::None))?;
-    let next = spot.after_kind(head.kind, args);
-    cut_and_name(alloc, spot, scope, &head.labels, args)?;
-    Ok(next)
+    let conditions = check_tests(alloc, context, tests)?;
+    let next = spot.after_kind(kind, &args);
+    let mut args = args;
+    cut_and_name(alloc, spot, scope, &labels, &mut args)?;
+    Ok(Front {
+        next,
+        reading: read_command(alloc, kind, &labels, args),
+        condition: first_condition(conditions),
+    })
 }
 
-/// Checks a command with its tests and its block, cuts its strings, and answers what stands before the next one.
+/// A command without a breach: what stands after it, what it is read as, its line, and its branch,
+/// which is the condition of its test with its block.
+#[derive(Drop)]
+struct Passed {
+    next: Spot,
+    reading: CommandReading,
+    line: u32,
+    branch: Branch,
+}
+
+/// Checks a command with its tests and its block.
 #[cycle(check_commands)]
 #[tactic(auto, using(crate::proofs::Walk::command_steps))]
 fn check_command(
     alloc: Global,
     spot: Spot,
     scope: &mut Scope,
-    command: &mut Command,
-) -> Result<Spot, CheckFault>
-    ensures found { FindsIn
-        (node_elements (at_spot spot scope.old) (seen.node_of command.old)) result }
-    ensures goes { IfOk result (λ next. at_spot next scope.new
-        ≡ after (at_spot spot scope.old) (seen.node_of command.old)) }
-    ensures cut { OnOk result
-        (node_of command.new ≡ parted_node (at_spot spot scope.old) (seen.node_of command.old)) }
+    command: Command,
+) -> Result<Passed, CheckFault>
+    ensures found { FindsIn (node_elements (at_spot spot scope.old) (seen.node_of command)) result }
+    ensures goes { IfOk result (λ passed. at_spot passed.next scope.new
+        ≡ after (at_spot spot scope.old) (seen.node_of command)) }
+    ensures read { IfOk result (λ passed. (chain : Chain) → chain_with_command
+        (Some (command_reading_as passed.reading)) passed.line
+        (condition_as passed.branch.condition) (commands_as passed.branch.block.items) chain
+        ≡ chain_with (at_spot spot scope.old) (seen.node_of command) chain) }
 {
     let context = Context {
         spot,
         scope: &*scope,
     };
-    let head = check_command_head(alloc, context, &*command)?;
-    let next = check_front(
-        alloc,
-        spot,
-        &mut *scope,
-        head,
-        &mut command.args,
-        &mut command.tests,
-    )?;
-    match &mut command.block {
-        None => Ok(next),
-        Some(commands) => {
-            match check_commands(alloc, next.inside(), &mut *scope, commands) {
-                Ok(()) => Ok(next),
-                Err(fault) => Err(fault),
-            }
-        }
-    }
+    let head = check_command_head(alloc, context, &command)?;
+    let Command {
+        line,
+        args,
+        tests,
+        block,
+        ..
+    } = command;
+    let Front {
+        next,
+        reading,
+        condition,
+    } = check_front(alloc, spot, &mut *scope, head, args, tests)?;
+    let commands = match block {
+        Some(commands) => commands,
+        None => Vec::new(alloc),
+    };
+    let block = check_commands(alloc, next.inside(), &mut *scope, commands)?;
+    Ok(Passed {
+        next,
+        reading,
+        line,
+        branch: Branch { condition, block },
+    })
 }
 
-/// Checks commands, before the first of which this stands, and cuts their strings.
+/// Checks commands, before the first of which this stands. Answers what they do, the last first.
 #[cycle(check_commands)]
 pub(crate) fn check_commands(
     alloc: Global,
     start: Spot,
     scope: &mut Scope,
-    commands: &mut Vec<Command>,
-) -> Result<(), CheckFault>
+    commands: Vec<Command>,
+) -> Result<Vec<Statement>, CheckFault>
     ensures found { FindsIn (nodes_elements (at_spot start scope.old)
-        (nodes (map seen.node_of commands.old.items))) result }
+        (nodes (map seen.node_of commands.items))) result }
     ensures goes { OnOk result (scope.new ≡ (after_nodes (at_spot start scope.old)
-        (nodes (map seen.node_of commands.old.items))).scope) }
-    ensures cut { OnOk result (map node_of commands.new.items ≡ items
-        (parted_nodes (at_spot start scope.old) (nodes (map seen.node_of commands.old.items)))) }
+        (nodes (map seen.node_of commands.items))).scope) }
+    ensures read { IfOk result (λ read. commands_as read.items
+        ≡ (chain_of (at_spot start scope.old) (nodes (map seen.node_of commands.items))).rest) }
 {
     let mut spot = start;
-    for i in 0..commands.len() {
-        spot = check_command(alloc, spot, &mut *scope, &mut commands[i])?;
+    let mut script = ScriptBuilder::new(alloc);
+    for command in commands {
+        let Passed {
+            next,
+            reading,
+            line,
+            branch,
+        } = check_command(alloc, spot, &mut *scope, command)?;
+        script = script.with_command(alloc, reading, line, branch)?;
+        spot = next;
     }
-    Ok(())
+    Ok(script.finished()?)
 }

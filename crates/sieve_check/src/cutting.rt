@@ -9,9 +9,8 @@ ghost use Rattle.sieve_variables.specs.Scan.{parts_of_text};
 ghost use Rattle.sieve_variables.specs.Variable.{scoped, variable_named};
 
 use crate::context::{Context, takes_references};
-use crate::labels::{after_first, first_role};
 use crate::said::say_arguments;
-use sieve_reading::Label;
+use sieve_reading::{Label, after_first, first_role};
 use sieve_syntax::{Argument, Text, octets_in};
 use sieve_table::{Role, names_variable};
 use sieve_variables::{

@@ -8,18 +8,19 @@ ghost use Rattle.sieve_check.specs.Absent.{lacks};
 ghost use Rattle.sieve_check.specs.Judgement.{judgement_of, sound};
 ghost use Rattle.sieve_syntax.specs.Grammar.{WritesSymbols};
 ghost use Rattle.sieve_syntax.specs.Token.{Spells};
-ghost use Rattle.sieve_syntax.specs.Tree.{Node, Nodes};
+ghost use Rattle.sieve_syntax.specs.Tree.{Argument, Node, Nodes};
 ghost use Rattle.sieve_syntax.specs.Symbol.{symbols_of};
 ghost use Rattle.sieve_syntax.specs.declared.token.Token.{Token};
 ghost use Rattle.sieve_check.specs.Asked.{AreAlike, asked_by_command, asked_by_test, gives_all};
-ghost use Rattle.sieve_check.specs.Bare.{bare_node};
+ghost use Rattle.sieve_check.specs.Bare.{bare_argument};
 ghost use Rattle.sieve_check.specs.Breach.{Breach, breaches_at, breaches_of, breaks, first_breach, IsLeastBreach};
-ghost use Rattle.sieve_check.specs.Context.{Context, after_nodes, script_start, takes_references};
+ghost use Rattle.sieve_check.specs.Context.{Context, after_nodes, script_start, takes_references, under};
 ghost use Rattle.sieve_check.specs.Element.{Element, elements_of, nodes_elements};
 ghost use Rattle.sieve_check.specs.Naming.{HasSetBefore, mentions_in, set_by};
 ghost use Rattle.sieve_check.specs.Order.{IsInTextOrder};
-ghost use Rattle.sieve_check.specs.Parted.{parted, parts_in};
+ghost use Rattle.sieve_check.specs.Parted.{parted_row, parted_said, parts_in};
 ghost use Rattle.sieve_check.specs.Readable.{IsReadable, DoesAll};
+ghost use Rattle.sieve_check.specs.Script.{script_of};
 ghost use Rattle.sieve_check.specs.Requirement.{JudgesAfterRequires};
 ghost use Rattle.sieve_table.specs.Role.{names_variable};
 ghost use Rattle.sieve_table.specs.Rule.{all_rules};
@@ -29,7 +30,7 @@ ghost use Rattle.sieve_reading.specs.TestReading.{test_reading_by};
 ghost use Rattle.sieve_reading.specs.Script.{Commands};
 ghost use Rattle.sieve_reading.specs.Tree as checked;
 ghost use Rattle.sieve_reading.specs.declared.label.Label.{Label};
-ghost use Rattle.sieve_table.specs.Table.{command_row, test_row};
+ghost use Rattle.sieve_table.specs.Table.{Row, command_row, test_row};
 ghost use Rattle.sieve_table.specs.declared.row.Role.{Role};
 ghost use Rattle.sieve_table.specs.declared.row.TagKind.TheVariants.{Bound};
 ghost use Rattle.sieve_table.specs.declared.rule.Rule.{Rule};
@@ -73,11 +74,12 @@ pub fn parts_go_by_the_role()
         → parts_in context role octets ≡ literal octets ∷ [] }
 {}
 
-/// Cutting strings into parts changes nothing else of a tree (RFC 5229, section 3): the checked tree has the names, lines, tags, numbers,
-/// tests and blocks of the text's tree, and in each argument as many strings, on the same lines, in brackets or not.
+/// Cutting strings into parts changes nothing else of arguments (RFC 5229, section 3): they have
+/// the same tags, numbers and lines, and each as many strings, on the same lines, in brackets or
+/// not. All else of a checked script is read of the text's tree itself.
 pub fn parting_changes_strings_alone()
-    ensures { (profile : Profile) (tree : List Node)
-        → map bare_node (parted profile tree) ≡ map bare_node tree }
+    ensures { (context : Context) (labels : List Label) (args : List Argument)
+        → map bare_argument (parted_said context labels args) ≡ map bare_argument args }
 {}
 
 /// After the `require` commands at the top of a script, what is required where a command, a test or a string is judged is all that these
@@ -105,7 +107,8 @@ pub fn what_is_written_to_be_set_is_set()
 /// goes by, and no block stands in another branch.
 #[tactic(auto, using(crate::proofs::Marks::marks_kept))]
 pub fn a_readable_script_does_all()
-    ensures { (tree : List checked.Node) → IsReadable tree → DoesAll tree }
+    ensures { (profile : Profile) (tree : List Node)
+        → IsReadable profile tree → DoesAll profile tree }
 {}
 
 /// Where a script has no first breach, none of its elements breaks a rule.
@@ -122,14 +125,18 @@ pub fn what_is_not_known_is_in_no_script()
         → All (λ e. lacks profile e ≡ false) (elements_of profile tree) }
 {}
 
-/// A text without a fault has none with `unused` either, and is the same script then, so its code is the same; and whatever the tree, its
-/// strings are cut alike.
+/// A text without a fault has none with `unused` either, and is the same script then, so its code
+/// is the same. Whatever the tree, it makes the same script, and the strings of all arguments are
+/// cut alike.
 pub fn unused_changes_no_sound_script()
     ensures sound { (profile : Profile) (text : List ℕ) (script : Commands)
         → judgement_of profile text ≡ sound script
         → judgement_of (with_extension profile Unused) text ≡ sound script }
     ensures tree { (profile : Profile) (tree : List Node)
-        → parted (with_extension profile Unused) tree ≡ parted profile tree }
+        → script_of (with_extension profile Unused) tree ≡ script_of profile tree }
+    ensures strings { (profile : Profile) (context : Context) (row : Row) (args : List Argument)
+        → parted_row (under (with_extension profile Unused) context) row args
+        ≡ parted_row (under profile context) row args }
 {}
 
 /// Each argument that the reading of a command or a test asks for is in its row: one there is of the role, and it is written as it is read; it
@@ -158,7 +165,7 @@ pub fn rows_give_what_readings_ask_for()
 #[tactic(auto, using(crate::proofs::Readable::readable))]
 pub fn faultless_scripts_are_readable()
     ensures { (profile : Profile) (tree : List Node) → breaches_of profile tree ≡ []
-        → IsReadable (parted profile tree) }
+        → IsReadable profile tree }
 {}
 
 /// The elements of a tree that writes a text are, one by one and in order, the text's identifiers, strings and numbers. These

@@ -8,7 +8,6 @@ mod command_rules;
 mod context;
 mod cutting;
 mod judged;
-mod labels;
 pub mod laws;
 pub mod profile_laws;
 mod said;

@@ -6,10 +6,9 @@ ghost use Rattle.sieve_check.specs.Said as spec;
 ghost use Rattle.sieve_syntax.specs.view.Tree.{argument_of, octets_of, text_of};
 ghost use Rattle.sieve_table.specs.view.Required.{required_as};
 
-use crate::labels::{after_first, first_role};
 use encoded_characters::replaced;
 use octets::SmallOctets;
-use sieve_reading::Label;
+use sieve_reading::{Label, after_first, first_role};
 use sieve_syntax::{Argument, Text, octets_in};
 use sieve_table::{Capability, Required, Role, has_role};
 use sieve_variables::{Part, Parts};

@@ -7,10 +7,9 @@ ghost use Rattle.sieve_variables.specs.Variable.{with_name};
 ghost use Rattle.sieve_check.specs.Breach.{is_past_locals};
 ghost use Rattle.sieve_check.specs.Scope as spec;
 
-use crate::labels::{after_first, first_role};
 use octets::Octets;
 use sieve_limits::MAX_LOCALS;
-use sieve_reading::Label;
+use sieve_reading::{Label, after_first, first_role};
 use sieve_syntax::{Argument, Text};
 use sieve_table::{Role, has_role};
 use sieve_variables::{Names, folded, is_identifier};

@@ -1,27 +1,30 @@
-//! The breaches in tests, whose strings are cut where they break no rule.
-ghost use Rattle.std.specs.Prelude.{◌≡◌, map, IfOk, OnOk};
+//! The breaches in tests, and what tests without a breach are read as.
+ghost use Rattle.std.specs.Prelude.{◌≡◌, Some, map, IfOk};
 ghost use Rattle.sieve_syntax.specs.Tree.{tests};
 ghost use Rattle.sieve_syntax.specs.view.Tree as seen;
 ghost use Rattle.sieve_syntax.specs.declared.tree.Test.{out-Test};
 ghost use Rattle.sieve_check.specs.Element.{test_elements, test_list_elements, tests_elements};
-ghost use Rattle.sieve_check.specs.Parted.{parted_test, parted_tests, test_labels};
+ghost use Rattle.sieve_check.specs.Script.{condition_of, conditions, conditions_in, test_kind_reading};
 ghost use Rattle.sieve_check.specs.view.Context.{context_as};
 ghost use Rattle.sieve_check.specs.view.Finds.{FindsIn};
 ghost use Rattle.sieve_check.specs.view.Head.{test_head};
-ghost use Rattle.sieve_reading.specs.view.Tree.{test_of, tests_of};
+ghost use Rattle.sieve_reading.specs.Script.{no_conditions};
+ghost use Rattle.sieve_reading.specs.Shape.{known_labels};
+ghost use Rattle.sieve_reading.specs.view.Reading.{test_reading_as};
+ghost use Rattle.sieve_reading.specs.view.Script.{condition_as, conditions_before};
 ghost use Rattle.sieve_profile.specs.view.Profile.{profile_as};
 ghost use Rattle.sieve_table.specs.Known as spec;
+ghost use Rattle.sieve_table.specs.Table.{test_row};
 
 use crate::arguments::{Use, check_use};
 use crate::context::Context;
 use crate::cutting::say_and_cut;
 use crate::validator::CheckFault;
 use sieve_profile::Profile;
-use sieve_reading::Label;
-use sieve_syntax::{Test, Tests};
+use sieve_reading::{Condition, Label, TestReading, joined, read_test, with_condition};
+use sieve_syntax::{Argument, Test, Tests};
 use sieve_table::{Rule, TestKind, known_test};
-use std::alloc::Global;
-use std::mem;
+use std::alloc::{AllocError, Global};
 
 /// The kind of a test, where it is known.
 fn kind_of(profile: Profile, test: &Test) -> Option<TestKind>
@@ -30,16 +33,21 @@ fn kind_of(profile: Profile, test: &Test) -> Option<TestKind>
     known_test(profile, test.name.kind())
 }
 
-/// Checks a test apart from the tests in it. Answers the labels of its arguments.
-fn check_test_head(
-    alloc: Global,
-    context: Context<'_>,
-    test: &Test,
-) -> Result<Vec<Label>, CheckFault>
+/// A test's kind, and the labels of its arguments.
+#[derive(Drop)]
+struct TestHead {
+    kind: TestKind,
+    labels: Vec<Label>,
+}
+
+/// Checks a test of some kind apart from the tests in it.
+fn check_test_head(alloc: Global, context: Context<'_>, test: &Test) -> Result<TestHead, CheckFault>
     ensures found { FindsIn (test_head (context_as context.entry) test.now) result }
-    ensures labels { IfOk result (λ labels. labels.items ≡ test_labels
-        (context_as context.entry).profile (spec.known_test (context_as context.entry).profile
-        (out-Test test.now).name) (map seen.argument_of (out-Test test.now).args.items)) }
+    ensures kind { IfOk result (λ head. spec.known_test (context_as context.entry).profile
+        (out-Test test.now).name ≡ Some head.kind) }
+    ensures labels { IfOk result
+        (λ head. head.labels.items ≡ known_labels (context_as context.entry).profile
+        (test_row head.kind) (map seen.argument_of (out-Test test.now).args.items)) }
 {
     let line = test.line as u64;
     match kind_of(context.spot.profile, test) {
@@ -57,69 +65,85 @@ fn check_test_head(
                 ends_by_block: false,
                 stands_alone: false,
             };
-            check_use(alloc, context, used)
+            let labels = check_use(alloc, context, used)?;
+            Ok(TestHead { kind, labels })
         }
     }
 }
 
-/// Checks a test and the tests in it, and cuts its strings.
-#[cycle(check_tests)]
-#[tactic(auto, using(crate::proofs::Walk::test_steps))]
-fn check_test(alloc: Global, context: Context<'_>, test: &mut Test) -> Result<(), CheckFault>
-    ensures found { FindsIn
-        (test_elements (context_as context.entry) (seen.test_of test.old)) result }
-    ensures cut { OnOk result
-        (test_of test.new ≡ parted_test (context_as context.entry) (seen.test_of test.old)) }
+/// What a test of a kind is read as, with what its strings say cut.
+fn cut_and_read(
+    alloc: Global,
+    context: Context<'_>,
+    head: TestHead,
+    args: Vec<Argument>,
+) -> Result<TestReading, AllocError>
+    requires { head.labels.items ≡ known_labels (context_as context).profile
+        (test_row head.kind) (map seen.argument_of args.items) }
+    ensures { IfOk result (λ reading. test_reading_as reading ≡ test_kind_reading
+        (context_as context.entry) head.kind (map seen.argument_of args.items)) }
 {
-    let labels = check_test_head(alloc, context, &*test)?;
-    say_and_cut(alloc, context, &labels, &mut test.args)?;
-    let tests = mem::replace(&mut test.tests, Tests::None);
-    test.tests = check_tests(alloc, context, tests)?;
-    Ok(())
+    let TestHead { kind, labels } = head;
+    let mut args = args;
+    say_and_cut(alloc, context, &labels, &mut args)?;
+    Ok(read_test(alloc, kind, &labels, args))
 }
 
-/// Checks the tests after arguments. Answers them with their strings cut.
+/// Checks a test and the tests in it. Answers its condition.
+#[cycle(check_tests)]
+#[tactic(auto, using(crate::proofs::Walk::test_steps))]
+fn check_test(alloc: Global, context: Context<'_>, test: Test) -> Result<Condition, CheckFault>
+    ensures found { FindsIn
+        (test_elements (context_as context.entry) (seen.test_of test)) result }
+    ensures read { IfOk result (λ read. condition_as read
+        ≡ condition_of (context_as context.entry) (seen.test_of test)) }
+{
+    let head = check_test_head(alloc, context, &test)?;
+    let Test { args, tests, .. } = test;
+    let reading = cut_and_read(alloc, context, head, args)?;
+    let inner = check_tests(alloc, context, tests)?;
+    Ok(joined(alloc, reading, inner)?)
+}
+
+/// Checks the tests after arguments. Answers their conditions in order.
 #[cycle(check_tests)]
 #[tactic(auto, unfolding(crate::specs::Element::tests_elements))]
 pub(crate) fn check_tests(
     alloc: Global,
     context: Context<'_>,
     tests: Tests,
-) -> Result<Tests, CheckFault>
+) -> Result<Vec<Condition>, CheckFault>
     ensures found { FindsIn
         (tests_elements (context_as context.entry) (seen.tests_of tests)) result }
-    ensures cut { IfOk result
-        (λ cut. tests_of cut ≡ parted_tests (context_as context.entry) (seen.tests_of tests)) }
+    ensures read { IfOk result (λ read. conditions_before read.items no_conditions
+        ≡ conditions_in (context_as context.entry) (seen.tests_of tests)) }
 {
     match tests {
-        Tests::None => Ok(Tests::None),
+        Tests::None => Ok(Vec::new(alloc)),
         Tests::One(test) => {
-            let mut test = test;
-            check_test(alloc, context, &mut test)?;
-            Ok(Tests::One(test))
+            let condition = check_test(alloc, context, Box::into_inner(test))?;
+            Ok(with_condition(Vec::new(alloc), condition)?)
         }
-        Tests::List(list) => {
-            let mut list = list;
-            check_test_list(alloc, context, &mut list)?;
-            Ok(Tests::List(list))
-        }
+        Tests::List(list) => check_test_list(alloc, context, Box::into_inner(list)),
     }
 }
 
-/// Checks a list of tests, and cuts their strings.
+/// Checks a list of tests. Answers their conditions in order.
 #[cycle(check_tests)]
 fn check_test_list(
     alloc: Global,
     context: Context<'_>,
-    list: &mut Vec<Test>,
-) -> Result<(), CheckFault>
+    list: Vec<Test>,
+) -> Result<Vec<Condition>, CheckFault>
     ensures found { FindsIn (test_list_elements (context_as context.entry)
-        (tests (map seen.test_of list.old.items))) result }
-    ensures cut { OnOk result (map test_of list.new.items
-        ≡ map (parted_test (context_as context.entry)) (map seen.test_of list.old.items)) }
+        (tests (map seen.test_of list.items))) result }
+    ensures read { IfOk result (λ read. conditions_before read.items no_conditions
+        ≡ conditions (context_as context.entry) (tests (map seen.test_of list.items))) }
 {
-    for i in 0..list.len() {
-        check_test(alloc, context, &mut list[i])?;
+    let mut conditions = Vec::new(alloc);
+    for test in list {
+        let condition = check_test(alloc, context, test)?;
+        conditions = with_condition(conditions, condition)?;
     }
-    Ok(())
+    Ok(conditions)
 }

@@ -5,8 +5,7 @@ ghost use Rattle.sieve_syntax.specs.view.Script.{nodes_of};
 ghost use Rattle.sieve_check.specs.Breach.{breaches_of};
 ghost use Rattle.sieve_check.specs.view.Checked.{commands_of};
 ghost use Rattle.sieve_check.specs.CheckFault.{IsFirst};
-ghost use Rattle.sieve_check.specs.Parted.{parted};
-ghost use Rattle.sieve_reading.specs.Script.{script_of};
+ghost use Rattle.sieve_check.specs.Script.{script_of};
 ghost use Rattle.sieve_check.specs.declared.validator.CheckFault.TheVariants.{NoMemory};
 
 use crate::checked::Checked;
@@ -14,7 +13,6 @@ use crate::command_rules::check_commands;
 use crate::context::Spot;
 use crate::scope::Scope;
 use sieve_profile::Profile;
-use sieve_reading::read_script;
 use sieve_syntax::ParsedScript;
 use sieve_table::Rule;
 use std::alloc::{AllocError, Global};
@@ -40,18 +38,16 @@ impl From<AllocError> for CheckFault {
     }
 }
 
-/// Checks a script by what a bench of a profile knows: the least breach of a rule, or, where there is none, the checked script, which is
-/// the abstract script of the same tree with its strings cut into parts.
+/// Checks a script by what a bench of a profile knows: the least breach of a rule, or, where there
+/// is none, the checked script, which is the abstract script of the same tree.
 pub fn check(alloc: Global, profile: Profile, script: ParsedScript) -> Result<Checked, CheckFault>
     ensures { MatchResult result (λ checked. (breaches_of (profile_as profile) (nodes_of script)
-        ≡ []) × (commands_of checked
-        ≡ script_of (parted (profile_as profile) (nodes_of script))))
+        ≡ []) × (commands_of checked ≡ script_of (profile_as profile) (nodes_of script)))
         (IsFirst (breaches_of (profile_as profile) (nodes_of script))) }
 {
-    let mut commands = script.into_commands();
+    let commands = script.into_commands();
     let mut scope = Scope::new(alloc);
     let start = Spot::script_start(profile);
-    check_commands(alloc, start, &mut scope, &mut commands)?;
-    let statements = read_script(alloc, commands)?;
+    let statements = check_commands(alloc, start, &mut scope, commands)?;
     Ok(Checked { statements })
 }

@@ -1,50 +1,15 @@
--- Tags are labelled as such, whatever stands before them, and are kept at the places of their kinds.
+-- Tags are kept at the places of their kinds.
 use Rattle.std.proofs.Common.{◌≡◌, ℕ, zero, suc, ◌<◌, Bool, true, false, nat_eq, List, [], ◌∷◌, length, Option, None, Some, is_none, slice_index_or, slice_set, refl, sym, ap, ◌∙◌, arith}
 use Rattle.std.proofs.lemmas.Bool.Decides.{nat_tests}
 use Rattle.std.proofs.lemmas.List.{get_or-set_same, get_or-set_other}
 use Rattle.std.specs.List.{list_all}
 use Rattle.std.specs.Prelude.{if◌then◌else◌}
-use Rattle.sieve_reading.specs.Given.{Tags, first_or, tag_at, tag_given}
-use Rattle.sieve_reading.specs.Label.{Expected, expected_after, fits, label_at, labels_from, slot_label, value_label}
-use Rattle.sieve_reading.specs.view.Tags.{tag_shown, tags_shown}
-use Rattle.sieve_reading.specs.declared.label.Label.TheVariants.{Own, InSlot, Unfit}
-use Rattle.sieve_reading.specs.declared.label.Shape.{Shape}
-use Rattle.sieve_reading.specs.declared.label.Shape.TheVariants as shape
+use Rattle.sieve_reading.specs.Given.{Tags, first_or, tag_at}
+use Rattle.sieve_reading.specs.declared.label.Label.{Label}
 use Rattle.sieve_table.proofs.Telling.{one_kind, own_kind}
 use Rattle.sieve_table.specs.Table.{same_kind}
-use Rattle.sieve_table.specs.declared.row.Slot.{Slot}
 use Rattle.sieve_table.specs.declared.row.TagKind.{TagKind}
 use Rattle.sieve_table.specs.declared.table.Tag.{Tag}
-
-module _ (k : TagKind) where
-  slot_is_none : (slots : List Slot) (looks : Shape) → None ≡ tag_at k (slot_label slots looks)
-  slot_is_none [] looks = refl
-  slot_is_none (slot ∷ slots) looks = by_fit (fits slot.form looks)
-    where
-      by_fit : (b : Bool) → None ≡ tag_at k (if b then InSlot slot else Unfit)
-      by_fit true = refl
-      by_fit false = refl
-
-  value_is_none : (own : Option Slot) (slots : List Slot) (looks : Shape) → None ≡ tag_at k (value_label own slots looks)
-  value_is_none None slots looks = slot_is_none slots looks
-  value_is_none (Some own) slots looks = by_fit (fits own.form looks)
-    where
-      by_fit : (b : Bool) → None ≡ tag_at k (if b then Own own else slot_label slots looks)
-      by_fit true = refl
-      by_fit false = slot_is_none slots looks
-
-  label_shows : (e : Expected) (looks : Shape) → tag_shown k looks ≡ tag_at k (label_at e looks)
-  label_shows e (shape.Tag None) = refl
-  label_shows e (shape.Tag (Some taken)) = refl
-  label_shows e shape.Text = value_is_none e.awaited e.slots shape.Text
-  label_shows e shape.Texts = value_is_none e.awaited e.slots shape.Texts
-  label_shows e shape.Number = value_is_none e.awaited e.slots shape.Number
-
-  pub tags_by_shapes : (shapes : List Shape) (e : Expected) → tags_shown k shapes ≡ tag_given k (labels_from e shapes)
-  tags_by_shapes [] e = refl
-  tags_by_shapes (looks ∷ shapes) e =
-      ap (λ o. first_or o (tags_shown k shapes)) (label_shows e looks)
-      ∙ ap (first_or (tag_at k (label_at e looks))) (tags_by_shapes shapes (expected_after e looks))
 
 -- AT THE PLACES OF KINDS
 
@@ -76,6 +41,10 @@ first_of_three None b c = refl
 first_of_three (Some a) b c = refl
 
 -- ANOTHER TAG BEHIND OTHERS
+
+-- an argument that is no tag changes nothing
+pub no_tag : (tags : Tags) (label : Label) → ((k : TagKind) → tag_at k label ≡ None) → tags ≡ (λ k. first_or (tags k) (tag_at k label))
+no_tag tags label none = λ i k. (sym (first_or_none (tags k)) ∙ ap (first_or (tags k)) (sym (none k))) i
 
 module _ (tags : Tags) (its : TagKind) (tag : Tag) where
   -- where there is one of its kind, nothing changes

@@ -1,11 +1,9 @@
 -- How a command is read (RFC 5228, sections 3 and 4; RFC 5229, section 4; RFC 5232, sections 3 and 5; RFC 6609, section 3; RFC 3894,
 -- section 3; RFC 5490, section 3.2; RFC 8579, section 4; RFC 5230, section 4; RFC 5429, section 2), by its arguments and their labels.
 use Rattle.std.specs.Prelude.{List, Option, Some, None}
-use Rattle.std.specs.Option.{option_map}
 use Rattle.script_names.specs.declared.location.Location.{Location}
 use Rattle.script_names.specs.declared.location.Location.TheVariants.{Personal, Global}
-use Rattle.sieve_table.specs.Table.{command_named, command_row}
-use Rattle.sieve_reading.specs.Tree.{Argument, Node, node}
+use Rattle.sieve_reading.specs.Tree.{Argument}
 use Rattle.sieve_reading.specs.declared.label.Label.{Label}
 use Rattle.sieve_reading.specs.declared.reading.FlagChange.{FlagChange}
 use Rattle.sieve_reading.specs.declared.reading.FlagChange.TheVariants as change
@@ -21,7 +19,6 @@ use Rattle.sieve_variables.specs.declared.modifier.LetterCase.{LetterCase}
 use Rattle.sieve_variables.specs.declared.modifier.LetterCase.TheVariants as letter_case
 use Rattle.sieve_variables.specs.declared.modifier.Modifiers.{Modifiers}
 use Rattle.sieve_reading.specs.Given.{Tags, tags_of, in_role, texts_in, given_texts, text_in, given_text, given_number, variable_in, given_variable, literal_in, has_tag}
-use Rattle.sieve_reading.specs.Shape.{row_labels}
 use Rattle.sieve_reading.specs.Reading.{Settings, Leaf, keep_leaf, fileinto_leaf, redirect_leaf, discard_leaf, set_leaf, flag_leaf, include_leaf, vacation_leaf, reject_leaf, CommandReading, reads_if, reads_elsif, reads_else, reads_stop, reads_return, reads_nothing, reads_act}
 
 -- what a `fileinto` says beside its mailbox (RFC 5232, section 5; RFC 3894, section 3; RFC 5490, section 3.2; RFC 8579, section 4)
@@ -99,6 +96,7 @@ vacation_by labels args = vacation_leaf (record {
 abbrev pub reject_by : Rejection → List Label → List Argument → Leaf
 reject_by how labels args = reject_leaf how (text_in (in_role role.Text labels args))
 
+-- what a command of a kind is with these arguments
 abbrev pub command_reading_by : CommandKind → List Label → List Argument → CommandReading
 command_reading_by command.Require labels args = reads_nothing
 command_reading_by command.If labels args = reads_if
@@ -119,15 +117,3 @@ command_reading_by command.Global labels args = reads_nothing
 command_reading_by command.Vacation labels args = reads_act (vacation_by labels args)
 command_reading_by command.Reject labels args = reads_act (reject_by rejection.Reject labels args)
 command_reading_by command.Ereject labels args = reads_act (reject_by rejection.Ereject labels args)
-
--- what a command of a kind is with these arguments
-abbrev pub command_kind_reading : CommandKind → List Argument → CommandReading
-command_kind_reading kind args = command_reading_by kind (row_labels (command_row kind) args) args
-
--- what a command of a kind is, where it is of one
-abbrev pub some_command_reading : Option CommandKind → List Argument → Option CommandReading
-some_command_reading kind args = option_map (λ k. command_kind_reading k args) kind
-
--- what a command is, where there is one of its name
-abbrev pub command_reading : Node → Option CommandReading
-command_reading (node name line args ts ending) = some_command_reading (command_named name) args

@@ -1,11 +1,8 @@
--- The abstract script: the commands and tests of a checked tree as they are read, with the branches of each `if` grouped.
--- Whoever runs a script goes by this.
-use Rattle.std.specs.Prelude.{ℕ, List, Option, Some, None}
+-- The abstract script: the commands and tests of a checked text as they are read, with the branches
+-- of each `if` grouped. Whoever runs a script goes by this.
+use Rattle.std.specs.Prelude.{ℕ, Option, Some, None}
 use Rattle.sieve_reading.specs.Reading as reading
 use Rattle.sieve_reading.specs.Reading.{Ask, Leaf, TestReading, reads_always, reads_never, reads_ask, reads_all, reads_any, reads_not, CommandReading}
-use Rattle.sieve_reading.specs.CommandReading.{command_reading}
-use Rattle.sieve_reading.specs.TestReading.{test_reading}
-use Rattle.sieve_reading.specs.Tree.{Test, test, Tests, no_tests, one_test, test_list, TestList, end_tests, more_tests, Node, node, Block, no_block, block, Nodes, end_nodes, more_nodes, nodes}
 
 mutual
   -- a condition: what tests ask, joined
@@ -56,19 +53,6 @@ joined (Some reads_all) inner = all_hold inner
 joined (Some reads_any) inner = any_holds inner
 joined (Some reads_not) inner = negated (first_condition inner)
 
-unfoldable mutual
-  pub condition_of : Test → Condition
-  condition_of (test name line args ts) = joined (test_reading (test name line args ts)) (conditions_in ts)
-
-  pub conditions_in : Tests → Conditions
-  conditions_in no_tests = no_conditions
-  conditions_in (one_test t) = one_condition (condition_of t) no_conditions
-  conditions_in (test_list ts) = conditions ts
-
-  pub conditions : TestList → Conditions
-  conditions end_tests = no_conditions
-  conditions (more_tests t ts) = one_condition (condition_of t) (conditions ts)
-
 -- COMMANDS
 
 -- Commands from some place on: the branches `elsif` and `else` that stand there, which go on with the `if` before them, and the commands
@@ -88,19 +72,3 @@ chain_with_command (Some reading.reads_stop) line condition inner chain = record
 chain_with_command (Some reading.reads_return) line condition inner chain = record { otherwise = no_branches; rest = returns chain.rest }
 chain_with_command (Some reading.reads_nothing) line condition inner chain = record { otherwise = no_branches; rest = chain.rest }
 chain_with_command (Some (reading.reads_act leaf)) line condition inner chain = record { otherwise = no_branches; rest = acts leaf line chain.rest }
-
-unfoldable mutual
-  pub chain_with : Node → Chain → Chain
-  chain_with (node name line args ts ending) chain = chain_with_command (command_reading (node name line args ts ending)) line (first_condition (conditions_in ts)) (block_commands ending) chain
-
-  pub block_commands : Block → Commands
-  block_commands no_block = no_commands
-  block_commands (block ns) = (chain_of ns).rest
-
-  pub chain_of : Nodes → Chain
-  chain_of end_nodes = record { otherwise = no_branches; rest = no_commands }
-  chain_of (more_nodes n ns) = chain_with n (chain_of ns)
-
--- the abstract script of a checked tree
-abbrev pub script_of : List Node → Commands
-script_of tree = (chain_of (nodes tree)).rest

@@ -1,6 +1,6 @@
--- The shape of an argument, whatever its strings are, where some tags are taken.
+-- The shape of an argument of a text, where some tags are taken.
 use Rattle.std.specs.Prelude.{ℕ, Bool, not, ◌&&◌, List, map, length, nat_eq, if◌then◌else◌}
-use Rattle.sieve_syntax.specs.TreeOf.{Argument, strings, number, tag}
+use Rattle.sieve_syntax.specs.Tree.{Argument, strings, number, tag}
 use Rattle.sieve_profile.specs.Profile.{Profile}
 use Rattle.sieve_reading.specs.Label.{labels_of}
 use Rattle.sieve_table.specs.Known.{known_tag}
@@ -14,17 +14,13 @@ use Rattle.sieve_table.specs.declared.table.Tag.{Tag}
 abbrev pub texts_shape : ℕ → Bool → Shape
 texts_shape count bracketed = if nat_eq count 1 && not bracketed then shape.Text else shape.Texts
 
-abbrev pub shape_of : {S : Type 0} → List Tag → Argument S → Shape
+abbrev pub shape_of : List Tag → Argument → Shape
 shape_of tags (strings items bracketed) = texts_shape (length items) bracketed
 shape_of tags (number value line) = shape.Number
 shape_of tags (tag name line) = shape.Tag (tag_named tags name)
 
-abbrev pub shapes_of : {S : Type 0} → List Tag → List (Argument S) → List Shape
+abbrev pub shapes_of : List Tag → List Argument → List Shape
 shapes_of tags args = map (shape_of tags) args
-
--- the labels of a row's arguments
-abbrev pub row_labels : {S : Type 0} → Row → List (Argument S) → List Label
-row_labels row args = labels_of row (shapes_of row.tags args)
 
 -- WHERE A BENCH OF A PROFILE READS THEM
 -- A tag that it doesn't know is another tag, and takes no argument.
@@ -35,8 +31,9 @@ known_shape profile shape.Texts = shape.Texts
 known_shape profile shape.Number = shape.Number
 known_shape profile (shape.Tag taken) = shape.Tag (known_tag profile taken)
 
-abbrev pub known_shapes : {S : Type 0} → Profile → List Tag → List (Argument S) → List Shape
+abbrev pub known_shapes : Profile → List Tag → List Argument → List Shape
 known_shapes profile tags args = map (λ a. known_shape profile (shape_of tags a)) args
 
-abbrev pub known_labels : {S : Type 0} → Profile → Row → List (Argument S) → List Label
+-- the labels of a row's arguments
+abbrev pub known_labels : Profile → Row → List Argument → List Label
 known_labels profile row args = labels_of row (known_shapes profile row.tags args)

@@ -1,9 +1,7 @@
 -- How a test is read (RFC 5228, section 5; RFC 5229, section 5; RFC 5232, section 4; RFC 5490, section 3.1; RFC 7352, section 3; RFC 5260,
 -- sections 4 and 5; RFC 5173, section 4), by its arguments and their labels.
 use Rattle.std.specs.Prelude.{ℕ, List, Option, None, Some}
-use Rattle.std.specs.Option.{option_map}
-use Rattle.sieve_table.specs.Table.{test_named, test_row}
-use Rattle.sieve_reading.specs.Tree.{Argument, Test, test}
+use Rattle.sieve_reading.specs.Tree.{Argument}
 use Rattle.sieve_reading.specs.declared.label.Label.{Label}
 use Rattle.sieve_variables.specs.Part.{Part}
 use Rattle.sieve_reading.specs.declared.reading.Comparison.{Comparison}
@@ -14,7 +12,6 @@ use Rattle.sieve_table.specs.declared.table.Tag.TheVariants as tag
 use Rattle.sieve_table.specs.declared.table.TestKind.{TestKind}
 use Rattle.sieve_table.specs.declared.table.TestKind.TheVariants as test_kind
 use Rattle.sieve_reading.specs.Given.{Tags, tags_of, in_role, texts_in, text_in, given_text, given_texts, number_in, collation_by, relation_by, match_type_of, address_part_of}
-use Rattle.sieve_reading.specs.Shape.{row_labels}
 use Rattle.sieve_reading.specs.Reading.{BodyTransform, raw_transform, content_transform, text_transform, DateZone, local_zone, original_zone, named_zone, ValueSource, field_values, envelope_values, string_values, flag_values, date_values, clock_values, body_values, Ask, compares, exists_ask, over_ask, under_ask, mailboxes_ask, duplicate_ask, TestReading, reads_always, reads_never, reads_ask, reads_all, reads_any, reads_not}
 
 -- how a test compares (RFC 5228, section 2.7; RFC 5231, section 4)
@@ -103,6 +100,7 @@ size_by labels args = bound_ask (tags_of labels) (number_in (in_role role.Limit 
 abbrev pub mailboxes_by : List Label → List Argument → Ask
 mailboxes_by labels args = mailboxes_ask (texts_in (in_role role.Mailbox labels args))
 
+-- what a test of a kind is with these arguments
 abbrev pub test_reading_by : TestKind → List Label → List Argument → TestReading
 test_reading_by test_kind.Header labels args = reads_ask (compares_by (header_source labels args) labels args)
 test_reading_by test_kind.Address labels args = reads_ask (compares_by (address_source labels args) labels args)
@@ -121,15 +119,3 @@ test_reading_by test_kind.Duplicate labels args = reads_ask duplicate_ask
 test_reading_by test_kind.Date labels args = reads_ask (compares_by (date_source labels args) labels args)
 test_reading_by test_kind.CurrentDate labels args = reads_ask (compares_by (clock_source labels args) labels args)
 test_reading_by test_kind.Body labels args = reads_ask (compares_by (body_source labels args) labels args)
-
--- what a test of a kind is with these arguments
-abbrev pub test_kind_reading : TestKind → List Argument → TestReading
-test_kind_reading kind args = test_reading_by kind (row_labels (test_row kind) args) args
-
--- what a test of a kind is, where it is of one
-abbrev pub some_test_reading : Option TestKind → List Argument → Option TestReading
-some_test_reading kind args = option_map (λ k. test_kind_reading k args) kind
-
--- what a test is, where there is one of its name
-abbrev pub test_reading : Test → Option TestReading
-test_reading (test name line args ts) = some_test_reading (test_named name) args

@@ -4,7 +4,6 @@ ghost use Rattle.std.specs.Prelude.{◌≡◌, false, map};
 ghost use Rattle.std.specs.Option.{option_map};
 ghost use Rattle.sieve_reading.specs.CommandReading as spec;
 ghost use Rattle.sieve_reading.specs.Given.{in_role};
-ghost use Rattle.sieve_reading.specs.view.Labels.{labels_in};
 ghost use Rattle.sieve_reading.specs.view.Reading.{command_reading_as, leaf_as, settings_as};
 ghost use Rattle.sieve_reading.specs.view.Tags.{tags_as};
 ghost use Rattle.sieve_reading.specs.view.Tree.{argument_of};
@@ -15,33 +14,34 @@ use crate::by_label::{into_argument, into_arguments, into_three};
 use crate::given::{
     given_text, given_texts, given_variable, name_in, text_in, texts_in, variable_in,
 };
+use crate::label::Label;
 use crate::reading::{CommandReading, FlagChange, Leaf, ReadLeaf, Rejection, Settings};
 use crate::tags::Tags;
 use crate::vacation::vacation_leaf;
 use script_names::Location;
 use sieve_syntax::Argument;
-use sieve_table::{CommandKind, Role, Row, Tag, TagKind};
+use sieve_table::{CommandKind, Role, Tag, TagKind};
 use sieve_variables::{LetterCase, Modifiers};
 use std::alloc::Global;
 
 /// What a `keep` does.
-fn keep_leaf(alloc: Global, row: &Row, args: Vec<Argument>) -> ReadLeaf
+fn keep_leaf(alloc: Global, labels: &[Label], args: Vec<Argument>) -> ReadLeaf
     ensures { leaf_as result
-        ≡ spec.keep_by (labels_in row.now args.items) (map argument_of args.items) }
+        ≡ spec.keep_by labels.now (map argument_of args.items) }
 {
-    let flags = into_argument(row, Role::Flags, args);
+    let flags = into_argument(labels, Role::Flags, args);
     let flags = given_texts(alloc, flags);
     Leaf::Keep { flags }
 }
 
 /// What a `fileinto` does.
-fn fileinto_leaf(alloc: Global, row: &Row, args: Vec<Argument>) -> ReadLeaf
+fn fileinto_leaf(alloc: Global, labels: &[Label], args: Vec<Argument>) -> ReadLeaf
     ensures { leaf_as result
-        ≡ spec.fileinto_by (labels_in row.now args.items) (map argument_of args.items) }
+        ≡ spec.fileinto_by labels.now (map argument_of args.items) }
 {
-    let tags = Tags::among(row, &args);
+    let tags = Tags::among(labels);
     let (mailbox, flags, special_use) = into_three(
-        row,
+        labels,
         Role::Mailbox,
         Role::Flags,
         Role::Text,
@@ -58,12 +58,12 @@ fn fileinto_leaf(alloc: Global, row: &Row, args: Vec<Argument>) -> ReadLeaf
 }
 
 /// What a `redirect` does.
-fn redirect_leaf(row: &Row, args: Vec<Argument>) -> ReadLeaf
+fn redirect_leaf(labels: &[Label], args: Vec<Argument>) -> ReadLeaf
     ensures { leaf_as result
-        ≡ spec.redirect_by (labels_in row.now args.items) (map argument_of args.items) }
+        ≡ spec.redirect_by labels.now (map argument_of args.items) }
 {
-    let copy = Tags::among(row, &args).has(TagKind::Copy);
-    let address = text_in(into_argument(row, Role::Address, args));
+    let copy = Tags::among(labels).has(TagKind::Copy);
+    let address = text_in(into_argument(labels, Role::Address, args));
     Leaf::Redirect { address, copy }
 }
 
@@ -94,12 +94,12 @@ fn modifiers_of(tags: Tags) -> Modifiers
 }
 
 /// What a `set` does.
-fn set_leaf(row: &Row, args: Vec<Argument>) -> ReadLeaf
+fn set_leaf(labels: &[Label], args: Vec<Argument>) -> ReadLeaf
     ensures { leaf_as result
-        ≡ spec.set_by (labels_in row.now args.items) (map argument_of args.items) }
+        ≡ spec.set_by labels.now (map argument_of args.items) }
 {
-    let modifiers = modifiers_of(Tags::among(row, &args));
-    let (name, value) = into_arguments(row, Role::NameToSet, Role::Text, args);
+    let modifiers = modifiers_of(Tags::among(labels));
+    let (name, value) = into_arguments(labels, Role::NameToSet, Role::Text, args);
     let variable = variable_in(name);
     let value = text_in(value);
     Leaf::Set {
@@ -110,11 +110,11 @@ fn set_leaf(row: &Row, args: Vec<Argument>) -> ReadLeaf
 }
 
 /// What a command does that changes flags.
-fn flags_leaf(alloc: Global, change: FlagChange, row: &Row, args: Vec<Argument>) -> ReadLeaf
+fn flags_leaf(alloc: Global, change: FlagChange, labels: &[Label], args: Vec<Argument>) -> ReadLeaf
     ensures { leaf_as result
-        ≡ spec.flags_by change (labels_in row.now args.items) (map argument_of args.items) }
+        ≡ spec.flags_by change labels.now (map argument_of args.items) }
 {
-    let (name, flags) = into_arguments(row, Role::NameToSet, Role::Flags, args);
+    let (name, flags) = into_arguments(labels, Role::NameToSet, Role::Flags, args);
     let variable = given_variable(name);
     let flags = texts_in(alloc, flags);
     Leaf::Flags {
@@ -143,12 +143,12 @@ fn location_of(tags: Tags) -> Location
 }
 
 /// What an `include` does.
-fn include_leaf(row: &Row, args: Vec<Argument>) -> ReadLeaf
+fn include_leaf(labels: &[Label], args: Vec<Argument>) -> ReadLeaf
     ensures { leaf_as result
-        ≡ spec.include_by (labels_in row.now args.items) (map argument_of args.items) }
+        ≡ spec.include_by labels.now (map argument_of args.items) }
 {
-    let tags = Tags::among(row, &args);
-    let name = name_in(into_argument(row, Role::ScriptName, args));
+    let tags = Tags::among(labels);
+    let name = name_in(into_argument(labels, Role::ScriptName, args));
     Leaf::Include {
         location: location_of(tags),
         once: tags.has(TagKind::Once),
@@ -158,48 +158,45 @@ fn include_leaf(row: &Row, args: Vec<Argument>) -> ReadLeaf
 }
 
 /// What a command does that rejects the message.
-fn reject_leaf(how: Rejection, row: &Row, args: Vec<Argument>) -> ReadLeaf
+fn reject_leaf(how: Rejection, labels: &[Label], args: Vec<Argument>) -> ReadLeaf
     ensures { leaf_as result
-        ≡ spec.reject_by how (labels_in row.now args.items) (map argument_of args.items) }
+        ≡ spec.reject_by how labels.now (map argument_of args.items) }
 {
-    let reason = text_in(into_argument(row, Role::Text, args));
+    let reason = text_in(into_argument(labels, Role::Text, args));
     Leaf::Reject { how, reason }
 }
 
-/// What a command of a kind is, by its row.
-fn reading_by(alloc: Global, kind: CommandKind, row: &Row, args: Vec<Argument>) -> CommandReading
+/// What a command of that kind and with these arguments is, by their labels, apart from its test
+/// and its block. What is read has the strings of the arguments. Takes no memory.
+pub fn read_command(
+    alloc: Global,
+    kind: CommandKind,
+    labels: &[Label],
+    args: Vec<Argument>,
+) -> CommandReading
     ensures { command_reading_as result
-        ≡ spec.command_reading_by kind (labels_in row.now args.items) (map argument_of args.items) }
+        ≡ spec.command_reading_by kind labels.now (map argument_of args.items) }
 {
     let leaf = match kind {
         CommandKind::Require => return CommandReading::Nothing,
         CommandKind::If => return CommandReading::If,
         CommandKind::Elsif => return CommandReading::Elsif,
         CommandKind::Else => return CommandReading::Else,
-        CommandKind::Keep => keep_leaf(alloc, row, args),
-        CommandKind::Fileinto => fileinto_leaf(alloc, row, args),
-        CommandKind::Redirect => redirect_leaf(row, args),
+        CommandKind::Keep => keep_leaf(alloc, labels, args),
+        CommandKind::Fileinto => fileinto_leaf(alloc, labels, args),
+        CommandKind::Redirect => redirect_leaf(labels, args),
         CommandKind::Discard => Leaf::Discard,
         CommandKind::Stop => return CommandReading::Stop,
-        CommandKind::Set => set_leaf(row, args),
-        CommandKind::SetFlag => flags_leaf(alloc, FlagChange::Set, row, args),
-        CommandKind::AddFlag => flags_leaf(alloc, FlagChange::Add, row, args),
-        CommandKind::RemoveFlag => flags_leaf(alloc, FlagChange::Remove, row, args),
-        CommandKind::Include => include_leaf(row, args),
+        CommandKind::Set => set_leaf(labels, args),
+        CommandKind::SetFlag => flags_leaf(alloc, FlagChange::Set, labels, args),
+        CommandKind::AddFlag => flags_leaf(alloc, FlagChange::Add, labels, args),
+        CommandKind::RemoveFlag => flags_leaf(alloc, FlagChange::Remove, labels, args),
+        CommandKind::Include => include_leaf(labels, args),
         CommandKind::Return => return CommandReading::Return,
         CommandKind::Global => return CommandReading::Nothing,
-        CommandKind::Vacation => vacation_leaf(alloc, row, args),
-        CommandKind::Reject => reject_leaf(Rejection::Reject, row, args),
-        CommandKind::Ereject => reject_leaf(Rejection::Ereject, row, args),
+        CommandKind::Vacation => vacation_leaf(alloc, labels, args),
+        CommandKind::Reject => reject_leaf(Rejection::Reject, labels, args),
+        CommandKind::Ereject => reject_leaf(Rejection::Ereject, labels, args),
     };
     CommandReading::Act(leaf)
-}
-
-/// What a command of that kind and with these arguments is, apart from its test and its block. What is read has the strings of the
-/// arguments. Takes no memory.
-pub fn read_command(alloc: Global, kind: CommandKind, args: Vec<Argument>) -> CommandReading
-    ensures { command_reading_as result
-        ≡ spec.command_kind_reading kind (map argument_of args.items) }
-{
-    reading_by(alloc, kind, &kind.row(), args)
 }

@@ -3,7 +3,6 @@ ghost use Rattle.std.specs.Prelude.{◌≡◌, map};
 ghost use Rattle.std.specs.Option.{option_map};
 ghost use Rattle.sieve_reading.specs.Given.{in_role};
 ghost use Rattle.sieve_reading.specs.TestReading as spec;
-ghost use Rattle.sieve_reading.specs.view.Labels.{labels_in};
 ghost use Rattle.sieve_reading.specs.view.Reading.{ask_as, date_zone_as};
 ghost use Rattle.sieve_reading.specs.view.Tags.{tags_as};
 ghost use Rattle.sieve_reading.specs.view.Tree.{argument_of};
@@ -11,13 +10,12 @@ ghost use Rattle.sieve_table.specs.declared.row.Role.TheVariants as role;
 
 use crate::by_label::first_or;
 use crate::given::{given_text, text_in, texts_in};
-use crate::label::role_of;
+use crate::label::{Label, after_first, first_role};
 use crate::reading::{Ask, DateZone, ReadAsk, ValueSource};
-use crate::shape::{AsParts, row_expected, shape_of};
 use crate::tags::Tags;
 use crate::test_reading::comparison_of;
 use sieve_syntax::Argument;
-use sieve_table::{Role, Row, Tag, TagKind, has_role};
+use sieve_table::{Role, Tag, TagKind, has_role};
 use sieve_variables::Parts;
 use std::alloc::Global;
 
@@ -31,25 +29,24 @@ struct Strings {
 }
 
 /// The arguments that have strings, to be kept.
-fn into_strings(row: &Row, args: Vec<Argument>) -> Strings
+fn into_strings(labels: &[Label], args: Vec<Argument>) -> Strings
     ensures zone { option_map argument_of result.zone
-        ≡ in_role role.Zone (labels_in row.now args.items) (map argument_of args.items) }
+        ≡ in_role role.Zone labels.now (map argument_of args.items) }
     ensures field { option_map argument_of result.field
-        ≡ in_role role.FieldNames (labels_in row.now args.items) (map argument_of args.items) }
+        ≡ in_role role.FieldNames labels.now (map argument_of args.items) }
     ensures part { option_map argument_of result.part
-        ≡ in_role role.DatePart (labels_in row.now args.items) (map argument_of args.items) }
+        ≡ in_role role.DatePart labels.now (map argument_of args.items) }
     ensures keys { option_map argument_of result.keys
-        ≡ in_role role.Keys (labels_in row.now args.items) (map argument_of args.items) }
+        ≡ in_role role.Keys labels.now (map argument_of args.items) }
 {
-    let mut expected = row_expected::<AsParts>(row, None, &args);
+    let mut labels_left = labels;
     let mut zone = None;
     let mut field = None;
     let mut part = None;
     let mut keys = None;
     for argument in args {
-        let shape = shape_of::<AsParts>(None, row.tags, &argument);
-        let role = role_of(expected.label(shape));
-        expected = expected.after(shape);
+        let role = first_role(labels_left);
+        labels_left = after_first(labels_left);
         if has_role(Role::Zone, role) {
             zone = first_or(zone, argument);
         } else if has_role(Role::FieldNames, role) {
@@ -88,19 +85,18 @@ fn zone_of(tags: Tags, named: Option<Parts>) -> DateZone<Parts>
 }
 
 /// What a `date` test asks.
-pub(crate) fn date_ask(alloc: Global, row: &Row, args: Vec<Argument>) -> ReadAsk
-    ensures { ask_as result ≡ (let labels = labels_in row.now args.items
-        in spec.compares_by (spec.date_source labels (map argument_of args.items)) labels
-        (map argument_of args.items)) }
+pub(crate) fn date_ask(alloc: Global, labels: &[Label], args: Vec<Argument>) -> ReadAsk
+    ensures { ask_as result ≡ (let given = map argument_of args.items
+        in spec.compares_by (spec.date_source labels.now given) labels.now given) }
 {
-    let tags = Tags::among(row, &args);
-    let comparison = comparison_of(tags, row, &args);
+    let tags = Tags::among(labels);
+    let comparison = comparison_of(tags, labels, &args);
     let Strings {
         zone,
         field,
         part,
         keys,
-    } = into_strings(row, args);
+    } = into_strings(labels, args);
     Ask::Compares {
         source: ValueSource::Date {
             zone: zone_of(tags, given_text(zone)),
@@ -113,19 +109,18 @@ pub(crate) fn date_ask(alloc: Global, row: &Row, args: Vec<Argument>) -> ReadAsk
 }
 
 /// What a `currentdate` test asks.
-pub(crate) fn current_date_ask(alloc: Global, row: &Row, args: Vec<Argument>) -> ReadAsk
-    ensures { ask_as result ≡ (let labels = labels_in row.now args.items
-        in spec.compares_by (spec.clock_source labels (map argument_of args.items)) labels
-        (map argument_of args.items)) }
+pub(crate) fn current_date_ask(alloc: Global, labels: &[Label], args: Vec<Argument>) -> ReadAsk
+    ensures { ask_as result ≡ (let given = map argument_of args.items
+        in spec.compares_by (spec.clock_source labels.now given) labels.now given) }
 {
-    let tags = Tags::among(row, &args);
-    let comparison = comparison_of(tags, row, &args);
+    let tags = Tags::among(labels);
+    let comparison = comparison_of(tags, labels, &args);
     let Strings {
         zone,
         part,
         keys,
         ..
-    } = into_strings(row, args);
+    } = into_strings(labels, args);
     Ask::Compares {
         source: ValueSource::CurrentDate {
             zone: zone_of(tags, given_text(zone)),

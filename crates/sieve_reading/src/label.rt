@@ -1,7 +1,7 @@
 //! What each argument is to its command or test (RFC 5228, section 2.6).
 ghost use Rattle.std.specs.Prelude.{◌≡◌, None, Some, drop, slice_get};
 ghost use Rattle.sieve_reading.specs.Label.{expected_after, expecting, fits, label_at, slot_label, is_unfit};
-ghost use Rattle.sieve_reading.specs.Role.{role_of};
+ghost use Rattle.sieve_reading.specs.Role.{first_role, role_of};
 ghost use Rattle.sieve_reading.specs.view.Expected.{expected_as, put_before, own_slot};
 
 use sieve_table::{Form, Role, Slot, Tag};
@@ -172,11 +172,31 @@ pub(crate) fn is_unfit(label: Label) -> bool
 }
 
 /// The role of an argument, by its label. A tag has none, nor has what doesn't fit.
-pub fn role_of(label: Label) -> Option<Role>
+fn role_of(label: Label) -> Option<Role>
     ensures { result ≡ role_of label }
 {
     match label {
         Label::Own(slot) | Label::InSlot(slot) => Some(slot.role),
         Label::Tagged(_) | Label::OtherTag | Label::Unfit => None,
+    }
+}
+
+/// The role of the first of some arguments, by their labels.
+pub fn first_role(labels: &[Label]) -> Option<Role>
+    ensures { result ≡ first_role labels.now }
+{
+    match labels {
+        [first, ..] => role_of(*first),
+        [] => None,
+    }
+}
+
+/// The labels after the first.
+pub fn after_first(labels: &[Label]) -> &[Label]
+    ensures { result.now ≡ drop 1 labels.now }
+{
+    match labels {
+        [_, rest @ ..] => rest,
+        [] => labels,
     }
 }

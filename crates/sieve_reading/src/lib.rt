@@ -1,33 +1,34 @@
-//! What the arguments of a Sieve script are (RFC 5228, section 2.6), the tree of a checked script, what its commands and
-//! tests are, read from it, and the abstract script.
+//! What the arguments of a Sieve script are (RFC 5228, section 2.6), what its commands and tests
+//! are, read from these, and the abstract script.
 #![tactic(auto)]
 
 mod by_label;
 mod command_reading;
-mod condition_reading;
+mod conditions;
 mod dates;
 mod given;
 mod label;
 pub mod laws;
 mod reading;
 mod script;
-mod script_reading;
+mod script_builder;
 mod shape;
 mod tags;
 mod test_reading;
 mod vacation;
 
 pub use command_reading::read_command;
+pub use conditions::{first_condition, joined, with_condition};
 pub use given::literal_in_parts;
-pub use label::{Label, role_of};
+pub use label::{Label, after_first, first_role};
 pub use reading::{
     Ask, BodyTransform, CommandReading, Comparison, DateZone, FlagChange, Leaf, MatchType, ReadAsk,
     ReadLeaf, ReadVacation, Rejection, Settings, TestReading, Vacation, ValueSource,
 };
 pub use script::{Branch, Condition, Statement};
+pub use script_builder::ScriptBuilder;
 pub use script_names::Location;
-pub use script_reading::read_script;
-pub use shape::{AsOctets, AsParts, RowLabels, StringView, known_labels};
+pub use shape::{RowLabels, known_labels};
 pub use sieve_syntax::{Argument, Command, CommandName, Test, TestName, Tests, Text};
 pub use sieve_table::{CommandKind, TestKind};
 pub use sieve_variables::{

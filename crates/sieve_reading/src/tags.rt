@@ -2,12 +2,11 @@
 ghost use Rattle.std.specs.Prelude.{◌≡◌, None, Some, if◌then◌else◌};
 ghost use Rattle.sieve_reading.specs.Given.{Tags, first_or, has_tag, tag_at, tags_of};
 ghost use Rattle.sieve_table.specs.Table.{same_kind};
-ghost use Rattle.sieve_reading.specs.view.Labels.{labels_in};
 ghost use Rattle.sieve_reading.specs.view.Tags.{tags_as};
 ghost use Rattle.sieve_reading.specs.declared.label.Label.TheVariants.{Tagged};
 
-use sieve_syntax::Argument;
-use sieve_table::{Row, Tag, TagKind, tag_named};
+use crate::label::Label;
+use sieve_table::{Tag, TagKind};
 
 /// How many kinds of tags there are.
 const KINDS: usize = 26;
@@ -65,17 +64,27 @@ impl Tags {
         }
     }
 
-    /// The tags of arguments of a row. An argument is a tag whatever stands before it, so no labels are made.
-    pub(crate) fn among(row: &Row, args: &[Argument]) -> Tags
-        ensures { tags_as result ≡ tags_of (labels_in row.now args.now) }
+    /// The tags with an argument of that label after them.
+    fn with_label(self, label: Label) -> Tags
+        ensures { tags_as result
+            ≡ (λ kind. first_or (tags_as self kind) (tag_at kind label)) }
+    {
+        match label {
+            Label::Tagged(tag) => self.with(tag),
+            Label::OtherTag => self,
+            Label::Own(_) => self,
+            Label::InSlot(_) => self,
+            Label::Unfit => self,
+        }
+    }
+
+    /// The tags of arguments of these labels.
+    pub(crate) fn among(labels: &[Label]) -> Tags
+        ensures { tags_as result ≡ tags_of labels.now }
     {
         let mut tags = Tags::none();
-        for argument in args {
-            if let Argument::Tag { name, .. } = argument {
-                if let Some(tag) = tag_named(row.tags, name) {
-                    tags = tags.with(tag);
-                }
-            }
+        for label in labels {
+            tags = tags.with_label(*label);
         }
         tags
     }

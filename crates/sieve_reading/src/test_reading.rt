@@ -4,7 +4,6 @@ ghost use Rattle.std.specs.Prelude.{◌≡◌, map};
 ghost use Rattle.std.specs.Option.{option_map};
 ghost use Rattle.sieve_reading.specs.Given.{tags_of};
 ghost use Rattle.sieve_reading.specs.TestReading as spec;
-ghost use Rattle.sieve_reading.specs.view.Labels.{labels_in};
 ghost use Rattle.sieve_reading.specs.view.Reading.{ask_as, source_as, test_reading_as, texts_as, transform_as};
 ghost use Rattle.sieve_reading.specs.view.Tags.{tags_as};
 ghost use Rattle.sieve_reading.specs.view.Tree.{argument_of};
@@ -14,31 +13,31 @@ use crate::dates::{current_date_ask, date_ask};
 use crate::given::{
     address_part_of, collation_by, given_texts, match_type_of, number_in, texts_in,
 };
+use crate::label::Label;
 use crate::reading::{Ask, BodyTransform, Comparison, ReadAsk, TestReading, ValueSource};
 use crate::tags::Tags;
 use sieve_syntax::{Argument, Text};
-use sieve_table::{Role, Row, Tag, TagKind, TestKind};
+use sieve_table::{Role, Tag, TagKind, TestKind};
 use std::alloc::Global;
 
 /// How a test compares (RFC 5228, section 2.7; RFC 5231, section 4).
-pub(crate) fn comparison_of(tags: Tags, row: &Row, args: &[Argument]) -> Comparison
-    requires { tags_as tags ≡ tags_of (labels_in row.now args.now) }
-    ensures { result ≡ spec.comparison_by (labels_in row.now args.now) (map argument_of args.now) }
+pub(crate) fn comparison_of(tags: Tags, labels: &[Label], args: &[Argument]) -> Comparison
+    requires { tags_as tags ≡ tags_of labels.now }
+    ensures { result ≡ spec.comparison_by labels.now (map argument_of args.now) }
 {
     Comparison {
-        match_type: match_type_of(tags, argument_in(row, Role::Relation, args)),
-        collation: collation_by(argument_in(row, Role::ComparatorName, args)),
+        match_type: match_type_of(tags, argument_in(labels, Role::Relation, args)),
+        collation: collation_by(argument_in(labels, Role::ComparatorName, args)),
     }
 }
 
 /// What a `header` test asks.
-fn header_ask(alloc: Global, row: &Row, args: Vec<Argument>) -> ReadAsk
-    ensures { ask_as result ≡ (let labels = labels_in row.now args.items
-        in spec.compares_by (spec.header_source labels (map argument_of args.items)) labels
-        (map argument_of args.items)) }
+fn header_ask(alloc: Global, labels: &[Label], args: Vec<Argument>) -> ReadAsk
+    ensures { ask_as result ≡ (let given = map argument_of args.items
+        in spec.compares_by (spec.header_source labels.now given) labels.now given) }
 {
-    let comparison = comparison_of(Tags::among(row, &args), row, &args);
-    let (names, keys) = into_arguments(row, Role::FieldNames, Role::Keys, args);
+    let comparison = comparison_of(Tags::among(labels), labels, &args);
+    let (names, keys) = into_arguments(labels, Role::FieldNames, Role::Keys, args);
     Ask::Compares {
         source: ValueSource::Fields {
             part: None,
@@ -50,14 +49,13 @@ fn header_ask(alloc: Global, row: &Row, args: Vec<Argument>) -> ReadAsk
 }
 
 /// What an `address` test asks.
-fn address_ask(alloc: Global, row: &Row, args: Vec<Argument>) -> ReadAsk
-    ensures { ask_as result ≡ (let labels = labels_in row.now args.items
-        in spec.compares_by (spec.address_source labels (map argument_of args.items)) labels
-        (map argument_of args.items)) }
+fn address_ask(alloc: Global, labels: &[Label], args: Vec<Argument>) -> ReadAsk
+    ensures { ask_as result ≡ (let given = map argument_of args.items
+        in spec.compares_by (spec.address_source labels.now given) labels.now given) }
 {
-    let tags = Tags::among(row, &args);
-    let comparison = comparison_of(tags, row, &args);
-    let (names, keys) = into_arguments(row, Role::AddressFields, Role::Keys, args);
+    let tags = Tags::among(labels);
+    let comparison = comparison_of(tags, labels, &args);
+    let (names, keys) = into_arguments(labels, Role::AddressFields, Role::Keys, args);
     Ask::Compares {
         source: ValueSource::Fields {
             part: Some(address_part_of(tags)),
@@ -69,14 +67,13 @@ fn address_ask(alloc: Global, row: &Row, args: Vec<Argument>) -> ReadAsk
 }
 
 /// What an `envelope` test asks.
-fn envelope_ask(alloc: Global, row: &Row, args: Vec<Argument>) -> ReadAsk
-    ensures { ask_as result ≡ (let labels = labels_in row.now args.items
-        in spec.compares_by (spec.envelope_source labels (map argument_of args.items)) labels
-        (map argument_of args.items)) }
+fn envelope_ask(alloc: Global, labels: &[Label], args: Vec<Argument>) -> ReadAsk
+    ensures { ask_as result ≡ (let given = map argument_of args.items
+        in spec.compares_by (spec.envelope_source labels.now given) labels.now given) }
 {
-    let tags = Tags::among(row, &args);
-    let comparison = comparison_of(tags, row, &args);
-    let (names, keys) = into_arguments(row, Role::EnvelopeParts, Role::Keys, args);
+    let tags = Tags::among(labels);
+    let comparison = comparison_of(tags, labels, &args);
+    let (names, keys) = into_arguments(labels, Role::EnvelopeParts, Role::Keys, args);
     Ask::Compares {
         source: ValueSource::Envelope {
             part: address_part_of(tags),
@@ -88,13 +85,12 @@ fn envelope_ask(alloc: Global, row: &Row, args: Vec<Argument>) -> ReadAsk
 }
 
 /// What a `string` test asks.
-fn string_ask(alloc: Global, row: &Row, args: Vec<Argument>) -> ReadAsk
-    ensures { ask_as result ≡ (let labels = labels_in row.now args.items
-        in spec.compares_by (spec.string_source labels (map argument_of args.items)) labels
-        (map argument_of args.items)) }
+fn string_ask(alloc: Global, labels: &[Label], args: Vec<Argument>) -> ReadAsk
+    ensures { ask_as result ≡ (let given = map argument_of args.items
+        in spec.compares_by (spec.string_source labels.now given) labels.now given) }
 {
-    let comparison = comparison_of(Tags::among(row, &args), row, &args);
-    let (texts, keys) = into_arguments(row, Role::Text, Role::Keys, args);
+    let comparison = comparison_of(Tags::among(labels), labels, &args);
+    let (texts, keys) = into_arguments(labels, Role::Text, Role::Keys, args);
     Ask::Compares {
         source: ValueSource::String {
             texts: texts_in(alloc, texts),
@@ -105,13 +101,12 @@ fn string_ask(alloc: Global, row: &Row, args: Vec<Argument>) -> ReadAsk
 }
 
 /// What a `hasflag` test asks.
-fn flag_ask(alloc: Global, row: &Row, args: Vec<Argument>) -> ReadAsk
-    ensures { ask_as result ≡ (let labels = labels_in row.now args.items
-        in spec.compares_by (spec.flag_source labels (map argument_of args.items)) labels
-        (map argument_of args.items)) }
+fn flag_ask(alloc: Global, labels: &[Label], args: Vec<Argument>) -> ReadAsk
+    ensures { ask_as result ≡ (let given = map argument_of args.items
+        in spec.compares_by (spec.flag_source labels.now given) labels.now given) }
 {
-    let comparison = comparison_of(Tags::among(row, &args), row, &args);
-    let (variables, keys) = into_arguments(row, Role::NamesToRead, Role::Keys, args);
+    let comparison = comparison_of(Tags::among(labels), labels, &args);
+    let (variables, keys) = into_arguments(labels, Role::NamesToRead, Role::Keys, args);
     Ask::Compares {
         source: ValueSource::Flags {
             variables: given_texts(alloc, variables),
@@ -143,14 +138,13 @@ fn transform_of(tags: Tags, named: Option<Vec<Text>>) -> BodyTransform<Vec<Text>
 }
 
 /// What a `body` test asks.
-fn body_ask(alloc: Global, row: &Row, args: Vec<Argument>) -> ReadAsk
-    ensures { ask_as result ≡ (let labels = labels_in row.now args.items
-        in spec.compares_by (spec.body_source labels (map argument_of args.items)) labels
-        (map argument_of args.items)) }
+fn body_ask(alloc: Global, labels: &[Label], args: Vec<Argument>) -> ReadAsk
+    ensures { ask_as result ≡ (let given = map argument_of args.items
+        in spec.compares_by (spec.body_source labels.now given) labels.now given) }
 {
-    let tags = Tags::among(row, &args);
-    let comparison = comparison_of(tags, row, &args);
-    let (entries, keys) = into_arguments(row, Role::ContentTypes, Role::Keys, args);
+    let tags = Tags::among(labels);
+    let comparison = comparison_of(tags, labels, &args);
+    let (entries, keys) = into_arguments(labels, Role::ContentTypes, Role::Keys, args);
     Ask::Compares {
         source: ValueSource::Body {
             transform: transform_of(tags, given_texts(alloc, entries)),
@@ -161,11 +155,11 @@ fn body_ask(alloc: Global, row: &Row, args: Vec<Argument>) -> ReadAsk
 }
 
 /// What an `exists` test asks.
-fn exists_ask(alloc: Global, row: &Row, args: Vec<Argument>) -> ReadAsk
+fn exists_ask(alloc: Global, labels: &[Label], args: Vec<Argument>) -> ReadAsk
     ensures { ask_as result
-        ≡ spec.exists_by (labels_in row.now args.items) (map argument_of args.items) }
+        ≡ spec.exists_by labels.now (map argument_of args.items) }
 {
-    let names = texts_in(alloc, into_argument(row, Role::FieldNames, args));
+    let names = texts_in(alloc, into_argument(labels, Role::FieldNames, args));
     Ask::Exists { names }
 }
 
@@ -188,54 +182,52 @@ fn bound_ask(tags: Tags, limit: u64) -> ReadAsk
 }
 
 /// What a `size` test asks.
-fn size_ask(row: &Row, args: Vec<Argument>) -> ReadAsk
+fn size_ask(labels: &[Label], args: Vec<Argument>) -> ReadAsk
     ensures { ask_as result
-        ≡ spec.size_by (labels_in row.now args.items) (map argument_of args.items) }
+        ≡ spec.size_by labels.now (map argument_of args.items) }
 {
-    let limit = number_in(argument_in(row, Role::Limit, &args));
-    bound_ask(Tags::among(row, &args), limit)
+    let limit = number_in(argument_in(labels, Role::Limit, &args));
+    bound_ask(Tags::among(labels), limit)
 }
 
 /// What a `mailboxexists` test asks.
-fn mailboxes_ask(alloc: Global, row: &Row, args: Vec<Argument>) -> ReadAsk
+fn mailboxes_ask(alloc: Global, labels: &[Label], args: Vec<Argument>) -> ReadAsk
     ensures { ask_as result
-        ≡ spec.mailboxes_by (labels_in row.now args.items) (map argument_of args.items) }
+        ≡ spec.mailboxes_by labels.now (map argument_of args.items) }
 {
-    let names = texts_in(alloc, into_argument(row, Role::Mailbox, args));
+    let names = texts_in(alloc, into_argument(labels, Role::Mailbox, args));
     Ask::MailboxExists { names }
 }
 
-/// What a test of a kind is, by its row.
-fn reading_by(alloc: Global, kind: TestKind, row: &Row, args: Vec<Argument>) -> TestReading
+/// What a test of that kind and with these arguments is, by their labels, apart from the tests in
+/// it. What is read has the strings of the arguments. Takes no memory.
+pub fn read_test(
+    alloc: Global,
+    kind: TestKind,
+    labels: &[Label],
+    args: Vec<Argument>,
+) -> TestReading
     ensures { test_reading_as result
-        ≡ spec.test_reading_by kind (labels_in row.now args.items) (map argument_of args.items) }
+        ≡ spec.test_reading_by kind labels.now (map argument_of args.items) }
 {
     let ask = match kind {
-        TestKind::Header => header_ask(alloc, row, args),
-        TestKind::Address => address_ask(alloc, row, args),
-        TestKind::Envelope => envelope_ask(alloc, row, args),
-        TestKind::Exists => exists_ask(alloc, row, args),
-        TestKind::Size => size_ask(row, args),
+        TestKind::Header => header_ask(alloc, labels, args),
+        TestKind::Address => address_ask(alloc, labels, args),
+        TestKind::Envelope => envelope_ask(alloc, labels, args),
+        TestKind::Exists => exists_ask(alloc, labels, args),
+        TestKind::Size => size_ask(labels, args),
         TestKind::AllOf => return TestReading::AllOf,
         TestKind::AnyOf => return TestReading::AnyOf,
         TestKind::Not => return TestReading::Not,
         TestKind::True => return TestReading::Always,
         TestKind::False => return TestReading::Never,
-        TestKind::String => string_ask(alloc, row, args),
-        TestKind::HasFlag => flag_ask(alloc, row, args),
-        TestKind::MailboxExists => mailboxes_ask(alloc, row, args),
+        TestKind::String => string_ask(alloc, labels, args),
+        TestKind::HasFlag => flag_ask(alloc, labels, args),
+        TestKind::MailboxExists => mailboxes_ask(alloc, labels, args),
         TestKind::Duplicate => Ask::Duplicate,
-        TestKind::Date => date_ask(alloc, row, args),
-        TestKind::CurrentDate => current_date_ask(alloc, row, args),
-        TestKind::Body => body_ask(alloc, row, args),
+        TestKind::Date => date_ask(alloc, labels, args),
+        TestKind::CurrentDate => current_date_ask(alloc, labels, args),
+        TestKind::Body => body_ask(alloc, labels, args),
     };
     TestReading::Asks(ask)
-}
-
-/// What a test of that kind and with these arguments is, apart from the tests in it. What is read has the strings of the arguments.
-/// Takes no memory.
-pub fn read_test(alloc: Global, kind: TestKind, args: Vec<Argument>) -> TestReading
-    ensures { test_reading_as result ≡ spec.test_kind_reading kind (map argument_of args.items) }
-{
-    reading_by(alloc, kind, &kind.row(), args)
 }

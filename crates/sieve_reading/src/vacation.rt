@@ -3,19 +3,17 @@ ghost use Rattle.std.specs.Prelude.{◌≡◌, map};
 ghost use Rattle.std.specs.Option.{option_map};
 ghost use Rattle.sieve_reading.specs.CommandReading.{vacation_by};
 ghost use Rattle.sieve_reading.specs.Given.{in_role};
-ghost use Rattle.sieve_reading.specs.view.Labels.{labels_in};
 ghost use Rattle.sieve_reading.specs.view.Reading.{leaf_as};
 ghost use Rattle.sieve_reading.specs.view.Tree.{argument_of};
 ghost use Rattle.sieve_table.specs.declared.row.Role.TheVariants as role;
 
 use crate::by_label::{argument_in, first_or};
 use crate::given::{given_number, given_text, given_texts, text_in};
-use crate::label::role_of;
+use crate::label::{Label, after_first, first_role};
 use crate::reading::{Leaf, ReadLeaf, Vacation};
-use crate::shape::{AsParts, row_expected, shape_of};
 use crate::tags::Tags;
 use sieve_syntax::Argument;
-use sieve_table::{Role, Row, TagKind, has_role};
+use sieve_table::{Role, TagKind, has_role};
 use std::alloc::Global;
 
 /// The arguments of a `vacation` that have strings, each the first in its role.
@@ -28,28 +26,27 @@ struct Strings {
 }
 
 /// The arguments that have strings, to be kept.
-fn into_strings(row: &Row, args: Vec<Argument>) -> Strings
+fn into_strings(labels: &[Label], args: Vec<Argument>) -> Strings
     ensures reason { option_map argument_of result.reason
-        ≡ in_role role.Text (labels_in row.now args.items) (map argument_of args.items) }
+        ≡ in_role role.Text labels.now (map argument_of args.items) }
     ensures subject { option_map argument_of result.subject
-        ≡ in_role role.Subject (labels_in row.now args.items) (map argument_of args.items) }
+        ≡ in_role role.Subject labels.now (map argument_of args.items) }
     ensures from { option_map argument_of result.from
-        ≡ in_role role.Sender (labels_in row.now args.items) (map argument_of args.items) }
+        ≡ in_role role.Sender labels.now (map argument_of args.items) }
     ensures addresses { option_map argument_of result.addresses
-        ≡ in_role role.OwnAddresses (labels_in row.now args.items) (map argument_of args.items) }
+        ≡ in_role role.OwnAddresses labels.now (map argument_of args.items) }
     ensures handle { option_map argument_of result.handle
-        ≡ in_role role.Handle (labels_in row.now args.items) (map argument_of args.items) }
+        ≡ in_role role.Handle labels.now (map argument_of args.items) }
 {
-    let mut expected = row_expected::<AsParts>(row, None, &args);
+    let mut labels_left = labels;
     let mut reason = None;
     let mut subject = None;
     let mut from = None;
     let mut addresses = None;
     let mut handle = None;
     for argument in args {
-        let shape = shape_of::<AsParts>(None, row.tags, &argument);
-        let role = role_of(expected.label(shape));
-        expected = expected.after(shape);
+        let role = first_role(labels_left);
+        labels_left = after_first(labels_left);
         if has_role(Role::Text, role) {
             reason = first_or(reason, argument);
         } else if has_role(Role::Subject, role) {
@@ -72,19 +69,19 @@ fn into_strings(row: &Row, args: Vec<Argument>) -> Strings
 }
 
 /// What a `vacation` does.
-pub(crate) fn vacation_leaf(alloc: Global, row: &Row, args: Vec<Argument>) -> ReadLeaf
+pub(crate) fn vacation_leaf(alloc: Global, labels: &[Label], args: Vec<Argument>) -> ReadLeaf
     ensures { leaf_as result
-        ≡ vacation_by (labels_in row.now args.items) (map argument_of args.items) }
+        ≡ vacation_by labels.now (map argument_of args.items) }
 {
-    let mime = Tags::among(row, &args).has(TagKind::Mime);
-    let days = given_number(argument_in(row, Role::Days, &args));
+    let mime = Tags::among(labels).has(TagKind::Mime);
+    let days = given_number(argument_in(labels, Role::Days, &args));
     let Strings {
         reason,
         subject,
         from,
         addresses,
         handle,
-    } = into_strings(row, args);
+    } = into_strings(labels, args);
     Leaf::Vacation {
         vacation: Vacation {
             reason: text_in(reason),

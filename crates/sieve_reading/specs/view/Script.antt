@@ -10,12 +10,17 @@ use Rattle.sieve_reading.specs.declared.script.Condition as conditions
 use Rattle.sieve_reading.specs.declared.script.Condition.TheOpen as condition_layers
 use Rattle.sieve_reading.specs.declared.script.Statement as statements
 use Rattle.sieve_reading.specs.declared.script.Statement.TheOpen as layers
-use Rattle.sieve_reading.specs.declared.script_reading.Chain as chains
+use Rattle.sieve_reading.specs.declared.script_builder.ScriptBuilder.{ScriptBuilder}
 
 -- the items of a list, each put before what is made of those in front of it, so that the last one stands first
 abbrev pub put_each : {X Y : Type 0} → (X → Y → Y) → List X → Y → Y
 put_each put [] after = after
 put_each put (x ∷ xs) after = put_each put xs (put x after)
+
+-- the same of a list that is in order
+abbrev pub put_all : {X Y : Type 0} → (X → Y → Y) → List X → Y → Y
+put_all put [] after = after
+put_all put (x ∷ xs) after = put x (put_all put xs after)
 
 -- CONDITIONS
 
@@ -83,6 +88,24 @@ abbrev pub else_as : Option (Vec statements.Statement Global) → Branches
 else_as None = no_branches
 else_as (Some block) = else_branch (commands_as block.items)
 
--- commands from some place on
-abbrev pub chain_as : chains.Chain → Chain
-chain_as c = record { otherwise = branches_as c.branches.items (else_as c.otherwise); rest = commands_as c.rest.items }
+-- IN ORDER
+
+-- conditions, branches and statements that are kept in order, before others
+abbrev pub conditions_before : List conditions.Condition → Conditions → Conditions
+conditions_before list others = put_all one_condition (map condition_as list) others
+
+abbrev pub branches_before : List branches.Branch → Branches → Branches
+branches_before list others = put_all (λ before. before) (map branch_as list) others
+
+abbrev pub statements_before : List statements.Statement → Commands → Commands
+statements_before list rest = put_all (λ before. before) (map statement_as list) rest
+
+-- the branches of an `if` that is open, where one is, and what follows: the branches that go on
+-- with it, and the commands after these
+abbrev pub open_before : Option (Vec branches.Branch Global) → Chain → Commands
+open_before None chain = chain.rest
+open_before (Some list) chain = chooses (branches_before list.items chain.otherwise) chain.rest
+
+-- the commands that are read, before what follows
+abbrev pub script_before : ScriptBuilder → Chain → Commands
+script_before read chain = statements_before read.done.items (open_before read.open chain)

@@ -1,12 +1,8 @@
 use Rattle.std.proofs.Common.{◌≡◌, map}
-use Rattle.sieve_reading.specs.Label.{labels_from}
 use Rattle.sieve_reading.specs.Given.{in_role}
-use Rattle.sieve_reading.specs.Shape.{shape_of}
-use Rattle.sieve_reading.specs.view.Labels.{labels_in}
-use Rattle.sieve_reading.specs.view.Expected.{expected_as}
 use Rattle.sieve_reading.specs.view.Tree.{argument_of}
 use Rattle.sieve_reading.proofs.by_label.into_argument.Given as goal
 
 -- the first argument in the role among those that are left is the first of all arguments
 abbrev pub invariant-loop-argument : goal.invariant-loop-argument
-invariant-loop-argument l = in_role l.wanted (labels_from (expected_as l.expected) (map (shape_of l.row.tags.now) (map argument_of l.argument-iterator.rest.items))) (map argument_of l.argument-iterator.rest.items) ≡ in_role l.wanted (labels_in l.row l.fn.args.items) (map argument_of l.fn.args.items)
+invariant-loop-argument l = in_role l.wanted l.labels_left (map argument_of l.argument-iterator.rest.items) ≡ in_role l.wanted l.labels (map argument_of l.fn.args.items)

@@ -1,10 +1,6 @@
 use Rattle.std.proofs.Common.{◌≡◌, map}
 use Rattle.std.specs.Option.{option_map}
-use Rattle.sieve_reading.specs.Label.{labels_from}
 use Rattle.sieve_reading.specs.Given.{first_or, in_role}
-use Rattle.sieve_reading.specs.Shape.{shape_of}
-use Rattle.sieve_reading.specs.view.Labels.{labels_in}
-use Rattle.sieve_reading.specs.view.Expected.{expected_as}
 use Rattle.sieve_reading.specs.view.Tree.{argument_of}
 use Rattle.sieve_table.specs.declared.row.Role.TheVariants as role
 use Rattle.sieve_reading.proofs.vacation.into_strings.Given as goal
@@ -12,9 +8,9 @@ use Rattle.sieve_reading.proofs.vacation.into_strings.Given as goal
 -- the argument found in each role, or else the first in it among the arguments that are left, is the first of all arguments
 abbrev pub invariant-loop-argument : goal.invariant-loop-argument
 invariant-loop-argument l = record {
-  reason : first_or (option_map argument_of l.reason) (in_role role.Text (labels_from (expected_as l.expected) (map (shape_of l.row.tags.now) (map argument_of l.argument-iterator.rest.items))) (map argument_of l.argument-iterator.rest.items)) ≡ in_role role.Text (labels_in l.row l.fn.args.items) (map argument_of l.fn.args.items);
-  subject : first_or (option_map argument_of l.subject) (in_role role.Subject (labels_from (expected_as l.expected) (map (shape_of l.row.tags.now) (map argument_of l.argument-iterator.rest.items))) (map argument_of l.argument-iterator.rest.items)) ≡ in_role role.Subject (labels_in l.row l.fn.args.items) (map argument_of l.fn.args.items);
-  from : first_or (option_map argument_of l.from) (in_role role.Sender (labels_from (expected_as l.expected) (map (shape_of l.row.tags.now) (map argument_of l.argument-iterator.rest.items))) (map argument_of l.argument-iterator.rest.items)) ≡ in_role role.Sender (labels_in l.row l.fn.args.items) (map argument_of l.fn.args.items);
-  addresses : first_or (option_map argument_of l.addresses) (in_role role.OwnAddresses (labels_from (expected_as l.expected) (map (shape_of l.row.tags.now) (map argument_of l.argument-iterator.rest.items))) (map argument_of l.argument-iterator.rest.items)) ≡ in_role role.OwnAddresses (labels_in l.row l.fn.args.items) (map argument_of l.fn.args.items);
-  handle : first_or (option_map argument_of l.handle) (in_role role.Handle (labels_from (expected_as l.expected) (map (shape_of l.row.tags.now) (map argument_of l.argument-iterator.rest.items))) (map argument_of l.argument-iterator.rest.items)) ≡ in_role role.Handle (labels_in l.row l.fn.args.items) (map argument_of l.fn.args.items);
+  reason : first_or (option_map argument_of l.reason) (in_role role.Text l.labels_left (map argument_of l.argument-iterator.rest.items)) ≡ in_role role.Text l.labels (map argument_of l.fn.args.items);
+  subject : first_or (option_map argument_of l.subject) (in_role role.Subject l.labels_left (map argument_of l.argument-iterator.rest.items)) ≡ in_role role.Subject l.labels (map argument_of l.fn.args.items);
+  from : first_or (option_map argument_of l.from) (in_role role.Sender l.labels_left (map argument_of l.argument-iterator.rest.items)) ≡ in_role role.Sender l.labels (map argument_of l.fn.args.items);
+  addresses : first_or (option_map argument_of l.addresses) (in_role role.OwnAddresses l.labels_left (map argument_of l.argument-iterator.rest.items)) ≡ in_role role.OwnAddresses l.labels (map argument_of l.fn.args.items);
+  handle : first_or (option_map argument_of l.handle) (in_role role.Handle l.labels_left (map argument_of l.argument-iterator.rest.items)) ≡ in_role role.Handle l.labels (map argument_of l.fn.args.items);
 }
