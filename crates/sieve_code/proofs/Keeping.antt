@@ -134,6 +134,12 @@ module _ (p q r : Pool) (place : ℕ) where
   })
 
 -- what lies at a place already is kept there
+pub ask_shared : (p q : Pool) (place : ℕ) (ask : PackedAsk) (x : reading.Ask) → slice_get q.asks place ≡ Some ask → Kept p q (λ s. ask_in s ask) x → Kept p q (λ s. ask_at s place) x
+ask_shared p q place ask x at kept = record {
+  grows = kept.grows;
+  keeps = λ more. ap (ask_in (plus q more)) (there_or q.asks more.asks place ask asked.Duplicate at) ∙ kept.keeps more;
+}
+
 pub leaf_shared : (p q : Pool) (place : ℕ) (leaf : PackedLeaf) (x : reading.Leaf) → slice_get q.leaves place ≡ Some leaf → Kept p q (λ s. leaf_in s leaf) x → Kept p q (λ s. leaf_at s place) x
 leaf_shared p q place leaf x at kept = record {
   grows = kept.grows;

@@ -9,7 +9,7 @@ ghost use Rattle.sieve_code.specs.view.Pools.{pool_as};
 
 use crate::op::{PackedAsk, PackedLeaf};
 use sieve_operations::{JoinedStrings, NameLists, StringLists};
-use sieve_reading::{Leaf, Text};
+use sieve_reading::{Ask, Leaf, Text};
 use sieve_variables::Parts;
 use std::alloc::{AllocError, Global};
 
@@ -21,6 +21,17 @@ pub(crate) struct Pools {
     pub(crate) names: NameLists,
     pub(crate) asks: Vec<PackedAsk>,
     pub(crate) leaves: Vec<PackedLeaf>,
+}
+
+/// Whether two asks are the same, of those that look for fields alone or for nothing.
+fn are_same_asks(one: &PackedAsk, other: &PackedAsk) -> bool
+    ensures { result ≡ true → one.now ≡ other.now }
+{
+    match (one, other) {
+        (Ask::Exists { names }, Ask::Exists { names: others }) => names == others,
+        (Ask::Duplicate, Ask::Duplicate) => true,
+        (_, _) => false,
+    }
 }
 
 /// Whether two leaves are the same, of those that name no variable and no script and lie in no box.
@@ -158,12 +169,28 @@ impl Pools {
         }
     }
 
-    /// Adds what a test asks, whose strings are there. Answers its place.
+    /// The place of the last ask, where it is the same as this one.
+    fn repeated_ask(&self, ask: &PackedAsk) -> Option<u32>
+        ensures { IfSome result (λ place. slice_get self.now.asks.items place ≡ Some ask.now) }
+    {
+        let last = self.asks.len().checked_sub(1)?;
+        if are_same_asks(&self.asks[last], ask) {
+            u32::try_from(last).ok()
+        } else {
+            None
+        }
+    }
+
+    /// Adds what a test asks, whose strings are there. Answers its place, which is that of the last where this is the same.
+    #[tactic(auto, using(crate::proofs::Keeping::ask_shared))]
     pub(crate) fn push_ask(&mut self, ask: PackedAsk) -> Result<u32, AllocError>
         ensures { IfOk result (λ place. (p : Pool) (x : reading.Ask)
             → Kept p (pool_as self.old) (λ q. ask_in q ask) x
             → Kept p (pool_as self.new) (λ q. ask_at q place) x) }
     {
+        if let Some(place) = self.repeated_ask(&ask) {
+            return Ok(place);
+        }
         let place = place_of(self.asks.len())?;
         self.asks.push(ask)?;
         Ok(place)
