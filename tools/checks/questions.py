@@ -14,7 +14,7 @@ import threading
 import time
 
 from . import rows
-from .runs import SECONDS, Reading, Run, lines, some, wanted_and_got
+from .runs import SECONDS, Reading, Run, heeds, lines, some, wanted_and_got
 from .site import TOOL, run, site, told, write
 
 TOP = TOOL.parent.parent
@@ -247,7 +247,7 @@ class Watched:
         """What is reported otherwise, or too late."""
         read, got = queue.Queue(), []
         command, pipe = [sys.executable, str(TOOL), "watch", self.folder], subprocess.PIPE
-        with subprocess.Popen(command, cwd=self.room, env={**os.environ, "PATH": path}, stdin=subprocess.DEVNULL, stdout=pipe, stderr=pipe, text=True) as child:
+        with subprocess.Popen(command, cwd=self.room, env={**os.environ, "PATH": path}, stdin=subprocess.DEVNULL, stdout=pipe, stderr=pipe, text=True, preexec_fn=heeds) as child:
             threading.Thread(target=lambda: [read.put(line) for line in child.stdout], daemon=True).start()
             try:
                 for step in [lambda: None, *self.steps]:
@@ -255,10 +255,12 @@ class Watched:
                     self.wait(read, got, time.monotonic() + self.seconds)
                 time.sleep(1)
                 child.send_signal(signal.SIGINT)
+                child.wait(self.seconds)
                 said = child.stderr.read()
-                child.wait(SECONDS)
             except queue.Empty:
                 return [f"no report in {self.seconds} seconds after {got[-3:]}"]
+            except subprocess.TimeoutExpired:
+                return [f"no end in {self.seconds} seconds after Ctrl-C"]
             finally:
                 child.kill()
         got += [read.get() for _ in range(read.qsize())]

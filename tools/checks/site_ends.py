@@ -11,7 +11,7 @@ import sys
 import time
 
 from . import site_cautions
-from .runs import SECONDS, LeftOut, Run, lines, some
+from .runs import SECONDS, LeftOut, Run, heeds, lines, some
 from .site import PACK, TOOL, counted, run, site, told, write
 
 DISCARDS = b"[main]\ndiscard\n"
@@ -33,17 +33,20 @@ class Ended:
     def differences(self, path):
         """What is otherwise."""
         command = [sys.executable, "-B", str(TOOL), *self.words]
-        # Where this runs in the background, Ctrl-C may be ignored.
-        heeds = lambda: signal.signal(signal.SIGINT, signal.SIG_DFL)
         with subprocess.Popen(command, cwd=self.room, env={**os.environ, "PATH": path}, stdout=subprocess.PIPE, stderr=subprocess.PIPE, preexec_fn=heeds) as child:
-            end = time.monotonic() + SECONDS
-            while not (self.room / "asleep").exists() and time.monotonic() < end:
-                time.sleep(0.01)
-            below = children(child.pid)
-            child.send_signal(self.number)
-            began = time.monotonic()
-            got = child.communicate(timeout=SECONDS), child.returncode
-        seconds = time.monotonic() - began
+            try:
+                end = time.monotonic() + SECONDS
+                while not (self.room / "asleep").exists():
+                    if child.poll() is not None or time.monotonic() > end:
+                        return [f"no run sleeps in {SECONDS} seconds: status {child.poll()}"]
+                    time.sleep(0.01)
+                below = children(child.pid)
+                child.send_signal(self.number)
+                began = time.monotonic()
+                got = child.communicate(timeout=SECONDS), child.returncode
+                seconds = time.monotonic() - began
+            finally:
+                child.kill()
         found = [] if got == ((b"", b""), 128 + self.number) else [f"got {got}"]
         found += [] if below and seconds < 5 else [f"{len(below)} children, ended in {seconds:.1f} seconds"]
         found += [f"process {it} is left" for it in below if os.path.exists(f"/proc/{it}")]
@@ -109,8 +112,11 @@ class Sized:
         """What is otherwise."""
         command = [sys.executable, "-B", str(TOOL), *self.command.split()]
         with subprocess.Popen(command, cwd=self.room, env={**os.environ, "PATH": path}, stdout=subprocess.PIPE) as child:
-            most = 0
+            most, end = 0, time.monotonic() + SECONDS
             while child.poll() is None:
+                if time.monotonic() > end:
+                    child.kill()
+                    return [f"no end in {SECONDS} seconds"]
                 most = max(most, sum(resident(it) for it in (child.pid, *map(int, children(child.pid)))))
                 time.sleep(0.02)
             output = child.stdout.read()

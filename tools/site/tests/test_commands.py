@@ -3,7 +3,6 @@
 import json
 import os
 import signal
-import time
 import xml.etree.ElementTree as tree
 
 from sievebench_site.folder import Wanted, site_of, take_mails
@@ -230,8 +229,7 @@ class Records(Room):
     def test_two_at_once(self) -> None:
         self.write({"personal/a.sieve": 'sleep "30";', "mains": "a\n", "envelope": '"" ""', "mails/1.eml": ""})
         with self.started("record", ".") as first:
-            while not (self.room / ".sievebench-site.lock").exists():
-                time.sleep(0.01)
+            self.await_file(first, ".sievebench-site.lock")
             status, told, error = self.ran("record", ".")
             first.terminate()
             first.communicate()
@@ -244,10 +242,9 @@ class Records(Room):
     def test_signals_that_are_ignored(self) -> None:
         self.write({"personal/a.sieve": 'sleep "0.5";', "mains": "a\n", "envelope": '"" ""', "mails/1.eml": ""})
         with self.started("record", ".", heeded=signal.SIG_IGN) as child:
-            while not (self.room / "asleep").exists():
-                time.sleep(0.01)
+            self.await_file(child, "asleep")
             child.send_signal(signal.SIGINT)
-            child.communicate(timeout=60)
+            child.communicate()
         self.assertEqual(child.returncode, 0)
 
     def test_a_file_that_changed_meanwhile(self) -> None:

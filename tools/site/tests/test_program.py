@@ -103,12 +103,11 @@ class Ends(Room):
         for command in ("check", "record"):
             for number, status in ((2, 130), (15, 143)):
                 with self.subTest(command=command, number=number), self.started(command, ".") as child:
-                    while not (self.room / "asleep").exists():
-                        time.sleep(0.01)
+                    self.await_file(child, "asleep")
                     (self.room / "asleep").unlink()
                     started, below = time.monotonic(), children_of(child.pid)
                     child.send_signal(number)
-                    self.assertEqual(child.communicate(timeout=20), (b"", b""))
+                    self.assertEqual(child.communicate(), (b"", b""))
                     self.assertEqual(child.returncode, status)
                     self.assertLess(time.monotonic() - started, 5)
                     self.assertTrue(below)
@@ -137,7 +136,7 @@ class Ends(Room):
         with self.started("check", ".") as child:
             assert child.stdout and child.stderr
             child.stdout.close()
-            self.assertEqual((child.stderr.read(), child.wait(20)), (b"", -13))
+            self.assertEqual((child.stderr.read(), child.wait()), (b"", -13))
 
 
 def children_of(process: int) -> List[str]:

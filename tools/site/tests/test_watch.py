@@ -271,7 +271,7 @@ class Ends(Room):
                     told[-1] if status == 130 else told[1], rb"^[01] of 1 verdict changed, [0-9.]+ seconds\n$"
                 )
                 child.send_signal(number)
-                self.assertEqual((child.communicate(timeout=20), child.returncode), ((b"", b""), status))
+                self.assertEqual((child.communicate(), child.returncode), ((b"", b""), status))
 
     def test_a_wrong_site(self) -> None:
         self.assertEqual(self.ran("watch", "nowhere")[0], 2)
