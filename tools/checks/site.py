@@ -261,6 +261,11 @@ for it in tree.parse(sys.argv[1]).iter():
 SUITE = ["testsuite", "sievebench-site"]
 
 
+def written(title, room, words, output, status=0):
+    """The tool with these words, which make it write `out.xml`: what is read of it is of this run, since an earlier one is taken out first."""
+    return Run(f"sievebench-site: {title}", room, f"rm -f out.xml; python3 {shlex.quote(str(TOOL))} {words}", output, status=status)
+
+
 def of_junit(room):
     """What servers read."""
     write(room / "both", site({"1.eml": b"", "1.eml.expect": b"[main]\ndiscard\n[other]\ndiscard\n"}, main=b"discard;", other=b"keep;"))
@@ -268,12 +273,13 @@ def of_junit(room):
     failed = ["failure", "the verdict isn't as expected", '- discard\n+ store "INBOX"  (both/personal/other.sieve:1)']
     rows = [[*SUITE, "2", "1", "0", ""], ["testcase", "main", "1.eml", ""], ["testcase", "other", "1.eml", ""], failed]
     junit = lines(*map(ascii, rows))
-    yield run("results of tests", room, "check --junit out.xml both > /dev/null; python3 read out.xml", junit)
-    yield run("results of tests alone", room, "check --format junit both > out.xml; python3 read out.xml", junit)
-    yield run("results of tests beside an object", room, "check --json --junit out.xml both > out.json; python3 read out.xml; head -c 16 out.json", junit + b'{"passed": false')
+    yield written("results of tests", room, "check --junit out.xml both > /dev/null; python3 read out.xml", junit)
+    yield written("results of tests alone", room, "check --format junit both > out.xml; python3 read out.xml", junit)
+    for words in ("--json --junit out.xml", "--junit=out.xml --format json"):
+        yield written(f"results of tests beside an object: {words}", room, f"check {words} both > out.json; echo $?; python3 read out.xml; head -c 16 out.json", b"1\n" + junit + b'{"passed": false')
     wrong = lines("both/mails/1.eml under other", "  - discard", '  + store "INBOX"  (both/personal/other.sieve:1)', counted(1, 2, 2, 1, 1, 0, 0, 0))
     for output in ("/dev/stdout", "/dev/fd/1"):
-        yield run(f"results of tests before the lines, by {output}", room, f"check --junit {output} both > all; sed '/^<.testsuite>/q' all > out.xml; python3 read out.xml; sed '1,/^<.testsuite>/d' all", junit + wrong)
+        yield written(f"results of tests before the lines, by {output}", room, f"check --junit {output} both > all; sed '/^<.testsuite>/q' all > out.xml; python3 read out.xml; sed '1,/^<.testsuite>/d' all", junit + wrong)
     odd = {'<&"\u00fc.eml': b"", '<&"\u00fc.eml.expect': b'[main]\nstore "A"\n', "2\u00fc.eml.expect": b""}
     write(room / "marks", {**site(odd, main='require "fileinto"; fileinto "<&\u00fc>";'.encode(), **{"\u00f6": b""}), "personal/broken.sieve": b"kep;"})
     # Each of the files is one failure, and that nothing is expected is one too.
@@ -284,7 +290,8 @@ def of_junit(room):
         ("with marks", "--lax", [[*SUITE, "3", "2", "1", ""], *wrong, ["skipped", ""], *wrong_file]),
         ("where all is wanted", "", [[*SUITE, "4", "4", "0", ""], *wrong, ["failure", *["nothing is expected"] * 2], *wrong_file, stale, ["failure", *["its mail isn't there"] * 2]]),
     ]:
-        yield run(f"results of tests, {title}", room, f"check {words} --junit out.xml marks > /dev/null; python3 read out.xml", lines(*map(ascii, rows)))
+        yield written(f"results of tests, {title}", room, f"check {words} --junit out.xml marks > /dev/null; python3 read out.xml", lines(*map(ascii, rows)))
+    yield written("no results of an earlier run where there is no result", room, "check --junit out.xml both > /dev/null; python3 %s check --junit out.xml --only x.eml both 2> /dev/null; echo $?; ls out.xml 2> /dev/null" % shlex.quote(str(TOOL)), b"2\n", status=2)
     yield run("a file of results that can't be written is reported before the run", room, "check --program ./absent --junit nowhere/out.xml both", b"", told('cannot write "nowhere/out.xml": No such file or directory'), 2)
     yield run("a folder of results", room, "check --junit marks both", b"", told('cannot write "marks": Is a directory'), 2)
 

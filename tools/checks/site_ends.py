@@ -204,7 +204,7 @@ def of_servers(room):
     found = f'{made}; export PATH="$PWD/bin:$PATH";'
     shutil.copy(SERVERS / "check.sh", room)
     agree = lines(counted(1, 1, 1, 1, 0, 0, 0, 0))
-    yield Run("examples for servers: check.sh", room, f"{found} ./check.sh && head -c 5 results.xml", agree + b"<?xml")
+    yield Run("examples for servers: check.sh", room, f"{found} rm -f results.xml; ./check.sh && head -c 5 results.xml", agree + b"<?xml")
     for form in ("github", "gitlab"):
         steps = re.findall(STEP, (SERVERS / f"{form}.yml").read_text(encoding="utf-8"), re.M)
         assert steps, f"examples for servers: {form}.yml has no step"

@@ -183,6 +183,13 @@ def remove_file(path: bytes) -> None:
         os.unlink(path)
 
 
+def remove_old(path: bytes) -> None:
+    """Takes out a plain file that is to be written anew: a run that ends before that leaves none of an earlier one."""
+    place = os.path.realpath(path)
+    if path not in OUTPUTS and is_plain(place):
+        remove_file(place)
+
+
 def remove_empty(folder: bytes) -> None:
     """Takes out a folder, if nothing is in it."""
     with contextlib.suppress(OSError):

@@ -16,7 +16,7 @@ from .checked import Checked, Found, found_in
 from .completion import completed
 from .ends import Refusal, Signalled, refuse
 from .filling import Filling, make_folder
-from .files import locked, refuse_unwritable, write_file
+from .files import locked, refuse_unwritable, remove_old, write_file
 from .folder import Site, refuse_no_mains, site_of, take_mails
 from .importing import import_mails
 from .judge import Judge
@@ -55,6 +55,7 @@ def run_check(options: argparse.Namespace) -> int:
     junit = None if options.junit is None else os.fsencode(options.junit)
     if junit is not None:
         refuse_unwritable(junit)
+        remove_old(junit)
     part, found = checked_part(options) if options.merge is None else (None, merged_parts(options))
     checked = Checked(found, options.lax, options.all)
     if junit is not None:
