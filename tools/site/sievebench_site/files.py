@@ -160,19 +160,19 @@ def write_folder(path: bytes, files: Dict[bytes, bytes]) -> None:
         os.mkdir(new)
         for name, octets in files.items():
             write_file(os.path.join(new, name), octets)
-        if os.path.lexists(place):
-            os.rename(place, old)
         with putting_back(old, place):
+            if os.path.lexists(place):
+                os.rename(place, old)
             os.rename(new, place)
 
 
 @contextlib.contextmanager
 def putting_back(old: bytes, place: bytes) -> Iterator[None]:
-    """Renames a file to its place again if the block fails."""
+    """Renames a file to its place again if the block fails, or a signal ends it."""
     try:
         yield
-    except OSError:
-        if os.path.lexists(old):
+    except BaseException:
+        if os.path.lexists(old) and not os.path.lexists(place):
             os.rename(old, place)
         raise
 

@@ -5,11 +5,6 @@ import os
 import signal
 import xml.etree.ElementTree as tree
 
-from sievebench_site.folder import Wanted, site_of, take_mails
-from sievebench_site.judge import Judge
-from sievebench_site.record import record
-from sievebench_site.shown import Look
-
 from .room import Files, Room
 
 LACKS = "requires regex: it isn't supported yet; list the script in unjudged: {}.sieve requires regex"
@@ -246,21 +241,6 @@ class Records(Room):
             child.send_signal(signal.SIGINT)
             child.communicate()
         self.assertEqual(child.returncode, 0)
-
-    def test_a_file_that_changed_meanwhile(self) -> None:
-        self.write({"personal/a.sieve": "", "mains": "a\n", "mails/1.eml": "", "mails/2.eml": ""})
-        self.write({"mails/2.eml.expect": "[a]\ndiscard\n"})
-        site = site_of(Wanted(bytes(self.room), [], [], [], None))
-        take_mails(site)
-        judged = Judge(site, self.program(), 1).all()
-        for number in (1, 2):
-            self.write({f"mails/{number}.eml.expect": "[b]\ndiscard\n"})
-        told, whole = record(site, judged, Look(False), False, False)
-        self.assertEqual(
-            (whole, [line[-36:] for line in told[:2]]), (False, ["left, since it was changed meanwhile"] * 2)
-        )
-        for number in (1, 2):
-            self.assertEqual((self.room / f"mails/{number}.eml.expect").read_text(), "[b]\ndiscard\n")
 
 
 class Lints(Room):

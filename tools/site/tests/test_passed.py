@@ -164,7 +164,7 @@ class Forms(Room):
             with self.subTest(name), mock.patch.object(module, name, side_effect=MemoryError):
                 self.write({"out.xml": "of an earlier run"})
                 error = self.refused(3, "--json", "--junit", str(self.room / "out.xml"))
-                self.assertEqual(error, "sievebench-site: out of memory\n")
+                self.assertEqual(error, "sievebench-site: this tool is out of memory\n")
 
     def refused(self, status: int, *words: str) -> str:
         """A check that ends so says nothing in any form, and leaves no file of results; what is on its standard error."""
