@@ -5,13 +5,12 @@ import contextlib
 import io
 import os
 import re
-import subprocess
 import tarfile
 from typing import Dict, Iterator, List, NamedTuple, Optional, Tuple
 
 from .chains import NOTHING, chained
 from .check import heads
-from .ends import fail, refuse
+from .ends import fail, ran, refuse
 from .expected import Block
 from .faults import sentence_of
 from .files import octets_if_any, temporary_folder
@@ -233,9 +232,8 @@ def revision(name: str, folder: bytes) -> Iterator[bytes]:
 def git(folder: bytes, words: List[str]) -> Optional[bytes]:
     """What git prints in a folder, if it succeeds."""
     env = {name: value for name, value in os.environ.items() if name not in ELSEWHERE}
-    quiet, pipe = subprocess.DEVNULL, subprocess.PIPE
     try:
-        done = subprocess.run(["git", *words], cwd=folder, env=env, stdin=quiet, stdout=pipe, stderr=quiet)
+        done = ran(["git", *words], folder, env)
     except OSError as error:
         fail(f'cannot run "git": {error.strerror}')
     return None if done.returncode else done.stdout

@@ -10,7 +10,7 @@ from typing import Dict, Iterator, List, Optional, Set
 from . import cautions, findings
 from .answers import expected_answers
 from .code import Code
-from .ends import fail
+from .ends import fail, ran
 from .faults import SENTENCES, sentence_of
 from .files import temporary_folder
 from .findings import ERROR, NOTE, PLAIN, SKIPPED, Finding, Test
@@ -151,7 +151,7 @@ def sievec_differences(site: Site, linted: Linted) -> Iterator[Finding]:
 def compiled(words: List[bytes]) -> "subprocess.CompletedProcess[bytes]":
     """How sievec ended."""
     try:
-        return subprocess.run(words, stdin=subprocess.DEVNULL, stdout=subprocess.PIPE, stderr=subprocess.PIPE)
+        return ran(words)
     except OSError as error:
         fail(f'cannot run "sievec": {error.strerror}')
 

@@ -3,7 +3,7 @@
 from .room import MAIL, Files, Room
 
 WRONG = "a line has NAME of personal or FOLDER/NAME of the site, but not of users, of mails or where FOLDER begins with a dot"
-SITE: Files = {f"site/{name}": text for name, text in {**MAIL, "personal/main.sieve": "keep;"}.items()}
+SITE: Files = {"site/personal/main.sieve": "keep;", **{f"site/{name}": text for name, text in MAIL.items()}}
 
 
 class Lines(Room):

@@ -3,6 +3,7 @@
 import os
 import pathlib
 import resource
+import signal
 import subprocess
 import time
 from typing import List
@@ -113,6 +114,37 @@ class Ends(Room):
                     self.assertTrue(below)
                     self.assertFalse([it for it in below if os.path.exists(f"/proc/{it}")])
         self.assertEqual(sorted(os.listdir(self.room)), ["envelope", "mails", "mains", "personal"])
+        self.assertEqual(os.listdir(self.room / "mails"), ["1.eml"])
+
+    def test_ctrl_c_on_a_terminal(self) -> None:
+        # It reaches the whole group: the tool, and what it runs beside the program.
+        self.write({"personal/a.sieve": 'sleep "30";', "mains": "a\n", "mails/1.eml": "", "envelope": '"" ""'})
+        waits = "#!/bin/sh\n: > asleep; exec sleep 30\n"
+        self.write({"bin/sievec": waits.replace("asleep", f"{self.room}/asleep")})
+        self.write({"bin/git": waits.replace("asleep", f"{self.room}/asleep")})
+        for name in ("sievec", "git"):
+            (self.room / "bin" / name).chmod(0o755)
+        commands = [
+            "check .",
+            "record .",
+            "untested .",
+            "why . 1.eml",
+            "watch .",
+            "lint --sievec .",
+            "diff --git HEAD .",
+        ]
+        path = f"{self.room}/bin{os.pathsep}{os.environ['PATH']}"
+        for command in commands:
+            with self.subTest(command), mock.patch.dict(os.environ, PATH=path):
+                with self.started(*command.split(), group=True) as child:
+                    self.await_file(child, "asleep")
+                    (self.room / "asleep").unlink()
+                    below = children_of(child.pid)
+                    os.killpg(child.pid, signal.SIGINT)
+                    self.assertEqual((child.communicate(), child.returncode), ((b"", b""), 130))
+                self.assertTrue(below)
+                self.assertFalse([it for it in below if os.path.exists(f"/proc/{it}")])
+        self.assertEqual(sorted(os.listdir(self.room)), ["bin", "envelope", "mails", "mains", "personal"])
         self.assertEqual(os.listdir(self.room / "mails"), ["1.eml"])
 
     def test_a_signal_while_a_process_starts(self) -> None:
