@@ -46,6 +46,12 @@ def of_cautions(room):
     yield run("uses of mailboxes", room, "lint uses", lines(*(f"uses/personal/main.sieve:{line}: bad-mailbox: This is no use of a mailbox: one is a backslash and a word." for line in (2, 5))), status=1)
     boxes = b'require ["fileinto", "mailbox", "variables", "imap4flags"];\nfileinto "A";\nfileinto :create "B";\nfileinto :flags "c" "C";\nfileinto "${a}";\nfileinto "INBOX";\nif mailboxexists "A" {}\n'
     write(room / "boxed", {"personal/main.sieve": boxes, "mains": b"main\n", "with": b"mailbox\n", "mailboxes": b"A\nB\n"})
+    junk = b'require ["fileinto", "mailbox", "special-use"];\nfileinto :specialuse "\\\\Junk" "C";\nfileinto :specialuse "\\\\Junk" "A";\nfileinto :create :specialuse "\\\\Junk" "D";\n'
+    used = {**site({"1.eml": b""}, main=junk), "with": b"mailbox\nspecial-use\n", "mailboxes": b"A\n"}
+    write(room / "used", used)
+    lacks = 'used/personal/main.sieve:2: no-mailbox: No line of mailboxes is "C", and nothing makes it: unless a mailbox has the special use, the server keeps the mail in INBOX.'
+    yield run("mailboxes of a special use that nothing makes", room, "lint used", lines(lacks))
+    yield run("the same of a mail", room, "why used 1.eml | grep no-mailbox", lines(f"    {lacks}"))
     missing = 'no-mailbox: No line of mailboxes is "C", and nothing makes it: the server keeps the mail in INBOX.'
     yield run("mailboxes that nothing makes", room, "lint boxed", lines(f"boxed/personal/main.sieve:4: {missing}"))
     write(room / "unboxed", {"personal/main.sieve": boxes, "mains": b"main\n", "with": b"mailbox\n"})

@@ -59,7 +59,7 @@ class Linted:
             yield Finding(script.path, line, "skipped", PLAIN.line(why.encode()), SKIPPED)
         yield from cautions.of_scripts(self.site, self.code.sound())
         for it in self.code.plain_stores():
-            yield from cautions.of_store(self.site, it.script.path, it.line, it.mailbox)
+            yield from cautions.of_store(self.site, it.script.path, it.line, it.mailbox, it.use)
 
     def reached(self) -> Optional[Set[bytes]]:
         """The files of the scripts that main ones come to; nothing where none is named, or one of them has a fault."""
