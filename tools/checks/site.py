@@ -407,6 +407,15 @@ def of_sievec(room):
     write(room / "peer", {"personal/c.sieve": b"", "personal/d.sieve": b'require "regex"; # reject', "personal/e.sieve": b'require ["regex", "include"]; include "d";', "personal/f.sieve": b'require "regex";', "personal/main.sieve": b"", "personal/a.sieve": b"", "personal/b.sieve": b"", "unjudged": b"personal/d.sieve it waits\npersonal/e.sieve it waits\npersonal/f.sieve it waits\n"})
     notes = [f"{name}.sieve:1: skipped: it waits" for name in "def"] + [f"{name}.sieve:0: unreached: No main script comes to it." for name in ("a", "b", "both", "c", "d", "e", "f")]
     yield Run("sievebench-site: what sievec says of scripts that are listed", room, f'PATH="$PWD/peer/bin:$PATH" python3 {shlex.quote(str(TOOL))} lint --sievec peer', lines(*(f"peer/personal/{line}" for line in ("d.sieve:2: sievec: there is a reject", *notes))), status=1)
+    texts = {"a": b'require "regex"; # reject', "b": b'require "regex";', "c": b'require "include"; include "b"; # reject', "d": b'require "include"; include "b";', "f": b"kep; # reject"}
+    texts.update({name: b'require "include"; include "b"; include "f";' + end for name, end in (("e", b""), ("g", b" # reject"))})
+    write(room / "lacks", {"bin/sievec": fake.replace("peer", "lacks").encode(), "mains": b"d\n", **{f"personal/{name}.sieve": text for name, text in texts.items()}})
+    (room / "lacks/bin/sievec").chmod(0o755)
+    invalid, unknown = 'invalid-script: The script personal "f" has a fault.', "unknown-command: There is no such command or test."
+    says = [f"lacks/personal/{name}.sieve:1: {what}" for name, what in (("e", invalid), ("f", unknown), ("g", invalid))]
+    says += [f"lacks/personal/{name}.sieve:2: sievec: there is a reject" for name in "acg"]
+    says += [f"lacks/personal/{name}.sieve:1: not judged: requires regex: it isn't supported yet; list the script in unjudged: personal/{name}.sieve requires regex" for name in "ab"]
+    yield Run("sievebench-site: what sievec says of scripts that can't be judged, and of those that come to one", room, f'PATH="$PWD/lacks/bin:$PATH" python3 {shlex.quote(str(TOOL))} lint --sievec lacks', lines(*says), status=1)
     write(room / "alien", {"bin/sievec": b"#!/bin/sh\nexit 1\n", "personal/a.sieve": b"keep;"})
     (room / "alien/bin/sievec").chmod(0o755)
     yield Run("sievebench-site: where sievec alone says something", room, f'PATH="$PWD/alien/bin:$PATH" python3 {shlex.quote(str(TOOL))} lint --sievec alien', lines("alien/personal/a.sieve:0: sievec: It can't compile this."), status=1)
