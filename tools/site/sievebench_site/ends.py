@@ -7,6 +7,7 @@ import os
 import signal
 import subprocess
 import threading
+import time
 from types import FrameType
 from typing import Callable, Dict, Iterator, NoReturn, Optional, Sequence, Set, Union
 
@@ -65,7 +66,10 @@ class Children:
             child.kill()
 
     def wait(self) -> None:
-        """Waits until they have ended, which doesn't take long where they were killed."""
+        """Waits until they have ended, which doesn't take long where they were killed, and first for those that start at this moment."""
+        end = time.monotonic() + 1
+        while self.starting and time.monotonic() < end:
+            time.sleep(0.01)
         for child in list(self.running):
             with contextlib.suppress(subprocess.TimeoutExpired):
                 child.wait(1)

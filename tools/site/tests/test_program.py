@@ -1,10 +1,12 @@
 """Sessions with the program."""
 
+import contextlib
 import os
 import pathlib
 import resource
 import signal
 import subprocess
+import threading
 import time
 from typing import List
 from unittest import mock
@@ -162,6 +164,31 @@ class Ends(Room):
             self.assertEqual((caught.exception.status, begun[0].returncode, children.running), (143, -9, set()))
             with self.assertRaises(ends.Signalled):
                 ends.by_signal(2, None)
+
+    def test_a_signal_while_another_thread_starts_a_process(self) -> None:
+        children, begun = ends.Children(), threading.Event()
+        started: List["subprocess.Popen[bytes]"] = []
+
+        def start() -> "subprocess.Popen[bytes]":
+            started.append(subprocess.Popen(["sleep", "30"]))
+            begun.set()
+            time.sleep(0.3)
+            return started[0]
+
+        def work() -> None:
+            with contextlib.suppress(ends.Signalled), children.held(start):
+                time.sleep(30)
+
+        with mock.patch.object(ends, "CHILDREN", children):
+            thread = threading.Thread(target=work)
+            thread.start()
+            self.assertTrue(begun.wait(60))
+            with self.assertRaises(ends.Signalled):
+                ends.by_signal(2, None)
+            children.wait()
+            self.assertEqual(started[0].poll(), -9)
+            thread.join(60)
+            self.assertEqual((thread.is_alive(), children.running), (False, set()))
 
     def test_a_broken_pipe(self) -> None:
         self.write({"personal/a.sieve": "kep;", "mains": "a\n", "mails/1.eml": "", "envelope": '"" ""'})
