@@ -87,11 +87,13 @@ def tell(run, found):
 
 
 def differences(run, path):
-    """What comes of a run that must not. One that has no end in its time has failed too."""
+    """What comes of a run that must not. One that has no end in its time, or ends by an exception, has failed too."""
     try:
         return run.differences(path)
     except subprocess.TimeoutExpired as late:
         return [f"no end in {late.timeout:.0f} seconds"]
+    except Exception as error:
+        return [f"{type(error).__name__}: {error}"]
 
 
 def heeds():
