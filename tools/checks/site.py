@@ -111,7 +111,7 @@ def of_names(room):
     write(room / "asked", {**files, "with": b"subaddress\r\n\nunused"})
     yield run("names of a site", room, "check --strict asked", lines(counted(1, 1, 1, 1, 0, 0, 0, 0)))
     write(room / "unasked", files)
-    yield run("no names of a site", room, "check unasked", [b"unasked/personal/main.sieve:1: not judged: requires subaddress, vacation: add them to the file with\n"], status=1)
+    yield run("no names of a site", room, "check unasked", lines("unasked/personal/main.sieve:1: not judged: requires subaddress, vacation: add them to the file with", 'unasked/mails/1.eml under main: not judged: personal "main" requires subaddress, vacation', counted(1, 1, 1, 0, 0, 0, 0, 0, further=["1 not judged"])), status=1)
     script = b'require ["mailbox", "fileinto", "envelope"]; if mailboxexists "Work" { fileinto :create "Work"; } if envelope "to" "c@d.example" { discard; }'
     files = {**site({"1.eml": b"", "1.eml.envelope": b"a@b.example c@d.example", "2.eml": b""}, main=script), "with": b"lines\nmailbox\n", "mailboxes": b"Home\r\nWork"}
     files.update({"mails/1.eml.expect": b'[main]\nstore "Work" create\ndiscard\n', "mails/2.eml.expect": b'[main]\nstore "Work" create\n'})
@@ -222,7 +222,8 @@ def of_programs(room):
         yield Run(f"sievebench-site: one file of it, {name}", room, f"python3 {shlex.quote(str(PACK))} {name}/sievebench-site")
     (room / "beside/sievebench").chmod(0o755)
     (room / "linked").symlink_to("beside/sievebench-site")
-    yield Run("sievebench-site: the program beside the tool", room, "python3 linked check good", b"", [b'/beside/sievebench" ended with status 4: "beside"\n'], 3)
+    beside = told(f'"{(room / "beside/sievebench").resolve()}" ended with status 4: "beside"')
+    yield Run("sievebench-site: the program beside the tool", room, "python3 linked check good", b"", beside, 3)
     yield Run("sievebench-site: a folder beside the tool", room, "python3 folder/sievebench-site lint good")
     write(room / "mute", {"program": b"#!/bin/sh\n", "failing": b"#!/bin/sh\necho 'out of memory' >&2\nexit 4\n", "noisy": NOISY})
     for name, sentence in (("program", "the program answered too little"), ("failing", '"mute/failing" ended with status 4: "out of memory"'), ("noisy", '"mute/noisy" ended with status 0: "noise"')):
@@ -307,8 +308,8 @@ def of_objects(room):
     empty = '"faults": [], "not judged": [], "skipped": [], "stale": [], "left out": []'
     for words in ("--json", "--format json"):
         yield run(f"an object by {words}", room, f"check {words} both", lines(f'{{"passed": false, "counts": {{{counts}}}, "cases": [{cases}], {empty}}}'), status=1)
-    for words in ("--format junit --json", "--json --format=junit"):
-        yield run(f"two forms: {words}", room, f"check {words} both", b"", [b"not allowed with argument --"], 2)
+    for words, options in (("--format junit --json", ("--json", "--format")), ("--json --format=junit", ("--format", "--json"))):
+        yield run(f"two forms: {words}", room, f"check {words} both", b"", told("argument {}: not allowed with argument {}; see --help".format(*options)), 2)
     write(room / "mark", site({"\u00fc.eml": b""}, **{"\u00f6": 'require "fileinto"; fileinto "\u00e4";'.encode()}))
     counts = ", ".join(f'"{what}": {number}' for what, number in zip(COUNTS + MORE, (1, 1, 1, 0, 0, 1, 0, 0, 0, 0, 0, 0)))
     cases = '{"mail": "\\u00fc.eml", "main": "\\u00f6", "agrees": null, "skipped": false, "expected": null, "verdict": ["store \\"\\\\xc3\\\\xa4\\""], "lines": ["mark/personal/\\u00f6.sieve:1"]}'

@@ -58,7 +58,10 @@ def of_cautions(room):
     yield run("a question for mailboxes of which there is no list", room, "lint unboxed", lines("unboxed/personal/main.sieve:7: no-mailboxes: It asks whether a mailbox exists, and the site has no mailboxes."))
     answers = b'require "vacation";\nvacation "away";\n'
     write(room / "away", {**site({"1.eml": b"List-Id: <a.b>\n\n", "2.eml": b"From: a@b.example\n\n"}, main=answers), "with": b"vacation\n", "envelope": b"a@b.example c@d.example"})
-    yield run("a mail that no server answers", room, "why away 1.eml", [b'\n    away/personal/main.sieve:2: no-answer: The server doesn\'t answer this mail: it has the field "list-id: <a.b>".\n'])
+    at = "away/personal/main.sieve"
+    whole = ["away/mails/1.eml under main", "  what becomes of it:", f'    vacation "away"  ({at}:2)', '    implicit "INBOX"', "  what a server may do otherwise:"]
+    whole += [f'    {at}:2: no-answer: The server doesn\'t answer this mail: it has the field "list-id: <a.b>".', "  scripts that are looked up:", f"    {at}", "  no branch is taken"]
+    yield run("a mail that no server answers", room, "why away 1.eml", lines(*whole))
     yield run("one that servers answer", room, "why away 2.eml | grep -c server", b"0\n", status=1)
     yield run("verdicts with answers are written", room, "record -q away")
     yield run("an answer is expected that no server sends", room, "lint away", lines('away/mails/1.eml.expect:2: no-answer: The server doesn\'t answer this mail: it has the field "list-id: <a.b>".'))

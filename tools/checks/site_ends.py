@@ -97,7 +97,7 @@ def of_colours(room):
     write(room / "tones", site({"1.eml": b"", "1.eml.expect": b'[main]\nredirect "a"\n'}, main=b"discard;"))
     terminal = "python3 -c 'import pty, sys; sys.exit(pty.spawn(sys.argv[1:]) >> 8)'"
     tool = f"python3 {shlex.quote(str(TOOL))} check tones"
-    yield Run("sievebench-site: colours on a terminal", room, f"TERM=xterm {terminal} {tool} | tr -d '\\r'", [b'  \x1b[31m- redirect "a"\x1b[0m\n', b"  \x1b[32m+ discard\x1b[0m  (tones"])
+    yield Run("sievebench-site: colours on a terminal", room, f"TERM=xterm {terminal} {tool} | tr -d '\\r'", lines("tones/mails/1.eml under main", '  \x1b[31m- redirect "a"\x1b[0m', "  \x1b[32m+ discard\x1b[0m  (tones/personal/main.sieve:1)", counted(1, 1, 1, 0, 1, 0, 0, 0)))
     for setting in ("NO_COLOR=1 TERM=xterm", "TERM=dumb"):
         yield Run(f"sievebench-site: no colours, {setting}", room, f"{setting} {terminal} {tool} | tr -d '\\r' | grep -c '^  - redirect \"a\"$'", b"1\n")
 
@@ -165,7 +165,7 @@ def of_imports(room):
     for pack, name in (("gzip -k", "gz"), ("bzip2 -k", "bz2"), ("xz -k", "xz"), ("zstd -q", "zst")):
         if shutil.which(pack.split()[0]):
             packed = f"{pack} box && python3 {shlex.quote(str(TOOL))} import md box.{name} site; status=$?; ls site/mails | wc -l; exit $status"
-            yield Run(f"sievebench-site: what is packed by {pack.split()[0]} is refused, and nothing is taken", room / "taken", packed, lines("8"), [f'"box.{name}" is packed by '.encode()], 2)
+            yield Run(f"sievebench-site: what is packed by {pack.split()[0]} is refused, and nothing is taken", room / "taken", packed, lines("8"), told(f'"box.{name}" is packed by {pack.split()[0]}: unpack it, and take what comes of it'), 2)
     yield run("a program and an empty file are refused", room / "taken", "import $(command -v python3) site; touch empty; python3 %s import empty site" % shlex.quote(str(TOOL)), b"", [b'" is a program\n', b'"empty" is empty: there is no mail in it\n'], 2)
 
 
