@@ -162,28 +162,6 @@ def of_diffs(room):
     yield run("what can't be judged", room, "diff asks asks-not", lines("asks-not/with: it was another, and is taken for both", 'asks-not/mails/1.eml under main: not judged: before, personal "main" requires vacation', "0 of 0 verdicts changed, 1 not judged"))
 
 
-def of_settings(room):
-    """What isn't a script and differs: that of the second folder is taken for both, and that is said."""
-    asks = b'require ["date", "relational"];\nif currentdate :value "lt" "date" "2026-07-22" { %s }\n'
-    # The last second of 21 July, and the first one after it.
-    early, late = b"1784671199 +0200\n", b"1784671200 +0200\n"
-    for name, clock, does in (("early", early, b"discard;"), ("late", late, b"keep;"), ("edited", early, b"keep;")):
-        write(room / name, {**site({"1.eml": b""}, main=asks % does), "with": b"date\nrelational\n", "clock": clock})
-    another, none = "{}: it was another, and is taken for both".format, "0 of 1 verdict changed"
-    change = ["edited/mails/1.eml under main", "  - discard", '  + store "INBOX"  (edited/personal/main.sieve:2)', "1 of 1 verdict changed"]
-    yield run("a clock that is later, at which no edit shows", room, "diff early late", lines(another("late/clock"), none))
-    yield run("the same the other way round", room, "diff late early", lines(another("early/clock"), "early/mails/1.eml under main", '  - store "INBOX"', "  + discard  (early/personal/main.sieve:2)", "1 of 1 verdict changed"), status=1)
-    yield run("a clock that is the same", room, "diff early edited", lines(*change), status=1)
-    yield run("a clock that is given", room, "diff --clock 1784671200+0200 late early", lines(none))
-    exists = b'require "mailbox"; if mailboxexists "A" { %s }'
-    for name, boxes, does in (("with-a", b"A\n", b"discard;"), ("with-b", b"B\n", b"keep;")):
-        write(room / name, {**site({"1.eml": b""}, main=exists % does), "with": b"mailbox\n", "mailboxes": boxes})
-    yield run("other mailboxes, of which no edit shows", room, "diff with-a with-b", lines(another("with-b/mailboxes"), none))
-    yield run("other mailboxes, of which it does", room, "diff with-b with-a", lines(another("with-a/mailboxes"), "with-a/mails/1.eml under main", '  - store "INBOX"', "  + discard  (with-a/personal/main.sieve:1)", "1 of 1 verdict changed"), status=1)
-    write(room / "with-a", {"with": b"# as ever\nmailbox\n", "mailboxes": b"B\n"})
-    yield run("a comment more among the names", room, "diff with-b with-a", lines(none))
-
-
 def of_revisions(room):
     """What an edit changes since a revision."""
     where = room / "repository"
@@ -351,32 +329,7 @@ def of_watching(room):
     wanted += ["watched/mails/2.eml: gone", "0 of 2 verdicts changed, 1 gone, N seconds"]
     wanted += ["watched/mails/1.eml.expect: saved", "watched/mails/1.eml under main: not as expected", '  - store "A"', "  + discard  (watched/personal/part.sieve:1)", "0 of 2 verdicts changed, 1 not as expected, N seconds"]
     yield Watched("saves of all kinds", room, "watched", steps, wanted)
-    yield watched_settings(room)
     yield run("a site that can't be read from the start", room, "watch nowhere", b"", told('cannot read "nowhere/personal": No such file or directory'), 2)
-
-
-def watched_settings(room):
-    """A clock that goes on, stands still again and is gone, and mailboxes that come and go."""
-    asks = b'require ["date", "relational", "mailbox"];\nif currentdate :value "ge" "date" "2026-07-22" { discard; }\nif mailboxexists "A" { redirect "a@b.example"; }\n'
-    files = {**site({"1.eml": b""}, main=asks), "with": b"date\nmailbox\nrelational\n", "clock": b"1784671199 +0200\n"}
-    write(room / "timed", files)
-    steps = [
-        lambda: write(room / "timed", {"clock": b"1784671200 +0200\n"}),
-        lambda: write(room / "timed", {"clock": b"1784671201 +0200\n"}),
-        lambda: write(room / "timed", {"mailboxes": b"A\n"}),
-        lambda: (room / "timed/clock").unlink(),
-        lambda: (room / "timed/mailboxes").unlink(),
-    ]
-    mail, kept = "timed/mails/1.eml under main", 'implicit "INBOX"'
-    discard, sent = "discard  (timed/personal/main.sieve:2)", 'redirect "a@b.example"  (timed/personal/main.sieve:3)'
-    one, none = "1 of 1 verdict changed, N seconds", "0 of 1 verdict changed, N seconds"
-    wanted = ["1 verdict, N seconds"]
-    wanted += ["timed/clock: saved", mail, f"  - {kept}", f"  + {discard}", one]
-    wanted += ["timed/clock: saved", none]
-    wanted += ["timed/mailboxes: saved", mail, "    discard", f"  + {sent}", one]
-    wanted += ["timed/clock: gone", mail, "  - discard", "    " + sent.partition("  (")[0], one]
-    wanted += ["timed/mailboxes: gone", mail, "  - " + sent.partition("  (")[0], f"  + {kept}", one]
-    return Watched("a clock and mailboxes", room, "timed", steps, wanted)
 
 
 def of_many(room):
@@ -439,5 +392,5 @@ def of_sites(room):
     """All of them but those of tokens."""
     room = room / "questions"
     room.mkdir()
-    for part in (of_untested, of_chains, of_diffs, of_settings, of_revisions, of_answers, of_watching, of_many, of_pages):
+    for part in (of_untested, of_chains, of_diffs, of_revisions, of_answers, of_watching, of_many, of_pages):
         yield from some(part.__name__, part(room))

@@ -397,26 +397,19 @@ def of_lints(room):
     yield run("a fault that stands twice on a line", room, "lint twice", lines("twice/personal/main.sieve:1: bad-address: This isn't one address."), status=1)
 
 
+# In place of sievec: it compiles what has no `reject`, and is given where the scripts are that those include.
+SIEVEC = '#!/bin/sh\n[ "$2 $4" = "plugin/sieve=file:$PWD/SITE/personal plugin/sieve_global=file:$PWD/SITE/global" ] || exit 9\n! grep -n reject "$5" > /dev/null || { echo "x: line 2: error: there is a reject" >&2; exit 89; }\n'
+
+
 def of_sievec(room):
     """What sievec says otherwise."""
-    # In place of sievec: it compiles what has no `reject`, and is given where the scripts are that those include.
-    fake = '#!/bin/sh\n[ "$2 $4" = "plugin/sieve=file:$PWD/peer/personal plugin/sieve_global=file:$PWD/peer/global" ] || exit 9\n! grep -n reject "$5" > /dev/null || { echo "x: line 2: error: there is a reject" >&2; exit 89; }\n'
-    write(room / "peer", {"bin/sievec": fake.encode(), "personal/main.sieve": b'require "include"; include "a";\ninclude "gone";', "personal/a.sieve": b"\nkep;", "personal/b.sieve": b"# reject", "personal/both.sieve": b"keep;", "personal/c.sieve": b"reject;", "mains": b"main\n"})
+    write(room / "peer", {"bin/sievec": SIEVEC.replace("SITE", "peer").encode(), "personal/main.sieve": b'require "include"; include "a";\ninclude "gone";', "personal/a.sieve": b"\nkep;", "personal/b.sieve": b"# reject", "personal/both.sieve": b"keep;", "personal/c.sieve": b"reject;", "mains": b"main\n"})
     (room / "peer/bin/sievec").chmod(0o755)
     wanted = ["a.sieve:2: unknown-command: There is no such command or test.", "c.sieve:1: unknown-command: There is no such command or test. reject needs reject, which the script doesn't require.", 'main.sieve:1: invalid-script: The script personal "a" has a fault.', 'main.sieve:2: missing-script: There is no script personal "gone".', "a.sieve:2: sievec: It compiles this.", "b.sieve:2: sievec: there is a reject", "main.sieve:1: sievec: It compiles this."]
     yield Run("sievebench-site: where sievec says otherwise", room, f'PATH="$PWD/peer/bin:$PATH" python3 {shlex.quote(str(TOOL))} lint --sievec peer', lines(*(f"peer/personal/{line}" for line in wanted)), status=1)
     write(room / "peer", {"personal/c.sieve": b"", "personal/d.sieve": b'require "regex"; # reject', "personal/e.sieve": b'require ["regex", "include"]; include "d";', "personal/f.sieve": b'require "regex";', "personal/main.sieve": b"", "personal/a.sieve": b"", "personal/b.sieve": b"", "unjudged": b"personal/d.sieve it waits\npersonal/e.sieve it waits\npersonal/f.sieve it waits\n"})
     notes = [f"{name}.sieve:1: skipped: it waits" for name in "def"] + [f"{name}.sieve:0: unreached: No main script comes to it." for name in ("a", "b", "both", "c", "d", "e", "f")]
     yield Run("sievebench-site: what sievec says of scripts that are listed", room, f'PATH="$PWD/peer/bin:$PATH" python3 {shlex.quote(str(TOOL))} lint --sievec peer', lines(*(f"peer/personal/{line}" for line in ("d.sieve:2: sievec: there is a reject", *notes))), status=1)
-    texts = {"a": b'require "regex"; # reject', "b": b'require "regex";', "c": b'require "include"; include "b"; # reject', "d": b'require "include"; include "b";', "f": b"kep; # reject"}
-    texts.update({name: b'require "include"; include "b"; include "f";' + end for name, end in (("e", b""), ("g", b" # reject"))})
-    write(room / "lacks", {"bin/sievec": fake.replace("peer", "lacks").encode(), "mains": b"d\n", **{f"personal/{name}.sieve": text for name, text in texts.items()}})
-    (room / "lacks/bin/sievec").chmod(0o755)
-    invalid, unknown = 'invalid-script: The script personal "f" has a fault.', "unknown-command: There is no such command or test."
-    says = [f"lacks/personal/{name}.sieve:1: {what}" for name, what in (("e", invalid), ("f", unknown), ("g", invalid))]
-    says += [f"lacks/personal/{name}.sieve:2: sievec: there is a reject" for name in "acg"]
-    says += [f"lacks/personal/{name}.sieve:1: not judged: requires regex: it isn't supported yet; list the script in unjudged: personal/{name}.sieve requires regex" for name in "ab"]
-    yield Run("sievebench-site: what sievec says of scripts that can't be judged, and of those that come to one", room, f'PATH="$PWD/lacks/bin:$PATH" python3 {shlex.quote(str(TOOL))} lint --sievec lacks', lines(*says), status=1)
     write(room / "alien", {"bin/sievec": b"#!/bin/sh\nexit 1\n", "personal/a.sieve": b"keep;"})
     (room / "alien/bin/sievec").chmod(0o755)
     yield Run("sievebench-site: where sievec alone says something", room, f'PATH="$PWD/alien/bin:$PATH" python3 {shlex.quote(str(TOOL))} lint --sievec alien', lines("alien/personal/a.sieve:0: sievec: It can't compile this."), status=1)
