@@ -17,7 +17,7 @@ SENTENCE = re.compile(r'^    "([a-z-]+)": "(.*)",$', re.M)
 SERIES = re.compile(r"([^;]*?)(\d+)([^;]*;) \.\. \1(\d+)\3")
 
 
-# Of each fault a few words of its sentence, and a few of its cause, that no other one has.
+# Of each fault a few words of its sentence, and a few of its causes, that no other one has.
 OWN = {
     "syntax": ("can't follow", "a brace, a bracket or a quote is missing"),
     "require-place": ("before all other commands", "put after another one with its `require`"),
@@ -48,7 +48,7 @@ OWN = {
     "bad-address": ("This isn't one address", "two addresses in one string"),
     "too-many-actions": ("actions at most", "or many that are included"),
     "too-many-globals": ("variables at most that scripts share", "keep what they know in shared variables"),
-    "bad-mailbox": ("A mailbox can't have this name", "a value with a tab in it"),
+    "bad-mailbox": ("A mailbox can't have this name", "a value with a tab in it", "a string of `:specialuse`"),
     "second-vacation": ("answered already", "two rules answer the same message"),
     "conflicting-actions": ("A message that is rejected", "the other rejects"),
 }
@@ -73,11 +73,10 @@ class Table(Reading):
     def others(self, table):
         """The sentences and causes that lack words of their own, or have those of another fault."""
         found = [f"no words of its own are known of {row[0]}" for row in table if row[0] not in OWN]
-        for column, name in enumerate(("sentence", "cause")):
-            texts = {row[0]: row[COLUMNS.index(name)] for row in table}
-            for word, own in OWN.items():
-                those = [other for other, text in texts.items() if own[column] in text]
-                found += [] if those == [word] else [f"`{own[column]}` belongs to the {name} of {word}, and {those} have it"]
+        for word, (sentence, *causes) in OWN.items():
+            for name, own in (("sentence", sentence), *(("cause", it) for it in causes)):
+                those = [row[0] for row in table if own in row[COLUMNS.index(name)]]
+                found += [] if those == [word] else [f"`{own}` belongs to the {name} of {word}, and {those} have it"]
         return found
 
     def told(self, table):

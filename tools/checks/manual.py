@@ -87,7 +87,7 @@ class Page(Reading):
         found += [f"it refers to {other}" for other in sorted(others) if other not in {page for page, *_ in PAGES}]
         self.looked = len(options) + len(words_of(document)) if len(others) > 1 else 0
         if shutil.which("mandoc"):
-            found += subprocess.run(["mandoc", "-T", "lint", "-W", "warning", file], capture_output=True, text=True).stdout.splitlines()
+            found += subprocess.run(["mandoc", "-T", "lint", "-W", "warning", file], capture_output=True, text=True, timeout=SECONDS).stdout.splitlines()
         return found
 
 

@@ -101,7 +101,9 @@ def of_made(room):
     """Equal commits give equal octets, and the package says what it needs."""
     one, other = copy(room, HANDS_ON), copy(room, HANDS_ON)
     makes = f'{ENV} tools/package > told'
-    yield Run("a package", one, f"{makes}; echo $?; cd out && ls && sha256sum --quiet -c SHA256SUMS", [b"0\n", b"SHA256SUMS\n", f"sievebench_{VERSION}_".encode(), f"sievebench-{VERSION}-linux-".encode()])
+    made = [f"sievebench-{VERSION}-linux-ARCH.tar.gz", f"sievebench_{VERSION}_ARCH.deb"]
+    sums = "export LC_ALL=C; ls | sed s/$(dpkg --print-architecture)/ARCH/; cut -c 67- SHA256SUMS | sort | sed s/$(dpkg --print-architecture)/ARCH/; sha256sum --quiet -c SHA256SUMS"
+    yield Run("a package, and the sums of all its files", one, f"{makes}; echo $?; cd out && {sums}", lines("0", "SHA256SUMS", *made, *made))
     again = f"umask 077; sleep 1; find . -name .git -prune -o -exec touch {{}} +; {makes}; cmp out/SHA256SUMS {one}/out/SHA256SUMS && cmp out/*.deb {one}/out/*.deb && cmp out/*.gz {one}/out/*.gz"
     yield Run("the same package of the same commit elsewhere, later and with another mask", other, again)
     needs = "dpkg-deb --field out/*.deb Depends | grep -cxE 'libc6 \\(>= 2\\.[0-9]+\\), python3 \\(>= 3\\.8\\)'"

@@ -14,7 +14,7 @@ import threading
 import time
 
 from . import rows
-from .runs import SECONDS, Reading, Run, lines, some, wanted_and_got
+from .runs import SECONDS, Reading, Run, heeds, lines, some, wanted_and_got
 from .site import TOOL, run, site, told, write
 
 TOP = TOOL.parent.parent
@@ -111,8 +111,12 @@ def of_untested(room):
     variables = b'require ["variables", "fileinto"];\nif allof (header :matches "subject" "x*", exists "none") {\n  discard;\n}\nfileinto "B${1}";\n'
     write(room / "set", site({"1.eml": b"Subject: xyz\n\n"}, main=variables))
     yield run("a condition that sets variables and doesn't hold", room, "untested set", lines(*unnoticed("set/personal/main.sieve", (3, "without: discard;", False)), "3 of 4 changes are noticed"))
-    yield run("enough are noticed", room, "untested -q --fail-under 50 limits", [b"limits/personal/main.sieve:1"])
-    yield run("too few are noticed", room, "untested --json --fail-under 90 limits", [b'{"passed": false, "counts": {"noticed": 7, "changes": 11, "leave a fault": 0, "change nothing": 1}', b'"reached": false'], status=1)
+    others = [(1, "with its condition false: if size :over 18446744073709551615", True), (1, "without: discard;", False), (4, "with its condition false: if true", True), (4, "without: stop;", True)]
+    yield run("enough are noticed", room, "untested -q --fail-under 50 limits", lines(*unnoticed("limits/personal/main.sieve", *others)))
+    objects = [{"script": "limits/personal/main.sieve", "line": line, "change": what.partition(": ")[0], "text": what.partition(": ")[2], "reached": comes} for line, what, comes in others]
+    counts = {"noticed": 7, "changes": 11, "leave a fault": 0, "change nothing": 1}
+    few = {"passed": False, "counts": counts, "unnoticed": objects, "faults": [], "not judged": [], "not looked up": []}
+    yield run("too few are noticed", room, "untested --json --fail-under 90 limits", lines(json.dumps(few)), status=1)
     yield run("a number that isn't one", room, "untested --fail-under x limits", b"", told("argument --fail-under: 'x' isn't a number from 0 to 100; see --help"), 2)
 
 
@@ -174,11 +178,12 @@ def of_revisions(room):
     yield Run("a site in it", where, f"{commit} two && printf 'discard;' > s\u00fc/parts")
     wanted = lines("s\u00fc/mails/1.eml under main", '  - store "INBOX"', "  + discard  (s\u00fc/personal/part.sieve:1)", "1 of 1 verdict changed")
     yield run("since a revision", where, "diff --utf8 --git HEAD s\u00fc", wanted, status=1)
-    yield run("in a folder inside, as a hook has it", folder, "diff --utf8 --git HEAD .", [b"1 of 1 verdict changed"], status=1)
-    yield Run("sievebench-site: under the environment of a hook", where, f"GIT_DIR=.git GIT_INDEX_FILE=.git/index python3 {shlex.quote(str(TOOL))} diff --git HEAD s\u00fc", [b"1 of 1 verdict changed"], status=1)
+    inside = wanted.replace("s\u00fc/".encode(), b"./")
+    yield run("in a folder inside, as a hook has it", folder, "diff --utf8 --git HEAD .", inside, status=1)
+    yield Run("sievebench-site: under the environment of a hook", where, f"GIT_DIR=.git GIT_INDEX_FILE=.git/index python3 {shlex.quote(str(TOOL))} diff --utf8 --git HEAD s\u00fc", wanted, status=1)
     (folder / "with").write_text("vacation\n")
     told_of = "s\u00fc/with: it was another, and is taken for both\n".encode()
-    yield run("settings that changed since a revision", where, "diff --utf8 --git HEAD s\u00fc", [told_of], status=1)
+    yield run("settings that changed since a revision", where, "diff --utf8 --git HEAD s\u00fc", told_of + wanted, status=1)
     yield Run("a commit of them", where, f"{commit} three")
     yield run("settings that didn't", where, "diff --utf8 --git HEAD s\u00fc", lines("0 of 1 verdict changed"))
     yield run("a revision that lacks the site", where, "diff --git HEAD~2 s\u00fc", b"", told('the revision "HEAD~2" has no folder "s\\xc3\\xbc"'), 2)
@@ -247,7 +252,7 @@ class Watched:
         """What is reported otherwise, or too late."""
         read, got = queue.Queue(), []
         command, pipe = [sys.executable, str(TOOL), "watch", self.folder], subprocess.PIPE
-        with subprocess.Popen(command, cwd=self.room, env={**os.environ, "PATH": path}, stdin=subprocess.DEVNULL, stdout=pipe, stderr=pipe, text=True) as child:
+        with subprocess.Popen(command, cwd=self.room, env={**os.environ, "PATH": path}, stdin=subprocess.DEVNULL, stdout=pipe, stderr=pipe, text=True, preexec_fn=heeds) as child:
             threading.Thread(target=lambda: [read.put(line) for line in child.stdout], daemon=True).start()
             try:
                 for step in [lambda: None, *self.steps]:
@@ -255,10 +260,12 @@ class Watched:
                     self.wait(read, got, time.monotonic() + self.seconds)
                 time.sleep(1)
                 child.send_signal(signal.SIGINT)
+                child.wait(self.seconds)
                 said = child.stderr.read()
-                child.wait(SECONDS)
             except queue.Empty:
                 return [f"no report in {self.seconds} seconds after {got[-3:]}"]
+            except subprocess.TimeoutExpired:
+                return [f"no end in {self.seconds} seconds after Ctrl-C"]
             finally:
                 child.kill()
         got += [read.get() for _ in range(read.qsize())]

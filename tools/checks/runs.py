@@ -2,6 +2,7 @@
 import os
 import pathlib
 import shlex
+import signal
 import subprocess
 import sys
 
@@ -83,6 +84,21 @@ def tell(run, found):
     for line in found:
         print(f"{run.title}: {run.command:.300}\n  {line}")
     return bool(found)
+
+
+def differences(run, path):
+    """What comes of a run that must not. One that has no end in its time, or ends by an exception, has failed too."""
+    try:
+        return run.differences(path)
+    except subprocess.TimeoutExpired as late:
+        return [f"no end in {late.timeout:.0f} seconds"]
+    except Exception as error:
+        return [f"{type(error).__name__}: {error}"]
+
+
+def heeds():
+    """Lets a child heed Ctrl-C, which is ignored where the checks run in the background."""
+    signal.signal(signal.SIGINT, signal.SIG_DFL)
 
 
 def name_of(part):

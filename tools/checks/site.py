@@ -111,7 +111,7 @@ def of_names(room):
     write(room / "asked", {**files, "with": b"subaddress\r\n\nunused"})
     yield run("names of a site", room, "check --strict asked", lines(counted(1, 1, 1, 1, 0, 0, 0, 0)))
     write(room / "unasked", files)
-    yield run("no names of a site", room, "check unasked", [b"unasked/personal/main.sieve:1: not judged: requires subaddress, vacation: add them to the file with\n"], status=1)
+    yield run("no names of a site", room, "check unasked", lines("unasked/personal/main.sieve:1: not judged: requires subaddress, vacation: add them to the file with", 'unasked/mails/1.eml under main: not judged: personal "main" requires subaddress, vacation', counted(1, 1, 1, 0, 0, 0, 0, 0, further=["1 not judged"])), status=1)
     script = b'require ["mailbox", "fileinto", "envelope"]; if mailboxexists "Work" { fileinto :create "Work"; } if envelope "to" "c@d.example" { discard; }'
     files = {**site({"1.eml": b"", "1.eml.envelope": b"a@b.example c@d.example", "2.eml": b""}, main=script), "with": b"lines\nmailbox\n", "mailboxes": b"Home\r\nWork"}
     files.update({"mails/1.eml.expect": b'[main]\nstore "Work" create\ndiscard\n', "mails/2.eml.expect": b'[main]\nstore "Work" create\n'})
@@ -222,7 +222,8 @@ def of_programs(room):
         yield Run(f"sievebench-site: one file of it, {name}", room, f"python3 {shlex.quote(str(PACK))} {name}/sievebench-site")
     (room / "beside/sievebench").chmod(0o755)
     (room / "linked").symlink_to("beside/sievebench-site")
-    yield Run("sievebench-site: the program beside the tool", room, "python3 linked check good", b"", [b'/beside/sievebench" ended with status 4: "beside"\n'], 3)
+    beside = told(f'"{(room / "beside/sievebench").resolve()}" ended with status 4: "beside"')
+    yield Run("sievebench-site: the program beside the tool", room, "python3 linked check good", b"", beside, 3)
     yield Run("sievebench-site: a folder beside the tool", room, "python3 folder/sievebench-site lint good")
     write(room / "mute", {"program": b"#!/bin/sh\n", "failing": b"#!/bin/sh\necho 'out of memory' >&2\nexit 4\n", "noisy": NOISY})
     for name, sentence in (("program", "the program answered too little"), ("failing", '"mute/failing" ended with status 4: "out of memory"'), ("noisy", '"mute/noisy" ended with status 0: "noise"')):
@@ -261,6 +262,11 @@ for it in tree.parse(sys.argv[1]).iter():
 SUITE = ["testsuite", "sievebench-site"]
 
 
+def written(title, room, words, output, status=0):
+    """The tool with these words, which make it write `out.xml`: what is read of it is of this run, since an earlier one is taken out first."""
+    return Run(f"sievebench-site: {title}", room, f"rm -f out.xml; python3 {shlex.quote(str(TOOL))} {words}", output, status=status)
+
+
 def of_junit(room):
     """What servers read."""
     write(room / "both", site({"1.eml": b"", "1.eml.expect": b"[main]\ndiscard\n[other]\ndiscard\n"}, main=b"discard;", other=b"keep;"))
@@ -268,12 +274,13 @@ def of_junit(room):
     failed = ["failure", "the verdict isn't as expected", '- discard\n+ store "INBOX"  (both/personal/other.sieve:1)']
     rows = [[*SUITE, "2", "1", "0", ""], ["testcase", "main", "1.eml", ""], ["testcase", "other", "1.eml", ""], failed]
     junit = lines(*map(ascii, rows))
-    yield run("results of tests", room, "check --junit out.xml both > /dev/null; python3 read out.xml", junit)
-    yield run("results of tests alone", room, "check --format junit both > out.xml; python3 read out.xml", junit)
-    yield run("results of tests beside an object", room, "check --json --junit out.xml both > out.json; python3 read out.xml; head -c 16 out.json", junit + b'{"passed": false')
+    yield written("results of tests", room, "check --junit out.xml both > /dev/null; python3 read out.xml", junit)
+    yield written("results of tests alone", room, "check --format junit both > out.xml; python3 read out.xml", junit)
+    for words in ("--json --junit out.xml", "--junit=out.xml --format json"):
+        yield written(f"results of tests beside an object: {words}", room, f"check {words} both > out.json; echo $?; python3 read out.xml; head -c 16 out.json", b"1\n" + junit + b'{"passed": false')
     wrong = lines("both/mails/1.eml under other", "  - discard", '  + store "INBOX"  (both/personal/other.sieve:1)', counted(1, 2, 2, 1, 1, 0, 0, 0))
     for output in ("/dev/stdout", "/dev/fd/1"):
-        yield run(f"results of tests before the lines, by {output}", room, f"check --junit {output} both > all; sed '/^<.testsuite>/q' all > out.xml; python3 read out.xml; sed '1,/^<.testsuite>/d' all", junit + wrong)
+        yield written(f"results of tests before the lines, by {output}", room, f"check --junit {output} both > all; sed '/^<.testsuite>/q' all > out.xml; python3 read out.xml; sed '1,/^<.testsuite>/d' all", junit + wrong)
     odd = {'<&"\u00fc.eml': b"", '<&"\u00fc.eml.expect': b'[main]\nstore "A"\n', "2\u00fc.eml.expect": b""}
     write(room / "marks", {**site(odd, main='require "fileinto"; fileinto "<&\u00fc>";'.encode(), **{"\u00f6": b""}), "personal/broken.sieve": b"kep;"})
     # Each of the files is one failure, and that nothing is expected is one too.
@@ -284,7 +291,8 @@ def of_junit(room):
         ("with marks", "--lax", [[*SUITE, "3", "2", "1", ""], *wrong, ["skipped", ""], *wrong_file]),
         ("where all is wanted", "", [[*SUITE, "4", "4", "0", ""], *wrong, ["failure", *["nothing is expected"] * 2], *wrong_file, stale, ["failure", *["its mail isn't there"] * 2]]),
     ]:
-        yield run(f"results of tests, {title}", room, f"check {words} --junit out.xml marks > /dev/null; python3 read out.xml", lines(*map(ascii, rows)))
+        yield written(f"results of tests, {title}", room, f"check {words} --junit out.xml marks > /dev/null; python3 read out.xml", lines(*map(ascii, rows)))
+    yield written("no results of an earlier run where there is no result", room, "check --junit out.xml both > /dev/null; python3 %s check --junit out.xml --only x.eml both 2> /dev/null; echo $?; ls out.xml 2> /dev/null" % shlex.quote(str(TOOL)), b"2\n", status=2)
     yield run("a file of results that can't be written is reported before the run", room, "check --program ./absent --junit nowhere/out.xml both", b"", told('cannot write "nowhere/out.xml": No such file or directory'), 2)
     yield run("a folder of results", room, "check --junit marks both", b"", told('cannot write "marks": Is a directory'), 2)
 
@@ -300,8 +308,8 @@ def of_objects(room):
     empty = '"faults": [], "not judged": [], "skipped": [], "stale": [], "left out": []'
     for words in ("--json", "--format json"):
         yield run(f"an object by {words}", room, f"check {words} both", lines(f'{{"passed": false, "counts": {{{counts}}}, "cases": [{cases}], {empty}}}'), status=1)
-    for words in ("--format junit --json", "--json --format=junit"):
-        yield run(f"two forms: {words}", room, f"check {words} both", b"", [b"not allowed with argument --"], 2)
+    for words, options in (("--format junit --json", ("--json", "--format")), ("--json --format=junit", ("--format", "--json"))):
+        yield run(f"two forms: {words}", room, f"check {words} both", b"", told("argument {}: not allowed with argument {}; see --help".format(*options)), 2)
     write(room / "mark", site({"\u00fc.eml": b""}, **{"\u00f6": 'require "fileinto"; fileinto "\u00e4";'.encode()}))
     counts = ", ".join(f'"{what}": {number}' for what, number in zip(COUNTS + MORE, (1, 1, 1, 0, 0, 1, 0, 0, 0, 0, 0, 0)))
     cases = '{"mail": "\\u00fc.eml", "main": "\\u00f6", "agrees": null, "skipped": false, "expected": null, "verdict": ["store \\"\\\\xc3\\\\xa4\\""], "lines": ["mark/personal/\\u00f6.sieve:1"]}'
@@ -389,11 +397,13 @@ def of_lints(room):
     yield run("a fault that stands twice on a line", room, "lint twice", lines("twice/personal/main.sieve:1: bad-address: This isn't one address."), status=1)
 
 
+# In place of sievec: it compiles what has no `reject`, and is given where the scripts are that those include.
+SIEVEC = '#!/bin/sh\n[ "$2 $4" = "plugin/sieve=file:$PWD/SITE/personal plugin/sieve_global=file:$PWD/SITE/global" ] || exit 9\n! grep -n reject "$5" > /dev/null || { echo "x: line 2: error: there is a reject" >&2; exit 89; }\n'
+
+
 def of_sievec(room):
     """What sievec says otherwise."""
-    # In place of sievec: it compiles what has no `reject`, and is given where the scripts are that those include.
-    fake = '#!/bin/sh\n[ "$2 $4" = "plugin/sieve=file:$PWD/peer/personal plugin/sieve_global=file:$PWD/peer/global" ] || exit 9\n! grep -n reject "$5" > /dev/null || { echo "x: line 2: error: there is a reject" >&2; exit 89; }\n'
-    write(room / "peer", {"bin/sievec": fake.encode(), "personal/main.sieve": b'require "include"; include "a";\ninclude "gone";', "personal/a.sieve": b"\nkep;", "personal/b.sieve": b"# reject", "personal/both.sieve": b"keep;", "personal/c.sieve": b"reject;", "mains": b"main\n"})
+    write(room / "peer", {"bin/sievec": SIEVEC.replace("SITE", "peer").encode(), "personal/main.sieve": b'require "include"; include "a";\ninclude "gone";', "personal/a.sieve": b"\nkep;", "personal/b.sieve": b"# reject", "personal/both.sieve": b"keep;", "personal/c.sieve": b"reject;", "mains": b"main\n"})
     (room / "peer/bin/sievec").chmod(0o755)
     wanted = ["a.sieve:2: unknown-command: There is no such command or test.", "c.sieve:1: unknown-command: There is no such command or test. reject needs reject, which the script doesn't require.", 'main.sieve:1: invalid-script: The script personal "a" has a fault.', 'main.sieve:2: missing-script: There is no script personal "gone".', "a.sieve:2: sievec: It compiles this.", "b.sieve:2: sievec: there is a reject", "main.sieve:1: sievec: It compiles this."]
     yield Run("sievebench-site: where sievec says otherwise", room, f'PATH="$PWD/peer/bin:$PATH" python3 {shlex.quote(str(TOOL))} lint --sievec peer', lines(*(f"peer/personal/{line}" for line in wanted)), status=1)

@@ -46,13 +46,22 @@ def of_cautions(room):
     yield run("uses of mailboxes", room, "lint uses", lines(*(f"uses/personal/main.sieve:{line}: bad-mailbox: This is no use of a mailbox: one is a backslash and a word." for line in (2, 5))), status=1)
     boxes = b'require ["fileinto", "mailbox", "variables", "imap4flags"];\nfileinto "A";\nfileinto :create "B";\nfileinto :flags "c" "C";\nfileinto "${a}";\nfileinto "INBOX";\nif mailboxexists "A" {}\n'
     write(room / "boxed", {"personal/main.sieve": boxes, "mains": b"main\n", "with": b"mailbox\n", "mailboxes": b"A\nB\n"})
+    junk = b'require ["fileinto", "mailbox", "special-use"];\nfileinto :specialuse "\\\\Junk" "C";\nfileinto :specialuse "\\\\Junk" "A";\nfileinto :create :specialuse "\\\\Junk" "D";\n'
+    used = {**site({"1.eml": b""}, main=junk), "with": b"mailbox\nspecial-use\n", "mailboxes": b"A\n"}
+    write(room / "used", used)
+    lacks = 'used/personal/main.sieve:2: no-mailbox: No line of mailboxes is "C", and nothing makes it: unless a mailbox has the special use, the server keeps the mail in INBOX.'
+    yield run("mailboxes of a special use that nothing makes", room, "lint used", lines(lacks))
+    yield run("the same of a mail", room, "why used 1.eml | grep no-mailbox", lines(f"    {lacks}"))
     missing = 'no-mailbox: No line of mailboxes is "C", and nothing makes it: the server keeps the mail in INBOX.'
     yield run("mailboxes that nothing makes", room, "lint boxed", lines(f"boxed/personal/main.sieve:4: {missing}"))
     write(room / "unboxed", {"personal/main.sieve": boxes, "mains": b"main\n", "with": b"mailbox\n"})
     yield run("a question for mailboxes of which there is no list", room, "lint unboxed", lines("unboxed/personal/main.sieve:7: no-mailboxes: It asks whether a mailbox exists, and the site has no mailboxes."))
     answers = b'require "vacation";\nvacation "away";\n'
     write(room / "away", {**site({"1.eml": b"List-Id: <a.b>\n\n", "2.eml": b"From: a@b.example\n\n"}, main=answers), "with": b"vacation\n", "envelope": b"a@b.example c@d.example"})
-    yield run("a mail that no server answers", room, "why away 1.eml", [b'\n    away/personal/main.sieve:2: no-answer: The server doesn\'t answer this mail: it has the field "list-id: <a.b>".\n'])
+    at = "away/personal/main.sieve"
+    whole = ["away/mails/1.eml under main", "  what becomes of it:", f'    vacation "away"  ({at}:2)', '    implicit "INBOX"', "  what a server may do otherwise:"]
+    whole += [f'    {at}:2: no-answer: The server doesn\'t answer this mail: it has the field "list-id: <a.b>".', "  scripts that are looked up:", f"    {at}", "  no branch is taken"]
+    yield run("a mail that no server answers", room, "why away 1.eml", lines(*whole))
     yield run("one that servers answer", room, "why away 2.eml | grep -c server", b"0\n", status=1)
     yield run("verdicts with answers are written", room, "record -q away")
     yield run("an answer is expected that no server sends", room, "lint away", lines('away/mails/1.eml.expect:2: no-answer: The server doesn\'t answer this mail: it has the field "list-id: <a.b>".'))

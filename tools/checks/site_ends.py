@@ -11,7 +11,7 @@ import sys
 import time
 
 from . import site_cautions
-from .runs import SECONDS, LeftOut, Run, lines, some
+from .runs import SECONDS, LeftOut, Run, heeds, lines, some
 from .site import PACK, TOOL, counted, run, site, told, write
 
 DISCARDS = b"[main]\ndiscard\n"
@@ -33,17 +33,20 @@ class Ended:
     def differences(self, path):
         """What is otherwise."""
         command = [sys.executable, "-B", str(TOOL), *self.words]
-        # Where this runs in the background, Ctrl-C may be ignored.
-        heeds = lambda: signal.signal(signal.SIGINT, signal.SIG_DFL)
         with subprocess.Popen(command, cwd=self.room, env={**os.environ, "PATH": path}, stdout=subprocess.PIPE, stderr=subprocess.PIPE, preexec_fn=heeds) as child:
-            end = time.monotonic() + SECONDS
-            while not (self.room / "asleep").exists() and time.monotonic() < end:
-                time.sleep(0.01)
-            below = children(child.pid)
-            child.send_signal(self.number)
-            began = time.monotonic()
-            got = child.communicate(timeout=SECONDS), child.returncode
-        seconds = time.monotonic() - began
+            try:
+                end = time.monotonic() + SECONDS
+                while not (self.room / "asleep").exists():
+                    if child.poll() is not None or time.monotonic() > end:
+                        return [f"no run sleeps in {SECONDS} seconds: status {child.poll()}"]
+                    time.sleep(0.01)
+                below = children(child.pid)
+                child.send_signal(self.number)
+                began = time.monotonic()
+                got = child.communicate(timeout=SECONDS), child.returncode
+                seconds = time.monotonic() - began
+            finally:
+                child.kill()
         found = [] if got == ((b"", b""), 128 + self.number) else [f"got {got}"]
         found += [] if below and seconds < 5 else [f"{len(below)} children, ended in {seconds:.1f} seconds"]
         found += [f"process {it} is left" for it in below if os.path.exists(f"/proc/{it}")]
@@ -94,7 +97,7 @@ def of_colours(room):
     write(room / "tones", site({"1.eml": b"", "1.eml.expect": b'[main]\nredirect "a"\n'}, main=b"discard;"))
     terminal = "python3 -c 'import pty, sys; sys.exit(pty.spawn(sys.argv[1:]) >> 8)'"
     tool = f"python3 {shlex.quote(str(TOOL))} check tones"
-    yield Run("sievebench-site: colours on a terminal", room, f"TERM=xterm {terminal} {tool} | tr -d '\\r'", [b'  \x1b[31m- redirect "a"\x1b[0m\n', b"  \x1b[32m+ discard\x1b[0m  (tones"])
+    yield Run("sievebench-site: colours on a terminal", room, f"TERM=xterm {terminal} {tool} | tr -d '\\r'", lines("tones/mails/1.eml under main", '  \x1b[31m- redirect "a"\x1b[0m', "  \x1b[32m+ discard\x1b[0m  (tones/personal/main.sieve:1)", counted(1, 1, 1, 0, 1, 0, 0, 0)))
     for setting in ("NO_COLOR=1 TERM=xterm", "TERM=dumb"):
         yield Run(f"sievebench-site: no colours, {setting}", room, f"{setting} {terminal} {tool} | tr -d '\\r' | grep -c '^  - redirect \"a\"$'", b"1\n")
 
@@ -109,8 +112,11 @@ class Sized:
         """What is otherwise."""
         command = [sys.executable, "-B", str(TOOL), *self.command.split()]
         with subprocess.Popen(command, cwd=self.room, env={**os.environ, "PATH": path}, stdout=subprocess.PIPE) as child:
-            most = 0
+            most, end = 0, time.monotonic() + SECONDS
             while child.poll() is None:
+                if time.monotonic() > end:
+                    child.kill()
+                    return [f"no end in {SECONDS} seconds"]
                 most = max(most, sum(resident(it) for it in (child.pid, *map(int, children(child.pid)))))
                 time.sleep(0.02)
             output = child.stdout.read()
@@ -159,7 +165,7 @@ def of_imports(room):
     for pack, name in (("gzip -k", "gz"), ("bzip2 -k", "bz2"), ("xz -k", "xz"), ("zstd -q", "zst")):
         if shutil.which(pack.split()[0]):
             packed = f"{pack} box && python3 {shlex.quote(str(TOOL))} import md box.{name} site; status=$?; ls site/mails | wc -l; exit $status"
-            yield Run(f"sievebench-site: what is packed by {pack.split()[0]} is refused, and nothing is taken", room / "taken", packed, lines("8"), [f'"box.{name}" is packed by '.encode()], 2)
+            yield Run(f"sievebench-site: what is packed by {pack.split()[0]} is refused, and nothing is taken", room / "taken", packed, lines("8"), told(f'"box.{name}" is packed by {pack.split()[0]}: unpack it, and take what comes of it'), 2)
     yield run("a program and an empty file are refused", room / "taken", "import $(command -v python3) site; touch empty; python3 %s import empty site" % shlex.quote(str(TOOL)), b"", [b'" is a program\n', b'"empty" is empty: there is no mail in it\n'], 2)
 
 
@@ -198,7 +204,7 @@ def of_servers(room):
     found = f'{made}; export PATH="$PWD/bin:$PATH";'
     shutil.copy(SERVERS / "check.sh", room)
     agree = lines(counted(1, 1, 1, 1, 0, 0, 0, 0))
-    yield Run("examples for servers: check.sh", room, f"{found} ./check.sh && head -c 5 results.xml", agree + b"<?xml")
+    yield Run("examples for servers: check.sh", room, f"{found} rm -f results.xml; ./check.sh && head -c 5 results.xml", agree + b"<?xml")
     for form in ("github", "gitlab"):
         steps = re.findall(STEP, (SERVERS / f"{form}.yml").read_text(encoding="utf-8"), re.M)
         assert steps, f"examples for servers: {form}.yml has no step"

@@ -73,7 +73,7 @@ All rows together stand on 0 definitions of 0 lines.
 }
 
 
-# What the pages say after what stands at the top.
+# What the pages say after what stands at the top, which is that of the repository's.
 PAGES = {
     "CLAUSES.md": """\
 ## ending
@@ -154,6 +154,11 @@ OWN = [
 ]
 
 
+def top_of(page):
+    """What stands at the top of a page, as that of the repository has it. Nothing is made at the top of the promises."""
+    return "" if page == "PROVED.md" else (TOP / "docs" / page).read_text(encoding="utf-8").partition("## ")[0]
+
+
 def of_sections(room, each, cases):
     """Sections whose RFC is named, and refusals of those without. Where each comment names its own, `each` says so."""
     for title, change, printed, said in cases:
@@ -161,7 +166,7 @@ def of_sections(room, each, cases):
 
 
 def of_tables(room):
-    """The pages, without what they say at the top, that nothing changes the second time, and sections without an RFC."""
+    """The pages, that nothing changes the second time, and sections without an RFC."""
     for name, text in FILES.items():
         (room / name).parent.mkdir(parents=True, exist_ok=True)
         (room / name).write_text(text, encoding="utf-8")
@@ -172,7 +177,7 @@ def of_tables(room):
     changed = "docs/CLAUSES.md has changed\ndocs/RULES.md has changed\ndocs/PROVED.md has changed\n"
     yield Run("tables of a small crate", room, "tools/tables", changed.encode())
     for page, text in PAGES.items():
-        yield Run(f"tables of a small crate: {page}", room, f"sed -n '/^## /,$p' docs/{page}", text.encode())
+        yield Run(f"tables of a small crate: {page}", room, f"cat docs/{page}", (top_of(page) + text).encode())
     yield Run("tables that are made already", room, "tools/tables", b"")
     yield from of_sections(room, "", EARLIER)
     yield from of_sections(room, ", where each comment names its own", OWN)

@@ -48,10 +48,14 @@ def of_scripts(site: Site, scripts: Iterable[Script]) -> Iterator[Finding]:
                 yield Finding(script.path, line, lack.kind, lack.text, NOTE)
 
 
-def of_store(site: Site, path: bytes, line: int, name: bytes) -> Iterator[Finding]:
-    """What is said of a store into a mailbox that nothing makes."""
+def of_store(site: Site, path: bytes, line: int, name: bytes, use: bool) -> Iterator[Finding]:
+    """What is said of a store into a mailbox that nothing makes. One of a special use goes to this mailbox where none has the use (RFC 8579,
+    section 4)."""
     if site.mailboxes and name.upper() != b"INBOX" and name not in lines_of(site.mailboxes):
-        text = f"No line of mailboxes is {quoted(name)}, and nothing makes it: the server keeps the mail in INBOX."
+        unless = "unless a mailbox has the special use, " if use else ""
+        text = (
+            f"No line of mailboxes is {quoted(name)}, and nothing makes it: {unless}the server keeps the mail in INBOX."
+        )
         yield Finding(path, line, "no-mailbox", text, NOTE)
 
 
@@ -61,7 +65,8 @@ def of_verdict(site: Site, user: User, verdict: Verdict, why_unanswered: Optiona
         path, number = entered_by(user, line)
         if line.text.startswith(b"store "):
             words, _, asks = store_parts(line.text)
-            yield from [] if asks else of_store(site, path, number, unquoted(words[1]))
+            if b"create" not in asks:
+                yield from of_store(site, path, number, unquoted(words[1]), b"special-use" in asks)
         elif line.text.startswith(b"vacation ") and why_unanswered:
             yield no_answer(path, number, why_unanswered)
 

@@ -3,11 +3,23 @@
 from __future__ import annotations
 
 import json
-from typing import Dict, Iterator, List, Optional
+from typing import Dict, Iterator, List, Optional, Tuple
 
 from . import findings
-from .checked import EXPECTS_NOTHING, Checked
-from .findings import ANNOTATED, NOTE, PLAIN, SKIPPED, Finding, Test
+from .checked import (
+    AGREES,
+    DISAGREES,
+    EXPECTS_NOTHING,
+    FAULT,
+    LEFT_OUT,
+    PASSED_OVER,
+    STALE,
+    UNEXPECTED,
+    UNJUDGED,
+    Checked,
+    kind_of,
+)
+from .findings import ANNOTATED, ERROR, PLAIN, Finding, Test
 from .groups import FIRST, Group, difference, name_of
 from .judge import Case
 from .mails import LeftOut
@@ -27,9 +39,10 @@ def text_of(checked: Checked, look: Look, quiet: bool, shard: Optional[Shard] = 
         told += heads(group, look, "") + [f"  {line}" for line in difference(group, look)]
     for group in checked.groups(checked.unjudged):
         told += heads(group, look, f": not judged: {group.cases[0].unjudged}")
-    if not checked.lax:
+    if checked.level(UNEXPECTED):
         for group in checked.groups(checked.unexpected):
             told += heads(group, look, f": {EXPECTS_NOTHING}")
+    if checked.level(STALE):
         told += [f"{look.name(it.path)}: {it.why(look)}" for it in beside.stale]
     if not quiet:
         told += left_out(beside.left_out, look, checked.each)
@@ -60,67 +73,75 @@ def left_out(found: List[LeftOut], look: Look, each: bool, what: str = "left out
 
 
 def findings_of(checked: Checked) -> Iterator[Finding]:
-    """The results, each with a file and a line."""
-    for fault in checked.beside.broken:
-        yield Finding(fault.path, fault.line, fault.word, fault.sentence)
-    for path, line, why in checked.beside.lacking:
-        yield Finding(path, line, "not-judged", why)
-    for path, line, why in checked.beside.passed_over:
-        yield Finding(path, line, "skipped", ANNOTATED.line(why.encode()), SKIPPED)
+    """The results that are told, each with a file and a line, and as what it counts."""
+    for kind, finding in found_by(checked):
+        level = checked.level(kind)
+        if level:
+            yield finding._replace(level=level)
+
+
+def found_by(checked: Checked) -> Iterator[Tuple[str, Finding]]:
+    """All results, each with its kind."""
+    beside = checked.beside
+    for fault in beside.broken:
+        yield FAULT, Finding(fault.path, fault.line, fault.word, fault.sentence)
+    for path, line, why in beside.lacking:
+        yield UNJUDGED, Finding(path, line, UNJUDGED, why)
+    for path, line, why in beside.passed_over:
+        yield PASSED_OVER, Finding(path, line, PASSED_OVER, ANNOTATED.line(why.encode()))
     for group in checked.groups(checked.wrong):
         block = group.cases[0].block
         text = "\n".join([*heads(group, ANNOTATED, ""), *difference(group, ANNOTATED)])
         if block:
-            yield Finding(block.path, block.number, "disagrees", text)
-    for group in checked.groups(checked.unjudged):
-        text = "\n".join(heads(group, ANNOTATED, f": {group.cases[0].unjudged}"))
-        yield Finding(group.cases[0].mail.path, 0, "not-judged", text)
-    for group in checked.groups(checked.skipped):
-        text = "\n".join(heads(group, ANNOTATED, f": {group.cases[0].unjudged}"))
-        yield Finding(group.cases[0].mail.path, 0, "skipped", text, SKIPPED)
-    if not checked.lax:
-        for group in checked.groups(checked.unexpected):
-            yield Finding(
-                group.cases[0].mail.path,
-                0,
-                "nothing-expected",
-                "\n".join(heads(group, ANNOTATED, f": {EXPECTS_NOTHING}")),
-            )
-        for it in checked.beside.stale:
-            yield Finding(it.path, it.line, "stale", it.why(ANNOTATED))
-    for path, why in checked.beside.left_out:
-        yield Finding(path, 0, "left-out", why, NOTE)
+            yield DISAGREES, Finding(block.path, block.number, DISAGREES, text)
+    for kind, cases in ((UNJUDGED, checked.unjudged), (PASSED_OVER, checked.skipped), (UNEXPECTED, checked.unexpected)):
+        for group in checked.groups(cases):
+            case = group.cases[0]
+            text = "\n".join(heads(group, ANNOTATED, f": {case.unjudged or EXPECTS_NOTHING}"))
+            yield kind, Finding(case.mail.path, 0, kind, text)
+    for it in beside.stale:
+        yield STALE, Finding(it.path, it.line, STALE, it.why(ANNOTATED))
+    for path, why in beside.left_out:
+        yield LEFT_OUT, Finding(path, 0, LEFT_OUT, why)
 
 
 def tests_of(checked: Checked) -> Iterator[Test]:
-    """A test for each mail under each main script, and for what else fails."""
+    """A test for each mail under each main script, and for what else is told."""
     for case in checked.cases:
         yield test_of(checked, case)
-    for fault in checked.beside.broken:
-        yield Test("sievebench-site", PLAIN.name(fault.path), 0, f"line {fault.line} {fault.word}", fault.sentence)
-    for path, line, why in checked.beside.lacking:
-        yield Test("sievebench-site", PLAIN.name(path), 0, f"line {line} not judged", why)
-    for path, _, why in checked.beside.passed_over:
-        yield Test("sievebench-site", PLAIN.name(path), 0, None, PLAIN.line(why.encode()), True)
-    for it in [] if checked.lax else checked.beside.stale:
-        yield Test("sievebench-site", PLAIN.name(it.path), 0, it.why(PLAIN))
+    for kind, test in tests_beside(checked):
+        level = checked.level(kind)
+        if level:
+            yield test if level == ERROR else test._replace(failure=None, skipped=True)
+
+
+def tests_beside(checked: Checked) -> Iterator[Tuple[str, Test]]:
+    """A test for each of what belongs to no verdict, with its kind."""
+    name, beside = "sievebench-site", checked.beside
+    for fault in beside.broken:
+        yield FAULT, Test(name, PLAIN.name(fault.path), 0, f"line {fault.line} {fault.word}", fault.sentence)
+    for path, line, why in beside.lacking:
+        yield UNJUDGED, Test(name, PLAIN.name(path), 0, f"line {line} not judged", why)
+    for path, _, why in beside.passed_over:
+        yield PASSED_OVER, Test(name, PLAIN.name(path), 0, None, PLAIN.line(why.encode()))
+    for it in beside.stale:
+        yield STALE, Test(name, PLAIN.name(it.path), 0, it.why(PLAIN))
 
 
 def test_of(checked: Checked, case: Case) -> Test:
-    """The test of a case."""
-    failure: Optional[str] = None
-    text = ""
-    if case.skipped:
-        text = f"not judged: {case.unjudged}"
+    """The test of a case, which fails where the check does so by it, and is skipped where it says nothing."""
+    kind = kind_of(case)
+    fails = checked.level(kind) == ERROR
+    why, text = EXPECTS_NOTHING, ""
+    if kind == DISAGREES:
+        why, text = "the verdict isn't as expected", "\n".join(difference(Group([case]), PLAIN))
     elif case.unjudged:
-        failure = f"not judged: {case.unjudged}"
-    elif case.agrees() is False:
-        text = "\n".join(difference(Group([case]), PLAIN))
-        failure = "the verdict isn't as expected"
-    elif case.agrees() is None and not checked.lax:
-        failure = EXPECTS_NOTHING
-    skipped = failure is None and case.agrees() is None
-    return Test(PLAIN.name(case.main.label()), PLAIN.name(case.mail.name), case.seconds, failure, text, skipped)
+        why = f"not judged: {case.unjudged}"
+        text = "" if fails else why
+    skipped = not fails and kind != AGREES
+    return Test(
+        PLAIN.name(case.main.label()), PLAIN.name(case.mail.name), case.seconds, why if fails else None, text, skipped
+    )
 
 
 def object_of(checked: Checked) -> Dict[str, object]:

@@ -2,10 +2,11 @@
 
 from __future__ import annotations
 
-from typing import Dict, Iterable, List, NamedTuple, Optional, Set
+from typing import Dict, Iterable, Iterator, List, NamedTuple, Optional, Set
 
 from .expected import Key
 from .faults import sentence_of
+from .findings import ERROR, NOTE, SKIPPED
 from .folder import Site
 from .groups import Group, changes, grouped
 from .judge import Case, Judged
@@ -14,6 +15,11 @@ from .shards import Shard
 from .shown import Look
 from .survey import Noted
 
+# The kinds of what is found: those that fail a check, those that do so unless it is lax, and the others, of which two are told.
+FAILING = FAULT, DISAGREES, UNJUDGED = "fault", "disagrees", "not-judged"
+STRICT = UNEXPECTED, STALE = "nothing-expected", "stale"
+AGREES, PASSED_OVER, LEFT_OUT = "agrees", "skipped", "left-out"
+LEVELS = {PASSED_OVER: SKIPPED, LEFT_OUT: NOTE}
 EXPECTS_NOTHING = "nothing is expected"
 # What is wrong with a line that lists what can't be judged.
 JUDGED, NOWHERE = "{} can be judged", "no script and no user is called {}"
@@ -83,20 +89,32 @@ class Found(NamedTuple):
 NOTHING = Beside([], [], [], [], [])
 
 
+def kind_of(case: Case) -> str:
+    """Of which kind a case is."""
+    if case.unjudged:
+        return PASSED_OVER if case.skipped else UNJUDGED
+    agrees = case.agrees()
+    return UNEXPECTED if agrees is None else AGREES if agrees else DISAGREES
+
+
 class Checked:
-    """The results of a check."""
+    """The results of a check, and whether it has failed: all forms in which they are told have that from here."""
 
     def __init__(self, found: Found, lax: bool, each: bool) -> None:
-        self.found, self.lax, self.each = found, lax, each
+        self.found, self.each = found, each
         self.cases, self.beside = found.cases, found.beside
-        ends = [(case, case.agrees()) for case in self.cases]
-        self.agreeing = sum(agrees is True for _, agrees in ends)
-        self.wrong = [case for case, agrees in ends if agrees is False]
-        self.unjudged = [case for case in self.cases if case.unjudged and not case.skipped]
-        self.skipped = [case for case in self.cases if case.skipped]
-        self.unexpected = [case for case, agrees in ends if agrees is None and not case.unjudged]
-        strictly = not lax and (self.unexpected or self.beside.stale)
-        self.failed = bool(self.wrong or self.unjudged or self.beside.broken or self.beside.lacking or strictly)
+        self.fails = FAILING if lax else (*FAILING, *STRICT)
+        kinds: Dict[str, List[Case]] = {}
+        for case in self.cases:
+            kinds.setdefault(kind_of(case), []).append(case)
+        self.agreeing = len(kinds.get(AGREES, []))
+        self.wrong, self.unjudged = kinds.get(DISAGREES, []), kinds.get(UNJUDGED, [])
+        self.skipped, self.unexpected = kinds.get(PASSED_OVER, []), kinds.get(UNEXPECTED, [])
+        self.failed = any(self.level(kind) == ERROR for kind in (*kinds, *kinds_beside(self.beside)))
+
+    def level(self, kind: str) -> Optional[str]:
+        """How what is of a kind counts: it fails the check, is known and passes, or is only reported. The rest isn't told."""
+        return ERROR if kind in self.fails else LEVELS.get(kind)
 
     def counts(self) -> Dict[str, int]:
         """The counts that are always told."""
@@ -123,6 +141,12 @@ class Checked:
     def groups(self, cases: List[Case]) -> List[Group]:
         """Cases in groups, by their differences and why they aren't judged."""
         return grouped(cases, lambda case: case.unjudged or (changes(case) if case.block else None), self.each)
+
+
+def kinds_beside(beside: Beside) -> Iterator[str]:
+    """The kinds of what belongs to no verdict."""
+    found = {FAULT: beside.broken, UNJUDGED: beside.lacking, STALE: beside.stale}
+    return (kind for kind, those in found.items() if those)
 
 
 def found_in(site: Site, judged: Judged, shard: Optional[Shard] = None) -> Found:

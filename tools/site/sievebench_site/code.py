@@ -18,7 +18,7 @@ REDIRECT = rb"[0-9]+: redirect (" + LITERAL + rb")(?: copy)? @([0-9]+)"
 FLAGS, COPY = rb"(?: internal| flags \[.*\])", rb"(?: copy)? @([0-9]+)"
 STORE = rb"[0-9]+: fileinto (" + LITERAL + rb")" + FLAGS + rb"(?: create)?(?: special-use " + STRING + rb")?" + COPY
 USE = rb"[0-9]+: fileinto " + STRING + FLAGS + rb"(?: create)? special-use (" + LITERAL + rb")" + COPY
-PLAIN_STORE = re.compile(rb"[0-9]+: fileinto (" + LITERAL + rb")" + FLAGS + COPY)
+PLAIN_STORE = re.compile(rb"[0-9]+: fileinto (" + LITERAL + rb")" + FLAGS + rb"( special-use " + STRING + rb")?" + COPY)
 ANSWER = rb"[0-9]+: vacation(?: days [0-9]+)?(?: subject " + STRING + rb")? from (" + LITERAL + rb") .* @([0-9]+)"
 NO_USE = "This is no use of a mailbox: one is a backslash and a word."
 
@@ -60,11 +60,12 @@ class Action(NamedTuple):
 
 
 class Store(NamedTuple):
-    """A store: its script and line, and the mailbox."""
+    """A store: its script and line, the mailbox, and whether it asks for a special use."""
 
     script: Script
     line: int
     mailbox: bytes
+    use: bool
 
 
 class Code:
@@ -119,11 +120,11 @@ class Code:
                         yield Action(self.scripts[place], int(found[2]), shown, kind.sentence)
 
     def plain_stores(self) -> Iterator[Store]:
-        """The stores that take a mailbox by its name alone, without a variable."""
+        """The stores that make no mailbox, and name one without a variable."""
         for place, operations in self.operations.items():
             for found in map(PLAIN_STORE.fullmatch, operations or []):
                 if found:
-                    yield Store(self.scripts[place], int(found[2]), unquoted(found[1]))
+                    yield Store(self.scripts[place], int(found[3]), unquoted(found[1]), bool(found[2]))
 
     def sound(self) -> List[Script]:
         """The scripts without a fault."""

@@ -5,13 +5,12 @@ import contextlib
 import io
 import os
 import re
-import subprocess
 import tarfile
 from typing import Dict, Iterator, List, NamedTuple, Optional, Tuple
 
 from .chains import NOTHING, chained
 from .check import heads
-from .ends import fail, refuse
+from .ends import fail, ran, refuse
 from .expected import Block
 from .faults import sentence_of
 from .files import octets_if_any, temporary_folder
@@ -26,8 +25,8 @@ from .survey import Survey
 from .words import quoted
 
 Scripts = Dict[Place, bytes]
-# The files beside scripts that change verdicts too.
-SETTINGS = (b"with", b"mailboxes", b"clock")
+# The files beside scripts that change verdicts too, each with the name that asks for it.
+SETTINGS = ((b"mailboxes", b"mailbox"), (b"clock", b"date"))
 # What an environment may say of another repository than that of the site, as git does in hooks.
 ELSEWHERE = ("GIT_DIR", "GIT_WORK_TREE", "GIT_INDEX_FILE", "GIT_PREFIX")
 
@@ -58,7 +57,7 @@ class Diff:
     def __init__(self, old: Site, new: Site, program: Program, jobs: int) -> None:
         self.old, self.new, self.judge = old, new, Judge(new, program, jobs)
         # The other site may be gone when this is told.
-        self.settings = [name for name in SETTINGS if setting(old, name) != setting(new, name)]
+        self.settings = list(other_settings(old, new))
         found = zip(old.users, surveys(old, program, jobs))
         self.former = {user.name: Former(user, survey) for user, survey in found}
         cases = [it for part in self.judge.batches(self.batch, self.refused) for it in part]
@@ -121,9 +120,10 @@ class Diff:
         told: Dict[str, None] = {}
         for user, survey in zip(self.new.users, self.judge.surveys):
             former = self.former.get(user.name)
-            for script, fault in survey.broken(user):
-                if former is None or former.survey.faults.get(script.at()) != fault:
-                    told[f"{look.name(script.path)}:{fault[0]}: {fault[1]}: {sentence_of(script, *fault)}"] = None
+            before = faults_of(former.user, former.survey) if former else {}
+            for at, (path, fault) in faults_of(user, survey).items():
+                if at not in before or before[at][1] != fault:
+                    told[f"{look.name(path)}:{fault}"] = None
         return iter(told)
 
     def summary(self) -> str:
@@ -131,6 +131,22 @@ class Diff:
         told = len(self.cases) - len(self.unjudged)
         more = f", {len(self.unjudged)} not judged" if self.unjudged else ""
         return f"{len(self.changed)} of {counted(told, 'verdict')} changed{more}"
+
+
+def faults_of(user: User, survey: Survey) -> Dict[Place, Tuple[bytes, str]]:
+    """The files of a user's scripts that have a fault, and what is said of it."""
+    found = survey.broken(user)
+    return {it.at(): (it.path, f"{line}: {word}: {sentence_of(it, line, word)}") for it, (line, word) in found}
+
+
+def other_settings(old: Site, new: Site) -> Iterator[bytes]:
+    """The files beside scripts that are taken for both sites and said something else in the other one."""
+    if set(old.names) != set(new.names):
+        yield b"with"
+    for name, asks in SETTINGS:
+        given = name == b"clock" and new.wanted.clock is not None
+        if asks in new.names and not given and setting(old, name) != setting(new, name):
+            yield name
 
 
 def setting(site: Site, name: bytes) -> bytes:
@@ -216,9 +232,8 @@ def revision(name: str, folder: bytes) -> Iterator[bytes]:
 def git(folder: bytes, words: List[str]) -> Optional[bytes]:
     """What git prints in a folder, if it succeeds."""
     env = {name: value for name, value in os.environ.items() if name not in ELSEWHERE}
-    quiet, pipe = subprocess.DEVNULL, subprocess.PIPE
     try:
-        done = subprocess.run(["git", *words], cwd=folder, env=env, stdin=quiet, stdout=pipe, stderr=quiet)
+        done = ran(["git", *words], folder, env)
     except OSError as error:
         fail(f'cannot run "git": {error.strerror}')
     return None if done.returncode else done.stdout

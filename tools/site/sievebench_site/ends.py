@@ -7,8 +7,11 @@ import os
 import signal
 import subprocess
 import threading
+import time
 from types import FrameType
-from typing import Callable, Iterator, NoReturn, Optional, Set
+from typing import Callable, Dict, Iterator, NoReturn, Optional, Sequence, Set, Union
+
+Word = Union[bytes, str]
 
 
 class Refusal(Exception):
@@ -52,7 +55,7 @@ class Children:
         finally:
             child.kill()
             child.wait()
-            for pipe in (child.stdin, child.stdout):
+            for pipe in (child.stdin, child.stdout, child.stderr):
                 with contextlib.suppress(OSError):
                     pipe and pipe.close()
             self.running.discard(child)
@@ -63,13 +66,27 @@ class Children:
             child.kill()
 
     def wait(self) -> None:
-        """Waits until they have ended, which doesn't take long where they were killed."""
+        """Waits until they have ended, which doesn't take long where they were killed, and first for those that start at this moment."""
+        end = time.monotonic() + 1
+        while self.starting and time.monotonic() < end:
+            time.sleep(0.01)
         for child in list(self.running):
             with contextlib.suppress(subprocess.TimeoutExpired):
                 child.wait(1)
 
 
 CHILDREN = Children()
+
+
+def ran(
+    words: Sequence[Word], folder: Optional[bytes] = None, env: Optional[Dict[str, str]] = None
+) -> "subprocess.CompletedProcess[bytes]":
+    """Another program that has run to its end, without an input, and what it wrote. A signal ends it too."""
+    pipe, none = subprocess.PIPE, subprocess.DEVNULL
+    start = lambda: subprocess.Popen(words, cwd=folder, env=env, stdin=none, stdout=pipe, stderr=pipe)  # noqa: E731
+    with CHILDREN.held(start) as child:
+        output, error = child.communicate()
+    return subprocess.CompletedProcess(words, child.returncode, output, error)
 
 
 def refuse(sentence: str) -> NoReturn:

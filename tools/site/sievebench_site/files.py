@@ -160,19 +160,19 @@ def write_folder(path: bytes, files: Dict[bytes, bytes]) -> None:
         os.mkdir(new)
         for name, octets in files.items():
             write_file(os.path.join(new, name), octets)
-        if os.path.lexists(place):
-            os.rename(place, old)
         with putting_back(old, place):
+            if os.path.lexists(place):
+                os.rename(place, old)
             os.rename(new, place)
 
 
 @contextlib.contextmanager
 def putting_back(old: bytes, place: bytes) -> Iterator[None]:
-    """Renames a file to its place again if the block fails."""
+    """Renames a file to its place again if the block fails, or a signal ends it."""
     try:
         yield
-    except OSError:
-        if os.path.lexists(old):
+    except BaseException:
+        if os.path.lexists(old) and not os.path.lexists(place):
             os.rename(old, place)
         raise
 
@@ -181,6 +181,13 @@ def remove_file(path: bytes) -> None:
     """Takes out a file."""
     with writing(path):
         os.unlink(path)
+
+
+def remove_old(path: bytes) -> None:
+    """Takes out a plain file that is to be written anew: a run that ends before that leaves none of an earlier one."""
+    place = os.path.realpath(path)
+    if path not in OUTPUTS and is_plain(place):
+        remove_file(place)
 
 
 def remove_empty(folder: bytes) -> None:

@@ -107,6 +107,11 @@ def user_names(wanted: Wanted) -> List[bytes]:
     return [name for name in names if name in wanted.users or not wanted.users] if there else [b""]
 
 
+def is_name(name: bytes) -> bool:
+    """Whether a user may be called so."""
+    return bool(name) and not name.startswith(b".") and b"/" not in name and b"\0" not in name
+
+
 def users_of(wanted: Wanted) -> List[User]:
     """The users that are wanted, with their scripts and main ones."""
     shelf, users = Shelf(wanted.folder), []

@@ -11,6 +11,7 @@ import time
 from typing import Callable, Dict, Iterator, List, NamedTuple, Optional, Set, Tuple, TypeVar
 
 from .chains import NOTHING, Bench, chained
+from .ends import fail
 from .envelopes import Envelope, envelope_if_any, envelope_of
 from .expected import Block
 from .files import octets_of
@@ -175,13 +176,24 @@ class Judge:
 def at_once(parts: List[Part], work: Callable[[Part], Result], jobs: int) -> List[Result]:
     """What comes of each part of some work, of which several are done at once."""
     pool = concurrent.futures.ThreadPoolExecutor(max(1, min(jobs, len(parts))))
-    tasks = [pool.submit(work, part) for part in parts]
+    tasks: List["concurrent.futures.Future[Result]"] = []
     try:
+        with starting_threads():
+            tasks.extend(pool.submit(work, part) for part in parts)
         return [task.result() for task in tasks]
     finally:
         for task in tasks:
             task.cancel()
         pool.shutdown(wait=False)
+
+
+@contextlib.contextmanager
+def starting_threads() -> Iterator[None]:
+    """Refuses what can't be begun, since the system has no memory or no processes left."""
+    try:
+        yield
+    except RuntimeError as error:
+        fail(f"cannot run several jobs at once: {error}")
 
 
 def surveys(site: Site, program: Program, jobs: int, wanted: Optional[Set[int]] = None) -> List[Survey]:

@@ -10,7 +10,7 @@ from typing import Dict, Iterator, List, Optional, Set
 from . import cautions, findings
 from .answers import expected_answers
 from .code import Code
-from .ends import fail
+from .ends import fail, ran
 from .faults import SENTENCES, sentence_of
 from .files import temporary_folder
 from .findings import ERROR, NOTE, PLAIN, SKIPPED, Finding, Test
@@ -59,7 +59,7 @@ class Linted:
             yield Finding(script.path, line, "skipped", PLAIN.line(why.encode()), SKIPPED)
         yield from cautions.of_scripts(self.site, self.code.sound())
         for it in self.code.plain_stores():
-            yield from cautions.of_store(self.site, it.script.path, it.line, it.mailbox)
+            yield from cautions.of_store(self.site, it.script.path, it.line, it.mailbox, it.use)
 
     def reached(self) -> Optional[Set[bytes]]:
         """The files of the scripts that main ones come to; nothing where none is named, or one of them has a fault."""
@@ -151,7 +151,7 @@ def sievec_differences(site: Site, linted: Linted) -> Iterator[Finding]:
 def compiled(words: List[bytes]) -> "subprocess.CompletedProcess[bytes]":
     """How sievec ended."""
     try:
-        return subprocess.run(words, stdin=subprocess.DEVNULL, stdout=subprocess.PIPE, stderr=subprocess.PIPE)
+        return ran(words)
     except OSError as error:
         fail(f'cannot run "sievec": {error.strerror}')
 

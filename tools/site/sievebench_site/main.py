@@ -16,8 +16,8 @@ from .checked import Checked, Found, found_in
 from .completion import completed
 from .ends import Refusal, Signalled, refuse
 from .filling import Filling, make_folder
-from .files import locked, refuse_unwritable, write_file
-from .folder import Site, refuse_no_mains, site_of, take_mails
+from .files import locked, refuse_unwritable, remove_old, write_file
+from .folder import Site, is_name, refuse_no_mains, site_of, take_mails
 from .importing import import_mails
 from .judge import Judge
 from .merge import Part, merged
@@ -55,6 +55,7 @@ def run_check(options: argparse.Namespace) -> int:
     junit = None if options.junit is None else os.fsencode(options.junit)
     if junit is not None:
         refuse_unwritable(junit)
+        remove_old(junit)
     part, found = checked_part(options) if options.merge is None else (None, merged_parts(options))
     checked = Checked(found, options.lax, options.all)
     if junit is not None:
@@ -133,6 +134,8 @@ def run_import(options: argparse.Namespace) -> int:
 
 def mails_of(site: bytes, user: Optional[str]) -> bytes:
     """The folder of a site, or of a user of it, to which mails go."""
+    if user is not None and not is_name(os.fsencode(user)):
+        refuse(f"no user {quoted(os.fsencode(user))}: that is the name of a folder in users")
     home = site if user is None else os.path.join(site, b"users", os.fsencode(user))
     folder = os.path.join(home, b"mails")
     if user is not None and os.path.isdir(home):
@@ -249,7 +252,7 @@ def status_of(words: List[str]) -> int:
         what = f"read {quoted(os.fsencode(error.filename))}" if named else "write standard output"
         return told(f"cannot {what}: {error.strerror or error}", 2)
     except MemoryError:
-        return told("out of memory", 3)
+        return told("this tool is out of memory", 3)
 
 
 def told(sentence: str, status: int) -> int:

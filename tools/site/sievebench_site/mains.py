@@ -16,8 +16,9 @@ from .words import lines_of, quoted, unquoted, words_of
 
 SCRIPT_END = b".sieve"
 # Folders of a site that have no scripts to name in a line of main ones.
-OTHERS = (b"", b".", b"..", b"users", b"mails")
+OTHERS = (b"", b"users", b"mails")
 PERSONAL = b"personal/"
+OUTSIDE = "a line has NAME of personal or FOLDER/NAME of the site, but not of users, of mails or where FOLDER begins with a dot"
 # The folders of scripts that run before and after the main one.
 AROUND = (b"before/", b"after/")
 # A line that names itself before a colon.
@@ -104,8 +105,7 @@ class Shelf:
     def place_of(self, name: bytes, home: bytes) -> Optional[Place]:
         """Where it stands in a session, if there is one."""
         folder, slash, rest = name.rpartition(b"/")
-        known = not slash or (folder not in OTHERS and b"/" not in folder)
-        if not known or name.startswith(b".") and slash or not is_plain(self.path_of(name, home)):
+        if not is_inside(name) or not is_plain(self.path_of(name, home)):
             return None
         if not slash or folder == b"personal":
             return "personal", rest
@@ -121,8 +121,8 @@ class Shelf:
         places = [self.place_of(name, home) for name in names]
         for name, place in zip(names, places):
             if place is None:
-                missing = f"no main script {quoted(name)}: there is no {quoted(self.path_of(name, home))}"
-                refuse(called.line.where() + missing)
+                why = f"there is no {quoted(self.path_of(name, home))}" if is_inside(name) else OUTSIDE
+                refuse(f"{called.line.where()}no main script {quoted(name)}: {why}")
         script = of_user(user, (called.line.script(),)) if called.alone else None
         also = tuple(of_user(user, key) for key in called.also)
         return Main(of_user(user, called.key), also, script, tuple(place for place in places if place))
@@ -145,6 +145,12 @@ class Shelf:
         if path not in self.lines:
             self.lines[path] = list(lines_in(path))
         return [self.line_of(text, f"{quoted(path)}, line {number}", home) for number, text in self.lines[path]]
+
+
+def is_inside(name: bytes) -> bool:
+    """Whether a name is that of a script that may run: the user's own, or one of a folder of the site."""
+    folder, slash, _ = name.rpartition(b"/")
+    return b"\0" not in name and (not slash or not (folder in OTHERS or b"/" in folder or folder.startswith(b".")))
 
 
 def of_user(user: bytes, key: Key) -> Key:

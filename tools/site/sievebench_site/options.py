@@ -284,7 +284,8 @@ def add_check(parser: Parser) -> None:
     parser.add_argument("--all", action="store_true", help=tells)
     same = "the same as --format json"
     add_format(parser).add_argument("--json", action="store_const", const="json", dest="format", help=same)
-    parser.add_argument("--junit", metavar="FILE", help="also writes the results to a file as JUnit has them")
+    writes = "also writes the results to a file as JUnit has them; an earlier one is gone, however the run ends"
+    parser.add_argument("--junit", metavar="FILE", help=writes)
     add_sharing(parser)
 
 

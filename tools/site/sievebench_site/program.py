@@ -10,7 +10,7 @@ import subprocess
 import sys
 from typing import IO, Deque, Dict, FrozenSet, Iterator, List, NamedTuple, NoReturn, Optional, Set, Tuple
 
-from .ends import CHILDREN, Refusal, fail, refuse
+from .ends import CHILDREN, Refusal, fail, ran, refuse
 from .files import temporary
 from .words import ADDRESS_LIMIT, MAIL_LIMIT, MESSAGE_LIMIT, SCRIPT_LIMIT, TEXT_LIMIT, line, quoted, unquoted
 
@@ -82,7 +82,7 @@ class Program:
     def first_line_of(self, words: List[bytes]) -> str:
         """What it says first."""
         try:
-            done = subprocess.run(words, stdin=subprocess.DEVNULL, stdout=subprocess.PIPE, stderr=subprocess.PIPE)
+            done = ran(words)
         except OSError as error:
             fail(f"cannot run {quoted(self.path)}: {error.strerror}")
         return done.stdout.split(b"\n")[0].decode("latin-1")
@@ -90,9 +90,7 @@ class Program:
     def names(self) -> FrozenSet[bytes]:
         """The names that may be asked for, as its help lists them."""
         if self.offered is None:
-            words, quiet = [self.path, b"help", b"session"], subprocess.DEVNULL
-            done = subprocess.run(words, stdin=quiet, stdout=subprocess.PIPE, stderr=quiet)
-            found = OFFERED.search(done.stdout)
+            found = OFFERED.search(ran([self.path, b"help", b"session"]).stdout)
             self.offered = frozenset(it.split()[0] for it in found[1].splitlines()) if found else frozenset()
         return self.offered
 

@@ -9,7 +9,7 @@ from typing import Dict, Iterable, List, NamedTuple, Optional, Set, Tuple
 from .check import left_out
 from .checked import Stale, broken_in, lacking_in, stale_in
 from .expected import Key, text_of
-from .files import octets_of, remove_empty, remove_file, write_file, write_folder
+from .files import is_plain, octets_of, remove_empty, remove_file, write_file, write_folder
 from .folder import Site, user_names
 from .headings import Expected, expected_at
 from .judge import Case, Judged
@@ -41,7 +41,7 @@ class Change(NamedTuple):
         """Makes the change, unless the file is left or isn't as it was read, and gives what became of it."""
         if self.left:
             return self
-        if (octets_of(self.path) if os.path.lexists(self.path) else None) != self.was:
+        if not self.is_as_read():
             return self._replace(told=CHANGED, left=True)
         folder = os.path.dirname(self.path)
         by_user = folder.endswith(EXPECT)
@@ -54,6 +54,12 @@ class Change(NamedTuple):
             if by_user:
                 remove_empty(folder)
         return self
+
+    def is_as_read(self) -> bool:
+        """Whether the file is as it was read, or still isn't there."""
+        if not os.path.lexists(self.path):
+            return self.was is None
+        return is_plain(self.path) and octets_of(self.path) == self.was
 
     def written(self) -> bool:
         """Whether there is a file afterwards that was written."""

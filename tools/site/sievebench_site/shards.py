@@ -70,7 +70,7 @@ def facts_of(site: Site) -> Iterator[object]:
     """What the files of a site say, and what was asked for of it."""
     folder = site.wanted.folder
     yield tuple(site.wanted), site.names, site.mailboxes, site.clock, site.left_out, site.lost
-    yield octets_if_any(os.path.join(folder, b"envelope")), list(map(tuple, site.listed.entries.values()))
+    yield octets_if_any(os.path.join(folder, b"envelope")), [tuple(it) for it in site.listed.entries.values()]
     seen: Set[bytes] = set()
     for user in site.users:
         yield user.name, [(main.key, main.scripts) for main in user.mains]

@@ -30,8 +30,8 @@ EXPECTS = b".eml.expect"
 MAIL_ENDS = (b".eml", b".eml.envelope", EXPECTS, b".eml.users")
 ENDS = (SCRIPT_END, *MAIL_ENDS)
 DEPTH = 4
-# When a file was changed, how large it is, and which one.
-Stamp = Tuple[int, int, int]
+# When a file was changed, and when anything about it was, how large it is, and which one.
+Stamp = Tuple[int, int, int, int]
 Stamps = Dict[bytes, Stamp]
 Texts = Dict[Place, bytes]
 # A mail, and what about it can't change without its being put again.
@@ -51,7 +51,7 @@ def stamps_in(folder: bytes, depth: int = DEPTH) -> Stamps:
                     found.update(stamps_in(entry.path, depth - 1) if depth > 1 else {})
                 elif entry.name in NAMES or entry.name.endswith(ENDS) or folder.endswith(EXPECTS):
                     status = entry.stat()
-                    found[entry.path] = status.st_mtime_ns, status.st_size, status.st_ino
+                    found[entry.path] = status.st_mtime_ns, status.st_ctime_ns, status.st_size, status.st_ino
     return found
 
 

@@ -82,11 +82,11 @@ class Cautions(Room):
         ]
         for mailboxes, name, wanted in rows:
             with self.subTest(name=name):
-                found = list(of_store(site(mailboxes), b"m.sieve", 3, name))
-                text = f'No line of mailboxes is "{name.decode()}", and nothing makes it: the server keeps the mail in INBOX.'
-                self.assertEqual(
-                    [(it.line, it.kind, it.text) for it in found], [(3, "no-mailbox", text)] if wanted else []
-                )
+                for use, unless in ((False, ""), (True, "unless a mailbox has the special use, ")):
+                    found = list(of_store(site(mailboxes), b"m.sieve", 3, name, use))
+                    text = f'No line of mailboxes is "{name.decode()}", and nothing makes it: {unless}the server keeps the mail in INBOX.'
+                    told = [(it.line, it.kind, it.text) for it in found]
+                    self.assertEqual(told, [(3, "no-mailbox", text)] if wanted else [])
 
     def test_what_is_asked_for(self) -> None:
         text = b'# currentdate\nif currentdate "year" "1" {}\nif mailboxexists "currentdate" {}\n'

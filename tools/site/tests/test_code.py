@@ -27,3 +27,18 @@ class Codes(unittest.TestCase):
             with self.subTest(operation=operation):
                 code = Code([SCRIPT], {SCRIPT.at(): [operation]}, set())
                 self.assertEqual([(it.line, it.shown) for it in code.actions()], wanted)
+
+    def test_plain_stores(self) -> None:
+        rows = [
+            (b'3: fileinto "A" internal @2', [(2, b"A", False)]),
+            (b'3: fileinto "A" flags ["a"] copy @7', [(7, b"A", False)]),
+            (b'3: fileinto "A" internal special-use "\\\\Junk" @2', [(2, b"A", True)]),
+            (b'3: fileinto "A" flags ["a"] special-use "x"+local(y) copy @2', [(2, b"A", True)]),
+            (b'3: fileinto "A" internal create @2', []),
+            (b'3: fileinto "A" internal create special-use "\\\\Junk" @2', []),
+            (b'3: fileinto "a"+local(y) internal @2', []),
+        ]
+        for operation, wanted in rows:
+            with self.subTest(operation=operation):
+                code = Code([SCRIPT], {SCRIPT.at(): [operation]}, set())
+                self.assertEqual([(it.line, it.mailbox, it.use) for it in code.plain_stores()], wanted)

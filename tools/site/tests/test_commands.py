@@ -3,13 +3,9 @@
 import json
 import os
 import signal
-import time
 import xml.etree.ElementTree as tree
 
-from sievebench_site.folder import Wanted, site_of, take_mails
-from sievebench_site.judge import Judge
-from sievebench_site.record import record
-from sievebench_site.shown import Look
+from sievebench_site.options import parsed
 
 from .room import Files, Room
 
@@ -110,6 +106,17 @@ class Checks(Room):
             self.ran("check", "--lax", ".")[1][-1],
             counted(5, 2, 10, 10, 0, 0, 1, 0) + ", 5 mails without an envelope, 1 left out",
         )
+
+    def test_what_is_stale_of_some_mails(self) -> None:
+        self.write({"mails/0.eml.expect": '[a]\nstore "INBOX"\n[b]\nstore "INBOX"\n[lost]\ndiscard\n'})
+        self.write({"mails/9.eml.expect": "", "unjudged": "personal/a.sieve so\n"})
+        stale = ["./mails/0.eml.expect: no main script is called lost", "./unjudged: personal/a.sieve can be judged"]
+        self.assertEqual(self.ran("check", "-q", "--only", "0.eml", "."), (1, stale, ""))
+        self.assertEqual(self.ran("check", "-q", "--lax", "--only", "0.eml", "."), (0, [], ""))
+        told = ["./mails/0.eml.expect: stale: no main script is called lost"]
+        told += ["1 mails, 0 written, 0 left, 1 stale: --prune takes them out"]
+        self.assertEqual(self.ran("record", "--only", "0.eml", "."), (0, told, ""))
+        self.assertEqual(self.ran("check", "-q", "--only", "0.eml", "--main", "a", "."), (0, [], ""))
 
     def test_unjudged(self) -> None:
         self.write({"personal/a.sieve": 'require ["regex", "fileinto"];'})
@@ -230,8 +237,7 @@ class Records(Room):
     def test_two_at_once(self) -> None:
         self.write({"personal/a.sieve": 'sleep "30";', "mains": "a\n", "envelope": '"" ""', "mails/1.eml": ""})
         with self.started("record", ".") as first:
-            while not (self.room / ".sievebench-site.lock").exists():
-                time.sleep(0.01)
+            self.await_file(first, ".sievebench-site.lock")
             status, told, error = self.ran("record", ".")
             first.terminate()
             first.communicate()
@@ -244,26 +250,10 @@ class Records(Room):
     def test_signals_that_are_ignored(self) -> None:
         self.write({"personal/a.sieve": 'sleep "0.5";', "mains": "a\n", "envelope": '"" ""', "mails/1.eml": ""})
         with self.started("record", ".", heeded=signal.SIG_IGN) as child:
-            while not (self.room / "asleep").exists():
-                time.sleep(0.01)
+            self.await_file(child, "asleep")
             child.send_signal(signal.SIGINT)
-            child.communicate(timeout=60)
+            child.communicate()
         self.assertEqual(child.returncode, 0)
-
-    def test_a_file_that_changed_meanwhile(self) -> None:
-        self.write({"personal/a.sieve": "", "mains": "a\n", "mails/1.eml": "", "mails/2.eml": ""})
-        self.write({"mails/2.eml.expect": "[a]\ndiscard\n"})
-        site = site_of(Wanted(bytes(self.room), [], [], [], None))
-        take_mails(site)
-        judged = Judge(site, self.program(), 1).all()
-        for number in (1, 2):
-            self.write({f"mails/{number}.eml.expect": "[b]\ndiscard\n"})
-        told, whole = record(site, judged, Look(False), False, False)
-        self.assertEqual(
-            (whole, [line[-36:] for line in told[:2]]), (False, ["left, since it was changed meanwhile"] * 2)
-        )
-        for number in (1, 2):
-            self.assertEqual((self.room / f"mails/{number}.eml.expect").read_text(), "[b]\ndiscard\n")
 
 
 class Lints(Room):
@@ -355,6 +345,15 @@ class Imports(Room):
         self.assertEqual((self.room / "site/mails/0001.eml").read_text(), "there")
         self.assertEqual(sorted(os.listdir(self.room / "site")), ["mails"])
 
+    def test_what_stands_beside_no_mail(self) -> None:
+        beside = {"0001.eml.envelope": "x@y.example z@y.example\n", "0002.eml.expect": "", "0003.eml.users": "ada\n"}
+        self.write({f"site/mails/{name}": text for name, text in beside.items()})
+        self.write({"one": "From: a@b\n\nx\n", "two": "From: a@b\n\ny\n", "site/mains": "main\n"})
+        self.assertEqual(self.ran("import", "one", "two", "site")[0], 0)
+        there = {it.name: it.read_text() for it in (self.room / "site/mails").iterdir()}
+        mails = {"0004.eml": "From: a@b\n\nx\n", "0005.eml": "From: a@b\n\ny\n"}
+        self.assertEqual(there, {**beside, **mails})
+
     def test_a_mail_that_begins_as_a_mailbox(self) -> None:
         self.write({"one": "From: a@b\n\nx\n", "site/mails/z": ""})
         told = self.ran("import", "one", "site")
@@ -382,7 +381,10 @@ class Words(Room):
     def test_refusals(self) -> None:
         rows = [
             (("check", "--jobs", "0", "x"), "argument --jobs: '0' isn't a number from 1 to 9999"),
-            (("check", "--memory", "1T", "x"), "argument --memory: '1T' isn't a number of octets, as 512M or 4G"),
+            *(
+                (("check", f"--memory={size}", "x"), f"argument --memory: '{size}' isn't a number of octets, as 512M")
+                for size in ("1T", "0", "0M", "1k", "1KB", "1.5G", "-1", "", " 1", "1 M", "9999999999")
+            ),
             (("check", "--format", "xml", "x"), "argument --format: invalid choice: 'xml'"),
             (("check", "--json", "--format", "junit", "x"), "argument --format: not allowed with argument --json"),
             (("check", "--utf8", "--no-utf8", "x"), "argument --no-utf8: not allowed with argument --utf8"),
@@ -394,3 +396,10 @@ class Words(Room):
                 status, told, error = self.ran(*words)
                 self.assertEqual((status, told), (2, []))
                 self.assertIn(f"sievebench-site: {sentence}", error)
+
+    def test_memory(self) -> None:
+        rows = {"4096": 4_096, "1K": 1_024, "3M": 3_145_728, "2G": 2_147_483_648, "007": 7}
+        for word, octets in rows.items():
+            for command in ("check", "lint", "untested", "diff", "why", "watch", "record"):
+                self.assertEqual(parsed(command, ["--memory", word, "x"]).memory, octets)
+        self.assertEqual(parsed("check", ["x"]).memory, 4_294_967_296)

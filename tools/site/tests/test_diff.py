@@ -154,6 +154,49 @@ class Folders(Room):
         status, told, error = self.ran("diff", "old", "new")
         self.assertEqual((status, told, error), (1, wanted, ""))
 
+    def test_settings(self) -> None:
+        said = "{}: it was another, and is taken for both".format
+        same = ["0 of 2 verdicts changed"]
+        for name in ("old", "new"):
+            self.site(name, main="keep;")
+            self.write({f"{name}/with": "mailbox\ndate\n", f"{name}/mailboxes": "A\n", f"{name}/clock": "1 +0000\n"})
+        self.assertEqual(self.ran("diff", "old", "new"), (0, same, ""))
+        self.write({"new/with": "# both\ndate\nmailbox\n"})
+        self.assertEqual(self.ran("diff", "old", "new"), (0, same, ""))
+        self.write({"new/clock": "2 +0000\n"})
+        self.assertEqual(self.ran("diff", "old", "new"), (0, [said("new/clock"), *same], ""))
+        # A clock that is given is that of both.
+        self.assertEqual(self.ran("diff", "--clock", "1", "old", "new"), (0, same, ""))
+        self.write({"new/mailboxes": "B\n"})
+        (self.room / "new/clock").unlink()
+        self.assertEqual(self.ran("diff", "old", "new")[1], [said("new/mailboxes"), said("new/clock"), *same])
+        # Files that nothing asks for aren't taken.
+        self.write({"new/with": "vacation\n"})
+        self.assertEqual(self.ran("diff", "old", "new")[1], [said("new/with"), *same])
+
+    def test_faults_that_became_others(self) -> None:
+        rows = [
+            ("kep;", "\nkep;", "2: unknown-command: There is no such command or test."),
+            ('require "imap4flag";', "kep;", "1: unknown-command: There is no such command or test."),
+            (
+                'require "regex";',
+                'require "imap4flag";',
+                "1: unknown-capability: imap4flag: no such extension; did you mean imap4flags?",
+            ),
+            (
+                'require "FileInto";',
+                'require "imap4flag";',
+                "1: unknown-capability: imap4flag: no such extension; did you mean imap4flags?",
+            ),
+            ("kep;", "kep; ", ""),
+        ]
+        for before, now, told in rows:
+            with self.subTest(before=before, now=now):
+                self.site("old", main="keep;", other=before)
+                self.site("new", main="keep;", other=now)
+                wanted = [f"new/personal/other.sieve:{told}"] if told else []
+                self.assertEqual(self.ran("diff", "old", "new"), (0, [*wanted, "0 of 2 verdicts changed"], ""))
+
     def test_users(self) -> None:
         for name, text in (("old", "keep;"), ("new", "discard;")):
             self.write({f"{name}/users/ada/personal/m.sieve": text, f"{name}/mails/1.eml": "", f"{name}/mains": "m"})

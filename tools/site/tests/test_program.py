@@ -1,9 +1,12 @@
 """Sessions with the program."""
 
+import contextlib
 import os
 import pathlib
 import resource
+import signal
 import subprocess
+import threading
 import time
 from typing import List
 from unittest import mock
@@ -103,17 +106,47 @@ class Ends(Room):
         for command in ("check", "record"):
             for number, status in ((2, 130), (15, 143)):
                 with self.subTest(command=command, number=number), self.started(command, ".") as child:
-                    while not (self.room / "asleep").exists():
-                        time.sleep(0.01)
+                    self.await_file(child, "asleep")
                     (self.room / "asleep").unlink()
                     started, below = time.monotonic(), children_of(child.pid)
                     child.send_signal(number)
-                    self.assertEqual(child.communicate(timeout=20), (b"", b""))
+                    self.assertEqual(child.communicate(), (b"", b""))
                     self.assertEqual(child.returncode, status)
                     self.assertLess(time.monotonic() - started, 5)
                     self.assertTrue(below)
                     self.assertFalse([it for it in below if os.path.exists(f"/proc/{it}")])
         self.assertEqual(sorted(os.listdir(self.room)), ["envelope", "mails", "mains", "personal"])
+        self.assertEqual(os.listdir(self.room / "mails"), ["1.eml"])
+
+    def test_ctrl_c_on_a_terminal(self) -> None:
+        # It reaches the whole group: the tool, and what it runs beside the program.
+        self.write({"personal/a.sieve": 'sleep "30";', "mains": "a\n", "mails/1.eml": "", "envelope": '"" ""'})
+        waits = "#!/bin/sh\n: > asleep; exec sleep 30\n"
+        self.write({"bin/sievec": waits.replace("asleep", f"{self.room}/asleep")})
+        self.write({"bin/git": waits.replace("asleep", f"{self.room}/asleep")})
+        for name in ("sievec", "git"):
+            (self.room / "bin" / name).chmod(0o755)
+        commands = [
+            "check .",
+            "record .",
+            "untested .",
+            "why . 1.eml",
+            "watch .",
+            "lint --sievec .",
+            "diff --git HEAD .",
+        ]
+        path = f"{self.room}/bin{os.pathsep}{os.environ['PATH']}"
+        for command in commands:
+            with self.subTest(command), mock.patch.dict(os.environ, PATH=path):
+                with self.started(*command.split(), group=True) as child:
+                    self.await_file(child, "asleep")
+                    (self.room / "asleep").unlink()
+                    below = children_of(child.pid)
+                    os.killpg(child.pid, signal.SIGINT)
+                    self.assertEqual((child.communicate(), child.returncode), ((b"", b""), 130))
+                self.assertTrue(below)
+                self.assertFalse([it for it in below if os.path.exists(f"/proc/{it}")])
+        self.assertEqual(sorted(os.listdir(self.room)), ["bin", "envelope", "mails", "mains", "personal"])
         self.assertEqual(os.listdir(self.room / "mails"), ["1.eml"])
 
     def test_a_signal_while_a_process_starts(self) -> None:
@@ -132,12 +165,37 @@ class Ends(Room):
             with self.assertRaises(ends.Signalled):
                 ends.by_signal(2, None)
 
+    def test_a_signal_while_another_thread_starts_a_process(self) -> None:
+        children, begun = ends.Children(), threading.Event()
+        started: List["subprocess.Popen[bytes]"] = []
+
+        def start() -> "subprocess.Popen[bytes]":
+            started.append(subprocess.Popen(["sleep", "30"]))
+            begun.set()
+            time.sleep(0.3)
+            return started[0]
+
+        def work() -> None:
+            with contextlib.suppress(ends.Signalled), children.held(start):
+                time.sleep(30)
+
+        with mock.patch.object(ends, "CHILDREN", children):
+            thread = threading.Thread(target=work)
+            thread.start()
+            self.assertTrue(begun.wait(60))
+            with self.assertRaises(ends.Signalled):
+                ends.by_signal(2, None)
+            children.wait()
+            self.assertEqual(started[0].poll(), -9)
+            thread.join(60)
+            self.assertEqual((thread.is_alive(), children.running), (False, set()))
+
     def test_a_broken_pipe(self) -> None:
         self.write({"personal/a.sieve": "kep;", "mains": "a\n", "mails/1.eml": "", "envelope": '"" ""'})
         with self.started("check", ".") as child:
             assert child.stdout and child.stderr
             child.stdout.close()
-            self.assertEqual((child.stderr.read(), child.wait(20)), (b"", -13))
+            self.assertEqual((child.stderr.read(), child.wait()), (b"", -13))
 
 
 def children_of(process: int) -> List[str]:

@@ -1,8 +1,18 @@
 """The command record, by the fake program: the new form of headings, and what is stale."""
 
+import os
 from typing import Dict, List
+from unittest import mock
 
-from .room import Files, Room
+from sievebench_site.ends import Signalled
+from sievebench_site.files import write_file, write_folder
+from sievebench_site.folder import Wanted, site_of, take_mails
+from sievebench_site.judge import Judge
+from sievebench_site.main import status_of
+from sievebench_site.record import record
+from sievebench_site.shown import Look
+
+from .room import FAKE, Files, Room
 
 LEFT = "left, since it isn't as this tool writes it: --force writes it anew, without its comments"
 SITE: Files = {
@@ -221,3 +231,89 @@ class Folders(Room):
         self.write({"single/mails/1.eml.expect/main": "[main]\n"})
         error = '"single/mails/1.eml.expect" is a folder, which has files of users, and the site has no users'
         self.assertIn(error, self.ran("check", "single")[2])
+
+
+class Meanwhile(Room):
+    """What somebody else does while verdicts are recorded, and a run that ends by itself."""
+
+    def setUp(self) -> None:
+        super().setUp()
+        self.write({"personal/a.sieve": "", "mains": "a\n", "envelope": '"" ""'})
+        self.write({f"mails/{number}.eml": "" for number in range(1, 6)})
+        self.write({f"mails/{number}.eml.expect": "[a]\ndiscard\n" for number in range(2, 6)})
+        self.write({"mails/5.eml.expect": "# mine\n[a]\ndiscard\n", "mails/9.eml.expect": "[a]\n"})
+
+    def edit(self) -> None:
+        """Makes a file, changes two, takes one out, and puts a folder in the place of one."""
+        self.write({f"mails/{number}.eml.expect": "# hers\n[b]\ndiscard\n" for number in (1, 2, 5)})
+        (self.room / "mails/3.eml.expect").unlink()
+        (self.room / "mails/4.eml.expect").unlink()
+        self.write({"mails/4.eml.expect/ada": "# hers\n"})
+
+    def test_another_edit(self) -> None:
+        site = site_of(Wanted(bytes(self.room), [], [], [], None))
+        take_mails(site)
+        judged = Judge(site, self.program(), 1).all()
+        self.edit()
+        for force in (False, True):
+            told, whole = record(site, judged, Look(False), force, False)
+            left = [f"{self.room}/mails/{it}.eml.expect: left, since it was changed meanwhile" for it in range(1, 6)]
+            left[4] = left[4] if force else f"{self.room}/mails/5.eml.expect: {LEFT}"
+            self.assertEqual((whole, told[1:]), (False, [*left, "5 mails, 0 written, 5 left, " + self.stale()]))
+            for number in (1, 2, 5):
+                text = (self.room / f"mails/{number}.eml.expect").read_text()
+                self.assertEqual(text, "# hers\n[b]\ndiscard\n")
+            self.assertFalse((self.room / "mails/3.eml.expect").exists())
+            self.assertEqual((self.room / "mails/4.eml.expect/ada").read_text(), "# hers\n")
+
+    def stale(self) -> str:
+        """The end of the last line."""
+        return "1 stale: --prune takes them out"
+
+    def test_no_memory(self) -> None:
+        written: List[bytes] = []
+
+        def write(path: bytes, octets: bytes) -> None:
+            if written:
+                raise MemoryError
+            written.append(path)
+            write_file(path, octets)
+
+        words = ["record", "--force", "--program", str(FAKE), str(self.room)]
+        with mock.patch("sievebench_site.record.write_file", write), mock.patch("sys.stderr") as error:
+            self.assertEqual(status_of(words), 3)
+        said = "".join(call.args[0] for call in error.write.call_args_list)
+        self.assertEqual(said, "sievebench-site: this tool is out of memory\n")
+        kept = 'implicit "INBOX"\n'
+        self.assertEqual((self.room / "mails/1.eml.expect").read_text(), f"[a]\n{kept}")
+        self.assertEqual((self.room / "mails/2.eml.expect").read_text(), "[a]\ndiscard\n")
+        self.assertEqual((self.room / "mails/5.eml.expect").read_text(), "# mine\n[a]\ndiscard\n")
+        self.assertEqual([it.name for it in self.room.rglob(".*")], [])
+        self.assertEqual(self.ran("record", "--force", ".")[1][-1], f"5 mails, 4 written, 0 left, {self.stale()}")
+
+    def test_threads_that_do_not_start(self) -> None:
+        words = ["check", "--program", str(FAKE), str(self.room)]
+        full = mock.patch("threading.Thread.start", side_effect=RuntimeError("can't start new thread"))
+        with full, mock.patch("sys.stderr") as error:
+            self.assertEqual(status_of(words), 3)
+        said = "".join(call.args[0] for call in error.write.call_args_list)
+        self.assertEqual(said, "sievebench-site: cannot run several jobs at once: can't start new thread\n")
+
+    def test_a_folder_that_ends_halfway(self) -> None:
+        place = self.room / "mails/2.eml.expect"
+        for ending in (MemoryError(), Signalled(130), OSError(28, "no room")):
+            for number in (1, 2):
+                with self.subTest(ending=ending, number=number):
+                    calls: List[bytes] = []
+
+                    def rename(old: bytes, new: bytes) -> None:
+                        calls.append(new)
+                        if len(calls) == number:
+                            raise ending
+                        os.replace(old, new)
+
+                    with mock.patch("os.rename", rename), self.assertRaises(BaseException):
+                        write_folder(bytes(place), {b"ada": b"[ada/a]\n"})
+                    self.assertEqual(place.read_text(), "[a]\ndiscard\n")
+        write_folder(bytes(place), {b"ada": b"[ada/a]\n"})
+        self.assertEqual((place / "ada").read_text(), "[ada/a]\n")

@@ -219,8 +219,8 @@ class Shards(Parted):
         judges = "--merge judges nothing: it goes without --user, --main, --only, --clock, --program, --shard"
         for words in (["--user", "a"], ["--main=a"], ["--only", "1.eml"], ["--clock", ""], ["--shard", "1/2"]):
             with self.subTest(words):
-                told = self.ran("check", *words, "--merge", "x.json")
-                self.assertEqual(told, (2, [], f"sievebench-site: {judges}\n"))
+                found = self.ran("check", *words, "--merge", "x.json")
+                self.assertEqual(found, (2, [], f"sievebench-site: {judges}\n"))
 
 
 class Merges(Parted):
@@ -330,5 +330,3 @@ class Merges(Parted):
         for _ in range(500):
             name = b"".join(chance.choices(pieces, k=chance.randrange(8)))
             self.assertEqual(octets_named(Look(True).name(name)), name)
-
-

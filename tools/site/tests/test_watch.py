@@ -1,5 +1,6 @@
 """The command watch, by the fake program: looks without pauses, and the command itself."""
 import os
+import pathlib
 import re
 import shutil
 import signal
@@ -216,11 +217,34 @@ class Looks(Room):
         place.write_text("stop;")
         os.utime(place, ns=(status.st_atime_ns, status.st_mtime_ns + 1))
         self.assertEqual(self.look()[-1], "2 of 2 verdicts changed, 1 not as expected")
+        # One of the same size and time, in the same place, and then another one that has its place.
+        self.rewritten(place, b"keep;")
+        self.assertEqual(self.look()[-1], "2 of 2 verdicts changed, 1 not as expected")
+        self.write({"site/personal/.part.new": "stop;"})
+        status = place.stat()
+        os.replace(self.room / "site/personal/.part.new", place)
+        os.utime(place, ns=(status.st_atime_ns, status.st_mtime_ns))
+        self.assertEqual(self.look()[-1], "2 of 2 verdicts changed, 1 not as expected")
         os.unlink(place)
         self.assertIn("personal/part.sieve: gone", self.look())
         os.symlink("other", place)
         self.write({"site/personal/other": "stop;"})
         self.assertEqual(self.look()[-1], "2 of 2 verdicts changed, 1 not as expected")
+
+    def rewritten(self, place: pathlib.Path, octets: bytes) -> None:
+        """Writes other octets into a file, which has its size and its time afterwards."""
+        status = place.stat()
+        self.assertEqual(status.st_size, len(octets))
+        place.write_bytes(octets)
+        os.utime(place, ns=(status.st_atime_ns, status.st_mtime_ns))
+
+    def test_a_mail_of_the_same_size_and_time(self) -> None:
+        self.write({"site/personal/part.sieve": 'if header "subject" "k7" { keep; } discard;'})
+        self.look()
+        self.rewritten(self.room / "site/mails/2.eml", b"subject: k7")
+        self.assertEqual(self.look()[-1], "1 of 2 verdicts changed")
+        self.rewritten(self.room / "site/mails/1.eml.expect", b"[main]\n# none \n")
+        self.assertEqual(self.look()[-1], "0 of 2 verdicts changed, 1 not as expected")
 
     def test_users(self) -> None:
         shutil.rmtree(self.room / "site/personal")
@@ -271,7 +295,7 @@ class Ends(Room):
                     told[-1] if status == 130 else told[1], rb"^[01] of 1 verdict changed, [0-9.]+ seconds\n$"
                 )
                 child.send_signal(number)
-                self.assertEqual((child.communicate(timeout=20), child.returncode), ((b"", b""), status))
+                self.assertEqual((child.communicate(), child.returncode), ((b"", b""), status))
 
     def test_a_wrong_site(self) -> None:
         self.assertEqual(self.ran("watch", "nowhere")[0], 2)
