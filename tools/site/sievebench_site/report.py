@@ -1,0 +1,73 @@
+"""The command report: all that the other commands find in a site, for a page that shows it."""
+
+from __future__ import annotations
+
+import os
+from typing import Dict, List, Optional, Set, Tuple
+
+from .changes import Command, commands
+from .checked import Checked, found_in
+from .diff import Diff
+from .ends import refuse
+from .files import OUTPUTS, octets_of, refuse_unwritable
+from .folder import Site
+from .letterheads import Letterhead, letterhead_of
+from .mails import Mail
+from .mains import Script
+from .program import Program
+from .report_rows import Row, rows_of
+from .traces import TracingJudge, Visit
+from .untested import Tried, Untested
+from .words import quoted
+
+# The verdicts of the mails that come to a place, each with the numbers of the mails.
+Came = Dict[Tuple[bytes, ...], Set[int]]
+
+
+class Facts:
+    """What is found in a site: what `check` compares, where each run comes, what `untested` leaves, and what an edit changes, if one is asked
+    for."""
+
+    def __init__(self, site: Site, program: Program, jobs: int, edit: Optional[Diff] = None) -> None:
+        self.site, self.edit = site, edit
+        self.judge = TracingJudge(site, program, jobs)
+        self.checked = Checked(found_in(site, self.judge.all()), False, False)
+        self.untested = Untested(site, program, jobs, False, False)
+        self.rows: List[Row] = rows_of(self.checked.cases, self.judge.traces)
+        self.mails: List[Mail] = [mail for row in self.rows for mail in row.mails]
+        self.scripts: Dict[bytes, Script] = {it.path: it for user in site.users for it in user.scripts}
+        self.commands: Dict[bytes, List[Command]] = {path: commands(it.text) for path, it in self.scripts.items()}
+        self.left: Dict[bytes, List[Tried]] = {}
+        for tried in self.untested.left():
+            self.left.setdefault(tried.script.path, []).append(tried)
+        self.came = self.came_to()
+
+    def came_to(self) -> Dict[bytes, Dict[int, Came]]:
+        """Of each script that a run looks up, the mails that come to each place, by their verdicts."""
+        numbers = {mail.path: number for number, mail in enumerate(self.mails)}
+        alike: Dict[Tuple[Visit, Tuple[bytes, ...]], Set[int]] = {}
+        for case in self.checked.cases:
+            for visit in self.judge.traces.get((case.mail.path, case.main.key), ()):
+                alike.setdefault((visit, case.lines()), set()).add(numbers[case.mail.path])
+        found: Dict[bytes, Dict[int, Came]] = {}
+        for (visit, verdict), mails in alike.items():
+            places = found.setdefault(visit.path, {})
+            for place in visit.places:
+                places.setdefault(place, {}).setdefault(verdict, set()).update(mails)
+        return found
+
+    def letterhead(self, mail: Mail) -> Tuple[Letterhead, Tuple[str, str]]:
+        """The head of a mail, and the addresses of its envelope as they are quoted."""
+        octets = octets_of(mail.path)
+        envelope = self.judge.envelope_of(mail, octets)
+        return letterhead_of(octets), (quoted(envelope.sender or b""), quoted(envelope.recipient or b""))
+
+
+def refuse_place(path: bytes, folder: bytes) -> None:
+    """Refuses a file for the page that can't be written, or is one of the site's."""
+    if path in OUTPUTS:
+        return
+    place, site = os.path.realpath(path), os.path.realpath(folder)
+    if os.path.commonpath([place, site]) == site:
+        refuse(f"{quoted(path)} is inside of {quoted(folder)}: the page goes to another folder than the site's")
+    refuse_unwritable(path)
