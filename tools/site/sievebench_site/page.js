@@ -49,6 +49,7 @@
     told.value = words.length ? `${count} found` : "";
   };
   input.addEventListener("input", find);
+  input.addEventListener("change", find);
   tools.addEventListener("submit", (event) => event.preventDefault());
   opener.addEventListener("click", () => {
     for (const it of document.querySelectorAll("details")) it.open = true;

@@ -5,11 +5,14 @@ from __future__ import annotations
 from typing import Iterator, List
 
 from .findings import PLAIN
-from .groups import Group, changes, counted, entered_at, grouped
+from .groups import Group, changes, counted, grouped, places_of
 from .judge import Case
 from .markup import Inside, Markup, joined, listed, table, tag
 from .page_mails import MARKS
 from .page_places import Places, verdict_text
+
+# So many lines are linked that entered a line of a verdict.
+LINES = 3
 
 
 def edit_part(places: Places) -> Markup:
@@ -29,20 +32,32 @@ def edit_part(places: Places) -> Markup:
 
 def changed(places: Places, group: Group) -> Markup:
     """Verdicts that change in the same way."""
-    told = (difference(group, mark, text) for mark, text in changes(group.cases[0]))
+    told = (difference(places, group, mark, text) for mark, text in changes(group.cases[0]))
     return row(places, group, listed(told, class_="verdict difference"))
 
 
-def difference(group: Group, mark: str, text: bytes) -> Markup:
+def difference(places: Places, group: Group, mark: str, text: bytes) -> Markup:
     """A line of a difference, and what entered it if it is there now."""
     name, sign = MARKS[mark]
-    at = entered_at(group, text, PLAIN) if mark == "+" else ""
-    return joined([tag(name, tag("code", sign + verdict_text(text))), at])
+    made = tag(name, tag("code", sign + verdict_text(text)))
+    return joined([made, *entered(places, group, text)]) if mark == "+" else made
+
+
+def entered(places: Places, group: Group, text: bytes) -> Iterator[Inside]:
+    """Links to the lines that entered a line of a verdict that is there now, or where there are many to the first of them."""
+    lines = dict.fromkeys(
+        at for case in group.cases for line in case.verdict.lines for at in places_of(case, line, text)
+    )
+    for path, number in list(lines)[:LINES]:
+        yield " "
+        yield places.line_link(path, number)
+    if len(lines) > LINES:
+        yield f" and {counted(len(lines) - LINES, 'other line')}"
 
 
 def not_judged(places: Places, group: Group) -> Markup:
     """Verdicts that can't be judged, before or now."""
-    return row(places, group, tag("p", f"not judged: {group.cases[0].unjudged}"))
+    return row(places, group, tag("span", f"not judged: {group.cases[0].unjudged}"))
 
 
 def row(places: Places, group: Group, told: Markup) -> Markup:

@@ -66,7 +66,7 @@ class Telling:
     def verdict(self, case: Case) -> Markup:
         """The lines of a verdict, each with the command that entered it and the branch in which that is."""
         if case.unjudged:
-            return tag("p", f"not judged: {case.unjudged}")
+            return tag("span", f"not judged: {case.unjudged}")
         return listed((self.line(case, line) for line in case.verdict.lines), class_="verdict")
 
     def line(self, case: Case, line: Line) -> Markup:
@@ -95,7 +95,7 @@ class Telling:
     def expected(self, case: Case) -> Markup:
         """What is expected, line by line against the verdict where that is another."""
         if case.block is None:
-            return tag("p", "nothing")
+            return tag("span", "nothing", class_="none")
         if case.agrees() is not False:
             return listed((tag("code", verdict_text(line)) for line in case.block.lines), class_="verdict")
         told = ((*MARKS[mark], verdict_text(text)) for mark, text in changes(case))

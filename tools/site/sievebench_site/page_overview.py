@@ -12,7 +12,7 @@ from .groups import counted
 from .judge import Case
 from .markup import Inside, Markup, joined, link, listed, table, tag
 from .page_places import Places, verdict_text
-from .report_rows import OUTCOMES, Column, Outcome, Row, columns_of, outcome_of
+from .report_rows import OUTCOMES, UNJUDGED, Column, Outcome, Row, columns_of, outcome_of
 
 
 def overview_part(places: Places) -> Markup:
@@ -75,6 +75,8 @@ def cell(cases: List[Case]) -> Markup:
     """How the verdicts under the main scripts of a column went: of one also what it is."""
     if not cases:
         return tag("span", "not for this one", class_="none")
+    if len(cases) == 1 and cases[0].unjudged:
+        return sign(UNJUDGED, UNJUDGED.word)
     if len(cases) == 1:
         told = "; ".join(map(verdict_text, cases[0].lines()[:3])) + (" .." if len(cases[0].lines()) > 3 else "")
         return joined([sign(outcome_of(cases[0]), outcome_of(cases[0]).word), " ", tag("code", told)])

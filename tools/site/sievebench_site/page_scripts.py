@@ -16,6 +16,8 @@ from .untested import Tried
 
 # So many verdicts are shown of a line.
 VERDICTS = 10
+FAULT, SKIPPED, UNNOTICED = "fault", "skipped", "unnoticed"
+SIGNS = {FAULT: "✗ ", SKIPPED: "? ", UNNOTICED: "△ "}
 # A kind of remark, as a class of the page's style, and the remark.
 Remark = Tuple[str, str]
 
@@ -37,14 +39,14 @@ def remarks_of(places: Places) -> Dict[bytes, Dict[int, List[Remark]]]:
 
     beside = places.facts.checked.beside
     for broken in beside.broken:
-        add(broken.path, broken.line, "fault", f"{broken.word}: {broken.sentence}")
+        add(broken.path, broken.line, FAULT, f"{broken.word}: {broken.sentence}")
     for unfit in beside.lacking:
-        add(unfit.path, unfit.line, "fault", f"not judged: {unfit.why}")
+        add(unfit.path, unfit.line, FAULT, f"not judged: {unfit.why}")
     for unfit in beside.passed_over:
-        add(unfit.path, unfit.line, "skipped", f"skipped: {PLAIN.line(unfit.why.encode())}")
+        add(unfit.path, unfit.line, SKIPPED, f"skipped: {PLAIN.line(unfit.why.encode())}")
     for path, left in places.facts.left.items():
         for tried in left:
-            add(path, tried.change.line, "unnoticed", tried.why(PLAIN))
+            add(path, tried.change.line, UNNOTICED, tried.why(PLAIN))
     return found
 
 
@@ -54,7 +56,8 @@ class ScriptPart:
     def __init__(self, places: Places, script: Script, remarks: Dict[int, List[Remark]]) -> None:
         self.places, self.script, self.remarks = places, script, remarks
         self.id = places.scripts[script.path]
-        self.came: Optional[Dict[int, Came]] = places.facts.came.get(script.path)
+        self.cannot_run = any(kind in (FAULT, SKIPPED) for told in remarks.values() for kind, _ in told)
+        self.came: Optional[Dict[int, Came]] = None if self.cannot_run else places.facts.came.get(script.path)
         self.commands: Dict[int, List[Command]] = {}
         for command in places.facts.commands[script.path]:
             self.commands.setdefault(command.line(), []).append(command)
@@ -74,14 +77,14 @@ class ScriptPart:
 
     def summary(self) -> Markup:
         """How many mails come to the script."""
+        if self.cannot_run:
+            return tag("p", "It can't be run, as is said below.")
         if self.came is None:
             return tag("p", "No verdict looks it up.")
         mails = mails_in(mails for came in self.came.values() for mails in came.values())
         left = len(self.places.facts.left.get(self.script.path, []))
-        return tag(
-            "p",
-            f"{counted(len(mails), 'mail')} come here. {counted(left, 'change')} of it would be noticed by no mail.",
-        )
+        noticed = f"No mail notices {counted(left, 'change')} of it." if left else "Each change of it is noticed."
+        return tag("p", f"{counted(len(mails), 'mail')} {comes(len(mails))} here. {noticed}")
 
     def row(self, number: int, line: bytes) -> Markup:
         """A line."""
@@ -105,12 +108,7 @@ class ScriptPart:
     def remark(self, remark: Remark) -> Markup:
         """What is said of a line."""
         kind, text = remark
-        return tag(
-            "span",
-            tag("span", {"fault": "✗ ", "unnoticed": "△ "}.get(kind, "? "), aria_hidden="true"),
-            text,
-            class_=kind,
-        )
+        return tag("span", tag("span", SIGNS[kind], aria_hidden="true"), text, class_=kind)
 
     def came_to(self, place: Optional[int]) -> Came:
         """The mails that come to a place, by their verdicts."""
@@ -129,11 +127,11 @@ class ScriptPart:
 
     def counts(self, found: List[Command], came: Came) -> Iterator[str]:
         """The counts of a line in words."""
-        mails = len(mails_in(came.values()))
-        first = found[0]
-        if point_of(first) != first.block:
-            yield f"{mails:,}" if mails else "0: none comes here"
-        if first.block is not None:
+        first, mails = found[0], len(mails_in(came.values()))
+        begins = point_of(first) != first.block
+        if begins:
+            yield f"{mails:,} {comes(mails)}" if mails else "none comes here"
+        if first.block is not None and (mails or not begins):
             taken = len(mails_in(self.came_to(first.block).values()))
             yield f"{taken:,} {'takes' if taken == 1 else 'take'} it" if taken else "none takes it"
 
@@ -150,6 +148,11 @@ class ScriptPart:
         example = self.places.facts.mails[min(mails)]
         first = joined(["as ", self.places.mail_link(example)])
         return joined([f"{len(mails):,}: ", tag("code", text), " ", first])
+
+
+def comes(count: int) -> str:
+    """The word for so many mails."""
+    return "comes" if count == 1 else "come"
 
 
 def mails_in(groups: Iterable[Set[int]]) -> Set[int]:

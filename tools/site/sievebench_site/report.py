@@ -18,7 +18,7 @@ from .program import Program
 from .report_rows import Row, rows_of
 from .traces import TracingJudge, Visit
 from .untested import Tried, Untested
-from .words import quoted
+from .words import quoted, word_of
 
 # The verdicts of the mails that come to a place, each with the numbers of the mails.
 Came = Dict[Tuple[bytes, ...], Set[int]]
@@ -57,10 +57,10 @@ class Facts:
         return found
 
     def letterhead(self, mail: Mail) -> Tuple[Letterhead, Tuple[str, str]]:
-        """The head of a mail, and the addresses of its envelope as they are quoted."""
+        """The head of a mail, and the addresses of its envelope as words."""
         octets = octets_of(mail.path)
         envelope = self.judge.envelope_of(mail, octets)
-        return letterhead_of(octets), (quoted(envelope.sender or b""), quoted(envelope.recipient or b""))
+        return letterhead_of(octets), (word_of(envelope.sender or b""), word_of(envelope.recipient or b""))
 
 
 def refuse_place(path: bytes, folder: bytes) -> None:
