@@ -16,8 +16,9 @@ mails come to each line and with which verdicts, and the changes that untested f
 --against REVISION also shows what diff --git REVISION says.
 
 FILE is replaced whole or not at all, and may not be inside of the site. /dev/stdout prints the page.
-What mails and scripts say stands there as text. The page isn't told by the time: equal sites give
-equal pages. Whether all is as expected, check says; the status is 0 if the page is written."""
+What mails and scripts say stands there as text, and equal sites give equal pages. A page has the
+subjects and addresses of all mails. Whether all is as expected, check says: the status is 0 if the
+page is written."""
 
 
 def add_page(parser: argparse.ArgumentParser) -> None:
