@@ -9,10 +9,15 @@ import sys
 from page_tree import text_of, tree_of, with_class, with_id
 
 from . import runs, site_browser
-from .runs import LeftOut, Reading, lines, some
+from .runs import LeftOut, Reading, Run, lines, some
 from .site import PACK, TOOL, run, site, told, write
 
-OFFICE = TOOL.parent.parent / "examples/site"
+TOP = TOOL.parent.parent
+OFFICE, SERVERS = TOP / "examples/site", TOP / "examples/ci"
+# A step of a file for servers that makes a page.
+STEP = r"^ *- (?:run: )?(bin/sievebench-site report .*-o (.*))"
+# The picture of the README has fewer octets.
+PICTURE = 150_000
 COUNTS = "6 mails, 2 mains, 12 verdicts, 12 agree, 0 disagree, 0 without expectation, 0 stale expectations, 0 scripts with a fault"
 # The table of mails: each row with what becomes of the mail under ada and under sales.
 TABLE = [
@@ -48,6 +53,19 @@ GIT = "git -c user.name=a -c user.email=a@b.example"
 def page_at(path):
     """The tree of a page."""
     return tree_of(path.read_text(encoding="utf-8"))
+
+
+class Picture(Reading):
+    """Whether the picture of the README is a small one of the form PNG."""
+
+    title, command = "sievebench-site: the picture of its page", "README.md"
+
+    def found(self, path):
+        """What it is otherwise."""
+        (name,) = re.findall(r"^!\[.+\]\((.*\.png)\)$", (TOP / "README.md").read_text(encoding="utf-8"), re.M)
+        octets = (TOP / name).read_bytes()
+        self.looked = len(octets)
+        return [] if octets.startswith(b"\x89PNG\r\n") and len(octets) < PICTURE else [f"{name} has {len(octets)} octets, or another form"]
 
 
 class Looking(Reading):
@@ -285,8 +303,24 @@ def of_files(room):
     yield run("a page is replaced, is the same by the packed tool, and goes to standard output", room, f"report site -o page.html; stat -c %a page.html; {packs}; python3 {shlex.quote(str(TOOL))} report site -o /dev/stdout | cmp - packed.html && cmp page.html packed.html; head -c 15 page.html; ls -A", lines(640) + b"<!DOCTYPE html>" + lines("packed", "packed.html", "page.html", "site"))
 
 
+def of_servers(room):
+    """What makes pages on servers, and that these keep them."""
+    write(room / "site", site({"1.eml": b"Subject: a\n\n"}, main=b"discard;"))
+    packs = f'mkdir bin && ln -s "$(readlink -f "$(command -v sievebench)")" bin/sievebench && python3 {shlex.quote(str(PACK))} bin/sievebench-site'
+    yield Run("examples for servers: a repository", room, f"{packs} && {GIT} init -q && {GIT} add site && {GIT} commit -qm one")
+    for name, pages in (("github", ["report.html"]), ("gitlab", ["report.html", "changes.html"])):
+        text = (SERVERS / f"{name}.yml").read_text(encoding="utf-8")
+        steps = re.findall(STEP, text, re.M)
+        assert [page for _, page in steps] == pages and all(re.search(rf"paths?: .*\b{page}", text) for page in pages), f"examples for servers: {name}.yml"
+        for step, page in steps:
+            yield Run(f"examples for servers: {page} of {name}.yml", room, f"{step.replace('FETCH_HEAD', 'HEAD')} && head -c 15 {page}; rm {page}", b"<!DOCTYPE html>")
+
+
 def of_sites(room):
     """All of this."""
+    yield Picture()
+    (room / "servers").mkdir()
+    yield from some("pages on servers", of_servers(room / "servers"))
     (room / "refused").mkdir()
     yield from some("what report refuses", of_refusals(room / "refused"))
     (room / "files").mkdir()

@@ -25,11 +25,11 @@
   const input = make("input", label);
   input.type = "search";
   input.id = "find";
+  const opener = make("button", tools, "Open all that is folded");
+  opener.type = "button";
   const told = make("output", tools);
   told.id = "found";
   told.setAttribute("aria-live", "polite");
-  const opener = make("button", tools, "Open all that is folded");
-  opener.type = "button";
 
   const find = () => {
     const words = input.value.toLowerCase().split(/\s+/).filter(Boolean);
