@@ -277,7 +277,7 @@ def of_refusals(room):
     (room / "folder").mkdir()
     (room / "linked").symlink_to("site/mails")
     for words, error in (
-        ("site", [b"sievebench-site: the following arguments are required: -o/--output; see --help\n"]),
+        ("site", [b"sievebench-site: the following arguments are required: -o; see --help\n"]),
         ("-o old.html", told("one folder is wanted, the site; see --help")),
         ("site -o site/page.html", told('"site/page.html" is inside of "site": the page goes to another folder than the site\'s')),
         ("site -o site", told('"site" is inside of "site": the page goes to another folder than the site\'s')),

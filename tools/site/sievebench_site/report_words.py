@@ -24,6 +24,6 @@ page is written."""
 def add_page(parser: argparse.ArgumentParser) -> None:
     """Adds the options of report."""
     writes = "the file that gets the page"
-    parser.add_argument("-o", "--output", required=True, metavar="FILE", help=writes)
+    parser.add_argument("-o", dest="output", required=True, metavar="FILE", help=writes)
     old = "also shows what the edit since this revision of the site's repository changes"
     parser.add_argument("--against", metavar="REVISION", help=old)
