@@ -31,7 +31,7 @@ def counts(checked: Checked) -> Markup:
 def beside(places: Places) -> Markup:
     """What a check finds that belongs to no verdict."""
     checked = places.facts.checked
-    alone = Checked(checked.found._replace(cases=[]), checked.lax, checked.each)
+    alone = Checked(checked.found._replace(cases=[]), False, False)
     return listed((finding(places, it) for it in findings_of(alone)), class_="beside")
 
 

@@ -16,8 +16,8 @@ from .mails import Mail
 from .mains import Script
 from .program import Program
 from .report_rows import Row, rows_of
-from .traces import TracingJudge, Visit
-from .untested import Tried, Untested
+from .traces import TracingJudge, UntestedTraced, Visit
+from .untested import Tried
 from .words import quoted, word_of
 
 # The verdicts of the mails that come to a place, each with the numbers of the mails.
@@ -32,7 +32,7 @@ class Facts:
         self.site, self.edit = site, edit
         self.judge = TracingJudge(site, program, jobs)
         self.checked = Checked(found_in(site, self.judge.all()), False, False)
-        self.untested = Untested(site, program, jobs, False, False)
+        self.untested = UntestedTraced(self.judge)
         self.rows: List[Row] = rows_of(self.checked.cases, self.judge.traces)
         self.mails: List[Mail] = [mail for row in self.rows for mail in row.mails]
         self.scripts: Dict[bytes, Script] = {it.path: it for user in site.users for it in user.scripts}

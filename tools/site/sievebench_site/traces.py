@@ -14,7 +14,7 @@ from .mails import Mail
 from .mains import Main, Script
 from .program import Place, Program
 from .reach import Reach
-from .untested import Few, Verdicts, looked_up
+from .untested import Few, Untested, Verdicts, looked_up
 
 # What stands before an `elsif` or an `else` belongs to the branch before it, and before a `require` no command may stand.
 NO_START = (b"elsif", b"else", b"require")
@@ -72,6 +72,28 @@ class TracingJudge(Judge):
                 for name, trace in tracer.traces(main, verdicts).items():
                     self.traces[held.mails[name].path, main.key] = self.known.setdefault(trace, trace)
         return cases, bare
+
+
+class UntestedTraced(Untested):
+    """The changes of the scripts that no mail notices, where it is known already which mails come to each block."""
+
+    def __init__(self, judge: TracingJudge) -> None:
+        self.traces = judge.traces
+        super().__init__(judge.site, judge.program, judge.jobs, False, False)
+
+    def entered(self, held: Held, main: Main, script: Script, ids: List[bytes]) -> Dict[int, List[bytes]]:
+        """The mails that come to each block of a script, or may."""
+        found: Dict[int, List[bytes]] = {it.block: [] for it in commands(script.text) if it.block is not None}
+        for name in ids:
+            trace = self.traces.get((held.mails[name].path, main.key))
+            came = (
+                found.keys()
+                if trace is None
+                else {place for it in trace if it.path == script.path for place in it.places}
+            )
+            for place in found.keys() & came:
+                found[place].append(name)
+        return found
 
 
 class Tracer:
