@@ -47,6 +47,7 @@ HOSTILE = site(
     main=b'require "fileinto";\nif header :contains "subject" "script" {\n\tfileinto "</code><b>&amp;";\n}\nelse { redirect ""; }\n# </table><script>document.title="ran"</script>\n',
     broken=b"keep;\nkep;\n",
 )
+HOSTILE["personal/open.sieve"] = b"if true {\n"
 GIT = "git -c user.name=a -c user.email=a@b.example"
 
 
@@ -194,6 +195,7 @@ def hostile(looking):
     yield '# </table><script>document.title="ran"</script>', text_of(main[6][2])
     yield ["2 come, 1 takes it", "1 takes it"], [text_of(main[it][1].find("details/summary")) for it in (2, 5)]
     yield "kep;✗ unknown-command: There is no such command or test.", text_of(rows["personal/broken.sieve"][2][2])
+    yield {1: "if true {", 2: "✗ syntax: What stands here can't follow what stands before it, or the text ends too early."}, {it: text_of(row[2]) for it, row in rows["personal/open.sieve"].items()}
     yield "It can't be run, as is said below.", text_of(scripts["personal/broken.sieve"].find("p"))
 
 

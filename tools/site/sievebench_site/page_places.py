@@ -13,7 +13,7 @@ from .groups import counted
 from .judge import Case
 from .letterheads import cut
 from .mails import Mail
-from .markup import Inside, Markup, link, tag
+from .markup import Inside, Markup, joined, link, tag
 from .program import Line, Place
 from .report import Facts
 from .report_rows import Row
@@ -69,10 +69,10 @@ class Places:
 
     def line_link(self, path: bytes, line: int, *inside: Inside) -> Inside:
         """A link to a line of a script, or its name where it isn't on the page."""
-        told = inside or (f"{self.name(path)}:{line}",)
-        if path not in self.scripts or not 1 <= line <= self.facts.scripts[path].text.count(b"\n") + 1:
+        if line < 1:
             return self.script_link(path)
-        return link(f"{self.scripts[path]}-{line}", *told)
+        told = joined(inside or [f"{self.name(path)}:{line}"])
+        return link(f"{self.scripts[path]}-{line}", told) if path in self.scripts else told
 
     def command_text(self, path: bytes, command: Command) -> str:
         """A command on one line."""

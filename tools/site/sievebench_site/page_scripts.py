@@ -12,7 +12,6 @@ from .markup import Inside, Markup, joined, link, listed, table, tag
 from .page_places import Places, verdict_text
 from .report import Came
 from .traces import point_of
-from .untested import Tried
 
 # So many verdicts are shown of a line.
 VERDICTS = 10
@@ -65,7 +64,7 @@ class ScriptPart:
     def made(self) -> Markup:
         """The script."""
         lines = self.script.text.split(b"\n")
-        lines = lines[:-1] if len(lines) > 1 and not lines[-1] else lines
+        lines = lines[:-1] if not lines[-1] and len(lines) > max(self.remarks, default=1) else lines
         rows = (self.row(number, line) for number, line in enumerate(lines, 1))
         head = tag("h3", tag("code", self.places.name(self.script.path)), id=f"{self.id}-head")
         listing = table(
@@ -81,10 +80,10 @@ class ScriptPart:
             return tag("p", "It can't be run, as is said below.")
         if self.came is None:
             return tag("p", "No verdict looks it up.")
-        mails = mails_in(mails for came in self.came.values() for mails in came.values())
+        mails = len(self.places.facts.asked[self.script.path])
         left = len(self.places.facts.left.get(self.script.path, []))
         noticed = f"No mail notices {counted(left, 'change')} of it." if left else "Each change of it is noticed."
-        return tag("p", f"{counted(len(mails), 'mail')} {comes(len(mails))} here. {noticed}")
+        return tag("p", f"{counted(mails, 'mail')} {comes(mails)} here. {noticed}")
 
     def row(self, number: int, line: bytes) -> Markup:
         """A line."""

@@ -40,21 +40,23 @@ class Facts:
         self.left: Dict[bytes, List[Tried]] = {}
         for tried in self.untested.left():
             self.left.setdefault(tried.script.path, []).append(tried)
-        self.came = self.came_to()
+        # Of each script that runs look up the mails of these runs, and those that come to each place, by their verdicts.
+        self.asked: Dict[bytes, Set[int]] = {}
+        self.came: Dict[bytes, Dict[int, Came]] = {}
+        self.take_traces()
 
-    def came_to(self) -> Dict[bytes, Dict[int, Came]]:
-        """Of each script that a run looks up, the mails that come to each place, by their verdicts."""
+    def take_traces(self) -> None:
+        """Tells where the mails come."""
         numbers = {mail.path: number for number, mail in enumerate(self.mails)}
         alike: Dict[Tuple[Visit, Tuple[bytes, ...]], Set[int]] = {}
         for case in self.checked.cases:
             for visit in self.judge.traces.get((case.mail.path, case.main.key), ()):
                 alike.setdefault((visit, case.lines()), set()).add(numbers[case.mail.path])
-        found: Dict[bytes, Dict[int, Came]] = {}
         for (visit, verdict), mails in alike.items():
-            places = found.setdefault(visit.path, {})
+            self.asked.setdefault(visit.path, set()).update(mails)
+            places = self.came.setdefault(visit.path, {})
             for place in visit.places:
                 places.setdefault(place, {}).setdefault(verdict, set()).update(mails)
-        return found
 
     def letterhead(self, mail: Mail) -> Tuple[Letterhead, Tuple[str, str]]:
         """The head of a mail, and the addresses of its envelope as words."""
