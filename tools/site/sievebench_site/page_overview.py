@@ -68,7 +68,8 @@ def cells(places: Places, number: int, row: Row, columns: List[Column]) -> Itera
     for column in columns:
         cases = [case for case in row.cases if case.main.key in column.keys]
         ranks = [outcome_of(case).rank for case in cases]
-        yield tag("td", cell(cases), data_rank=min(ranks, default=len(OUTCOMES)))
+        of = f"{places.label(cases[0])}: " if len(cases) == 1 and len(column.keys) > 1 else ""
+        yield tag("td", of, cell(cases), data_rank=min(ranks, default=len(OUTCOMES)))
 
 
 def cell(cases: List[Case]) -> Markup:

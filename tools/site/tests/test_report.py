@@ -4,14 +4,18 @@ import pathlib
 import re
 import sys
 from typing import Dict, List, Tuple
+from unittest import mock
 from xml.etree.ElementTree import Element
 
 sys.path.insert(0, str(pathlib.Path(__file__).resolve().parent.parent.parent))
 
 from page_tree import text_of, tree_of, with_class, with_id  # noqa: E402
 
+from sievebench_site.folder import Wanted, site_of, take_mails  # noqa: E402
 from sievebench_site.letterheads import letterhead_of, readable  # noqa: E402
 from sievebench_site.markup import joined, shown, tag  # noqa: E402
+from sievebench_site.page import page_of  # noqa: E402
+from sievebench_site.report import Facts  # noqa: E402
 
 from .room import Files, Room  # noqa: E402
 
@@ -86,19 +90,23 @@ class Rows(Pages):
         self.assertIn([("del", '− store "B"'), ("ins", "+ discard")], difference)
 
     def test_columns(self) -> None:
-        users: Files = {f"users/u{number:02}/personal/main.sieve": "discard;" for number in range(13)}
-        self.site({"mains": "main\n", "mails/1.eml": "Subject: a\n\n", **users})
-        self.assertEqual(
-            self.table(self.page()), [["Mails", "Count", "All main scripts"], ["a", "1", "○ 13 nothing expected"]]
-        )
-        self.write({"site/users/u00/personal/other.sieve": "keep;", "site/users/u00/mains": "main\nother\n"})
-        (self.room / "site/users/u12/personal/main.sieve").unlink()
-        (self.room / "site/users/u12/personal").rmdir()
-        (self.room / "site/users/u12").rmdir()
-        head, row = self.table(self.page())
-        self.assertEqual(head[2:], [f"u{number:02}" for number in range(12)])
-        self.assertEqual(row[2:], ["○ 2 nothing expected", *["○ nothing expected discard"] * 11])
-        self.assertEqual(self.table(self.page("--user", "u01"))[0][2:], ["u01/main"])
+        mains = {"a": "x\ny\n", "b": "x\n", "c": "x\n"}
+        users: Files = {f"users/{user}/mains": text for user, text in mains.items()}
+        scripts: Files = {f"users/{user}/personal/{name}.sieve": "discard;" for user in mains for name in "xy"}
+        self.site({"mails/1.eml": "Subject: all\n\n", "users/b/mails/2.eml": "Subject: own\n\n", **users, **scripts})
+        one, none, blank = "○ nothing expected discard", "○ 2 nothing expected", "not for this one"
+        wanted = {
+            4: [["a/x", "a/y", "b/x", "c/x"], [one] * 4, [blank, blank, one, blank]],
+            3: [["a", "b", "c"], [none, one, one], [blank, one, blank]],
+            2: [["All main scripts"], ["○ 4 nothing expected"], [f"b/x: {one}"]],
+        }
+        site = site_of(Wanted(bytes(self.room / "site"), [], [], [], None))
+        take_mails(site)
+        facts = Facts(site, self.program(), 1)
+        for columns, table in wanted.items():
+            with self.subTest(columns=columns), mock.patch("sievebench_site.report_rows.COLUMNS", columns):
+                page = tree_of(page_of(facts, "0").decode())
+                self.assertEqual([row[2:] for row in self.table(page)], table)
 
     def test_no_memory(self) -> None:
         self.site(
