@@ -25,7 +25,8 @@ TIME = (1980, 1, 1, 0, 0, 0)
 
 def parts() -> List[pathlib.Path]:
     """The files that are part of the tool, in order."""
-    return [HERE / "__main__.py", *sorted((HERE / "sievebench_site").glob("*.py"))]
+    own = HERE / "sievebench_site"
+    return [HERE / "__main__.py", *sorted(it for it in own.iterdir() if it.suffix in (".py", ".css", ".js"))]
 
 
 def packed() -> bytes:

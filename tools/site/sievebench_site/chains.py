@@ -90,6 +90,9 @@ class Course:
 
 def chained(bench: Bench, places: Tuple[Place, ...], ids: Iterable[bytes]) -> Dict[bytes, Verdict]:
     """The verdict on each mail under scripts that run one after another: all that they did."""
+    if len(places) == 1:
+        alone = bench.run(places[0])
+        return {name: alone[name] for name in ids}
     course = Course(ids)
     waiting: Dict[Flags, Set[bytes]] = {(): set(course.told)}
     for place in places[:-1]:

@@ -10,7 +10,7 @@ import sys
 import time
 from typing import Callable, Dict, List, NoReturn, Optional, Tuple
 
-from . import check, diff, ends, lint, untested, watch, why
+from . import check, diff, ends, lint, page, report, untested, watch, why
 from .beginning import USUAL, ask_for, has_begun, is_new
 from .checked import Checked, Found, found_in
 from .completion import completed
@@ -188,6 +188,21 @@ def run_watch(options: argparse.Namespace) -> int:
     return 0
 
 
+def run_report(options: argparse.Namespace) -> int:
+    """The command report."""
+    path, folder = os.fsencode(options.output), site_folder(options.folders)
+    report.refuse_place(path, folder)
+    site = site_with_mails(options)
+    program = program_of(options, site)
+    with contextlib.ExitStack() as room:
+        edit = None
+        if options.against is not None:
+            old = room.enter_context(diff.revision(options.against, folder))
+            edit = diff.Diff(diff.other_site(old, site), site, program, options.jobs)
+    write_file(path, page.page_of(report.Facts(site, program, options.jobs, edit), VERSION))
+    return 0
+
+
 COMMANDS: Dict[str, Callable[[argparse.Namespace], int]] = {
     "check": run_check,
     "record": run_record,
@@ -197,6 +212,7 @@ COMMANDS: Dict[str, Callable[[argparse.Namespace], int]] = {
     "diff": run_diff,
     "why": run_why,
     "watch": run_watch,
+    "report": run_report,
 }
 
 

@@ -12,6 +12,7 @@ from .ends import refuse
 from .folder import Wanted
 from .import_words import IMPORT, add_import
 from .program import GIBIBYTE
+from .report_words import REPORT, add_page
 from .shown import Look
 
 DESCRIPTION = """\
@@ -26,6 +27,7 @@ Commands:
   diff      reports the verdicts that an edit changes
   why       says which commands entered a verdict, and which branches were taken
   watch     reports changed verdicts after each save
+  report    writes one page of HTML that shows all this
 
 'sievebench-site COMMAND --help' has the options of a command, 'sievebench-site --version' prints
 the versions of this tool and of the program.
@@ -72,7 +74,8 @@ Files of a site:
 """
 STATUS = """\
 Exit status:
-  0    check: all verdicts agree; lint: no fault; diff: no verdict changed; untested, why: done
+  0    check: all verdicts agree; lint: no fault; diff: no verdict changed; untested, why: done;
+       report: the page is written
   1    check: a verdict disagrees, a script has a fault, a verdict or a script can't be judged and
        isn't listed in unjudged, or without --lax something isn't expected or is stale; lint: a
        fault, or such a script; record: it left a file; diff: a verdict that changed; untested:
@@ -191,6 +194,7 @@ count. Mails, main scripts and settings may come and go. If the site can't be re
 verdicts stay. A save counts once the files stay as they are for a twentieth of a second. Only what
 a save touched is run, except main scripts that run one after another. All mails are held in memory,
 once for each line of mains.""",
+    "report": REPORT,
 }
 PLACES = {"import": "[MAILBOX..] SITE", "diff": "[OLD] SITE", "why": "SITE MAIL"}
 
@@ -354,6 +358,13 @@ def add_watch(parser: Parser) -> None:
     parser.add_argument("--all", action="store_true", help=tells)
 
 
+def add_report(parser: Parser) -> None:
+    """Adds the options of report."""
+    add_running(parser)
+    add_judging(parser)
+    add_page(parser)
+
+
 ADDERS = {
     "check": add_check,
     "record": add_record,
@@ -363,6 +374,7 @@ ADDERS = {
     "diff": add_diff,
     "why": add_running,
     "watch": add_watch,
+    "report": add_report,
 }
 
 

@@ -145,7 +145,7 @@ class Session:
         self.lines: Deque[bytes] = collections.deque()
         self.begun: List[bytes] = []
         # Many verdicts are the same one.
-        self.known: Dict[Tuple[bytes, ...], Verdict] = {}
+        self.known: Dict[bytes, Verdict] = {}
 
     def end(self) -> None:
         """Ends the session, which mustn't have failed until now."""
@@ -243,22 +243,31 @@ class Session:
         self.drain()
         self.write(b"report\n")
         self.flush()
-        report, name = Report({}, {}), b""
-        told: List[bytes] = []
+        head, *mails = self.told().split(b"\nmessage ")
+        report = Report({}, {})
+        for found in head.split(b"\n"):
+            self.take_script(found, report.faults)
+        for mail in mails:
+            name, _, lines = mail.partition(b"\n")
+            if lines:
+                report.verdicts[unquoted(name)] = self.verdict(lines)
+        return report
+
+    def told(self) -> bytes:
+        """All that a report tells but for its last line, after an LF."""
+        octets = bytearray(b"".join([b"\n", *(it + b"\n" for it in self.lines), *self.begun]))
+        self.lines.clear()
+        self.begun = []
         while True:
-            found = self.line()
-            if found.startswith(b"  "):
-                told.append(found)
-            elif found.startswith(b"message "):
-                self.take_verdict(name, told, report.verdicts)
-                name, told = unquoted(found[len(b"message ") :]), []
-            elif found.startswith(b"script "):
-                self.take_script(found, report.faults)
-            elif found.startswith(b"no "):
+            last = octets.rfind(b"\n", 0, -1) + 1 if octets.endswith(b"\n") else 0
+            if octets.startswith(b"no ", last):
                 raise NoMemory(f"the report is refused: {NO_MEMORY}")
-            elif found.startswith(b"total "):
-                self.take_verdict(name, told, report.verdicts)
-                return report
+            if octets.startswith(b"total ", last):
+                return bytes(octets[: last - 1])
+            more = os.read(self.output.fileno(), OCTETS)
+            if not more:
+                self.fail()
+            octets += more
 
     def take_script(self, found: bytes, faults: Dict[Place, Optional[Fault]]) -> None:
         """Takes the line of a script."""
@@ -267,13 +276,12 @@ class Session:
             place = match[1].decode(), unquoted(match[2])
             faults[place] = (int(match[3]), match[4].decode()) if match[3] else None
 
-    def take_verdict(self, name: bytes, told: List[bytes], verdicts: Dict[bytes, Verdict]) -> None:
-        """Takes the lines of a mail, if any."""
-        key = tuple(told)
-        if key and key not in self.known:
-            self.known[key] = verdict_of(told)
-        if key:
-            verdicts[name] = self.known[key]
+    def verdict(self, lines: bytes) -> Verdict:
+        """What the lines of a mail tell, of which the first may be its envelope."""
+        lines = lines.partition(b"\n")[2] if lines.startswith(b"  envelope ") else lines
+        if lines not in self.known:
+            self.known[lines] = verdict_of(lines.split(b"\n"))
+        return self.known[lines]
 
 
 def verdict_of(told: List[bytes]) -> Verdict:

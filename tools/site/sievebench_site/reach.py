@@ -50,6 +50,11 @@ def with_end(text: bytes, command: Command) -> Tuple[bytes, int]:
         octets = b"true" + b"\n" * text.count(b"\n", start, end)
         text = text[:start] + octets + text[end:]
         place = command.block + len(octets) - (end - start)
+    return with_error(text, place)
+
+
+def with_error(text: bytes, place: int) -> Tuple[bytes, int]:
+    """The script with such an error at a place, and its line."""
     lines = text.count(b"\n") + 1
     line = text.count(b"\n", 0, place) + 1 + lines
     return with_inserted(text, [(place, b"\n" * lines + b'redirect "";\n')]), line
@@ -87,12 +92,41 @@ class Reach:
         found: Dict[int, List[bytes]] = {}
         for at in range(0, len(blocks), AT_ONCE):
             group = blocks[at : at + AT_ONCE]
-            verdicts = self.verdicts(with_fronts(self.script.text, group, self.domain))
-            texts = {name: set(verdict.texts()) for name, verdict in verdicts.items()}
-            failed = {name for name, lines in texts.items() if any(line.startswith(b"error ") for line in lines)}
-            for number, block in enumerate(group):
-                line = redirect_line(number, self.domain)
-                found[block] = [name for name in self.ids if name in failed or line in texts[name]]
+            came, failed = self.asked(group)
+            found.update({it: [name for name in self.ids if name in failed or name in came[it]] for it in group})
+        self.bench.replace(self.script.at(), self.script.text)
+        return found
+
+    def asked(self, places: List[int]) -> Tuple[Dict[int, Set[bytes]], Set[bytes]]:
+        """The mails that come to each of a few places, and those of which that isn't known, since their runs fail."""
+        came: Dict[int, Set[bytes]] = {place: set() for place in places}
+        lines = {redirect_line(number, self.domain): came[place] for number, place in enumerate(places)}
+        failed: Set[bytes] = set()
+        for name, verdict in self.verdicts(with_fronts(self.script.text, places, self.domain)).items():
+            for line in verdict.lines:
+                if line.text in lines:
+                    lines[line.text].add(name)
+                elif line.text.startswith(b"error "):
+                    failed.add(name)
+        return came, failed
+
+    def came(self, places: List[int]) -> Tuple[Dict[int, Set[bytes]], Set[bytes]]:
+        """The same of any number of places."""
+        found: Dict[int, Set[bytes]] = {}
+        failed: Set[bytes] = set()
+        for at in range(0, len(places), AT_ONCE):
+            came, wrong = self.asked(places[at : at + AT_ONCE])
+            found.update(came)
+            failed |= wrong
+        self.bench.replace(self.script.at(), self.script.text)
+        return found, failed
+
+    def ended(self, place: int) -> Set[bytes]:
+        """The mails that come to a place, be it that their runs fail later."""
+        text, line = with_error(self.script.text, place)
+        where, name = self.script.at()
+        end = f"error {where} {quoted(name)} line {line} bad-address".encode()
+        found = {it for it, verdict in self.verdicts(text).items() if end in verdict.texts()}
         self.bench.replace(self.script.at(), self.script.text)
         return found
 

@@ -3,7 +3,7 @@ from __future__ import annotations
 
 import itertools
 import json
-from typing import Dict, Iterator, List, Set
+from typing import Callable, Dict, Iterator, List, Set
 
 from .changes import Change, changes, commands
 from .chains import Bench, chained
@@ -22,6 +22,8 @@ SOME, FEW = 4, 40
 # So much of a command is shown.
 SHOWN = 120
 Verdicts = Dict[bytes, Verdict]
+# Gives the mails that come to each block of a script, or may.
+Entered = Callable[[Held, Main, Script, List[bytes]], Dict[int, List[bytes]]]
 
 
 class Tried:
@@ -84,12 +86,17 @@ class Untested:
                         continue
                     # Parts that are tried at once begin at different changes: what one notices, the other needn't try.
                     start = len(tried) * (number % self.judge.jobs) // self.judge.jobs
-                    trial = Trial(held, few, main, script, base)
+                    trial = Trial(held, few, main, script, base, self.entered)
                     for it in [*tried[start:], *tried[:start]]:
                         if it.open():
                             trial.take(it)
                     trial.end()
                     trial.ask([it for it in tried if it.open() and not it.reached])
+
+    def entered(self, held: Held, main: Main, script: Script, ids: List[bytes]) -> Dict[int, List[bytes]]:
+        """The mails that come to each block of a script, or may."""
+        blocks = [it.block for it in commands(script.text) if it.block is not None]
+        return Reach(held.bench, ids, main, script).entered(blocks)
 
     def judged(self) -> List[Tried]:
         """All changes of the scripts that some verdict looked up."""
@@ -147,14 +154,12 @@ class Few:
 class Trial:
     """The changes of a script, tried on some mails under a main script."""
 
-    def __init__(self, held: Held, few: Few, main: Main, script: Script, base: Verdicts) -> None:
+    def __init__(self, held: Held, few: Few, main: Main, script: Script, base: Verdicts, entered: Entered) -> None:
         self.held, self.few, self.main, self.script, self.base = held, few, main, script, base
         self.ids = [name for name, verdict in base.items() if (script.at(), True) in verdict.reads]
         self.variables = b"variables" in required(script.text)[1]
-        blocks = [it.block for it in commands(script.text) if it.block is not None]
-        reach = Reach(held.bench, self.ids, main, script)
         # The mails that come to each block, or may.
-        self.entered = reach.entered(blocks)
+        self.entered = entered(held, main, script, self.ids)
 
     def around(self, it: Tried) -> List[bytes]:
         """The mails that come to the block in which a change is."""

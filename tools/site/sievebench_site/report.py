@@ -1,0 +1,75 @@
+"""The command report: all that the other commands find in a site, for a page that shows it."""
+
+from __future__ import annotations
+
+import os
+from typing import Dict, List, Optional, Set, Tuple
+
+from .changes import Command, commands
+from .checked import Checked, found_in
+from .diff import Diff
+from .ends import refuse
+from .files import OUTPUTS, octets_of, refuse_unwritable
+from .folder import Site
+from .letterheads import Letterhead, letterhead_of
+from .mails import Mail
+from .mains import Script
+from .program import Program
+from .report_rows import Row, rows_of
+from .traces import TracingJudge, UntestedTraced, Visit
+from .untested import Tried
+from .words import quoted, word_of
+
+# The verdicts of the mails that come to a place, each with the numbers of the mails.
+Came = Dict[Tuple[bytes, ...], Set[int]]
+
+
+class Facts:
+    """What is found in a site: what `check` compares, where each run comes, what `untested` leaves, and what an edit changes, if one is asked
+    for."""
+
+    def __init__(self, site: Site, program: Program, jobs: int, edit: Optional[Diff] = None) -> None:
+        self.site, self.edit = site, edit
+        self.judge = TracingJudge(site, program, jobs)
+        self.checked = Checked(found_in(site, self.judge.all()), False, False)
+        self.untested = UntestedTraced(self.judge)
+        self.rows: List[Row] = rows_of(self.checked.cases, self.judge.traces)
+        self.mails: List[Mail] = [mail for row in self.rows for mail in row.mails]
+        self.scripts: Dict[bytes, Script] = {it.path: it for user in site.users for it in user.scripts}
+        self.commands: Dict[bytes, List[Command]] = {path: commands(it.text) for path, it in self.scripts.items()}
+        self.left: Dict[bytes, List[Tried]] = {}
+        for tried in self.untested.left():
+            self.left.setdefault(tried.script.path, []).append(tried)
+        # Of each script that runs look up the mails of these runs, and those that come to each place, by their verdicts.
+        self.asked: Dict[bytes, Set[int]] = {}
+        self.came: Dict[bytes, Dict[int, Came]] = {}
+        self.take_traces()
+
+    def take_traces(self) -> None:
+        """Tells where the mails come."""
+        numbers = {mail.path: number for number, mail in enumerate(self.mails)}
+        alike: Dict[Tuple[Visit, Tuple[bytes, ...]], Set[int]] = {}
+        for case in self.checked.cases:
+            for visit in self.judge.traces.get((case.mail.path, case.main.key), ()):
+                alike.setdefault((visit, case.lines()), set()).add(numbers[case.mail.path])
+        for (visit, verdict), mails in alike.items():
+            self.asked.setdefault(visit.path, set()).update(mails)
+            places = self.came.setdefault(visit.path, {})
+            for place in visit.places:
+                places.setdefault(place, {}).setdefault(verdict, set()).update(mails)
+
+    def letterhead(self, mail: Mail) -> Tuple[Letterhead, Tuple[str, str]]:
+        """The head of a mail, and the addresses of its envelope as words."""
+        octets = octets_of(mail.path)
+        envelope = self.judge.envelope_of(mail, octets)
+        return letterhead_of(octets), (word_of(envelope.sender or b""), word_of(envelope.recipient or b""))
+
+
+def refuse_place(path: bytes, folder: bytes) -> None:
+    """Refuses a file for the page that can't be written, or is one of the site's."""
+    if path in OUTPUTS:
+        return
+    place, site = os.path.realpath(path), os.path.realpath(folder)
+    if os.path.commonpath([place, site]) == site:
+        refuse(f"{quoted(path)} is inside of {quoted(folder)}: the page goes to another folder than the site's")
+    refuse_unwritable(path)
