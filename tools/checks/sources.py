@@ -53,8 +53,7 @@ class OneName(Reading):
                 for name in modules[module]:
                     places.setdefault(name, []).append(module)
             for name, where in places.items():
-                apart = [it for it in where if not it.endswith("TreeOf")]
-                found += [f"{name} stands in {' and '.join(apart)}"] if len(apart) > 1 else []
+                found += [f"{name} stands in {' and '.join(where)}"] if len(where) > 1 else []
         for file in sorted(it for kind in ("rt", "antt") for it in (TOP / "crates").rglob(f"*.{kind}") if "out" not in it.parts):
             seen = {}
             for module, names in self.brought.findall(file.read_text(encoding="utf-8")):

@@ -2,19 +2,16 @@
 use Rattle.std.proofs.Common.{◌≡◌, ℕ, false, List, [], ◌∷◌, map, None, Some, refl, codes}
 use Rattle.sieve_syntax.specs.Tree as syntax
 use Rattle.sieve_syntax.specs.Symbol.{identifier, number_symbol, string_symbol}
-use Rattle.sieve_check.specs.Bare.{bare_argument}
 use Rattle.sieve_check.specs.Context.{after, script_start}
 use Rattle.sieve_check.specs.Element.{block_elements, elements_of, node_elements, nodes_elements, test_elements, tests_elements}
 use Rattle.sieve_check.specs.Naming.{declares, mentions_in, set_by, sets}
 use Rattle.sieve_check.specs.Order.{written_by}
-use Rattle.sieve_check.specs.Readable.{IsReadable, ReadsBlock, ReadsNode, ReadsNodes, act_mark, block_end, branch_marks, choice_end, else_mark, marks, return_mark, stop_mark, test_mark}
+use Rattle.sieve_check.specs.Marks.{act_mark, all_mark, always_mark, any_mark, block_end, branch_marks, choice_end, condition_marks, conditions_marks, else_mark, join_end, marks, never_mark, not_mark, return_mark, stop_mark, test_mark}
 use Rattle.sieve_profile.specs.Profile.{empty_profile}
 use Rattle.sieve_reading.specs.Given.{has_tag}
 use Rattle.sieve_reading.specs.Reading.{discard_leaf, keep_leaf}
-use Rattle.sieve_check.specs.Script.{block_commands, chain_of, condition_of, conditions_in, chain_with, script_of}
-use Rattle.sieve_reading.specs.Script.{always, never}
+use Rattle.sieve_check.specs.Script.{block_commands, chain_of, condition_of, conditions, conditions_in, chain_with, script_of}
 use Rattle.sieve_table.specs.Table.{command_named, test_named}
-use Rattle.sieve_syntax.specs.TreeOf.{strings}
 use Rattle.sieve_check.proofs.Truth.{not_both}
 
 -- a command that ends by a semicolon, one with a test and a block, and one with a block alone
@@ -27,23 +24,31 @@ branch name line condition inner = syntax.node name line [] (syntax.one_test (sy
 abbrev last : ℕ → syntax.Node → syntax.Node
 last line inner = syntax.node (codes "else") line [] syntax.no_tests (syntax.block (syntax.nodes (inner ∷ [])))
 
+-- a test without arguments, and one that joins others
+abbrev bare : List ℕ → syntax.Test
+bare name = syntax.test name 1 [] syntax.no_tests
+
+abbrev joining : List ℕ → List syntax.Test → syntax.Test
+joining name inner = syntax.test name 1 [] (syntax.test_list (syntax.tests inner))
+
 -- if true { keep; } elsif false { stop; } else { discard; } keep;
 abbrev branches : List syntax.Node
 branches = branch (codes "if") 1 (codes "true") (plain (codes "keep") 1) ∷ branch (codes "elsif") 2 (codes "false") (plain (codes "stop") 2) ∷ last 3 (plain (codes "discard") 3) ∷ plain (codes "keep") 4 ∷ []
 
-marks_row : marks (script_of empty_profile branches) ≡ test_mark always ∷ act_mark (keep_leaf None) 1 ∷ block_end ∷ test_mark never ∷ stop_mark ∷ block_end ∷ else_mark ∷ act_mark discard_leaf 3 ∷ block_end ∷ choice_end ∷ act_mark (keep_leaf None) 4 ∷ []
-unfolding marks branch_marks chain_of chain_with block_commands condition_of conditions_in command_named test_named after has_tag
+marks_row : marks (script_of empty_profile branches) ≡ test_mark ∷ always_mark ∷ act_mark (keep_leaf None) 1 ∷ block_end ∷ test_mark ∷ never_mark ∷ stop_mark ∷ block_end ∷ else_mark ∷ act_mark discard_leaf 3 ∷ block_end ∷ choice_end ∷ act_mark (keep_leaf None) 4 ∷ []
+unfolding marks branch_marks condition_marks conditions_marks chain_of chain_with block_commands condition_of conditions_in command_named test_named after has_tag
 marks_row = refl
 
 -- return; keep;
 return_marks_row : marks (script_of empty_profile (plain (codes "return") 1 ∷ plain (codes "keep") 2 ∷ [])) ≡ return_mark ∷ act_mark (keep_leaf None) 2 ∷ []
-unfolding marks branch_marks chain_of chain_with block_commands condition_of conditions_in command_named test_named after has_tag
+unfolding marks branch_marks condition_marks conditions_marks chain_of chain_with block_commands condition_of conditions_in command_named test_named after has_tag
 return_marks_row = refl
 
--- elsif true { keep; }
-astray_row : IsReadable empty_profile (branch (codes "elsif") 1 (codes "true") (plain (codes "keep") 1) ∷ []) → ⊥
-unfolding ReadsNode ReadsBlock ReadsNodes command_named
-astray_row reads = not_both (reads.0.1.2 refl)
+-- if anyof(true, not allof(false, true)) { stop; }
+joins_row : marks (script_of empty_profile (syntax.node (codes "if") 1 [] (syntax.one_test (joining (codes "anyof") (bare (codes "true") ∷ syntax.test (codes "not") 1 [] (syntax.one_test (joining (codes "allof") (bare (codes "false") ∷ bare (codes "true") ∷ []))) ∷ []))) (syntax.block (syntax.nodes (plain (codes "stop") 1 ∷ []))) ∷ []))
+    ≡ test_mark ∷ any_mark ∷ always_mark ∷ not_mark ∷ all_mark ∷ never_mark ∷ always_mark ∷ join_end ∷ join_end ∷ join_end ∷ stop_mark ∷ block_end ∷ choice_end ∷ []
+unfolding marks branch_marks condition_marks conditions_marks chain_of chain_with block_commands condition_of conditions_in conditions command_named test_named after has_tag
+joins_row = refl
 
 -- if size :over 5 { keep; } require "a";
 order_row : map written_by (elements_of empty_profile (syntax.node (codes "if") 1 [] (syntax.one_test (syntax.test (codes "size") 1 (syntax.tag (codes "over") 1 ∷ syntax.number (Some 5) 1 ∷ []) syntax.no_tests)) (syntax.block (syntax.nodes (plain (codes "keep") 2 ∷ [])))
@@ -56,12 +61,6 @@ order_row = refl
 
 abbrev string : List ℕ → ℕ → syntax.Argument
 string octets line = syntax.strings (record { string = octets; line = line } ∷ []) false
-
--- AN ARGUMENT WITHOUT WHAT ITS STRINGS ARE
-
--- "${a}"
-bare_row : bare_argument (string (codes "${a}") 8) ≡ strings (record { string = tt; line = 8 } ∷ []) false
-bare_row = refl
 
 -- NAMES THAT ARE WRITTEN
 

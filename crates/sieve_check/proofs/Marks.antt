@@ -1,28 +1,84 @@
--- The abstract script of a readable tree does what the tree's commands say, each once and in the order of the text, and each block in its
--- branch.
-use Rattle.std.proofs.Common.{◌≡◌, ℕ, Bool, true, false, List, [], ◌∷◌, ◌++◌, Option, Some, None, refl, sym, ap, ◌∙◌}
+-- The abstract script of a tree without a breach does what the tree's commands and tests say, each once and in the order of the text, and
+-- each block in its branch.
+use Rattle.std.proofs.Common.{◌≡◌, ℕ, Bool, true, false, List, [], ◌∷◌, ◌++◌, Option, Some, None, refl, sym, ap, ◌∙◌, subst}
 use Rattle.std.proofs.lemmas.List.{append-nil, append_assoc}
-use Rattle.sieve_check.specs.Readable.{Mark, marks, branch_marks, begins_continued, branch_closing, closing, continues, opening, node_marks, block_marks, nodes_marks, block_end, choice_end, else_mark, stop_mark, return_mark, test_mark, act_mark, may_go_on, Stands, ReadsNode, ReadsBlock, ReadsNodes, IsReadable, DoesAll}
-use Rattle.sieve_check.specs.Use.{block_fits, has_block}
-use Rattle.sieve_reading.specs.Reading as reading
-use Rattle.sieve_reading.specs.Reading.{CommandReading}
+use Rattle.sieve_check.specs.Breach.{breaches_in, breaches_of}
 use Rattle.sieve_check.specs.Context.{Context, after, after_kind, inside, script_start}
-use Rattle.sieve_check.specs.Script.{block_commands, chain_of, chain_with, command_reading, conditions_in, node_reading}
+use Rattle.sieve_check.specs.Element.{block_elements, command_arguments, node_elements, nodes_elements, test_arguments, test_elements, test_list_elements, tests_elements, the_command, the_test}
+use Rattle.sieve_check.specs.Marks.{Mark, DoesAll, act_mark, all_mark, always_mark, any_mark, ask_mark, begins_continued, block_end, block_marks, branch_closing, branch_marks, choice_end, closing, condition_marks, conditions_marks, continues, else_mark, join_end, marks, never_mark, node_marks, nodes_marks, not_mark, opening, return_mark, stop_mark, test_closing, test_list_marks, test_mark, test_marks, test_opening, tests_marks}
+use Rattle.sieve_check.specs.Script.{block_commands, chain_of, chain_with, command_reading, condition_of, conditions, conditions_in, node_reading, test_reading}
+use Rattle.sieve_check.specs.Use.{block_fits, has_block, tests_fit}
 use Rattle.sieve_profile.specs.Profile.{Profile}
-use Rattle.sieve_reading.specs.Script.{Chain, Condition, first_condition, chain_with_command}
-use Rattle.sieve_syntax.specs.Tree.{Tests, Node, node, Block, no_block, block, Nodes, end_nodes, more_nodes, nodes}
-use Rattle.sieve_table.specs.Known.{known_command}
+use Rattle.sieve_reading.specs.Reading as reading
+use Rattle.sieve_reading.specs.Reading.{CommandReading, TestReading}
+use Rattle.sieve_reading.specs.Script.{Chain, Condition, chain_with_command, first_condition, joined}
+use Rattle.sieve_syntax.specs.Tree.{Test, test, Tests, no_tests, one_test, test_list, TestList, end_tests, more_tests, Node, node, Block, no_block, block, Nodes, end_nodes, more_nodes, nodes}
+use Rattle.sieve_table.specs.Known.{known_command, known_test}
+use Rattle.sieve_table.specs.declared.row.Inner.TheVariants as inner
+use Rattle.sieve_check.proofs.Readable.{Joins, Stands, command_is_read, goes_on, may_go_on, test_is_read}
 use Rattle.sieve_check.proofs.Truth.{not_both}
+use Rattle.sieve_check.proofs.Unbroken.{keeps, none_in_both, nothing_before}
 
--- the marks behind the block of a branch: where no branch goes on there, the branches end
-abbrev behind : (continued : Bool) → List Mark → List Mark
-behind true all = all
-behind false all = choice_end ∷ all
+-- TESTS
+
+module _ (context : Context) where
+  -- where no tests are needed there are none
+  no_marks : (ts : Tests) → tests_fit inner.None ts ≡ true → tests_marks context ts ≡ []
+  unfolding tests_marks
+  no_marks no_tests fits = refl
+  no_marks (one_test t) fits = absurd (not_both fits)
+  no_marks (test_list ts) fits = absurd (not_both fits)
+
+  -- where one test is needed it is the first
+  first_marks : (ts : Tests) → tests_fit inner.One ts ≡ true → conditions_marks (conditions_in context ts) ≡ tests_marks context ts → condition_marks (first_condition (conditions_in context ts)) ≡ tests_marks context ts
+  unfolding conditions_marks conditions_in
+  first_marks no_tests fits same = absurd (not_both fits)
+  first_marks (one_test t) fits same = sym (append-nil (condition_marks (condition_of context t))) ∙ same
+  first_marks (test_list ts) fits same = absurd (not_both fits)
+
+  -- a test that has the tests in it that it needs does what it says, where these do
+  joined_marks : (r : Option TestReading) (ts : Tests) → Joins r ts → conditions_marks (conditions_in context ts) ≡ tests_marks context ts → condition_marks (joined r (conditions_in context ts)) ≡ test_opening r ++ (tests_marks context ts ++ test_closing r)
+  unfolding condition_marks
+  joined_marks None ts joins same = absurd joins
+  joined_marks (Some reading.reads_always) ts joins same = ap (λ l. always_mark ∷ (l ++ [])) (sym (no_marks ts joins))
+  joined_marks (Some reading.reads_never) ts joins same = ap (λ l. never_mark ∷ (l ++ [])) (sym (no_marks ts joins))
+  joined_marks (Some (reading.reads_ask ask)) ts joins same = ap (λ l. ask_mark ask ∷ (l ++ [])) (sym (no_marks ts joins))
+  joined_marks (Some reading.reads_all) ts joins same = ap (λ l. all_mark ∷ (l ++ (join_end ∷ []))) same
+  joined_marks (Some reading.reads_any) ts joins same = ap (λ l. any_mark ∷ (l ++ (join_end ∷ []))) same
+  joined_marks (Some reading.reads_not) ts joins same = ap (λ l. not_mark ∷ (l ++ (join_end ∷ []))) (first_marks ts joins same)
+
+mutual
+  unfolding condition_of conditions_in conditions test_marks tests_marks test_list_marks condition_marks conditions_marks test_elements tests_elements test_list_elements
+
+  test_agrees : (t : Test) (context : Context) → breaches_in (test_elements context t) ≡ [] → condition_marks (condition_of context t) ≡ test_marks context t
+  test_agrees (test name line args ts) context none =
+      let k = known_test context.profile name in
+      let parts = nothing_before (the_test context name line args ts) (test_arguments context k args ts ++ tests_elements context ts) none in
+      let rest = none_in_both (test_arguments context k args ts) (tests_elements context ts) parts.1 in
+      joined_marks context (test_reading context k args) ts (test_is_read context k args ts (keeps (the_test context name line args ts) parts.0)) (tests_agree ts context rest.1)
+
+  tests_agree : (ts : Tests) (context : Context) → breaches_in (tests_elements context ts) ≡ [] → conditions_marks (conditions_in context ts) ≡ tests_marks context ts
+  tests_agree no_tests context none = refl
+  tests_agree (one_test t) context none = append-nil (condition_marks (condition_of context t)) ∙ test_agrees t context none
+  tests_agree (test_list ts) context none = list_agrees ts context none
+
+  list_agrees : (ts : TestList) (context : Context) → breaches_in (test_list_elements context ts) ≡ [] → conditions_marks (conditions context ts) ≡ test_list_marks context ts
+  list_agrees end_tests context none = refl
+  list_agrees (more_tests t ts) context none =
+      let parts = none_in_both (test_elements context t) (test_list_elements context ts) none in
+      ap (λ l. l ++ conditions_marks (conditions context ts)) (test_agrees t context parts.0) ∙ ap (λ l. test_marks context t ++ l) (list_agrees ts context parts.1)
+
+-- COMMANDS
+
+-- the marks after the block of a branch: where no branch goes on there, the branches end
+abbrev ends_there : (continued : Bool) → List Mark → List Mark
+ends_there true all = all
+ends_there false all = choice_end ∷ all
 
 -- Commands from some place on do what these marks say. Where no branch stands there, there is none before them; and one stands there only
 -- where it may.
 record Agrees (follows_if continued : Bool) (chain : Chain) (all : List Mark) : Type 0 where
-  same : branch_marks chain.otherwise ++ (choice_end ∷ marks chain.rest) ≡ behind continued all
+  same : branch_marks chain.otherwise ++ (choice_end ∷ marks chain.rest) ≡ ends_there continued all
   alone : continued ≡ false → marks chain.rest ≡ all
   may : follows_if ≡ false → continued ≡ false
 
@@ -36,130 +92,148 @@ block_empty within no_block fits = refl
 block_empty within (block ns) fits = absurd (not_both fits)
 
 -- the marks that close a branch, before those after it
-closed : (continued : Bool) (inner all : List Mark) → inner ++ (block_end ∷ behind continued all) ≡ (inner ++ branch_closing continued) ++ all
+closed : (continued : Bool) (inner all : List Mark) → inner ++ (block_end ∷ ends_there continued all) ≡ (inner ++ branch_closing continued) ++ all
 closed true inner all = sym (append_assoc inner (block_end ∷ []) all)
 closed false inner all = sym (append_assoc inner (block_end ∷ choice_end ∷ []) all)
 
 -- A COMMAND IN FRONT
 
-module _ (line : ℕ) (condition : Condition) (within : Context) (ending : Block) (continued : Bool) (chain : Chain) (all : List Mark) where
+module _ (line : ℕ) (condition : Condition) (tested : List Mark) (within : Context) (ending : Block) (continued : Bool) (chain : Chain) (all : List Mark) where
   abbrev before : CommandReading → Chain
   before r = chain_with_command (Some r) line condition (block_commands within ending) chain
 
   abbrev with_own : CommandReading → List Mark
-  with_own r = (opening (Some r) line condition ++ (block_marks within ending ++ closing (Some r) continued)) ++ all
+  with_own r = (opening (Some r) line ++ (tested ++ (block_marks within ending ++ closing (Some r) continued))) ++ all
 
-  -- a branch with a test before the branches that go on with it
-  test_first : marks (block_commands within ending) ≡ block_marks within ending → branch_marks chain.otherwise ++ (choice_end ∷ marks chain.rest) ≡ behind continued all
-      → (test_mark condition ∷ (marks (block_commands within ending) ++ (block_end ∷ branch_marks chain.otherwise))) ++ (choice_end ∷ marks chain.rest) ≡ test_mark condition ∷ ((block_marks within ending ++ branch_closing continued) ++ all)
-  test_first inner same =
-      ap (λ l. test_mark condition ∷ l) (append_assoc (marks (block_commands within ending)) (block_end ∷ branch_marks chain.otherwise) (choice_end ∷ marks chain.rest)
+  -- the block of a branch before the branches that go on with it
+  block_first : marks (block_commands within ending) ≡ block_marks within ending → branch_marks chain.otherwise ++ (choice_end ∷ marks chain.rest) ≡ ends_there continued all
+      → (marks (block_commands within ending) ++ (block_end ∷ branch_marks chain.otherwise)) ++ (choice_end ∷ marks chain.rest) ≡ (block_marks within ending ++ branch_closing continued) ++ all
+  block_first inner same =
+      append_assoc (marks (block_commands within ending)) (block_end ∷ branch_marks chain.otherwise) (choice_end ∷ marks chain.rest)
       ∙ ap (λ l. l ++ (block_end ∷ (branch_marks chain.otherwise ++ (choice_end ∷ marks chain.rest)))) inner
       ∙ ap (λ l. block_marks within ending ++ (block_end ∷ l)) same
-      ∙ closed continued (block_marks within ending) all)
+      ∙ closed continued (block_marks within ending) all
 
-  at_open : (follows_if : Bool) → marks (block_commands within ending) ≡ block_marks within ending → Agrees true continued chain all → Agrees follows_if false (before reading.reads_if) (with_own reading.reads_if)
+  -- a branch with a test before the branches that go on with it
+  test_first : condition_marks condition ≡ tested → marks (block_commands within ending) ≡ block_marks within ending → branch_marks chain.otherwise ++ (choice_end ∷ marks chain.rest) ≡ ends_there continued all
+      → (test_mark ∷ (condition_marks condition ++ (marks (block_commands within ending) ++ (block_end ∷ branch_marks chain.otherwise)))) ++ (choice_end ∷ marks chain.rest) ≡ test_mark ∷ ((tested ++ (block_marks within ending ++ branch_closing continued)) ++ all)
+  test_first asked inner same =
+      ap (λ l. test_mark ∷ l) (append_assoc (condition_marks condition) (marks (block_commands within ending) ++ (block_end ∷ branch_marks chain.otherwise)) (choice_end ∷ marks chain.rest)
+      ∙ ap (λ l. condition_marks condition ++ l) (block_first inner same)
+      ∙ ap (λ l. l ++ ((block_marks within ending ++ branch_closing continued) ++ all)) asked
+      ∙ sym (append_assoc tested (block_marks within ending ++ branch_closing continued) all))
+
+  at_open : (follows_if : Bool) → condition_marks condition ≡ tested → marks (block_commands within ending) ≡ block_marks within ending → Agrees true continued chain all → Agrees follows_if false (before reading.reads_if) (with_own reading.reads_if)
   unfolding marks branch_marks
-  at_open follows_if inner so = record {
-    same = ap (λ l. choice_end ∷ l) (test_first inner so.same);
-    alone = λ _. test_first inner so.same;
+  at_open follows_if asked inner so = record {
+    same = ap (λ l. choice_end ∷ l) (test_first asked inner so.same);
+    alone = λ _. test_first asked inner so.same;
     may = λ _. refl;
   }
 
-  at_continuing : (follows_if : Bool) → follows_if ≡ true → marks (block_commands within ending) ≡ block_marks within ending → Agrees true continued chain all → Agrees follows_if true (before reading.reads_elsif) (with_own reading.reads_elsif)
+  at_continuing : (follows_if : Bool) → follows_if ≡ true → condition_marks condition ≡ tested → marks (block_commands within ending) ≡ block_marks within ending → Agrees true continued chain all → Agrees follows_if true (before reading.reads_elsif) (with_own reading.reads_elsif)
   unfolding marks branch_marks
-  at_continuing follows_if follows inner so = record {
-    same = test_first inner so.same;
+  at_continuing follows_if follows asked inner so = record {
+    same = test_first asked inner so.same;
     alone = λ not. absurd (both_ways true refl not);
     may = λ not. absurd (both_ways follows_if follows not);
   }
 
-  at_last : (follows_if : Bool) → follows_if ≡ true → marks (block_commands within ending) ≡ block_marks within ending → Agrees false continued chain all → Agrees follows_if true (before reading.reads_else) (with_own reading.reads_else)
+  at_last : (follows_if : Bool) → follows_if ≡ true → tested ≡ [] → marks (block_commands within ending) ≡ block_marks within ending → Agrees false continued chain all → Agrees follows_if true (before reading.reads_else) (with_own reading.reads_else)
   unfolding marks branch_marks
-  at_last follows_if follows inner so = record {
+  at_last follows_if follows none inner so = record {
     same =
         ap (λ l. else_mark ∷ l) (append_assoc (marks (block_commands within ending)) (block_end ∷ []) (choice_end ∷ marks chain.rest)
         ∙ ap (λ l. l ++ (block_end ∷ choice_end ∷ marks chain.rest)) inner
         ∙ ap (λ l. block_marks within ending ++ (block_end ∷ choice_end ∷ l)) (so.alone (so.may refl))
-        ∙ ap (λ b. block_marks within ending ++ (block_end ∷ behind b all)) (sym (so.may refl))
-        ∙ closed continued (block_marks within ending) all);
+        ∙ ap (λ b. block_marks within ending ++ (block_end ∷ ends_there b all)) (sym (so.may refl))
+        ∙ closed continued (block_marks within ending) all
+        ∙ ap (λ l. (l ++ (block_marks within ending ++ branch_closing continued)) ++ all) (sym none));
     alone = λ not. absurd (both_ways true refl not);
     may = λ not. absurd (both_ways follows_if follows not);
   }
 
   -- a command that is no branch, of such marks, before commands where no branch stands
-  plainly : (own : List Mark) → block_fits false (has_block ending) ≡ true → Agrees false continued chain all → own ++ marks chain.rest ≡ (own ++ (block_marks within ending ++ [])) ++ all
-  plainly own is so =
+  plainly : (own : List Mark) → tested ≡ [] → block_fits false (has_block ending) ≡ true → Agrees false continued chain all → own ++ marks chain.rest ≡ (own ++ (tested ++ (block_marks within ending ++ []))) ++ all
+  plainly own none is so =
       ap (λ l. own ++ l) (so.alone (so.may refl))
-      ∙ ap (λ l. l ++ all) (sym (ap (λ l. own ++ (l ++ [])) (block_empty within ending is) ∙ append-nil own))
+      ∙ ap (λ l. l ++ all) (sym (ap (λ l. own ++ (l ++ (block_marks within ending ++ []))) none ∙ ap (λ l. own ++ (l ++ [])) (block_empty within ending is) ∙ append-nil own))
 
-  at_stop : (follows_if : Bool) → block_fits false (has_block ending) ≡ true → Agrees false continued chain all → Agrees follows_if false (before reading.reads_stop) (with_own reading.reads_stop)
+  at_stop : (follows_if : Bool) → tested ≡ [] → block_fits false (has_block ending) ≡ true → Agrees false continued chain all → Agrees follows_if false (before reading.reads_stop) (with_own reading.reads_stop)
   unfolding marks branch_marks
-  at_stop follows_if is so = record {
-    same = ap (λ l. choice_end ∷ l) (plainly (stop_mark ∷ []) is so);
-    alone = λ _. plainly (stop_mark ∷ []) is so;
+  at_stop follows_if none is so = record {
+    same = ap (λ l. choice_end ∷ l) (plainly (stop_mark ∷ []) none is so);
+    alone = λ _. plainly (stop_mark ∷ []) none is so;
     may = λ _. refl;
   }
 
-  at_return : (follows_if : Bool) → block_fits false (has_block ending) ≡ true → Agrees false continued chain all → Agrees follows_if false (before reading.reads_return) (with_own reading.reads_return)
+  at_return : (follows_if : Bool) → tested ≡ [] → block_fits false (has_block ending) ≡ true → Agrees false continued chain all → Agrees follows_if false (before reading.reads_return) (with_own reading.reads_return)
   unfolding marks branch_marks
-  at_return follows_if is so = record {
-    same = ap (λ l. choice_end ∷ l) (plainly (return_mark ∷ []) is so);
-    alone = λ _. plainly (return_mark ∷ []) is so;
+  at_return follows_if none is so = record {
+    same = ap (λ l. choice_end ∷ l) (plainly (return_mark ∷ []) none is so);
+    alone = λ _. plainly (return_mark ∷ []) none is so;
     may = λ _. refl;
   }
 
-  at_nothing : (follows_if : Bool) → block_fits false (has_block ending) ≡ true → Agrees false continued chain all → Agrees follows_if false (before reading.reads_nothing) (with_own reading.reads_nothing)
+  at_nothing : (follows_if : Bool) → tested ≡ [] → block_fits false (has_block ending) ≡ true → Agrees false continued chain all → Agrees follows_if false (before reading.reads_nothing) (with_own reading.reads_nothing)
   unfolding marks branch_marks
-  at_nothing follows_if is so = record {
-    same = ap (λ l. choice_end ∷ l) (plainly [] is so);
-    alone = λ _. plainly [] is so;
+  at_nothing follows_if none is so = record {
+    same = ap (λ l. choice_end ∷ l) (plainly [] none is so);
+    alone = λ _. plainly [] none is so;
     may = λ _. refl;
   }
 
-  at_act : (leaf : reading.Leaf) (follows_if : Bool) → block_fits false (has_block ending) ≡ true → Agrees false continued chain all → Agrees follows_if false (before (reading.reads_act leaf)) (with_own (reading.reads_act leaf))
+  at_act : (leaf : reading.Leaf) (follows_if : Bool) → tested ≡ [] → block_fits false (has_block ending) ≡ true → Agrees false continued chain all → Agrees follows_if false (before (reading.reads_act leaf)) (with_own (reading.reads_act leaf))
   unfolding marks branch_marks
-  at_act leaf follows_if is so = record {
-    same = ap (λ l. choice_end ∷ l) (plainly (act_mark leaf line ∷ []) is so);
-    alone = λ _. plainly (act_mark leaf line ∷ []) is so;
+  at_act leaf follows_if none is so = record {
+    same = ap (λ l. choice_end ∷ l) (plainly (act_mark leaf line ∷ []) none is so);
+    alone = λ _. plainly (act_mark leaf line ∷ []) none is so;
     may = λ _. refl;
   }
 
   -- a command that stands where it may agrees with its marks, before commands that agree with theirs
-  at_command : (r : Option CommandReading) (follows_if : Bool) (ts : Tests) → Stands follows_if r ts ending → marks (block_commands within ending) ≡ block_marks within ending → Agrees (may_go_on r) continued chain all
-      → Agrees follows_if (continues r) (chain_with_command r line condition (block_commands within ending) chain) ((opening r line condition ++ (block_marks within ending ++ closing r continued)) ++ all)
-  at_command None follows_if ts stands inner so = absurd stands
-  at_command (Some reading.reads_if) follows_if ts stands inner so = at_open follows_if inner so
-  at_command (Some reading.reads_elsif) follows_if ts stands inner so = at_continuing follows_if (stands.2 refl) inner so
-  at_command (Some reading.reads_else) follows_if ts stands inner so = at_last follows_if (stands.2 refl) inner so
-  at_command (Some reading.reads_stop) follows_if ts stands inner so = at_stop follows_if stands.1 so
-  at_command (Some reading.reads_return) follows_if ts stands inner so = at_return follows_if stands.1 so
-  at_command (Some reading.reads_nothing) follows_if ts stands inner so = at_nothing follows_if stands.1 so
-  at_command (Some (reading.reads_act leaf)) follows_if ts stands inner so = at_act leaf follows_if stands.1 so
+  at_command : (r : Option CommandReading) (follows_if : Bool) (ts : Tests) → (tests_fit inner.One ts ≡ true → condition_marks condition ≡ tested) → (tests_fit inner.None ts ≡ true → tested ≡ []) → Stands follows_if r ts ending → marks (block_commands within ending) ≡ block_marks within ending → Agrees (may_go_on r) continued chain all
+      → Agrees follows_if (continues r) (chain_with_command r line condition (block_commands within ending) chain) ((opening r line ++ (tested ++ (block_marks within ending ++ closing r continued))) ++ all)
+  at_command None follows_if ts one none stands inner so = absurd stands
+  at_command (Some reading.reads_if) follows_if ts one none stands inner so = at_open follows_if (one stands.0) inner so
+  at_command (Some reading.reads_elsif) follows_if ts one none stands inner so = at_continuing follows_if (stands.2 refl) (one stands.0) inner so
+  at_command (Some reading.reads_else) follows_if ts one none stands inner so = at_last follows_if (stands.2 refl) (none stands.0) inner so
+  at_command (Some reading.reads_stop) follows_if ts one none stands inner so = at_stop follows_if (none stands.0) stands.1 so
+  at_command (Some reading.reads_return) follows_if ts one none stands inner so = at_return follows_if (none stands.0) stands.1 so
+  at_command (Some reading.reads_nothing) follows_if ts one none stands inner so = at_nothing follows_if (none stands.0) stands.1 so
+  at_command (Some (reading.reads_act leaf)) follows_if ts one none stands inner so = at_act leaf follows_if (none stands.0) stands.1 so
 
 -- THE TREE
 
 mutual
-  unfolding chain_with block_commands chain_of node_marks block_marks nodes_marks ReadsNode ReadsBlock ReadsNodes marks branch_marks
+  unfolding chain_with block_commands chain_of node_marks block_marks nodes_marks node_elements block_elements nodes_elements marks branch_marks
 
-  node_agrees : (n : Node) (context : Context) (follows_if continued : Bool) (chain : Chain) (all : List Mark) → ReadsNode context follows_if n → Agrees (may_go_on (node_reading context n)) continued chain all
-      → Agrees follows_if (continues (node_reading context n)) (chain_with context n chain) (node_marks context n continued ++ all)
-  node_agrees (node name line args ts ending) context follows_if continued chain all reads so =
+  node_agrees : (n : Node) (context : Context) (continued : Bool) (chain : Chain) (all : List Mark) → breaches_in (node_elements context n) ≡ [] → Agrees (may_go_on (node_reading context n)) continued chain all
+      → Agrees context.follows_if (continues (node_reading context n)) (chain_with context n chain) (node_marks context n continued ++ all)
+  node_agrees (node name line args ts ending) context continued chain all none so =
       let k = known_command context.profile name in
       let within = after_kind context k args in
-      at_command line (first_condition (conditions_in context ts)) within ending continued chain all (command_reading context k args) follows_if ts reads.1 (block_agrees ending within reads.3) so
+      let inside_it = tests_elements context ts ++ block_elements within ending in
+      let parts = nothing_before (the_command context name line args ts ending) (command_arguments context k args ts ending ++ inside_it) none in
+      let rest = none_in_both (command_arguments context k args ts ending) inside_it parts.1 in
+      let inner_none = none_in_both (tests_elements context ts) (block_elements within ending) rest.1 in
+      at_command line (first_condition (conditions_in context ts)) (tests_marks context ts) within ending continued chain all (command_reading context k args) context.follows_if ts
+      (λ fits. first_marks context ts fits (tests_agree ts context inner_none.0)) (no_marks context ts)
+      (command_is_read context k args ts ending (keeps (the_command context name line args ts ending) parts.0)) (block_agrees ending within inner_none.1) so
 
-  block_agrees : (b : Block) (context : Context) → ReadsBlock context b → marks (block_commands context b) ≡ block_marks context b
-  block_agrees no_block context reads = refl
-  block_agrees (block ns) context reads = let so = nodes_agree ns (inside context) false reads in so.alone (so.may refl)
+  block_agrees : (b : Block) (context : Context) → breaches_in (block_elements context b) ≡ [] → marks (block_commands context b) ≡ block_marks context b
+  block_agrees no_block context none = refl
+  block_agrees (block ns) context none = let so = nodes_agree ns (inside context) none in so.alone (so.may refl)
 
-  nodes_agree : (ns : Nodes) (context : Context) (follows_if : Bool) → ReadsNodes context follows_if ns → Agrees follows_if (begins_continued context ns) (chain_of context ns) (nodes_marks context ns)
-  nodes_agree end_nodes context follows_if reads = record { same = refl; alone = λ _. refl; may = λ _. refl }
-  nodes_agree (more_nodes n ns) context follows_if reads =
+  nodes_agree : (ns : Nodes) (context : Context) → breaches_in (nodes_elements context ns) ≡ [] → Agrees context.follows_if (begins_continued context ns) (chain_of context ns) (nodes_marks context ns)
+  nodes_agree end_nodes context none = record { same = refl; alone = λ _. refl; may = λ _. refl }
+  nodes_agree (more_nodes n ns) context none =
       let next = after context n in
-      node_agrees n context follows_if (begins_continued next ns) (chain_of next ns) (nodes_marks next ns) reads.0 (nodes_agree ns next (may_go_on (node_reading context n)) reads.1)
+      let parts = none_in_both (node_elements context n) (nodes_elements next ns) none in
+      node_agrees n context (begins_continued next ns) (chain_of next ns) (nodes_marks next ns) parts.0
+      (subst (λ b. Agrees b (begins_continued next ns) (chain_of next ns) (nodes_marks next ns)) (goes_on context n parts.0) (nodes_agree ns next parts.1))
 
-pub does_all : (profile : Profile) (tree : List Node) → IsReadable profile tree → DoesAll profile tree
-does_all profile tree reads = let so = nodes_agree (nodes tree) (script_start profile) false reads in so.alone (so.may refl)
+pub does_all : (profile : Profile) (tree : List Node) → breaches_of profile tree ≡ [] → DoesAll profile tree
+does_all profile tree none = let so = nodes_agree (nodes tree) (script_start profile) none in so.alone (so.may refl)
 
 pub ruleset marks_kept = (does_all)

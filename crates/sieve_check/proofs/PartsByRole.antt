@@ -2,7 +2,7 @@
 use Rattle.std.proofs.Common.{◌≡◌, ℕ, Bool, true, false, ◌&&◌, ◌||◌, List, [], ◌∷◌, map, Option, refl, sym, ap, ◌∙◌}
 use Rattle.std.specs.Prelude.{if◌then◌else◌}
 use Rattle.sieve_check.specs.Context.{Context, takes_references}
-use Rattle.sieve_check.specs.Parted.{parts_in}
+use Rattle.sieve_check.specs.Cut.{parts_in}
 use Rattle.sieve_table.specs.Role.{names_variable}
 use Rattle.sieve_table.specs.declared.row.Role.{Role}
 use Rattle.sieve_table.specs.declared.row.Role.TheVariants.{NameToSet, NamesToRead}

@@ -11,7 +11,7 @@ use Rattle.sieve_check.specs.Breach.{use_lacks}
 use Rattle.sieve_check.specs.Collating.{argument_lacks, arguments_lack, collation_lacks, known_collation, name_lacks, needed_for, text_lacks}
 use Rattle.sieve_check.specs.Context.{Context, after, after_block, after_kind, after_nodes, inside, naming_said, script_start, under}
 use Rattle.sieve_check.specs.Element.{Element, among, argument_elements, block_elements, command_arguments, elements_of, judged_labels, labelled_elements, node_elements, nodes_elements, row_elements, test_arguments, test_elements, test_list_elements, tests_elements, text_elements, the_command, the_number, the_test, the_text}
-use Rattle.sieve_check.specs.Parted.{parted_argument, parted_labelled, parted_row, parted_said, parted_text}
+use Rattle.sieve_check.specs.Cut.{cut_argument, cut_labelled, cut_row, cut_said, parted_text}
 use Rattle.sieve_check.specs.Said.{said, said_arguments}
 use Rattle.sieve_check.specs.Script.{block_commands, chain_of, chain_with, command_reading, condition_of, conditions, conditions_in, script_of, test_reading}
 use Rattle.sieve_reading.specs.CommandReading.{command_reading_by}
@@ -230,32 +230,32 @@ module _ (p q : Profile) (same : is_known p ≡ is_known q) where
     texts_cut role [] = refl
     texts_cut role (t ∷ ts) = ap (λ l. parted_text (under q c) role t ∷ l) (texts_cut role ts)
 
-    argument_cut : (role : Option Role) (a : Argument) → parted_argument (under p c) role a ≡ parted_argument (under q c) role a
+    argument_cut : (role : Option Role) (a : Argument) → cut_argument (under p c) role a ≡ cut_argument (under q c) role a
     argument_cut role (strings items bracketed) = ap (λ l. cut.strings l bracketed) (texts_cut role items)
     argument_cut role (number value line) = refl
     argument_cut role (tag name line) = refl
 
-    arguments_cut : (labels : List Label) (args : List Argument) → parted_labelled (under p c) labels args ≡ parted_labelled (under q c) labels args
+    arguments_cut : (labels : List Label) (args : List Argument) → cut_labelled (under p c) labels args ≡ cut_labelled (under q c) labels args
     arguments_cut labels [] = refl
     arguments_cut labels (a ∷ args) =
-        ap (λ x. x ∷ parted_labelled (under p c) (drop 1 labels) args) (argument_cut (first_role labels) a)
-        ∙ ap (λ l. parted_argument (under q c) (first_role labels) a ∷ l) (arguments_cut (drop 1 labels) args)
+        ap (λ x. x ∷ cut_labelled (under p c) (drop 1 labels) args) (argument_cut (first_role labels) a)
+        ∙ ap (λ l. cut_argument (under q c) (first_role labels) a ∷ l) (arguments_cut (drop 1 labels) args)
 
-    pub row_cut : (row : Row) (args : List Argument) → parted_row (under p c) row args ≡ parted_row (under q c) row args
+    pub row_cut : (row : Row) (args : List Argument) → cut_row (under p c) row args ≡ cut_row (under q c) row args
     row_cut row args =
-        ap (λ labels. parted_said (under p c) labels args) (labels_again row args)
+        ap (λ labels. cut_said (under p c) labels args) (labels_again row args)
         ∙ arguments_cut (known_labels q row args) (said_arguments c.required (known_labels q row args) args)
 
     test_reads_again : (k : Option TestKind) (args : List Argument) → test_reading (under p c) k args ≡ test_reading (under q c) k args
     test_reads_again None args = refl
     test_reads_again (Some kind) args =
-        ap (λ labels. Some (test_reading_by kind labels (parted_row (under p c) (test_row kind) args))) (labels_again (test_row kind) args)
+        ap (λ labels. Some (test_reading_by kind labels (cut_row (under p c) (test_row kind) args))) (labels_again (test_row kind) args)
         ∙ ap (λ cut. Some (test_reading_by kind (known_labels q (test_row kind) args) cut)) (row_cut (test_row kind) args)
 
     command_reads_again : (k : Option CommandKind) (args : List Argument) → command_reading (under p c) k args ≡ command_reading (under q c) k args
     command_reads_again None args = refl
     command_reads_again (Some kind) args =
-        ap (λ labels. Some (command_reading_by kind labels (parted_row (under p c) (command_row kind) args))) (labels_again (command_row kind) args)
+        ap (λ labels. Some (command_reading_by kind labels (cut_row (under p c) (command_row kind) args))) (labels_again (command_row kind) args)
         ∙ ap (λ cut. Some (command_reading_by kind (known_labels q (command_row kind) args) cut)) (row_cut (command_row kind) args)
 
     mutual

@@ -19,7 +19,7 @@ use Rattle.sieve_check.specs.Said.{said}
 use Rattle.sieve_check.specs.Use.{has_block}
 use Rattle.sieve_reading.specs.Shape.{known_shapes}
 use Rattle.sieve_check.specs.Script.{script_of}
-use Rattle.sieve_check.specs.Parted.{parted_row}
+use Rattle.sieve_check.specs.Cut.{cut_row}
 use Rattle.sieve_reading.specs.Script.{Commands}
 use Rattle.sieve_table.specs.Capability.{capabilities, is_name_of}
 use Rattle.sieve_table.specs.Known.{extension_of, is_asked_for, is_known, is_shown_by_no_word, known_command, known_test, may_be_required, names_known}
@@ -157,7 +157,7 @@ module _ (p : Profile) where
   pub same_script : (tree : List Node) → script_of lenient tree ≡ script_of p tree
   same_script tree = script_again lenient p (known_alike p) tree
 
-  pub same_strings : (context : Context) (row : Row) (args : List Argument) → parted_row (under lenient context) row args ≡ parted_row (under p context) row args
+  pub same_strings : (context : Context) (row : Row) (args : List Argument) → cut_row (under lenient context) row args ≡ cut_row (under p context) row args
   same_strings context row args = row_cut lenient p (known_alike p) context row args
 
   by_breach : (tree : List Node) (first : Option Breach) (t : Commands) → first_breach p tree ≡ first → judgement_by first (script_of p tree) ≡ sound t → judgement_by (first_breach lenient tree) (script_of lenient tree) ≡ sound t

@@ -5,7 +5,7 @@ use Rattle.std.specs.declared.boxed.Box.{Box}
 use Rattle.std.specs.declared.vec.Vec.{Vec}
 use Rattle.std.specs.declared.alloc.Global.{Global}
 use Rattle.sieve_syntax.specs.Tree.{Block, no_block, block, Nodes, end_nodes, nodes, tests}
-use Rattle.sieve_syntax.specs.view.Tree.{argument_of, block_of, node_of, octets_of, test_of, tests_of}
+use Rattle.sieve_syntax.specs.view.Tree.{argument_of, block_of, node_of, test_of, tests_of}
 use Rattle.sieve_syntax.specs.declared.tree.Command as commands
 use Rattle.sieve_syntax.specs.declared.tree.Test as one_tests
 use Rattle.sieve_syntax.specs.declared.tree.Tests.TheVariants as test_variants
@@ -32,7 +32,7 @@ use Rattle.sieve_syntax.proofs.Views.{seen_command, seen_list, seen_none, seen_o
 module _ (t : one_tests.Test) (context : Context) where
   test_at : test_elements context (test_of t) ≡ test_head context t ++ tests_elements context (tests_of (one_tests.out-Test t).tests)
   unfolding test_elements
-  test_at = ap (test_elements context) (seen_test octets_of t)
+  test_at = ap (test_elements context) (seen_test t)
 
   -- the breaches of a test are those of its head, and then of its tests
   pub test_stops : (fault : CheckFault) → IsFirst (breaches_in (test_head context t)) fault → IsFirst (breaches_in (test_elements context (test_of t))) fault
@@ -57,28 +57,28 @@ test_reads t context kind reading inner known read holds =
     ap (λ r. joined (Some r) inner) read
     ∙ ap (λ k. joined (test_reading context k args) inner) (sym known)
     ∙ ap (joined (test_reading context (known_test context.profile o.name) args)) holds
-    ∙ sym (ap (condition_of context) (seen_test octets_of t))
+    ∙ sym (ap (condition_of context) (seen_test t))
 
 -- the tests after arguments, by whether they are none, one or a list
 pub none_read : (ts : test_variants.the_data) (context : Context) → ts ≡ test_variants.None → no_conditions ≡ conditions_in context (tests_of ts)
 unfolding conditions_in
-none_read ts context is = sym (ap (conditions_in context) (seen_none octets_of ts is))
+none_read ts context is = sym (ap (conditions_in context) (seen_none ts is))
 
 pub one_read : (ts : test_variants.the_data) (b : Box one_tests.Test Global) (t : one_tests.Test) (context : Context) → ts ≡ test_variants.One b → t ≡ b.value → one_condition (condition_of context (test_of t)) no_conditions ≡ conditions_in context (tests_of ts)
 unfolding conditions_in
-one_read ts b t context is same = sym (ap (conditions_in context) (seen_one octets_of ts b t is same))
+one_read ts b t context is same = sym (ap (conditions_in context) (seen_one ts b t is same))
 
 pub list_read : (ts : test_variants.the_data) (b : Box (Vec one_tests.Test Global) Global) (v : Vec one_tests.Test Global) (context : Context) → ts ≡ test_variants.List b → v ≡ b.value → conditions context (tests (map test_of v.items)) ≡ conditions_in context (tests_of ts)
 unfolding conditions_in
-list_read ts b v context is same = sym (ap (conditions_in context) (seen_list octets_of ts b v.items is (ap (λ x. x.items) same)))
+list_read ts b v context is same = sym (ap (conditions_in context) (seen_list ts b v.items is (ap (λ x. x.items) same)))
 
 pub one_found : (ts : test_variants.the_data) (b : Box one_tests.Test Global) (t : one_tests.Test) (context : Context) → ts ≡ test_variants.One b → t ≡ b.value → test_elements context (test_of t) ≡ tests_elements context (tests_of ts)
 unfolding tests_elements
-one_found ts b t context is same = sym (ap (tests_elements context) (seen_one octets_of ts b t is same))
+one_found ts b t context is same = sym (ap (tests_elements context) (seen_one ts b t is same))
 
 pub list_found : (ts : test_variants.the_data) (b : Box (Vec one_tests.Test Global) Global) (v : Vec one_tests.Test Global) (context : Context) → ts ≡ test_variants.List b → v ≡ b.value → test_list_elements context (tests (map test_of v.items)) ≡ tests_elements context (tests_of ts)
 unfolding tests_elements
-list_found ts b v context is same = sym (ap (tests_elements context) (seen_list octets_of ts b v.items is (ap (λ x. x.items) same)))
+list_found ts b v context is same = sym (ap (tests_elements context) (seen_list ts b v.items is (ap (λ x. x.items) same)))
 
 -- the breaches of a list of tests are those of the first, and then of the others
 module _ (context : Context) (all rest : List one_tests.Test) (t : one_tests.Test) (same : all ≡ t ∷ rest) where
@@ -148,7 +148,7 @@ module _ (c : commands.Command) (context : Context) where
 
   node_at : node_elements context (node_of c) ≡ command_head context c ++ (of_tests ++ block_elements before_block (block_of (commands.out-Command c).block))
   unfolding node_elements
-  node_at = ap (node_elements context) (seen_command octets_of c)
+  node_at = ap (node_elements context) (seen_command c)
 
   -- the breaches of a command are those of its head, then of its tests, and then of its block
   pub head_stops : (fault : CheckFault) → IsFirst (breaches_in (command_head context c)) fault → IsFirst (breaches_in (node_elements context (node_of c))) fault
@@ -165,13 +165,13 @@ module _ (c : commands.Command) (context : Context) where
 
   after_at : after context (node_of c) ≡ after_block before_block (block_of (commands.out-Command c).block)
   unfolding after
-  after_at = ap (after context) (seen_command octets_of c)
+  after_at = ap (after context) (seen_command c)
 
   -- what is read of a command by its parts
   read_at : (chain : Chain) → let o = commands.out-Command c in
       chain_with_command (command_reading context (known_command context.profile o.name) (map argument_of o.args.items)) o.line (first_condition (conditions_in context (tests_of o.tests))) (block_commands before_block (block_of o.block)) chain ≡ chain_with context (node_of c) chain
   unfolding chain_with
-  read_at chain = sym (ap (λ n. chain_with context n chain) (seen_command octets_of c))
+  read_at chain = sym (ap (λ n. chain_with context n chain) (seen_command c))
 
   -- its block, at whose start `within` stands with these names
   module _ (next within : Spot) (names : Scope) (inner : List commands.Command) (goes : at_spot next names ≡ before_block) (start : (scope : Scope) → at_spot within scope ≡ inside (at_spot next scope)) (is : nodes (map node_of inner) ≡ inner_nodes (block_of (commands.out-Command c).block)) where

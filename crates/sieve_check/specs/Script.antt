@@ -5,7 +5,7 @@ use Rattle.std.specs.Option.{option_map}
 use Rattle.sieve_profile.specs.Profile.{Profile}
 use Rattle.sieve_syntax.specs.Tree.{Argument, Test, test, Tests, no_tests, one_test, test_list, TestList, end_tests, more_tests, Node, node, Block, no_block, block, Nodes, end_nodes, more_nodes, nodes}
 use Rattle.sieve_check.specs.Context.{Context, after, after_kind, inside, script_start}
-use Rattle.sieve_check.specs.Parted.{parted_row}
+use Rattle.sieve_check.specs.Cut.{cut_row}
 use Rattle.sieve_reading.specs.CommandReading.{command_reading_by}
 use Rattle.sieve_reading.specs.Reading.{CommandReading, TestReading}
 use Rattle.sieve_reading.specs.Script.{Chain, Commands, Condition, Conditions, chain_with_command, first_condition, joined, no_branches, no_commands, no_conditions, one_condition}
@@ -18,10 +18,10 @@ use Rattle.sieve_table.specs.declared.table.TestKind.{TestKind}
 
 -- what a test and a command of a kind are read as
 abbrev pub test_kind_reading : Context → TestKind → List Argument → TestReading
-test_kind_reading context kind args = test_reading_by kind (known_labels context.profile (test_row kind) args) (parted_row context (test_row kind) args)
+test_kind_reading context kind args = test_reading_by kind (known_labels context.profile (test_row kind) args) (cut_row context (test_row kind) args)
 
 abbrev pub command_kind_reading : Context → CommandKind → List Argument → CommandReading
-command_kind_reading context kind args = command_reading_by kind (known_labels context.profile (command_row kind) args) (parted_row context (command_row kind) args)
+command_kind_reading context kind args = command_reading_by kind (known_labels context.profile (command_row kind) args) (cut_row context (command_row kind) args)
 
 -- the same, where they are of a kind that is known
 abbrev pub test_reading : Context → Option TestKind → List Argument → Option TestReading

@@ -5,13 +5,13 @@ ghost use Rattle.sieve_syntax.specs.view.Tree as seen;
 ghost use Rattle.sieve_syntax.specs.declared.tree.Command.{out-Command};
 ghost use Rattle.sieve_check.specs.Context.{after, after_kind, after_nodes, continues_if, is_require, naming_said};
 ghost use Rattle.sieve_check.specs.Element.{node_elements, nodes_elements, tests_elements};
-ghost use Rattle.sieve_check.specs.Parted.{parted_said};
+ghost use Rattle.sieve_check.specs.Cut.{cut_said};
 ghost use Rattle.sieve_check.specs.Script.{chain_of, chain_with, command_kind_reading, conditions_in};
 ghost use Rattle.sieve_reading.specs.Script.{Chain, chain_with_command, first_condition};
 ghost use Rattle.sieve_reading.specs.Shape.{known_labels};
 ghost use Rattle.sieve_reading.specs.view.Reading.{command_reading_as};
 ghost use Rattle.sieve_reading.specs.view.Script.{commands_as, condition_as};
-ghost use Rattle.sieve_reading.specs.view.Tree.{argument_of};
+ghost use Rattle.sieve_reading.specs.view.CutArgument.{cut_as};
 ghost use Rattle.sieve_profile.specs.view.Profile.{profile_as};
 ghost use Rattle.sieve_table.specs.Known as spec;
 ghost use Rattle.sieve_table.specs.Table.{command_row};
@@ -29,8 +29,8 @@ use crate::test_rules::check_tests;
 use crate::validator::CheckFault;
 use sieve_profile::Profile;
 use sieve_reading::{
-    Branch, CommandReading, Condition, Label, ScriptBuilder, Statement, first_condition,
-    read_command,
+    Branch, CommandReading, Condition, CutArgument, Label, ScriptBuilder, Statement,
+    first_condition, read_command,
 };
 use sieve_syntax::{Argument, Command, Tests};
 use sieve_table::{CommandKind, Rule, known_command};
@@ -119,28 +119,28 @@ fn check_command_head(
     }
 }
 
-/// Cuts what the strings of arguments say by what stands before their command, and goes on after them. Names that are set are read before the
-/// cut, which makes variables of them; names that are declared count after it, and stay literals.
+/// Cuts what the strings of arguments say by what stands before their command, and goes on after them.
 fn cut_and_name(
     alloc: Global,
     spot: Spot,
     scope: &mut Scope,
     labels: &[Label],
-    args: &mut Vec<Argument>,
-) -> Result<(), AllocError>
-    ensures cut { OnOk result (map argument_of args.new.items
-        ≡ parted_said (at_spot spot scope.old) labels.now (map seen.argument_of args.old.items)) }
+    args: Vec<Argument>,
+) -> Result<Vec<CutArgument>, AllocError>
+    ensures cut { IfOk result (λ cut. map cut_as cut.items
+        ≡ cut_said (at_spot spot scope.old) labels.now (map seen.argument_of args.items)) }
     ensures goes { OnOk result (scope.new ≡ naming_said
-        (required_as spot.required) scope.old labels.now (map seen.argument_of args.old.items)) }
+        (required_as spot.required) scope.old labels.now (map seen.argument_of args.items)) }
 {
-    say_arguments(alloc, spot.required, labels, &mut *args)?;
-    scope.assign_arguments(alloc, labels, args)?;
+    let mut args = args;
+    say_arguments(alloc, spot.required, labels, &mut args)?;
     let context = Context {
         spot,
         scope: &*scope,
     };
-    cut_arguments(alloc, context, labels, args)?;
-    scope.declare(alloc, labels, args)
+    let cut = cut_arguments(alloc, context, labels, &args)?;
+    scope.name_arguments(alloc, labels, &args)?;
+    Ok(cut)
 }
 
 /// A command before its block: what stands before that, what the command is read as, and the
@@ -179,11 +179,10 @@ fn check_front(
     };
     let conditions = check_tests(alloc, context, tests)?;
     let next = spot.after_kind(kind, &args);
-    let mut args = args;
-    cut_and_name(alloc, spot, scope, &labels, &mut args)?;
+    let cut = cut_and_name(alloc, spot, scope, &labels, args)?;
     Ok(Front {
         next,
-        reading: read_command(alloc, kind, &labels, args),
+        reading: read_command(alloc, kind, &labels, cut)?,
         condition: first_condition(conditions),
     })
 }
@@ -261,7 +260,7 @@ pub(crate) fn check_commands(
         ≡ (chain_of (at_spot start scope.old) (nodes (map seen.node_of commands.items))).rest) }
 {
     let mut spot = start;
-    let mut script = ScriptBuilder::new(alloc);
+    let mut script = ScriptBuilder::with_capacity(alloc, commands.len())?;
     for command in commands {
         let Passed {
             next,

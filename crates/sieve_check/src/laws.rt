@@ -12,14 +12,13 @@ ghost use Rattle.sieve_syntax.specs.Tree.{Argument, Node, Nodes};
 ghost use Rattle.sieve_syntax.specs.Symbol.{symbols_of};
 ghost use Rattle.sieve_syntax.specs.declared.token.Token.{Token};
 ghost use Rattle.sieve_check.specs.Asked.{AreAlike, asked_by_command, asked_by_test, gives_all};
-ghost use Rattle.sieve_check.specs.Bare.{bare_argument};
 ghost use Rattle.sieve_check.specs.Breach.{Breach, breaches_at, breaches_of, breaks, first_breach, IsLeastBreach};
 ghost use Rattle.sieve_check.specs.Context.{Context, after_nodes, script_start, takes_references, under};
 ghost use Rattle.sieve_check.specs.Element.{Element, elements_of, nodes_elements};
 ghost use Rattle.sieve_check.specs.Naming.{HasSetBefore, mentions_in, set_by};
 ghost use Rattle.sieve_check.specs.Order.{IsInTextOrder};
-ghost use Rattle.sieve_check.specs.Parted.{parted_row, parted_said, parts_in};
-ghost use Rattle.sieve_check.specs.Readable.{IsReadable, DoesAll};
+ghost use Rattle.sieve_check.specs.Cut.{cut_row, parts_in};
+ghost use Rattle.sieve_check.specs.Marks.{DoesAll};
 ghost use Rattle.sieve_check.specs.Script.{script_of};
 ghost use Rattle.sieve_check.specs.Requirement.{JudgesAfterRequires};
 ghost use Rattle.sieve_table.specs.Role.{names_variable};
@@ -28,7 +27,7 @@ ghost use Rattle.sieve_reading.specs.CommandReading.{command_reading_by};
 ghost use Rattle.sieve_reading.specs.Given.{tags_of};
 ghost use Rattle.sieve_reading.specs.TestReading.{test_reading_by};
 ghost use Rattle.sieve_reading.specs.Script.{Commands};
-ghost use Rattle.sieve_reading.specs.Tree as checked;
+ghost use Rattle.sieve_reading.specs.CutArgument.{CutArgument};
 ghost use Rattle.sieve_reading.specs.declared.label.Label.{Label};
 ghost use Rattle.sieve_table.specs.Table.{Row, command_row, test_row};
 ghost use Rattle.sieve_table.specs.declared.row.Role.{Role};
@@ -74,14 +73,6 @@ pub fn parts_go_by_the_role()
         → parts_in context role octets ≡ literal octets ∷ [] }
 {}
 
-/// Cutting strings into parts changes nothing else of arguments (RFC 5229, section 3): they have
-/// the same tags, numbers and lines, and each as many strings, on the same lines, in brackets or
-/// not. All else of a checked script is read of the text's tree itself.
-pub fn parting_changes_strings_alone()
-    ensures { (context : Context) (labels : List Label) (args : List Argument)
-        → map bare_argument (parted_said context labels args) ≡ map bare_argument args }
-{}
-
 /// After the `require` commands at the top of a script, what is required where a command, a test or a string is judged is all that these
 /// name, and nothing else (RFC 5228, section 3.2).
 #[tactic(auto, using(crate::proofs::Requirement::judged_after))]
@@ -102,13 +93,13 @@ pub fn what_is_written_to_be_set_is_set()
         → HasSetBefore (take place (elements_of profile tree)) element }
 {}
 
-/// The abstract script of a readable tree has each command's stop, return or act and each branch with its block once, in the order of the text,
-/// and the branches of an `if` are its own, each `elsif` and the `else` right after it. So nothing of such a tree vanishes from what a run
-/// goes by, and no block stands in another branch.
+/// The abstract script of a text without a breach does what the text's commands and tests say, each once and in the order of the text: each
+/// command that stops, returns or acts, and each branch with its condition, in which all tests are joined as they are written, and with its
+/// block. The branches of an `if` are its own, each `elsif` and the `else` right after it. So no block stands in another branch.
 #[tactic(auto, using(crate::proofs::Marks::marks_kept))]
-pub fn a_readable_script_does_all()
+pub fn a_faultless_script_does_all()
     ensures { (profile : Profile) (tree : List Node)
-        → IsReadable profile tree → DoesAll profile tree }
+        → breaches_of profile tree ≡ [] → DoesAll profile tree }
 {}
 
 /// Where a script has no first breach, none of its elements breaks a rule.
@@ -135,8 +126,8 @@ pub fn unused_changes_no_sound_script()
     ensures tree { (profile : Profile) (tree : List Node)
         → script_of (with_extension profile Unused) tree ≡ script_of profile tree }
     ensures strings { (profile : Profile) (context : Context) (row : Row) (args : List Argument)
-        → parted_row (under (with_extension profile Unused) context) row args
-        ≡ parted_row (under profile context) row args }
+        → cut_row (under (with_extension profile Unused) context) row args
+        ≡ cut_row (under profile context) row args }
 {}
 
 /// Each argument that the reading of a command or a test asks for is in its row: one there is of the role, and it is written as it is read; it
@@ -149,23 +140,15 @@ pub fn rows_give_what_readings_ask_for()
     ensures commands { (kind : CommandKind)
         → gives_all (command_row kind) (asked_by_command kind) ≡ true }
     ensures tests_alone { (kind : TestKind) (labels others : List Label)
-        (args arguments : List checked.Argument) → tags_of labels ≡ tags_of others
+        (args arguments : List CutArgument) → tags_of labels ≡ tags_of others
         → AreAlike (asked_by_test kind) labels others args arguments
         → test_reading_by kind labels args ≡ test_reading_by kind others arguments }
     ensures commands_alone { (kind : CommandKind) (labels others : List Label)
-        (args arguments : List checked.Argument) → tags_of labels ≡ tags_of others
+        (args arguments : List CutArgument) → tags_of labels ≡ tags_of others
         → AreAlike (asked_by_command kind) labels others args arguments
         → command_reading_by kind labels args ≡ command_reading_by kind others arguments }
     ensures bounds { (test_row Size).tags ≡ Over ∷ Under ∷ [] }
     ensures bound { (test_row Size).one_of ≡ Some Bound }
-{}
-
-/// Of a script without a breach each command and each test is read as something: it has a row, its arguments are what the row
-/// says, and it stands where it may. So a faultless script is readable, and does all that its commands say.
-#[tactic(auto, using(crate::proofs::Readable::readable))]
-pub fn faultless_scripts_are_readable()
-    ensures { (profile : Profile) (tree : List Node) → breaches_of profile tree ≡ []
-        → IsReadable profile tree }
 {}
 
 /// The elements of a tree that writes a text are, one by one and in order, the text's identifiers, strings and numbers. These

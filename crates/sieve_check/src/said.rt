@@ -3,15 +3,14 @@
 ghost use Rattle.std.specs.Prelude.{◌≡◌, map, IfOk, OnOk};
 ghost use Rattle.encoded_characters.specs.view.Sequence.{octets_shown};
 ghost use Rattle.sieve_check.specs.Said as spec;
-ghost use Rattle.sieve_syntax.specs.view.Tree.{argument_of, octets_of, text_of};
+ghost use Rattle.sieve_syntax.specs.view.Tree.{argument_of, text_of};
 ghost use Rattle.sieve_table.specs.view.Required.{required_as};
 
 use encoded_characters::replaced;
 use octets::SmallOctets;
 use sieve_reading::{Label, after_first, first_role};
-use sieve_syntax::{Argument, Text, octets_in};
+use sieve_syntax::{Argument, Text};
 use sieve_table::{Capability, Required, Role, has_role};
-use sieve_variables::{Part, Parts};
 use std::alloc::{AllocError, Global};
 use std::borrow::CowSlice;
 use std::mem;
@@ -50,19 +49,16 @@ fn said_string(
     alloc: Global,
     required: Required,
     role: Option<Role>,
-    string: Parts,
-) -> Result<Parts, AllocError>
-    ensures { IfOk result (λ parts. octets_of parts ≡ spec.said_or (octets_of string)
-        (spec.said (required_as required) role (octets_of string))) }
+    string: SmallOctets,
+) -> Result<SmallOctets, AllocError>
+    ensures { IfOk result (λ said. said.items
+        ≡ spec.said_or string.items (spec.said (required_as required) role string.items)) }
 {
     if !takes_sequences(required, role) {
         return Ok(string);
     }
-    match replaced(alloc, octets_in(string.as_slice()))? {
-        Some(said) => {
-            let octets = SmallOctets::from_slice(alloc, said.as_slice())?;
-            Ok(Parts::one(Part::literal(alloc, octets)?))
-        }
+    match replaced(alloc, string.as_slice())? {
+        Some(said) => SmallOctets::from_slice(alloc, said.as_slice()),
         None => Ok(string),
     }
 }
@@ -77,7 +73,7 @@ fn say_text(
     ensures { OnOk result
         (text_of text.new ≡ spec.said_text (required_as required) role (text_of text.old)) }
 {
-    let string = mem::replace(&mut text.string, Parts::none());
+    let string = mem::replace(&mut text.string, SmallOctets::new(alloc));
     text.string = said_string(alloc, required, role, string)?;
     Ok(())
 }

@@ -188,7 +188,7 @@ impl Scope {
     }
 
     /// Adds those that arguments name, each by its label.
-    pub(crate) fn assign_arguments(
+    fn assign_arguments(
         &mut self,
         alloc: Global,
         labels: &[Label],
@@ -212,16 +212,17 @@ impl Scope {
         &self.declared
     }
 
-    /// Declares those that arguments name, each by its label.
-    pub(crate) fn declare(
+    /// Adds those that arguments set, and declares those that they name, each by its label.
+    pub(crate) fn name_arguments(
         &mut self,
         alloc: Global,
         labels: &[Label],
         args: &[Argument],
     ) -> Result<(), AllocError>
         ensures { OnOk result
-            (self.new ≡ spec.with_declared self.old labels.now (map argument_of args.now)) }
+            (self.new ≡ spec.naming_arguments self.old labels.now (map argument_of args.now)) }
     {
+        self.assign_arguments(alloc, labels, args)?;
         declare_arguments(alloc, &mut self.declared, labels, args)
     }
 }

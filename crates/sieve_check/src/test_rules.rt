@@ -84,9 +84,8 @@ fn cut_and_read(
         (context_as context.entry) head.kind (map seen.argument_of args.items)) }
 {
     let TestHead { kind, labels } = head;
-    let mut args = args;
-    say_and_cut(alloc, context, &labels, &mut args)?;
-    Ok(read_test(alloc, kind, &labels, args))
+    let cut = say_and_cut(alloc, context, &labels, args)?;
+    Ok(read_test(alloc, kind, &labels, cut))
 }
 
 /// Checks a test and the tests in it. Answers its condition.
@@ -122,7 +121,8 @@ pub(crate) fn check_tests(
         Tests::None => Ok(Vec::new(alloc)),
         Tests::One(test) => {
             let condition = check_test(alloc, context, Box::into_inner(test))?;
-            Ok(with_condition(Vec::new(alloc), condition)?)
+            let none = Vec::with_capacity(alloc, 1)?;
+            Ok(with_condition(none, condition)?)
         }
         Tests::List(list) => check_test_list(alloc, context, Box::into_inner(list)),
     }
@@ -140,7 +140,7 @@ fn check_test_list(
     ensures read { IfOk result (λ read. conditions_before read.items no_conditions
         ≡ conditions (context_as context.entry) (tests (map seen.test_of list.items))) }
 {
-    let mut conditions = Vec::new(alloc);
+    let mut conditions = Vec::with_capacity(alloc, list.len())?;
     for test in list {
         let condition = check_test(alloc, context, test)?;
         conditions = with_condition(conditions, condition)?;

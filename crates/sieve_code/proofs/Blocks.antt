@@ -65,16 +65,16 @@ test_goes c inner others i o after next goes =
     let w = branches_before others after in
     let branch = o.at after next goes in
     let past = past_goes others after next goes branch in
-    let behind = past_branches others after w in
-    let block_goes = i.at behind next past.goes in
-    let block_ends = ends_trans (commands_before inner behind) behind w block_goes.ends past.ends in
-    let jump = jump_if_op false (length w) ∷ commands_before inner behind in
+    let following = past_branches others after w in
+    let block_goes = i.at following next past.goes in
+    let block_ends = ends_trans (commands_before inner following) following w block_goes.ends past.ends in
+    let jump = jump_if_op false (length w) ∷ commands_before inner following in
     let f = condition_code c in
     record {
-      ends = ends_trans (condition_before c jump) jump after (f.ends jump) (ends_more _ (commands_before inner behind) after (ends_trans (commands_before inner behind) w after block_ends branch.ends));
+      ends = ends_trans (condition_before c jump) jump after (f.ends jump) (ends_more _ (commands_before inner following) after (ends_trans (commands_before inner following) w after block_ends branch.ends));
       goes = record {
-        forward = f.forward jump (forward_jumps_if false (commands_before inner behind) w block_ends block_goes.goes.forward);
-        walks = f.walks jump (λ r. landed false r (branches_walk others next) (commands_walk inner next)) (walks_jumps_if (commands_before inner behind) w (λ r. branches_walk others next) block_ends branch.goes.walks false (λ r. commands_walk inner next) block_goes.goes.walks);
+        forward = f.forward jump (forward_jumps_if false (commands_before inner following) w block_ends block_goes.goes.forward);
+        walks = f.walks jump (λ r. landed false r (branches_walk others next) (commands_walk inner next)) (walks_jumps_if (commands_before inner following) w (λ r. branches_walk others next) block_ends branch.goes.walks false (λ r. commands_walk inner next) block_goes.goes.walks);
       };
     }
 
@@ -84,9 +84,9 @@ chosen_goes : (branches : Branches) (rest : Commands) → IsBlock (branches_befo
 unfolding commands_before commands_walk
 chosen_goes these rest b r = record {
   at = λ after next g.
-      let behind = r.at after next g in
-      let chosen = b.at (commands_before rest after) (commands_walk rest next) behind.goes in
-      record { ends = ends_trans _ _ after chosen.ends behind.ends; goes = chosen.goes };
+      let following = r.at after next g in
+      let chosen = b.at (commands_before rest after) (commands_walk rest next) following.goes in
+      record { ends = ends_trans _ _ after chosen.ends following.ends; goes = chosen.goes };
 }
 
 mutual

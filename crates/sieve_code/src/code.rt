@@ -47,7 +47,7 @@ impl Code {
         self.ops[i]
     }
 
-    /// What a test asks, by its place. Takes no memory.
+    /// What a test asks, by its place; past the last it is whether the message came before. Takes no memory.
     pub fn ask(&self, place: u32) -> PackedAsk
         ensures { ask_in (pool_of self.now) result ≡ ask_at (pool_of self.now) place }
     {
@@ -59,7 +59,8 @@ impl Code {
 
     /// What a command does, by its place; past the last it discards. Takes no memory.
     pub fn leaf(&self, place: u32) -> Option<&PackedLeaf>
-        ensures { leaf_of (pool_of self.now) (option_copied result) ≡ leaf_at (pool_of self.now) place }
+        ensures { leaf_of (pool_of self.now) (option_copied result)
+            ≡ leaf_at (pool_of self.now) place }
     {
         self.pools.leaves.get(place as usize)
     }

@@ -12,8 +12,8 @@ use sieve_check::Checked;
 use std::alloc::{AllocError, Global};
 
 /// The code of a checked script, which does what the script does: its walk is the script's, so for every list of answers it
-/// meets what the script meets, in that order, and ends as the script ends. A line past 4,294,967,295, and as many strings or places, are
-/// answered as out of memory; no text that is read has them.
+/// meets what the script meets, in that order, and ends as the script ends. More than 4,294,967,295 strings or places are answered
+/// as out of memory; no text that is read has them.
 pub fn compile(alloc: Global, checked: Checked) -> Result<Code, AllocError>
     ensures code { IfOk result (λ code. Compiles (commands_of checked) (ops_of code)) }
     ensures answers { IfOk result (λ code. (answers : List Bool) → gone (code_walk (ops_of code)

@@ -15,11 +15,11 @@ pub type PackedSettings = Settings<u32, u32>;
 /// What a `vacation` says (RFC 5230, section 4), with the places of its strings.
 pub type PackedVacation = Vacation<u32, u32>;
 
-/// What a command does that acts, with the places of its strings. What a `vacation` says lies after a pointer, since it is the largest.
+/// What a command does that acts, with the places of its strings. A `vacation` has a box, since it says most.
 pub type PackedLeaf = Leaf<u32, u32, Box<PackedVacation>>;
 
-/// An operation. Code has one truth register, which tests set. An operation says the place of what it asks or does, and the
-/// [`Code`](crate::Code) that it is one of has what lies there. Code also knows to which place a jump goes.
+/// An operation. Code has one truth register, which tests set. An operation says the place of what it asks or does;
+/// [`Code`](crate::Code) has what lies there, and says to which place a jump goes.
 #[derive(Clone, Copy)]
 pub enum Op {
     /// Sets the register to true.

@@ -1,7 +1,7 @@
 //! What tests ask and what commands do, with their strings in pools.
 ghost use Rattle.std.specs.Prelude.{◌≡◌, IfOk};
 ghost use Rattle.sieve_reading.specs.Reading.{compares, fileinto_leaf};
-ghost use Rattle.sieve_reading.specs.view.Reading.{ask_as, date_zone_as, leaf_as, settings_as, source_as, texts_as, transform_as, vacation_as};
+ghost use Rattle.sieve_reading.specs.view.Reading.{ask_as, date_zone_as, leaf_as, settings_as, source_as, transform_as, vacation_as};
 ghost use Rattle.sieve_code.specs.Pool.{Kept, ask_at, ask_in, body_in, leaf_at, leaf_in, settings_in, source_in, vacation_in, zone_in};
 ghost use Rattle.sieve_code.specs.view.Pools.{pool_as};
 
@@ -9,7 +9,7 @@ use crate::op::{PackedAsk, PackedLeaf, PackedSettings, PackedSource, PackedVacat
 use crate::pools::Pools;
 use sieve_reading::{
     Ask, BodyTransform, Comparison, DateZone, Leaf, ReadAsk, ReadLeaf, ReadVacation, Settings,
-    Text, ValueSource,
+    ValueSource,
 };
 use sieve_variables::Parts;
 use std::alloc::{AllocError, Global};
@@ -33,7 +33,7 @@ impl Pools {
     /// Adds what is taken of a body.
     fn add_body(
         &mut self,
-        transform: BodyTransform<Vec<Text>>,
+        transform: BodyTransform<Vec<Parts>>,
     ) -> Result<BodyTransform<u32>, AllocError>
         ensures { IfOk result (λ kept. Kept (pool_as self.old) (pool_as self.new)
             (λ p. body_in p kept) (transform_as transform)) }
@@ -51,7 +51,7 @@ impl Pools {
     /// Adds where a test takes values from.
     fn add_source(
         &mut self,
-        source: ValueSource<Vec<Text>, Vec<Text>, Parts>,
+        source: ValueSource<Vec<Parts>, Vec<Parts>, Parts>,
     ) -> Result<PackedSource, AllocError>
         ensures { IfOk result (λ kept. Kept (pool_as self.old) (pool_as self.new)
             (λ p. source_in p kept) (source_as source)) }
@@ -94,12 +94,12 @@ impl Pools {
     /// Adds the strings of a test that compares values with keys.
     fn pack_compares(
         &mut self,
-        source: ValueSource<Vec<Text>, Vec<Text>, Parts>,
+        source: ValueSource<Vec<Parts>, Vec<Parts>, Parts>,
         comparison: Comparison,
-        keys: Vec<Text>,
+        keys: Vec<Parts>,
     ) -> Result<PackedAsk, AllocError>
         ensures { IfOk result (λ kept. Kept (pool_as self.old) (pool_as self.new)
-            (λ p. ask_in p kept) (compares (source_as source) comparison (texts_as keys.items))) }
+            (λ p. ask_in p kept) (compares (source_as source) comparison keys.items)) }
     {
         let source = self.add_source(source)?;
         let keys = self.add_list(keys)?;
@@ -138,7 +138,7 @@ impl Pools {
     /// Adds what a `fileinto` says beside its mailbox.
     fn add_settings(
         &mut self,
-        settings: Settings<Vec<Text>, Parts>,
+        settings: Settings<Vec<Parts>, Parts>,
     ) -> Result<PackedSettings, AllocError>
         ensures { IfOk result (λ kept. Kept (pool_as self.old) (pool_as self.new)
             (λ p. settings_in p kept) (settings_as settings)) }
@@ -182,7 +182,7 @@ impl Pools {
     fn pack_fileinto(
         &mut self,
         mailbox: Parts,
-        settings: Settings<Vec<Text>, Parts>,
+        settings: Settings<Vec<Parts>, Parts>,
     ) -> Result<PackedLeaf, AllocError>
         ensures { IfOk result (λ kept. Kept (pool_as self.old) (pool_as self.new)
             (λ p. leaf_in p kept) (fileinto_leaf mailbox (settings_as settings))) }
@@ -244,7 +244,7 @@ impl Pools {
                 name,
             }),
             Leaf::Vacation { vacation } => {
-                let vacation = self.add_vacation(vacation)?;
+                let vacation = self.add_vacation(Box::into_inner(vacation))?;
                 let vacation = Box::new(alloc, vacation)?;
                 Ok(Leaf::Vacation { vacation })
             }

@@ -2,18 +2,17 @@
 ghost use Rattle.std.specs.Prelude.{◌≡◌, ◌^◌, ◌≤◌, true, IfOk, IfSome, OnErr, Some, slice_get};
 ghost use Rattle.std.specs.Option.{option_map};
 ghost use Rattle.sieve_operations.specs.Joined.{list_in};
-ghost use Rattle.sieve_reading.specs.view.Reading.{texts_as};
 ghost use Rattle.sieve_reading.specs.Reading as reading;
 ghost use Rattle.sieve_code.specs.Pool.{Kept, Pool, ask_at, ask_in, given_list, given_string, leaf_at, leaf_in, no_pool, string_in};
 ghost use Rattle.sieve_code.specs.view.Pools.{pool_as};
 
 use crate::op::{PackedAsk, PackedLeaf};
 use sieve_operations::{JoinedStrings, NameLists, StringLists};
-use sieve_reading::{Ask, Leaf, Text};
+use sieve_reading::{Ask, Leaf};
 use sieve_variables::Parts;
 use std::alloc::{AllocError, Global};
 
-/// What operations of code say by its place. What a script says again right after lies there once.
+/// What operations of code say, each at its place. What a script says again right after lies there once.
 #[derive(Drop)]
 pub(crate) struct Pools {
     pub(crate) strings: JoinedStrings,
@@ -23,7 +22,7 @@ pub(crate) struct Pools {
     pub(crate) leaves: Vec<PackedLeaf>,
 }
 
-/// Whether two asks are the same, of those that look for fields alone or for nothing.
+/// Whether two asks are seen to be the same. Only those of `exists` and `duplicate` are looked at.
 fn are_same_asks(one: &PackedAsk, other: &PackedAsk) -> bool
     ensures { result ≡ true → one.now ≡ other.now }
 {
@@ -34,7 +33,7 @@ fn are_same_asks(one: &PackedAsk, other: &PackedAsk) -> bool
     }
 }
 
-/// Whether two leaves are the same, of those that name no variable and no script and lie in no box.
+/// Whether two leaves are seen to be the same. Only a `keep` without flags, a `discard` and a change of the internal flags are looked at.
 fn are_same(one: &PackedLeaf, other: &PackedLeaf) -> bool
     ensures { result ≡ true → one.now ≡ other.now }
 {
@@ -126,9 +125,9 @@ impl Pools {
     }
 
     /// Adds a list, unless it has the same strings as the last. Answers its place.
-    pub(crate) fn add_list(&mut self, texts: Vec<Text>) -> Result<u32, AllocError>
+    pub(crate) fn add_list(&mut self, texts: Vec<Parts>) -> Result<u32, AllocError>
         ensures { IfOk result (λ place. Kept (pool_as self.old) (pool_as self.new)
-            (λ p. list_in p.lists place) (texts_as texts.items)) }
+            (λ p. list_in p.lists place) texts.items) }
     {
         match self.lists.last_same(texts.as_slice()) {
             Some(place) => place_of(place),
@@ -141,9 +140,9 @@ impl Pools {
     }
 
     /// Adds a list that may be left out. Answers its place.
-    pub(crate) fn add_given(&mut self, texts: Option<Vec<Text>>) -> Result<Option<u32>, AllocError>
+    pub(crate) fn add_given(&mut self, texts: Option<Vec<Parts>>) -> Result<Option<u32>, AllocError>
         ensures { IfOk result (λ place. Kept (pool_as self.old) (pool_as self.new)
-            (λ p. given_list p place) (option_map (λ given. texts_as given.items) texts)) }
+            (λ p. given_list p place) (option_map (λ given. given.items) texts)) }
     {
         match texts {
             Some(texts) => {
@@ -155,9 +154,9 @@ impl Pools {
     }
 
     /// Adds names of fields, unless they are the same as the last. Answers the place of their list.
-    pub(crate) fn add_names(&mut self, texts: Vec<Text>) -> Result<u32, AllocError>
+    pub(crate) fn add_names(&mut self, texts: Vec<Parts>) -> Result<u32, AllocError>
         ensures { IfOk result (λ place. Kept (pool_as self.old) (pool_as self.new)
-            (λ p. list_in p.names place) (texts_as texts.items)) }
+            (λ p. list_in p.names place) texts.items) }
     {
         match self.names.last_same(texts.as_slice()) {
             Some(place) => place_of(place),

@@ -51,8 +51,8 @@ pub record Pair : Type 0 where
   pub value : List ℕ
   pub key : List ℕ
 
--- whether fields of that name are looked at: for parts of addresses those that hold addresses; fields of another name have none (RFC 5228,
--- section 5.1)
+-- whether fields of that name are looked at; for parts of addresses these are the fields that hold addresses, since others have none (RFC
+-- 5228, section 5.1)
 abbrev pub is_looked_at : Option AddressPart → List ℕ → Bool
 is_looked_at None name = true
 is_looked_at (Some part) name = is_address_field name

@@ -171,7 +171,7 @@ fn find_in_listed(
     Ok(found)
 }
 
-/// What the fields that were visited give: what the first of their values does that matches some key.
+/// The match of the first value that matches some key, among the fields visited so far.
 #[derive(Drop)]
 struct Finder<'m, 'v> {
     matcher: &'m Matcher<'v>,

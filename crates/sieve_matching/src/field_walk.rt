@@ -20,7 +20,7 @@ pub(crate) trait FieldVisitor {
     ghost use Rattle.message_text.specs.declared.addressing.AddressPart as parts;
     ghost use Rattle.sieve_profile.specs.Profile.{Profile};
 
-    /// Whether it is kept where the fields stand that it looks at. This takes memory, and spares later tests a search.
+    /// Whether the places of the fields that it looks at are kept. This takes memory, and spares later tests a search.
     const KEEPS_NAMES: bool;
 
     /// What it is after one more field.

@@ -2,14 +2,13 @@
 ghost use Rattle.std.specs.Prelude.{◌≡◌, ◌<◌, ◌++◌, length, map, slice_get, IfOk, IfSome, OnOk, Some};
 ghost use Rattle.sieve_operations.specs.Joined.{Lists, lists_plus, lists_with, list_in, no_lists};
 ghost use Rattle.sieve_operations.specs.view.FieldNames.{kept_hash};
-ghost use Rattle.sieve_reading.specs.view.Reading.{texts_as};
 ghost use Rattle.sieve_variables.specs.Value.{text_value};
 
 use crate::joined::between;
 use crate::strings::{StringLists, Strings};
 use message_text::{FieldName, name_hash};
-use sieve_reading::{Text, literal_in_parts};
-use sieve_variables::{Part, Values};
+use sieve_reading::literal_in_parts;
+use sieve_variables::{Part, Parts, Values};
 use std::alloc::{AllocError, Global};
 use std::marker::Model;
 
@@ -46,16 +45,16 @@ fn kept_hash(parts: &[Part]) -> u32
 fn put_after(
     lists: &mut StringLists,
     hashes: &mut Vec<u32>,
-    texts: Vec<Text>,
+    texts: Vec<Parts>,
 ) -> Result<(), AllocError>
-    ensures lists { OnOk result (lists.new ≡ lists_with lists.old (texts_as texts.items)) }
+    ensures lists { OnOk result (lists.new ≡ lists_with lists.old texts.items) }
     ensures kept { OnOk result ((more : Lists)
-        → list_in (lists_plus lists.new more) (length lists.old.ends) ≡ texts_as texts.items) }
+        → list_in (lists_plus lists.new more) (length lists.old.ends) ≡ texts.items) }
     ensures hashes { OnOk result
-        (hashes.new.items ≡ hashes.old.items ++ map kept_hash (texts_as texts.items)) }
+        (hashes.new.items ≡ hashes.old.items ++ map kept_hash texts.items) }
 {
     for text in &texts {
-        hashes.push(kept_hash(text.string.as_slice()))?;
+        hashes.push(kept_hash(text.as_slice()))?;
     }
     lists.push(texts)
 }
@@ -79,18 +78,18 @@ impl NameLists {
     }
 
     /// The place of the last list, where it has the same strings as these. Takes no memory.
-    pub fn last_same(&self, texts: &[Text]) -> Option<usize>
+    pub fn last_same(&self, texts: &[Parts]) -> Option<usize>
         ensures { IfSome result (λ place. (more : Lists)
-            → list_in (lists_plus self.now more) place ≡ texts_as texts.now) }
+            → list_in (lists_plus self.now more) place ≡ texts.now) }
     {
         self.lists.last_same(texts)
     }
 
     /// Adds a list. An error is out of memory.
-    pub fn push(&mut self, texts: Vec<Text>) -> Result<(), AllocError>
-        ensures new { OnOk result (self.new ≡ lists_with self.old (texts_as texts.items)) }
+    pub fn push(&mut self, texts: Vec<Parts>) -> Result<(), AllocError>
+        ensures new { OnOk result (self.new ≡ lists_with self.old texts.items) }
         ensures kept { OnOk result ((more : Lists)
-            → list_in (lists_plus self.new more) (length self.old.ends) ≡ texts_as texts.items) }
+            → list_in (lists_plus self.new more) (length self.old.ends) ≡ texts.items) }
     {
         match put_after(&mut self.lists, &mut self.hashes, texts) {
             Ok(()) => Ok(()),

@@ -2,12 +2,10 @@
 ghost use Rattle.std.specs.Prelude.{◌≡◌, ◌∷◌, ◌++◌, ◌<◌, ◌+◌, [], drop, length, map, slice_get, slice_index_or, true, IfOk, IfSome, OnOk, Some};
 ghost use Rattle.octets.specs.view.Texts.{octets_of_each};
 ghost use Rattle.sieve_operations.specs.Joined.{Lists, between, lists_plus, lists_with, list_in, no_lists, start};
-ghost use Rattle.sieve_reading.specs.view.Reading.{texts_as};
 ghost use Rattle.sieve_variables.specs.Value.{text_value};
 
 use crate::joined::{JoinedStrings, are_same, bounds, end_of};
-use sieve_reading::Text;
-use sieve_variables::{Part, Values};
+use sieve_variables::{Part, Parts, Values};
 use std::alloc::{AllocError, Global};
 use std::borrow::CowSlice;
 use std::marker::Model;
@@ -16,27 +14,27 @@ use std::marker::Model;
 fn put_after(
     strings: &mut JoinedStrings,
     ends: &mut Vec<u32>,
-    texts: Vec<Text>,
+    texts: Vec<Parts>,
 ) -> Result<(), AllocError>
-    ensures { OnOk result ((strings.new ≡ strings.old ++ texts_as texts.items)
-        × (ends.new.items ≡ ends.old.items ++ length (strings.old ++ texts_as texts.items) ∷ [])) }
+    ensures { OnOk result ((strings.new ≡ strings.old ++ texts.items)
+        × (ends.new.items ≡ ends.old.items ++ length (strings.old ++ texts.items) ∷ [])) }
 {
     for text in texts {
-        strings.push(text.string)?;
+        strings.push(text)?;
     }
     ends.push(end_of(strings.len())?)?;
     Ok(())
 }
 
 /// Whether strings of code and of a script are the same.
-fn are_these(strings: &Strings<'_>, texts: &[Text]) -> bool
-    ensures { result ≡ true → strings.now ≡ texts_as texts.now }
+fn are_these(strings: &Strings<'_>, texts: &[Parts]) -> bool
+    ensures { result ≡ true → strings.now ≡ texts.now }
 {
     if strings.len() != texts.len() {
         return false;
     }
     for i in 0..texts.len() {
-        if !are_same(strings.get(i), texts[i].string.as_slice()) {
+        if !are_same(strings.get(i), texts[i].as_slice()) {
             return false;
         }
     }
@@ -80,9 +78,9 @@ impl StringLists {
     }
 
     /// The place of the last list, where it has the same strings as these. Takes no memory.
-    pub fn last_same(&self, texts: &[Text]) -> Option<usize>
+    pub fn last_same(&self, texts: &[Parts]) -> Option<usize>
         ensures { IfSome result (λ place. (more : Lists)
-            → list_in (lists_plus self.now more) place ≡ texts_as texts.now) }
+            → list_in (lists_plus self.now more) place ≡ texts.now) }
     {
         let last = self.ends.len().checked_sub(1)?;
         if are_these(&self.list(last), texts) {
@@ -93,10 +91,10 @@ impl StringLists {
     }
 
     /// Adds a list. An error is out of memory.
-    pub fn push(&mut self, texts: Vec<Text>) -> Result<(), AllocError>
-        ensures new { OnOk result (self.new ≡ lists_with self.old (texts_as texts.items)) }
+    pub fn push(&mut self, texts: Vec<Parts>) -> Result<(), AllocError>
+        ensures new { OnOk result (self.new ≡ lists_with self.old texts.items) }
         ensures kept { OnOk result ((more : Lists)
-            → list_in (lists_plus self.new more) (length self.old.ends) ≡ texts_as texts.items) }
+            → list_in (lists_plus self.new more) (length self.old.ends) ≡ texts.items) }
     {
         match put_after(&mut self.strings, &mut self.ends, texts) {
             Ok(()) => Ok(()),

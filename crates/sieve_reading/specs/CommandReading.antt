@@ -3,7 +3,7 @@
 use Rattle.std.specs.Prelude.{List, Option, Some, None}
 use Rattle.script_names.specs.declared.location.Location.{Location}
 use Rattle.script_names.specs.declared.location.Location.TheVariants.{Personal, Global}
-use Rattle.sieve_reading.specs.Tree.{Argument}
+use Rattle.sieve_reading.specs.CutArgument.{CutArgument}
 use Rattle.sieve_reading.specs.declared.label.Label.{Label}
 use Rattle.sieve_reading.specs.declared.reading.FlagChange.{FlagChange}
 use Rattle.sieve_reading.specs.declared.reading.FlagChange.TheVariants as change
@@ -22,7 +22,7 @@ use Rattle.sieve_reading.specs.Given.{Tags, tags_of, in_role, texts_in, given_te
 use Rattle.sieve_reading.specs.Reading.{Settings, Leaf, keep_leaf, fileinto_leaf, redirect_leaf, discard_leaf, set_leaf, flag_leaf, include_leaf, vacation_leaf, reject_leaf, CommandReading, reads_if, reads_elsif, reads_else, reads_stop, reads_return, reads_nothing, reads_act}
 
 -- what a `fileinto` says beside its mailbox (RFC 5232, section 5; RFC 3894, section 3; RFC 5490, section 3.2; RFC 8579, section 4)
-abbrev pub settings_by : List Label → List Argument → Settings
+abbrev pub settings_by : List Label → List CutArgument → Settings
 settings_by labels args = record {
   flags = given_texts (in_role role.Flags labels args);
   copy = has_tag kind.Copy (tags_of labels);
@@ -31,15 +31,15 @@ settings_by labels args = record {
 }
 
 -- what a `keep` does (RFC 5228, section 4.3; RFC 5232, section 5)
-abbrev pub keep_by : List Label → List Argument → Leaf
+abbrev pub keep_by : List Label → List CutArgument → Leaf
 keep_by labels args = keep_leaf (given_texts (in_role role.Flags labels args))
 
 -- what a `fileinto` does (RFC 5228, section 4.1)
-abbrev pub fileinto_by : List Label → List Argument → Leaf
+abbrev pub fileinto_by : List Label → List CutArgument → Leaf
 fileinto_by labels args = fileinto_leaf (text_in (in_role role.Mailbox labels args)) (settings_by labels args)
 
 -- what a `redirect` does (RFC 5228, section 4.2; RFC 3894, section 3)
-abbrev pub redirect_by : List Label → List Argument → Leaf
+abbrev pub redirect_by : List Label → List CutArgument → Leaf
 redirect_by labels args = redirect_leaf (text_in (in_role role.Address labels args)) (has_tag kind.Copy (tags_of labels))
 
 -- the case that a modifier makes (RFC 5229, section 4.1.3)
@@ -60,11 +60,11 @@ modifiers_of tags = record {
 }
 
 -- what a `set` does (RFC 5229, section 4)
-abbrev pub set_by : List Label → List Argument → Leaf
+abbrev pub set_by : List Label → List CutArgument → Leaf
 set_by labels args = set_leaf (variable_in (in_role role.NameToSet labels args)) (modifiers_of (tags_of labels)) (text_in (in_role role.Text labels args))
 
 -- what `setflag`, `addflag` and `removeflag` do (RFC 5232, section 3)
-abbrev pub flags_by : FlagChange → List Label → List Argument → Leaf
+abbrev pub flags_by : FlagChange → List Label → List CutArgument → Leaf
 flags_by how labels args = flag_leaf how (given_variable (in_role role.NameToSet labels args)) (texts_in (in_role role.Flags labels args))
 
 -- the location of a script that is included, which is the personal one where none is named (RFC 6609, section 3.2)
@@ -76,12 +76,12 @@ unfoldable pub location_of : Tags → Location
 location_of tags = location_by (tags kind.Location)
 
 -- what an `include` does (RFC 6609, section 3.2)
-abbrev pub include_by : List Label → List Argument → Leaf
+abbrev pub include_by : List Label → List CutArgument → Leaf
 include_by labels args =
     include_leaf (location_of (tags_of labels)) (has_tag kind.Once (tags_of labels)) (has_tag kind.Optional (tags_of labels)) (literal_in (in_role role.ScriptName labels args))
 
 -- what a `vacation` does (RFC 5230, section 4)
-abbrev pub vacation_by : List Label → List Argument → Leaf
+abbrev pub vacation_by : List Label → List CutArgument → Leaf
 vacation_by labels args = vacation_leaf (record {
   reason = text_in (in_role role.Text labels args);
   days = given_number (in_role role.Days labels args);
@@ -93,11 +93,11 @@ vacation_by labels args = vacation_leaf (record {
 })
 
 -- what `reject` and `ereject` do (RFC 5429, sections 2, 2.1 and 2.2)
-abbrev pub reject_by : Rejection → List Label → List Argument → Leaf
+abbrev pub reject_by : Rejection → List Label → List CutArgument → Leaf
 reject_by how labels args = reject_leaf how (text_in (in_role role.Text labels args))
 
 -- what a command of a kind is with these arguments
-abbrev pub command_reading_by : CommandKind → List Label → List Argument → CommandReading
+abbrev pub command_reading_by : CommandKind → List Label → List CutArgument → CommandReading
 command_reading_by command.Require labels args = reads_nothing
 command_reading_by command.If labels args = reads_if
 command_reading_by command.Elsif labels args = reads_elsif

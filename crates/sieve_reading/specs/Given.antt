@@ -12,12 +12,11 @@ use Rattle.message_text.specs.declared.addressing.AddressPart.TheVariants as par
 use Rattle.sieve_reading.specs.Role.{first_role}
 use Rattle.sieve_table.specs.Role.{has_role}
 use Rattle.sieve_table.specs.Table.{same_kind, tag_row}
-use Rattle.sieve_reading.specs.Tree.{Argument, strings, number}
+use Rattle.sieve_reading.specs.CutArgument.{CutArgument, cut_strings, cut_number}
 use Rattle.sieve_reading.specs.declared.label.Label.{Label}
 use Rattle.sieve_reading.specs.declared.label.Label.TheVariants.{Tagged}
 use Rattle.sieve_reading.specs.declared.reading.MatchType.{MatchType}
 use Rattle.sieve_reading.specs.declared.reading.MatchType.TheVariants.{Is, Contains, Matches, Value, Count}
-use Rattle.sieve_syntax.specs.view.Tree.{octets_of}
 use Rattle.sieve_table.specs.declared.row.Role.{Role}
 use Rattle.sieve_table.specs.declared.row.TagKind.{TagKind}
 use Rattle.sieve_table.specs.declared.row.TagKind.TheVariants as kind
@@ -29,17 +28,17 @@ use Rattle.sieve_variables.specs.Variable.{Variable, local_variable}
 -- ARGUMENTS
 
 -- the first argument in a role
-abbrev pub in_role : Role → List Label → List Argument → Option Argument
+abbrev pub in_role : Role → List Label → List CutArgument → Option CutArgument
 in_role wanted labels [] = None
 in_role wanted labels (a ∷ args) = if has_role wanted (first_role labels) then Some a else in_role wanted (drop 1 labels) args
 
 -- the strings of an argument, each as its parts
-abbrev pub texts_in : Option Argument → List (List Part)
-texts_in (Some (strings items bracketed)) = map (λ t. t.string) items
+abbrev pub texts_in : Option CutArgument → List (List Part)
+texts_in (Some (cut_strings texts)) = texts
 texts_in other = []
 
 -- the strings of an argument that may be left out
-abbrev pub given_texts : Option Argument → Option (List (List Part))
+abbrev pub given_texts : Option CutArgument → Option (List (List Part))
 given_texts None = None
 given_texts (Some a) = Some (texts_in (Some a))
 
@@ -48,11 +47,11 @@ abbrev pub first_text : List (List Part) → List Part
 first_text [] = []
 first_text (text ∷ texts) = text
 
-abbrev pub text_in : Option Argument → List Part
+abbrev pub text_in : Option CutArgument → List Part
 text_in argument = first_text (texts_in argument)
 
 -- the string of an argument that may be left out
-abbrev pub given_text : Option Argument → Option (List Part)
+abbrev pub given_text : Option CutArgument → Option (List Part)
 given_text None = None
 given_text (Some a) = Some (text_in (Some a))
 
@@ -63,11 +62,11 @@ variable_in_parts (variable_part variable ∷ []) = variable
 variable_in_parts other = local_variable []
 
 -- the variable that an argument names
-abbrev pub variable_in : Option Argument → Variable
+abbrev pub variable_in : Option CutArgument → Variable
 variable_in argument = variable_in_parts (text_in argument)
 
 -- the variable that an argument names that may be left out
-abbrev pub given_variable : Option Argument → Option Variable
+abbrev pub given_variable : Option CutArgument → Option Variable
 given_variable None = None
 given_variable (Some a) = Some (variable_in (Some a))
 
@@ -76,17 +75,22 @@ abbrev pub literal_in_parts : List Part → Option (List ℕ)
 literal_in_parts (literal octets ∷ []) = Some octets
 literal_in_parts other = None
 
+-- the octets that are there, or none
+abbrev pub literal_or_nothing : Option (List ℕ) → List ℕ
+literal_or_nothing None = []
+literal_or_nothing (Some octets) = octets
+
 -- the octets of an argument whose string stands for itself
-abbrev pub literal_in : Option Argument → List ℕ
-literal_in argument = octets_of (text_in argument)
+abbrev pub literal_in : Option CutArgument → List ℕ
+literal_in argument = literal_or_nothing (literal_in_parts (text_in argument))
 
 -- the number that an argument is
-abbrev pub number_in : Option Argument → ℕ
-number_in (Some (number (Some value) line)) = value
+abbrev pub number_in : Option CutArgument → ℕ
+number_in (Some (cut_number (Some value))) = value
 number_in other = 0
 
 -- the number that an argument is that may be left out
-abbrev pub given_number : Option Argument → Option ℕ
+abbrev pub given_number : Option CutArgument → Option ℕ
 given_number None = None
 given_number (Some a) = Some (number_in (Some a))
 
@@ -96,7 +100,7 @@ abbrev pub collation_or_casemap : Option Collation → Collation
 collation_or_casemap None = Casemap
 collation_or_casemap (Some collation) = collation
 
-abbrev pub collation_by : Option Argument → Collation
+abbrev pub collation_by : Option CutArgument → Collation
 collation_by argument = collation_or_casemap (collation_named (literal_in argument))
 
 -- The relation. Without `:value` and `:count` (RFC 5231, section 4) none is named, and none is asked for; that equality stands there then,
@@ -105,7 +109,7 @@ abbrev pub relation_or_eq : Option Relation → Relation
 relation_or_eq None = Eq
 relation_or_eq (Some relation) = relation
 
-abbrev pub relation_by : Option Argument → Relation
+abbrev pub relation_by : Option CutArgument → Relation
 relation_by argument = relation_or_eq (relation_named (literal_in argument))
 
 -- TAGS

@@ -1,4 +1,5 @@
 pub mod CommandReading
+pub mod CutArgument
 pub mod Given
 pub mod Label
 pub mod Positional
@@ -7,5 +8,4 @@ pub mod Role
 pub mod Script
 pub mod Shape
 pub mod TestReading
-pub mod Tree
 pub mod view

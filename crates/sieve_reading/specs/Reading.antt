@@ -1,4 +1,4 @@
--- What the commands and tests of a checked tree are (RFC 5228, sections 3, 4 and 5), with defaults filled in.
+-- What the commands and tests of a text are read as (RFC 5228, sections 3, 4 and 5), with defaults filled in.
 use Rattle.std.specs.Prelude.{ℕ, Bool, false, List, Option, None, codes}
 use Rattle.message_text.specs.declared.addressing.AddressPart.{AddressPart}
 use Rattle.script_names.specs.declared.location.Location.{Location}

@@ -1,7 +1,7 @@
 -- How a test is read (RFC 5228, section 5; RFC 5229, section 5; RFC 5232, section 4; RFC 5490, section 3.1; RFC 7352, section 3; RFC 5260,
 -- sections 4 and 5; RFC 5173, section 4), by its arguments and their labels.
 use Rattle.std.specs.Prelude.{ℕ, List, Option, None, Some}
-use Rattle.sieve_reading.specs.Tree.{Argument}
+use Rattle.sieve_reading.specs.CutArgument.{CutArgument}
 use Rattle.sieve_reading.specs.declared.label.Label.{Label}
 use Rattle.sieve_variables.specs.Part.{Part}
 use Rattle.sieve_reading.specs.declared.reading.Comparison.{Comparison}
@@ -15,34 +15,34 @@ use Rattle.sieve_reading.specs.Given.{Tags, tags_of, in_role, texts_in, text_in,
 use Rattle.sieve_reading.specs.Reading.{BodyTransform, raw_transform, content_transform, text_transform, DateZone, local_zone, original_zone, named_zone, ValueSource, field_values, envelope_values, string_values, flag_values, date_values, clock_values, body_values, Ask, compares, exists_ask, over_ask, under_ask, mailboxes_ask, duplicate_ask, TestReading, reads_always, reads_never, reads_ask, reads_all, reads_any, reads_not}
 
 -- how a test compares (RFC 5228, section 2.7; RFC 5231, section 4)
-abbrev pub comparison_by : List Label → List Argument → Comparison
+abbrev pub comparison_by : List Label → List CutArgument → Comparison
 comparison_by labels args = record {
   match_type = match_type_of (tags_of labels) (relation_by (in_role role.Relation labels args));
   collation = collation_by (in_role role.ComparatorName labels args);
 }
 
 -- what a test asks that compares values with keys
-abbrev pub compares_by : ValueSource → List Label → List Argument → Ask
+abbrev pub compares_by : ValueSource → List Label → List CutArgument → Ask
 compares_by source labels args = compares source (comparison_by labels args) (texts_in (in_role role.Keys labels args))
 
 -- where a `header` test takes its values from (RFC 5228, section 5.7)
-abbrev pub header_source : List Label → List Argument → ValueSource
+abbrev pub header_source : List Label → List CutArgument → ValueSource
 header_source labels args = field_values None (texts_in (in_role role.FieldNames labels args))
 
 -- an `address` test (RFC 5228, section 5.1)
-abbrev pub address_source : List Label → List Argument → ValueSource
+abbrev pub address_source : List Label → List CutArgument → ValueSource
 address_source labels args = field_values (Some (address_part_of (tags_of labels))) (texts_in (in_role role.AddressFields labels args))
 
 -- an `envelope` test (RFC 5228, section 5.4)
-abbrev pub envelope_source : List Label → List Argument → ValueSource
+abbrev pub envelope_source : List Label → List CutArgument → ValueSource
 envelope_source labels args = envelope_values (address_part_of (tags_of labels)) (texts_in (in_role role.EnvelopeParts labels args))
 
 -- a `string` test (RFC 5229, section 5)
-abbrev pub string_source : List Label → List Argument → ValueSource
+abbrev pub string_source : List Label → List CutArgument → ValueSource
 string_source labels args = string_values (texts_in (in_role role.Text labels args))
 
 -- a `hasflag` test (RFC 5232, section 4)
-abbrev pub flag_source : List Label → List Argument → ValueSource
+abbrev pub flag_source : List Label → List CutArgument → ValueSource
 flag_source labels args = flag_values (given_texts (in_role role.NamesToRead labels args))
 
 -- the zone in which a date is shown: that of the date under `:originalzone`, else the one that `:zone` names, and else the local one
@@ -56,15 +56,15 @@ unfoldable pub zone_of : Tags → (named : Option (List Part)) → DateZone
 zone_of tags named = zone_by (tags kind.Zone) named
 
 -- the zone of a test of dates
-abbrev pub date_zone : List Label → List Argument → DateZone
+abbrev pub date_zone : List Label → List CutArgument → DateZone
 date_zone labels args = zone_of (tags_of labels) (given_text (in_role role.Zone labels args))
 
 -- a `date` test (RFC 5260, section 4)
-abbrev pub date_source : List Label → List Argument → ValueSource
+abbrev pub date_source : List Label → List CutArgument → ValueSource
 date_source labels args = date_values (date_zone labels args) (text_in (in_role role.FieldNames labels args)) (text_in (in_role role.DatePart labels args))
 
 -- a `currentdate` test (RFC 5260, section 5)
-abbrev pub clock_source : List Label → List Argument → ValueSource
+abbrev pub clock_source : List Label → List CutArgument → ValueSource
 clock_source labels args = clock_values (date_zone labels args) (text_in (in_role role.DatePart labels args))
 
 -- what is taken of a body: all of it under `:raw`, else what `:content` names, and else the texts (RFC 5173, sections 4 and 5); a script without
@@ -78,11 +78,11 @@ unfoldable pub transform_of : Tags → (named : Option (List (List Part))) → B
 transform_of tags named = transform_by (tags kind.BodyTransform) named
 
 -- a `body` test (RFC 5173, section 4)
-abbrev pub body_source : List Label → List Argument → ValueSource
+abbrev pub body_source : List Label → List CutArgument → ValueSource
 body_source labels args = body_values (transform_of (tags_of labels) (given_texts (in_role role.ContentTypes labels args)))
 
 -- what an `exists` test asks (RFC 5228, section 5.5)
-abbrev pub exists_by : List Label → List Argument → Ask
+abbrev pub exists_by : List Label → List CutArgument → Ask
 exists_by labels args = exists_ask (texts_in (in_role role.FieldNames labels args))
 
 -- what a `size` test asks (RFC 5228, section 5.9); without a bound, which no script without a breach lacks, as with `:over`
@@ -93,15 +93,15 @@ bound_by other limit = over_ask limit
 unfoldable pub bound_ask : Tags → ℕ → Ask
 bound_ask tags limit = bound_by (tags kind.Bound) limit
 
-abbrev pub size_by : List Label → List Argument → Ask
+abbrev pub size_by : List Label → List CutArgument → Ask
 size_by labels args = bound_ask (tags_of labels) (number_in (in_role role.Limit labels args))
 
 -- what a `mailboxexists` test asks (RFC 5490, section 3.1)
-abbrev pub mailboxes_by : List Label → List Argument → Ask
+abbrev pub mailboxes_by : List Label → List CutArgument → Ask
 mailboxes_by labels args = mailboxes_ask (texts_in (in_role role.Mailbox labels args))
 
 -- what a test of a kind is with these arguments
-abbrev pub test_reading_by : TestKind → List Label → List Argument → TestReading
+abbrev pub test_reading_by : TestKind → List Label → List CutArgument → TestReading
 test_reading_by test_kind.Header labels args = reads_ask (compares_by (header_source labels args) labels args)
 test_reading_by test_kind.Address labels args = reads_ask (compares_by (address_source labels args) labels args)
 test_reading_by test_kind.Envelope labels args = reads_ask (compares_by (envelope_source labels args) labels args)

@@ -3,20 +3,20 @@ ghost use Rattle.std.specs.Prelude.{◌≡◌, Some, false, map};
 ghost use Rattle.std.specs.Option.{option_map};
 ghost use Rattle.sieve_reading.specs.Given.{first_or, in_role};
 ghost use Rattle.sieve_table.specs.Role.{same_role};
-ghost use Rattle.sieve_reading.specs.view.Tree.{argument_of};
+ghost use Rattle.sieve_reading.specs.view.CutArgument.{cut_as};
 
+use crate::cut_argument::CutArgument;
 use crate::label::{Label, after_first, first_role};
-use sieve_syntax::Argument;
 use sieve_table::{Role, has_role};
 
 /// The first argument in a role.
 pub(crate) fn argument_in<'a>(
     labels: &[Label],
     wanted: Role,
-    args: &'a [Argument],
-) -> Option<&'a Argument>
-    ensures { option_map (λ a. argument_of a.now) result
-        ≡ in_role wanted labels.now (map argument_of args.now) }
+    args: &'a [CutArgument],
+) -> Option<&'a CutArgument>
+    ensures { option_map (λ a. cut_as a.now) result
+        ≡ in_role wanted labels.now (map cut_as args.now) }
 {
     let mut labels_left = labels;
     for argument in args {
@@ -29,9 +29,13 @@ pub(crate) fn argument_in<'a>(
 }
 
 /// The first argument in a role, to be kept.
-pub(crate) fn into_argument(labels: &[Label], wanted: Role, args: Vec<Argument>) -> Option<Argument>
-    ensures { option_map argument_of result
-        ≡ in_role wanted labels.now (map argument_of args.items) }
+pub(crate) fn into_argument(
+    labels: &[Label],
+    wanted: Role,
+    args: Vec<CutArgument>,
+) -> Option<CutArgument>
+    ensures { option_map cut_as result
+        ≡ in_role wanted labels.now (map cut_as args.items) }
 {
     let mut labels_left = labels;
     for argument in args {
@@ -44,9 +48,9 @@ pub(crate) fn into_argument(labels: &[Label], wanted: Role, args: Vec<Argument>)
 }
 
 /// The one that is there already, or the other.
-pub(crate) fn first_or(first: Option<Argument>, other: Argument) -> Option<Argument>
-    ensures { option_map argument_of result
-        ≡ first_or (option_map argument_of first) (Some (argument_of other)) }
+pub(crate) fn first_or(first: Option<CutArgument>, other: CutArgument) -> Option<CutArgument>
+    ensures { option_map cut_as result
+        ≡ first_or (option_map cut_as first) (Some (cut_as other)) }
 {
     match first {
         Some(first) => Some(first),
@@ -59,13 +63,13 @@ pub(crate) fn into_arguments(
     labels: &[Label],
     wanted: Role,
     other: Role,
-    args: Vec<Argument>,
-) -> (Option<Argument>, Option<Argument>)
+    args: Vec<CutArgument>,
+) -> (Option<CutArgument>, Option<CutArgument>)
     requires { same_role other wanted ≡ false }
-    ensures wanted { option_map argument_of result.0
-        ≡ in_role wanted labels.now (map argument_of args.items) }
-    ensures other { option_map argument_of result.1
-        ≡ in_role other labels.now (map argument_of args.items) }
+    ensures wanted { option_map cut_as result.0
+        ≡ in_role wanted labels.now (map cut_as args.items) }
+    ensures other { option_map cut_as result.1
+        ≡ in_role other labels.now (map cut_as args.items) }
 {
     let (in_wanted, in_other, _) = into_three(labels, wanted, other, other, args);
     (in_wanted, in_other)
@@ -78,16 +82,20 @@ pub(crate) fn into_three(
     wanted: Role,
     other: Role,
     third: Role,
-    args: Vec<Argument>,
-) -> (Option<Argument>, Option<Argument>, Option<Argument>)
+    args: Vec<CutArgument>,
+) -> (
+    Option<CutArgument>,
+    Option<CutArgument>,
+    Option<CutArgument>,
+)
     requires { same_role other wanted ≡ false }
-    ensures wanted { option_map argument_of result.0
-        ≡ in_role wanted labels.now (map argument_of args.items) }
-    ensures other { option_map argument_of result.1
-        ≡ in_role other labels.now (map argument_of args.items) }
+    ensures wanted { option_map cut_as result.0
+        ≡ in_role wanted labels.now (map cut_as args.items) }
+    ensures other { option_map cut_as result.1
+        ≡ in_role other labels.now (map cut_as args.items) }
     ensures third { same_role third wanted ≡ false → same_role third other ≡ false
-        → option_map argument_of result.2
-        ≡ in_role third labels.now (map argument_of args.items) }
+        → option_map cut_as result.2
+        ≡ in_role third labels.now (map cut_as args.items) }
 {
     let mut labels_left = labels;
     let mut in_wanted = None;

@@ -1,16 +1,17 @@
 //! How a command is read (RFC 5228, sections 3 and 4; RFC 5229, section 4; RFC 5232, section 3; RFC 6609, section 3; RFC 5490,
 //! section 3.2; RFC 8579, section 4; RFC 5230, section 4; RFC 5429, section 2).
-ghost use Rattle.std.specs.Prelude.{◌≡◌, false, map};
+ghost use Rattle.std.specs.Prelude.{◌≡◌, false, IfOk, map};
 ghost use Rattle.std.specs.Option.{option_map};
 ghost use Rattle.sieve_reading.specs.CommandReading as spec;
 ghost use Rattle.sieve_reading.specs.Given.{in_role};
 ghost use Rattle.sieve_reading.specs.view.Reading.{command_reading_as, leaf_as, settings_as};
 ghost use Rattle.sieve_reading.specs.view.Tags.{tags_as};
-ghost use Rattle.sieve_reading.specs.view.Tree.{argument_of};
+ghost use Rattle.sieve_reading.specs.view.CutArgument.{cut_as};
 ghost use Rattle.sieve_table.specs.Role.{same_role};
 ghost use Rattle.sieve_table.specs.declared.row.Role.TheVariants as role;
 
 use crate::by_label::{into_argument, into_arguments, into_three};
+use crate::cut_argument::CutArgument;
 use crate::given::{
     given_text, given_texts, given_variable, name_in, text_in, texts_in, variable_in,
 };
@@ -19,15 +20,14 @@ use crate::reading::{CommandReading, FlagChange, Leaf, ReadLeaf, Rejection, Sett
 use crate::tags::Tags;
 use crate::vacation::vacation_leaf;
 use script_names::Location;
-use sieve_syntax::Argument;
 use sieve_table::{CommandKind, Role, Tag, TagKind};
 use sieve_variables::{LetterCase, Modifiers};
-use std::alloc::Global;
+use std::alloc::{AllocError, Global};
 
 /// What a `keep` does.
-fn keep_leaf(alloc: Global, labels: &[Label], args: Vec<Argument>) -> ReadLeaf
+fn keep_leaf(alloc: Global, labels: &[Label], args: Vec<CutArgument>) -> ReadLeaf
     ensures { leaf_as result
-        ≡ spec.keep_by labels.now (map argument_of args.items) }
+        ≡ spec.keep_by labels.now (map cut_as args.items) }
 {
     let flags = into_argument(labels, Role::Flags, args);
     let flags = given_texts(alloc, flags);
@@ -35,9 +35,9 @@ fn keep_leaf(alloc: Global, labels: &[Label], args: Vec<Argument>) -> ReadLeaf
 }
 
 /// What a `fileinto` does.
-fn fileinto_leaf(alloc: Global, labels: &[Label], args: Vec<Argument>) -> ReadLeaf
+fn fileinto_leaf(alloc: Global, labels: &[Label], args: Vec<CutArgument>) -> ReadLeaf
     ensures { leaf_as result
-        ≡ spec.fileinto_by labels.now (map argument_of args.items) }
+        ≡ spec.fileinto_by labels.now (map cut_as args.items) }
 {
     let tags = Tags::among(labels);
     let (mailbox, flags, special_use) = into_three(
@@ -58,9 +58,9 @@ fn fileinto_leaf(alloc: Global, labels: &[Label], args: Vec<Argument>) -> ReadLe
 }
 
 /// What a `redirect` does.
-fn redirect_leaf(labels: &[Label], args: Vec<Argument>) -> ReadLeaf
+fn redirect_leaf(labels: &[Label], args: Vec<CutArgument>) -> ReadLeaf
     ensures { leaf_as result
-        ≡ spec.redirect_by labels.now (map argument_of args.items) }
+        ≡ spec.redirect_by labels.now (map cut_as args.items) }
 {
     let copy = Tags::among(labels).has(TagKind::Copy);
     let address = text_in(into_argument(labels, Role::Address, args));
@@ -94,9 +94,9 @@ fn modifiers_of(tags: Tags) -> Modifiers
 }
 
 /// What a `set` does.
-fn set_leaf(labels: &[Label], args: Vec<Argument>) -> ReadLeaf
+fn set_leaf(labels: &[Label], args: Vec<CutArgument>) -> ReadLeaf
     ensures { leaf_as result
-        ≡ spec.set_by labels.now (map argument_of args.items) }
+        ≡ spec.set_by labels.now (map cut_as args.items) }
 {
     let modifiers = modifiers_of(Tags::among(labels));
     let (name, value) = into_arguments(labels, Role::NameToSet, Role::Text, args);
@@ -110,9 +110,14 @@ fn set_leaf(labels: &[Label], args: Vec<Argument>) -> ReadLeaf
 }
 
 /// What a command does that changes flags.
-fn flags_leaf(alloc: Global, change: FlagChange, labels: &[Label], args: Vec<Argument>) -> ReadLeaf
+fn flags_leaf(
+    alloc: Global,
+    change: FlagChange,
+    labels: &[Label],
+    args: Vec<CutArgument>,
+) -> ReadLeaf
     ensures { leaf_as result
-        ≡ spec.flags_by change labels.now (map argument_of args.items) }
+        ≡ spec.flags_by change labels.now (map cut_as args.items) }
 {
     let (name, flags) = into_arguments(labels, Role::NameToSet, Role::Flags, args);
     let variable = given_variable(name);
@@ -143,9 +148,9 @@ fn location_of(tags: Tags) -> Location
 }
 
 /// What an `include` does.
-fn include_leaf(labels: &[Label], args: Vec<Argument>) -> ReadLeaf
+fn include_leaf(labels: &[Label], args: Vec<CutArgument>) -> ReadLeaf
     ensures { leaf_as result
-        ≡ spec.include_by labels.now (map argument_of args.items) }
+        ≡ spec.include_by labels.now (map cut_as args.items) }
 {
     let tags = Tags::among(labels);
     let name = name_in(into_argument(labels, Role::ScriptName, args));
@@ -158,45 +163,45 @@ fn include_leaf(labels: &[Label], args: Vec<Argument>) -> ReadLeaf
 }
 
 /// What a command does that rejects the message.
-fn reject_leaf(how: Rejection, labels: &[Label], args: Vec<Argument>) -> ReadLeaf
+fn reject_leaf(how: Rejection, labels: &[Label], args: Vec<CutArgument>) -> ReadLeaf
     ensures { leaf_as result
-        ≡ spec.reject_by how labels.now (map argument_of args.items) }
+        ≡ spec.reject_by how labels.now (map cut_as args.items) }
 {
     let reason = text_in(into_argument(labels, Role::Text, args));
     Leaf::Reject { how, reason }
 }
 
 /// What a command of that kind and with these arguments is, by their labels, apart from its test
-/// and its block. What is read has the strings of the arguments. Takes no memory.
+/// and its block. What is read has the strings of the arguments.
 pub fn read_command(
     alloc: Global,
     kind: CommandKind,
     labels: &[Label],
-    args: Vec<Argument>,
-) -> CommandReading
-    ensures { command_reading_as result
-        ≡ spec.command_reading_by kind labels.now (map argument_of args.items) }
+    args: Vec<CutArgument>,
+) -> Result<CommandReading, AllocError>
+    ensures { IfOk result (λ reading. command_reading_as reading
+        ≡ spec.command_reading_by kind labels.now (map cut_as args.items)) }
 {
     let leaf = match kind {
-        CommandKind::Require => return CommandReading::Nothing,
-        CommandKind::If => return CommandReading::If,
-        CommandKind::Elsif => return CommandReading::Elsif,
-        CommandKind::Else => return CommandReading::Else,
+        CommandKind::Require => return Ok(CommandReading::Nothing),
+        CommandKind::If => return Ok(CommandReading::If),
+        CommandKind::Elsif => return Ok(CommandReading::Elsif),
+        CommandKind::Else => return Ok(CommandReading::Else),
         CommandKind::Keep => keep_leaf(alloc, labels, args),
         CommandKind::Fileinto => fileinto_leaf(alloc, labels, args),
         CommandKind::Redirect => redirect_leaf(labels, args),
         CommandKind::Discard => Leaf::Discard,
-        CommandKind::Stop => return CommandReading::Stop,
+        CommandKind::Stop => return Ok(CommandReading::Stop),
         CommandKind::Set => set_leaf(labels, args),
         CommandKind::SetFlag => flags_leaf(alloc, FlagChange::Set, labels, args),
         CommandKind::AddFlag => flags_leaf(alloc, FlagChange::Add, labels, args),
         CommandKind::RemoveFlag => flags_leaf(alloc, FlagChange::Remove, labels, args),
         CommandKind::Include => include_leaf(labels, args),
-        CommandKind::Return => return CommandReading::Return,
-        CommandKind::Global => return CommandReading::Nothing,
-        CommandKind::Vacation => vacation_leaf(alloc, labels, args),
+        CommandKind::Return => return Ok(CommandReading::Return),
+        CommandKind::Global => return Ok(CommandReading::Nothing),
+        CommandKind::Vacation => vacation_leaf(alloc, labels, args)?,
         CommandKind::Reject => reject_leaf(Rejection::Reject, labels, args),
         CommandKind::Ereject => reject_leaf(Rejection::Ereject, labels, args),
     };
-    CommandReading::Act(leaf)
+    Ok(CommandReading::Act(leaf))
 }

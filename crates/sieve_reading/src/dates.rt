@@ -5,16 +5,16 @@ ghost use Rattle.sieve_reading.specs.Given.{in_role};
 ghost use Rattle.sieve_reading.specs.TestReading as spec;
 ghost use Rattle.sieve_reading.specs.view.Reading.{ask_as, date_zone_as};
 ghost use Rattle.sieve_reading.specs.view.Tags.{tags_as};
-ghost use Rattle.sieve_reading.specs.view.Tree.{argument_of};
+ghost use Rattle.sieve_reading.specs.view.CutArgument.{cut_as};
 ghost use Rattle.sieve_table.specs.declared.row.Role.TheVariants as role;
 
 use crate::by_label::first_or;
+use crate::cut_argument::CutArgument;
 use crate::given::{given_text, text_in, texts_in};
 use crate::label::{Label, after_first, first_role};
 use crate::reading::{Ask, DateZone, ReadAsk, ValueSource};
 use crate::tags::Tags;
 use crate::test_reading::comparison_of;
-use sieve_syntax::Argument;
 use sieve_table::{Role, Tag, TagKind, has_role};
 use sieve_variables::Parts;
 use std::alloc::Global;
@@ -22,22 +22,22 @@ use std::alloc::Global;
 /// The arguments of a test of dates that have strings, each the first in its role.
 #[derive(Drop)]
 struct Strings {
-    zone: Option<Argument>,
-    field: Option<Argument>,
-    part: Option<Argument>,
-    keys: Option<Argument>,
+    zone: Option<CutArgument>,
+    field: Option<CutArgument>,
+    part: Option<CutArgument>,
+    keys: Option<CutArgument>,
 }
 
 /// The arguments that have strings, to be kept.
-fn into_strings(labels: &[Label], args: Vec<Argument>) -> Strings
-    ensures zone { option_map argument_of result.zone
-        ≡ in_role role.Zone labels.now (map argument_of args.items) }
-    ensures field { option_map argument_of result.field
-        ≡ in_role role.FieldNames labels.now (map argument_of args.items) }
-    ensures part { option_map argument_of result.part
-        ≡ in_role role.DatePart labels.now (map argument_of args.items) }
-    ensures keys { option_map argument_of result.keys
-        ≡ in_role role.Keys labels.now (map argument_of args.items) }
+fn into_strings(labels: &[Label], args: Vec<CutArgument>) -> Strings
+    ensures zone { option_map cut_as result.zone
+        ≡ in_role role.Zone labels.now (map cut_as args.items) }
+    ensures field { option_map cut_as result.field
+        ≡ in_role role.FieldNames labels.now (map cut_as args.items) }
+    ensures part { option_map cut_as result.part
+        ≡ in_role role.DatePart labels.now (map cut_as args.items) }
+    ensures keys { option_map cut_as result.keys
+        ≡ in_role role.Keys labels.now (map cut_as args.items) }
 {
     let mut labels_left = labels;
     let mut zone = None;
@@ -85,8 +85,8 @@ fn zone_of(tags: Tags, named: Option<Parts>) -> DateZone<Parts>
 }
 
 /// What a `date` test asks.
-pub(crate) fn date_ask(alloc: Global, labels: &[Label], args: Vec<Argument>) -> ReadAsk
-    ensures { ask_as result ≡ (let given = map argument_of args.items
+pub(crate) fn date_ask(alloc: Global, labels: &[Label], args: Vec<CutArgument>) -> ReadAsk
+    ensures { ask_as result ≡ (let given = map cut_as args.items
         in spec.compares_by (spec.date_source labels.now given) labels.now given) }
 {
     let tags = Tags::among(labels);
@@ -109,8 +109,8 @@ pub(crate) fn date_ask(alloc: Global, labels: &[Label], args: Vec<Argument>) -> 
 }
 
 /// What a `currentdate` test asks.
-pub(crate) fn current_date_ask(alloc: Global, labels: &[Label], args: Vec<Argument>) -> ReadAsk
-    ensures { ask_as result ≡ (let given = map argument_of args.items
+pub(crate) fn current_date_ask(alloc: Global, labels: &[Label], args: Vec<CutArgument>) -> ReadAsk
+    ensures { ask_as result ≡ (let given = map cut_as args.items
         in spec.compares_by (spec.clock_source labels.now given) labels.now given) }
 {
     let tags = Tags::among(labels);

@@ -2,36 +2,34 @@
 ghost use Rattle.std.specs.Prelude.{◌≡◌, map};
 ghost use Rattle.std.specs.Option.{option_map};
 ghost use Rattle.sieve_reading.specs.Given as spec;
-ghost use Rattle.sieve_reading.specs.view.Reading.{texts_as};
 ghost use Rattle.sieve_reading.specs.view.Tags.{tags_as};
-ghost use Rattle.sieve_reading.specs.view.Tree.{argument_of, text_of};
-ghost use Rattle.sieve_syntax.specs.view.Tree.{octets_of};
+ghost use Rattle.sieve_reading.specs.view.CutArgument.{cut_as};
 
+use crate::cut_argument::CutArgument;
 use crate::reading::MatchType;
 use crate::tags::Tags;
 use match_text::{Collation, Relation, collation_named, relation_named};
 use message_text::AddressPart;
-use sieve_syntax::{Argument, Text, octets_in};
 use sieve_table::{Tag, TagKind};
 use sieve_variables::{Literal, Part, PartRef, Parts, Variable};
 use std::alloc::Global;
 
 /// The strings of an argument.
-pub(crate) fn texts_in(alloc: Global, argument: Option<Argument>) -> Vec<Text>
-    ensures { texts_as result.items ≡ spec.texts_in (option_map argument_of argument) }
+pub(crate) fn texts_in(alloc: Global, argument: Option<CutArgument>) -> Vec<Parts>
+    ensures { result.items ≡ spec.texts_in (option_map cut_as argument) }
 {
     match argument {
-        Some(Argument::Strings { items, .. }) => items,
-        Some(Argument::Number { .. }) => Vec::new(alloc),
-        Some(Argument::Tag { .. }) => Vec::new(alloc),
+        Some(CutArgument::Strings(items)) => items,
+        Some(CutArgument::Number(_)) => Vec::new(alloc),
+        Some(CutArgument::Tag) => Vec::new(alloc),
         None => Vec::new(alloc),
     }
 }
 
 /// The strings of an argument that may be left out.
-pub(crate) fn given_texts(alloc: Global, argument: Option<Argument>) -> Option<Vec<Text>>
-    ensures { option_map (λ texts. texts_as texts.items) result
-        ≡ spec.given_texts (option_map argument_of argument) }
+pub(crate) fn given_texts(alloc: Global, argument: Option<CutArgument>) -> Option<Vec<Parts>>
+    ensures { option_map (λ texts. texts.items) result
+        ≡ spec.given_texts (option_map cut_as argument) }
 {
     match argument {
         Some(argument) => Some(texts_in(alloc, Some(argument))),
@@ -40,30 +38,30 @@ pub(crate) fn given_texts(alloc: Global, argument: Option<Argument>) -> Option<V
 }
 
 /// The first of some strings.
-fn first_text(texts: Vec<Text>) -> Parts
-    ensures { result ≡ spec.first_text (texts_as texts.items) }
+fn first_text(texts: Vec<Parts>) -> Parts
+    ensures { result ≡ spec.first_text texts.items }
 {
     match texts.into_iter().next() {
-        Some(text) => text.string,
+        Some(text) => text,
         None => Parts::none(),
     }
 }
 
 /// The string of an argument.
-pub(crate) fn text_in(argument: Option<Argument>) -> Parts
-    ensures { result ≡ spec.text_in (option_map argument_of argument) }
+pub(crate) fn text_in(argument: Option<CutArgument>) -> Parts
+    ensures { result ≡ spec.text_in (option_map cut_as argument) }
 {
     match argument {
-        Some(Argument::Strings { items, .. }) => first_text(items),
-        Some(Argument::Number { .. }) => Parts::none(),
-        Some(Argument::Tag { .. }) => Parts::none(),
+        Some(CutArgument::Strings(items)) => first_text(items),
+        Some(CutArgument::Number(_)) => Parts::none(),
+        Some(CutArgument::Tag) => Parts::none(),
         None => Parts::none(),
     }
 }
 
 /// The string of an argument that may be left out.
-pub(crate) fn given_text(argument: Option<Argument>) -> Option<Parts>
-    ensures { result ≡ spec.given_text (option_map argument_of argument) }
+pub(crate) fn given_text(argument: Option<CutArgument>) -> Option<Parts>
+    ensures { result ≡ spec.given_text (option_map cut_as argument) }
 {
     match argument {
         Some(argument) => Some(text_in(Some(argument))),
@@ -82,15 +80,15 @@ fn variable_in_parts(parts: Parts) -> Variable
 }
 
 /// The variable that an argument names (RFC 5229, section 4).
-pub(crate) fn variable_in(argument: Option<Argument>) -> Variable
-    ensures { result ≡ spec.variable_in (option_map argument_of argument) }
+pub(crate) fn variable_in(argument: Option<CutArgument>) -> Variable
+    ensures { result ≡ spec.variable_in (option_map cut_as argument) }
 {
     variable_in_parts(text_in(argument))
 }
 
 /// The variable that an argument names that may be left out.
-pub(crate) fn given_variable(argument: Option<Argument>) -> Option<Variable>
-    ensures { result ≡ spec.given_variable (option_map argument_of argument) }
+pub(crate) fn given_variable(argument: Option<CutArgument>) -> Option<Variable>
+    ensures { result ≡ spec.given_variable (option_map cut_as argument) }
 {
     match argument {
         Some(argument) => Some(variable_in(Some(argument))),
@@ -113,23 +111,26 @@ pub fn literal_in_parts(parts: &[Part]) -> Option<&[u8]>
 }
 
 /// The octets of an argument whose string stands for itself.
-pub(crate) fn literal_in(argument: Option<&Argument>) -> &[u8]
-    ensures { result.now ≡ spec.literal_in (option_map (λ a. argument_of a.now) argument.entry) }
+pub(crate) fn literal_in(argument: Option<&CutArgument>) -> &[u8]
+    ensures { result.now ≡ spec.literal_in (option_map (λ a. cut_as a.now) argument.entry) }
 {
     match argument {
-        Some(Argument::Strings { items, .. }) => match items.first() {
-            Some(text) => octets_in(text.string.as_slice()),
+        Some(CutArgument::Strings(items)) => match items.first() {
+            Some(text) => match literal_in_parts(text.as_slice()) {
+                Some(octets) => octets,
+                None => b"",
+            },
             None => b"",
         },
-        Some(Argument::Number { .. }) => b"",
-        Some(Argument::Tag { .. }) => b"",
+        Some(CutArgument::Number(_)) => b"",
+        Some(CutArgument::Tag) => b"",
         None => b"",
     }
 }
 
-/// The octets of parts that are one literal.
+/// The octets of parts that are one literal; others have none.
 fn into_literal(parts: Parts) -> Literal
-    ensures { result ≡ octets_of parts }
+    ensures { result ≡ spec.literal_or_nothing (spec.literal_in_parts parts) }
 {
     match parts.into_one() {
         Some(part) => part.into_literal(),
@@ -138,33 +139,28 @@ fn into_literal(parts: Parts) -> Literal
 }
 
 /// The octets of an argument whose string stands for itself, to be kept.
-pub(crate) fn name_in(argument: Option<Argument>) -> Literal
-    ensures { result ≡ spec.literal_in (option_map argument_of argument) }
+pub(crate) fn name_in(argument: Option<CutArgument>) -> Literal
+    ensures { result ≡ spec.literal_in (option_map cut_as argument) }
 {
     into_literal(text_in(argument))
 }
 
 /// The number that an argument is.
-pub(crate) fn number_in(argument: Option<&Argument>) -> u64
-    ensures { result ≡ spec.number_in (option_map (λ a. argument_of a.now) argument.entry) }
+pub(crate) fn number_in(argument: Option<&CutArgument>) -> u64
+    ensures { result ≡ spec.number_in (option_map (λ a. cut_as a.now) argument.entry) }
 {
     match argument {
-        Some(
-            Argument::Number {
-                value: Some(value),
-                ..
-            },
-        ) => *value,
-        Some(Argument::Number { value: None, .. }) => 0,
-        Some(Argument::Strings { .. }) => 0,
-        Some(Argument::Tag { .. }) => 0,
+        Some(CutArgument::Number(Some(value))) => *value,
+        Some(CutArgument::Number(None)) => 0,
+        Some(CutArgument::Strings(_)) => 0,
+        Some(CutArgument::Tag) => 0,
         None => 0,
     }
 }
 
 /// The number that an argument is that may be left out.
-pub(crate) fn given_number(argument: Option<&Argument>) -> Option<u64>
-    ensures { result ≡ spec.given_number (option_map (λ a. argument_of a.now) argument.entry) }
+pub(crate) fn given_number(argument: Option<&CutArgument>) -> Option<u64>
+    ensures { result ≡ spec.given_number (option_map (λ a. cut_as a.now) argument.entry) }
 {
     match argument {
         Some(argument) => Some(number_in(Some(argument))),
@@ -173,8 +169,8 @@ pub(crate) fn given_number(argument: Option<&Argument>) -> Option<u64>
 }
 
 /// The comparator of a test, which is `i;ascii-casemap` where none is named.
-pub(crate) fn collation_by(argument: Option<&Argument>) -> Collation
-    ensures { result ≡ spec.collation_by (option_map (λ a. argument_of a.now) argument.entry) }
+pub(crate) fn collation_by(argument: Option<&CutArgument>) -> Collation
+    ensures { result ≡ spec.collation_by (option_map (λ a. cut_as a.now) argument.entry) }
 {
     match collation_named(literal_in(argument)) {
         Some(collation) => collation,
@@ -183,8 +179,8 @@ pub(crate) fn collation_by(argument: Option<&Argument>) -> Collation
 }
 
 /// The relation that an argument names, which is that of equality where none does.
-fn relation_by(argument: Option<&Argument>) -> Relation
-    ensures { result ≡ spec.relation_by (option_map (λ a. argument_of a.now) argument.entry) }
+fn relation_by(argument: Option<&CutArgument>) -> Relation
+    ensures { result ≡ spec.relation_by (option_map (λ a. cut_as a.now) argument.entry) }
 {
     match relation_named(literal_in(argument)) {
         Some(relation) => relation,
@@ -193,9 +189,9 @@ fn relation_by(argument: Option<&Argument>) -> Relation
 }
 
 /// The match type that a tag names, with the relation that is given beside, which is `:is` where none does.
-fn match_type_by(tag: Option<Tag>, relation: Option<&Argument>) -> MatchType
+fn match_type_by(tag: Option<Tag>, relation: Option<&CutArgument>) -> MatchType
     ensures { result ≡ spec.match_type_by tag
-        (spec.relation_by (option_map (λ a. argument_of a.now) relation.entry)) }
+        (spec.relation_by (option_map (λ a. cut_as a.now) relation.entry)) }
 {
     match tag {
         Some(Tag::Contains) => MatchType::Contains,
@@ -208,9 +204,9 @@ fn match_type_by(tag: Option<Tag>, relation: Option<&Argument>) -> MatchType
 
 /// The match type of a test, with the relation that is given.
 #[tactic(auto, unfolding(crate::specs::Given::match_type_of))]
-pub(crate) fn match_type_of(tags: Tags, relation: Option<&Argument>) -> MatchType
+pub(crate) fn match_type_of(tags: Tags, relation: Option<&CutArgument>) -> MatchType
     ensures { result ≡ spec.match_type_of (tags_as tags)
-        (spec.relation_by (option_map (λ a. argument_of a.now) relation.entry)) }
+        (spec.relation_by (option_map (λ a. cut_as a.now) relation.entry)) }
 {
     match_type_by(tags.of(TagKind::MatchType), relation)
 }

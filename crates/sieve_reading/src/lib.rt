@@ -5,6 +5,7 @@
 mod by_label;
 mod command_reading;
 mod conditions;
+mod cut_argument;
 mod dates;
 mod given;
 mod label;
@@ -19,6 +20,7 @@ mod vacation;
 
 pub use command_reading::read_command;
 pub use conditions::{first_condition, joined, with_condition};
+pub use cut_argument::CutArgument;
 pub use given::literal_in_parts;
 pub use label::{Label, after_first, first_role};
 pub use reading::{
@@ -29,7 +31,6 @@ pub use script::{Branch, Condition, Statement};
 pub use script_builder::ScriptBuilder;
 pub use script_names::Location;
 pub use shape::{RowLabels, known_labels};
-pub use sieve_syntax::{Argument, Command, CommandName, Test, TestName, Tests, Text};
 pub use sieve_table::{CommandKind, TestKind};
 pub use sieve_variables::{
     LetterCase, Literal, Modifiers, Part, PartRef, Parts, Variable, VariableRef,

@@ -7,7 +7,6 @@ ghost use Rattle.sieve_reading.specs.Reading.{rejection_word};
 use match_text::{Collation, Relation};
 use message_text::AddressPart;
 use script_names::Location;
-use sieve_syntax::Text;
 use sieve_variables::{Literal, Modifiers, Parts, Variable};
 
 /// How a test compares values with keys (RFC 5228, section 2.7.1; RFC 5231, section 4).
@@ -146,7 +145,7 @@ pub enum Ask<N, L, S> {
 }
 
 /// What a test of a checked script asks.
-pub type ReadAsk = Ask<Vec<Text>, Vec<Text>, Parts>;
+pub type ReadAsk = Ask<Vec<Parts>, Vec<Parts>, Parts>;
 
 /// What a test is, apart from the tests in it.
 #[derive(Drop)]
@@ -209,7 +208,7 @@ pub struct Vacation<L, S> {
 }
 
 /// What a `vacation` of a checked script says.
-pub type ReadVacation = Vacation<Vec<Text>, Parts>;
+pub type ReadVacation = Vacation<Vec<Parts>, Parts>;
 
 /// The action by which a message is rejected (RFC 5429, section 2).
 #[derive(Clone, Copy, PartialEq, Eq)]
@@ -300,7 +299,7 @@ pub enum Leaf<L, S, V> {
 }
 
 /// What a command of a checked script does that acts.
-pub type ReadLeaf = Leaf<Vec<Text>, Parts, ReadVacation>;
+pub type ReadLeaf = Leaf<Vec<Parts>, Parts, Box<ReadVacation>>;
 
 /// What a command is, apart from its test and its block.
 #[derive(Drop)]

@@ -1,6 +1,6 @@
-//! The abstract script (RFC 5228, sections 3 to 5): what a checked script's commands and tests are read as, with the branches of each `if`
-//! grouped. Lists in it are kept from the end: the last command, branch or condition stands first, so that what reads a script from its end
-//! goes on by pushing, and what goes over it from its end goes through a list once.
+//! The abstract script (RFC 5228, sections 3 to 5): what a checked script's commands and tests are read as, with the branches
+//! of each `if` grouped. Its lists are kept from the end: the last command, branch or condition stands first. `ScriptBuilder`
+//! and `joined` read in order and turn each list around once, so that the compiler, which begins at the end, takes them as they are.
 use crate::reading::{ReadAsk, ReadLeaf};
 
 /// A condition: what tests ask, joined (RFC 5228, section 5).

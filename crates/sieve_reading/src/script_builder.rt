@@ -52,14 +52,12 @@ fn with_branch(branches: Vec<Branch>, branch: Branch) -> Result<Vec<Branch>, All
 }
 
 impl ScriptBuilder {
-    /// No commands.
-    pub fn new(alloc: Global) -> ScriptBuilder
-        ensures { (chain : Chain) → script_before result chain ≡ chain.rest }
+    /// No commands, with room for so many statements.
+    pub fn with_capacity(alloc: Global, count: usize) -> Result<ScriptBuilder, AllocError>
+        ensures { IfOk result (λ new. (chain : Chain) → script_before new chain ≡ chain.rest) }
     {
-        ScriptBuilder {
-            done: Vec::new(alloc),
-            open: None,
-        }
+        let done = Vec::with_capacity(alloc, count)?;
+        Ok(ScriptBuilder { done, open: None })
     }
 
     /// The statements, where an open `if` has no other branches, but for an `else` with this block,
@@ -107,7 +105,8 @@ impl ScriptBuilder {
             })) }
     {
         let done = self.closed(None)?;
-        let branches = with_branch(Vec::new(alloc), branch)?;
+        // Most have no other branch.
+        let branches = with_branch(Vec::with_capacity(alloc, 1)?, branch)?;
         Ok(ScriptBuilder {
             done,
             open: Some(branches),

@@ -4,11 +4,12 @@ ghost use Rattle.std.specs.Prelude.{◌≡◌, map};
 ghost use Rattle.std.specs.Option.{option_map};
 ghost use Rattle.sieve_reading.specs.Given.{tags_of};
 ghost use Rattle.sieve_reading.specs.TestReading as spec;
-ghost use Rattle.sieve_reading.specs.view.Reading.{ask_as, source_as, test_reading_as, texts_as, transform_as};
+ghost use Rattle.sieve_reading.specs.view.Reading.{ask_as, list_as, source_as, test_reading_as, transform_as};
 ghost use Rattle.sieve_reading.specs.view.Tags.{tags_as};
-ghost use Rattle.sieve_reading.specs.view.Tree.{argument_of};
+ghost use Rattle.sieve_reading.specs.view.CutArgument.{cut_as};
 
 use crate::by_label::{argument_in, into_argument, into_arguments};
+use crate::cut_argument::CutArgument;
 use crate::dates::{current_date_ask, date_ask};
 use crate::given::{
     address_part_of, collation_by, given_texts, match_type_of, number_in, texts_in,
@@ -16,14 +17,14 @@ use crate::given::{
 use crate::label::Label;
 use crate::reading::{Ask, BodyTransform, Comparison, ReadAsk, TestReading, ValueSource};
 use crate::tags::Tags;
-use sieve_syntax::{Argument, Text};
 use sieve_table::{Role, Tag, TagKind, TestKind};
+use sieve_variables::Parts;
 use std::alloc::Global;
 
 /// How a test compares (RFC 5228, section 2.7; RFC 5231, section 4).
-pub(crate) fn comparison_of(tags: Tags, labels: &[Label], args: &[Argument]) -> Comparison
+pub(crate) fn comparison_of(tags: Tags, labels: &[Label], args: &[CutArgument]) -> Comparison
     requires { tags_as tags ≡ tags_of labels.now }
-    ensures { result ≡ spec.comparison_by labels.now (map argument_of args.now) }
+    ensures { result ≡ spec.comparison_by labels.now (map cut_as args.now) }
 {
     Comparison {
         match_type: match_type_of(tags, argument_in(labels, Role::Relation, args)),
@@ -32,8 +33,8 @@ pub(crate) fn comparison_of(tags: Tags, labels: &[Label], args: &[Argument]) -> 
 }
 
 /// What a `header` test asks.
-fn header_ask(alloc: Global, labels: &[Label], args: Vec<Argument>) -> ReadAsk
-    ensures { ask_as result ≡ (let given = map argument_of args.items
+fn header_ask(alloc: Global, labels: &[Label], args: Vec<CutArgument>) -> ReadAsk
+    ensures { ask_as result ≡ (let given = map cut_as args.items
         in spec.compares_by (spec.header_source labels.now given) labels.now given) }
 {
     let comparison = comparison_of(Tags::among(labels), labels, &args);
@@ -49,8 +50,8 @@ fn header_ask(alloc: Global, labels: &[Label], args: Vec<Argument>) -> ReadAsk
 }
 
 /// What an `address` test asks.
-fn address_ask(alloc: Global, labels: &[Label], args: Vec<Argument>) -> ReadAsk
-    ensures { ask_as result ≡ (let given = map argument_of args.items
+fn address_ask(alloc: Global, labels: &[Label], args: Vec<CutArgument>) -> ReadAsk
+    ensures { ask_as result ≡ (let given = map cut_as args.items
         in spec.compares_by (spec.address_source labels.now given) labels.now given) }
 {
     let tags = Tags::among(labels);
@@ -67,8 +68,8 @@ fn address_ask(alloc: Global, labels: &[Label], args: Vec<Argument>) -> ReadAsk
 }
 
 /// What an `envelope` test asks.
-fn envelope_ask(alloc: Global, labels: &[Label], args: Vec<Argument>) -> ReadAsk
-    ensures { ask_as result ≡ (let given = map argument_of args.items
+fn envelope_ask(alloc: Global, labels: &[Label], args: Vec<CutArgument>) -> ReadAsk
+    ensures { ask_as result ≡ (let given = map cut_as args.items
         in spec.compares_by (spec.envelope_source labels.now given) labels.now given) }
 {
     let tags = Tags::among(labels);
@@ -85,8 +86,8 @@ fn envelope_ask(alloc: Global, labels: &[Label], args: Vec<Argument>) -> ReadAsk
 }
 
 /// What a `string` test asks.
-fn string_ask(alloc: Global, labels: &[Label], args: Vec<Argument>) -> ReadAsk
-    ensures { ask_as result ≡ (let given = map argument_of args.items
+fn string_ask(alloc: Global, labels: &[Label], args: Vec<CutArgument>) -> ReadAsk
+    ensures { ask_as result ≡ (let given = map cut_as args.items
         in spec.compares_by (spec.string_source labels.now given) labels.now given) }
 {
     let comparison = comparison_of(Tags::among(labels), labels, &args);
@@ -101,8 +102,8 @@ fn string_ask(alloc: Global, labels: &[Label], args: Vec<Argument>) -> ReadAsk
 }
 
 /// What a `hasflag` test asks.
-fn flag_ask(alloc: Global, labels: &[Label], args: Vec<Argument>) -> ReadAsk
-    ensures { ask_as result ≡ (let given = map argument_of args.items
+fn flag_ask(alloc: Global, labels: &[Label], args: Vec<CutArgument>) -> ReadAsk
+    ensures { ask_as result ≡ (let given = map cut_as args.items
         in spec.compares_by (spec.flag_source labels.now given) labels.now given) }
 {
     let comparison = comparison_of(Tags::among(labels), labels, &args);
@@ -117,9 +118,9 @@ fn flag_ask(alloc: Global, labels: &[Label], args: Vec<Argument>) -> ReadAsk
 }
 
 /// What is taken of a body, by a tag and the entries that `:content` takes.
-fn transform_by(tag: Option<Tag>, named: Option<Vec<Text>>) -> BodyTransform<Vec<Text>>
+fn transform_by(tag: Option<Tag>, named: Option<Vec<Parts>>) -> BodyTransform<Vec<Parts>>
     ensures { transform_as result
-        ≡ spec.transform_by tag (option_map (λ texts. texts_as texts.items) named) }
+        ≡ spec.transform_by tag (option_map list_as named) }
 {
     match (tag, named) {
         (Some(Tag::Raw), _) => BodyTransform::Raw,
@@ -130,16 +131,16 @@ fn transform_by(tag: Option<Tag>, named: Option<Vec<Text>>) -> BodyTransform<Vec
 
 /// What is taken of a body.
 #[tactic(auto, unfolding(crate::specs::TestReading::transform_of))]
-fn transform_of(tags: Tags, named: Option<Vec<Text>>) -> BodyTransform<Vec<Text>>
+fn transform_of(tags: Tags, named: Option<Vec<Parts>>) -> BodyTransform<Vec<Parts>>
     ensures { transform_as result
-        ≡ spec.transform_of (tags_as tags) (option_map (λ texts. texts_as texts.items) named) }
+        ≡ spec.transform_of (tags_as tags) (option_map list_as named) }
 {
     transform_by(tags.of(TagKind::BodyTransform), named)
 }
 
 /// What a `body` test asks.
-fn body_ask(alloc: Global, labels: &[Label], args: Vec<Argument>) -> ReadAsk
-    ensures { ask_as result ≡ (let given = map argument_of args.items
+fn body_ask(alloc: Global, labels: &[Label], args: Vec<CutArgument>) -> ReadAsk
+    ensures { ask_as result ≡ (let given = map cut_as args.items
         in spec.compares_by (spec.body_source labels.now given) labels.now given) }
 {
     let tags = Tags::among(labels);
@@ -155,9 +156,9 @@ fn body_ask(alloc: Global, labels: &[Label], args: Vec<Argument>) -> ReadAsk
 }
 
 /// What an `exists` test asks.
-fn exists_ask(alloc: Global, labels: &[Label], args: Vec<Argument>) -> ReadAsk
+fn exists_ask(alloc: Global, labels: &[Label], args: Vec<CutArgument>) -> ReadAsk
     ensures { ask_as result
-        ≡ spec.exists_by labels.now (map argument_of args.items) }
+        ≡ spec.exists_by labels.now (map cut_as args.items) }
 {
     let names = texts_in(alloc, into_argument(labels, Role::FieldNames, args));
     Ask::Exists { names }
@@ -182,18 +183,18 @@ fn bound_ask(tags: Tags, limit: u64) -> ReadAsk
 }
 
 /// What a `size` test asks.
-fn size_ask(labels: &[Label], args: Vec<Argument>) -> ReadAsk
+fn size_ask(labels: &[Label], args: Vec<CutArgument>) -> ReadAsk
     ensures { ask_as result
-        ≡ spec.size_by labels.now (map argument_of args.items) }
+        ≡ spec.size_by labels.now (map cut_as args.items) }
 {
     let limit = number_in(argument_in(labels, Role::Limit, &args));
     bound_ask(Tags::among(labels), limit)
 }
 
 /// What a `mailboxexists` test asks.
-fn mailboxes_ask(alloc: Global, labels: &[Label], args: Vec<Argument>) -> ReadAsk
+fn mailboxes_ask(alloc: Global, labels: &[Label], args: Vec<CutArgument>) -> ReadAsk
     ensures { ask_as result
-        ≡ spec.mailboxes_by labels.now (map argument_of args.items) }
+        ≡ spec.mailboxes_by labels.now (map cut_as args.items) }
 {
     let names = texts_in(alloc, into_argument(labels, Role::Mailbox, args));
     Ask::MailboxExists { names }
@@ -205,10 +206,10 @@ pub fn read_test(
     alloc: Global,
     kind: TestKind,
     labels: &[Label],
-    args: Vec<Argument>,
+    args: Vec<CutArgument>,
 ) -> TestReading
     ensures { test_reading_as result
-        ≡ spec.test_reading_by kind labels.now (map argument_of args.items) }
+        ≡ spec.test_reading_by kind labels.now (map cut_as args.items) }
 {
     let ask = match kind {
         TestKind::Header => header_ask(alloc, labels, args),

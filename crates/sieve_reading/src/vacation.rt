@@ -1,42 +1,42 @@
 //! How a `vacation` is read (RFC 5230, section 4).
-ghost use Rattle.std.specs.Prelude.{◌≡◌, map};
+ghost use Rattle.std.specs.Prelude.{◌≡◌, IfOk, map};
 ghost use Rattle.std.specs.Option.{option_map};
 ghost use Rattle.sieve_reading.specs.CommandReading.{vacation_by};
 ghost use Rattle.sieve_reading.specs.Given.{in_role};
 ghost use Rattle.sieve_reading.specs.view.Reading.{leaf_as};
-ghost use Rattle.sieve_reading.specs.view.Tree.{argument_of};
+ghost use Rattle.sieve_reading.specs.view.CutArgument.{cut_as};
 ghost use Rattle.sieve_table.specs.declared.row.Role.TheVariants as role;
 
 use crate::by_label::{argument_in, first_or};
+use crate::cut_argument::CutArgument;
 use crate::given::{given_number, given_text, given_texts, text_in};
 use crate::label::{Label, after_first, first_role};
 use crate::reading::{Leaf, ReadLeaf, Vacation};
 use crate::tags::Tags;
-use sieve_syntax::Argument;
 use sieve_table::{Role, TagKind, has_role};
-use std::alloc::Global;
+use std::alloc::{AllocError, Global};
 
 /// The arguments of a `vacation` that have strings, each the first in its role.
 struct Strings {
-    reason: Option<Argument>,
-    subject: Option<Argument>,
-    from: Option<Argument>,
-    addresses: Option<Argument>,
-    handle: Option<Argument>,
+    reason: Option<CutArgument>,
+    subject: Option<CutArgument>,
+    from: Option<CutArgument>,
+    addresses: Option<CutArgument>,
+    handle: Option<CutArgument>,
 }
 
 /// The arguments that have strings, to be kept.
-fn into_strings(labels: &[Label], args: Vec<Argument>) -> Strings
-    ensures reason { option_map argument_of result.reason
-        ≡ in_role role.Text labels.now (map argument_of args.items) }
-    ensures subject { option_map argument_of result.subject
-        ≡ in_role role.Subject labels.now (map argument_of args.items) }
-    ensures from { option_map argument_of result.from
-        ≡ in_role role.Sender labels.now (map argument_of args.items) }
-    ensures addresses { option_map argument_of result.addresses
-        ≡ in_role role.OwnAddresses labels.now (map argument_of args.items) }
-    ensures handle { option_map argument_of result.handle
-        ≡ in_role role.Handle labels.now (map argument_of args.items) }
+fn into_strings(labels: &[Label], args: Vec<CutArgument>) -> Strings
+    ensures reason { option_map cut_as result.reason
+        ≡ in_role role.Text labels.now (map cut_as args.items) }
+    ensures subject { option_map cut_as result.subject
+        ≡ in_role role.Subject labels.now (map cut_as args.items) }
+    ensures from { option_map cut_as result.from
+        ≡ in_role role.Sender labels.now (map cut_as args.items) }
+    ensures addresses { option_map cut_as result.addresses
+        ≡ in_role role.OwnAddresses labels.now (map cut_as args.items) }
+    ensures handle { option_map cut_as result.handle
+        ≡ in_role role.Handle labels.now (map cut_as args.items) }
 {
     let mut labels_left = labels;
     let mut reason = None;
@@ -69,9 +69,13 @@ fn into_strings(labels: &[Label], args: Vec<Argument>) -> Strings
 }
 
 /// What a `vacation` does.
-pub(crate) fn vacation_leaf(alloc: Global, labels: &[Label], args: Vec<Argument>) -> ReadLeaf
-    ensures { leaf_as result
-        ≡ vacation_by labels.now (map argument_of args.items) }
+pub(crate) fn vacation_leaf(
+    alloc: Global,
+    labels: &[Label],
+    args: Vec<CutArgument>,
+) -> Result<ReadLeaf, AllocError>
+    ensures { IfOk result
+        (λ leaf. leaf_as leaf ≡ vacation_by labels.now (map cut_as args.items)) }
 {
     let mime = Tags::among(labels).has(TagKind::Mime);
     let days = given_number(argument_in(labels, Role::Days, &args));
@@ -82,15 +86,15 @@ pub(crate) fn vacation_leaf(alloc: Global, labels: &[Label], args: Vec<Argument>
         addresses,
         handle,
     } = into_strings(labels, args);
-    Leaf::Vacation {
-        vacation: Vacation {
-            reason: text_in(reason),
-            days,
-            subject: given_text(subject),
-            from: given_text(from),
-            addresses: given_texts(alloc, addresses),
-            mime,
-            handle: given_text(handle),
-        },
-    }
+    let vacation = Vacation {
+        reason: text_in(reason),
+        days,
+        subject: given_text(subject),
+        from: given_text(from),
+        addresses: given_texts(alloc, addresses),
+        mime,
+        handle: given_text(handle),
+    };
+    let vacation = Box::new(alloc, vacation)?;
+    Ok(Leaf::Vacation { vacation })
 }

@@ -1,10 +1,8 @@
 pub mod Cases
 pub mod Closing
-pub mod EachString
 pub mod Finding
 pub mod LineFits
 pub mod Lines
-pub mod Literals
 pub mod Longest
 pub mod Meaning
 pub mod Opening

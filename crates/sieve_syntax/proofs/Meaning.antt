@@ -1,7 +1,6 @@
 -- The laws of `syntax_of`.
 use Rattle.std.proofs.Common.{◌≡◌, ℕ, ◌⊎◌, inl, inr, List, Result, Ok, Err, ap, ◌∙◌, subst}
 use Rattle.sieve_syntax.specs.Tree.{Node}
-use Rattle.sieve_syntax.specs.view.Literals.{View}
 use Rattle.sieve_syntax.specs.view.Parsed.{Parses, ParsesAs}
 use Rattle.sieve_syntax.specs.declared.script.ParsedScript as scripts
 use Rattle.sieve_syntax.specs.declared.parser.SyntaxFault.{SyntaxFault}
@@ -54,10 +53,10 @@ one_tree text a b h k =
 
 -- WHAT THE PARSER RETURNED
 
-pub same_fault : (view : View) (fault : SyntaxFault) (meaning : Result (List Node) ℕ) → ParsesAs view (Err fault) meaning → Parses (Err fault) meaning
-same_fault view (Syntax line) meaning h = h
-same_fault view TooLarge meaning h = tt
-same_fault view NoMemory meaning h = tt
+pub same_fault : (fault : SyntaxFault) (meaning : Result (List Node) ℕ) → ParsesAs (Err fault) meaning → Parses (Err fault) meaning
+same_fault (Syntax line) meaning h = h
+same_fault TooLarge meaning h = tt
+same_fault NoMemory meaning h = tt
 
 pub parses_fault : (r : Result scripts.ParsedScript SyntaxFault) (text : List ℕ) → Parses r (syntax_of text) → (line : ℕ) → r ≡ Err (Syntax line) → IsFaultLine text line × ((tree : List Node) → WritesText tree text → ⊥)
 parses_fault (Ok script) text h line e = cc

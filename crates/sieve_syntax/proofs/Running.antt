@@ -1,6 +1,5 @@
 -- The machine over the tokens of a text, one after another.
 use Rattle.std.proofs.Common.{◌≡◌, ℕ, List, [], ◌∷◌, length, Option, Some, None, Result, Ok, Err, sym, ap, ◌∙◌}
-use Rattle.sieve_syntax.specs.view.Literals.{View}
 use Rattle.sieve_syntax.specs.view.Cursor.{IsNext}
 use Rattle.sieve_syntax.specs.Machine.{ParserState, step, start, whole, read}
 use Rattle.sieve_syntax.specs.view.Parsed.{Finishes, Goes, ParsesAs}
@@ -45,29 +44,29 @@ pub next_means : (text : List ℕ) (s next : ParserState) (place : ℕ) (token :
 next_means text s next place token after is e so more h = sym (read-next text s next token more e) ∙ so (token ∷ more) (is.goes more h)
 
 -- the line of a token that the state doesn't take is that of the text's fault
-pub stop_means : (view : View) (text : List ℕ) (s : ParserState) (place : ℕ) (token : Token) (after : Cursor) (fault : SyntaxFault) (o : outers.Outer) → IsNext text place token after → Goes view o (Err fault) (step test_depth block_room s (symbol_of text token)) token.line → Means text s place → ParsesAs view (Err fault) (syntax_of text)
-stop_means view text s place token after (Syntax line) o is h so =
+pub stop_means : (text : List ℕ) (s : ParserState) (place : ℕ) (token : Token) (after : Cursor) (fault : SyntaxFault) (o : outers.Outer) → IsNext text place token after → Goes o (Err fault) (step test_depth block_room s (symbol_of text token)) token.line → Means text s place → ParsesAs (Err fault) (syntax_of text)
+stop_means text s place token after (Syntax line) o is h so =
     let more = some_tokens text after.place is.is.within in
     sym (so (token ∷ more.0) (is.goes more.0 more.1)) ∙ read-stop text s token more.0 h.0 ∙ ap (λ n. Err n) (sym h.1)
-stop_means view text s place token after TooLarge o is h so = absurd h
-stop_means view text s place token after NoMemory o is h so = tt
+stop_means text s place token after TooLarge o is h so = absurd h
+stop_means text s place token after NoMemory o is h so = tt
 
 -- a token is never refused as a text that is too large
-pub goes_small : (view : View) (o : outers.Outer) (fault : SyntaxFault) (next : Option ParserState) (line : ℕ) → Goes view o (Err fault) next line → fault ≡ TooLarge → ⊥
-goes_small view o (Syntax at) next line h e = cc
-goes_small view o TooLarge next line h e = absurd h
-goes_small view o NoMemory next line h e = cc
+pub goes_small : (o : outers.Outer) (fault : SyntaxFault) (next : Option ParserState) (line : ℕ) → Goes o (Err fault) next line → fault ≡ TooLarge → ⊥
+goes_small o (Syntax at) next line h e = cc
+goes_small o TooLarge next line h e = absurd h
+goes_small o NoMemory next line h e = cc
 
 -- at the end of the text, what the state gives is what the text means
-pub end_means : (view : View) (text : List ℕ) (s : ParserState) (place : ℕ) (r : Result (Vec command_views.Command Global) SyntaxFault) → SpellsFrom text place [] → Means text s place → Finishes view r (whole s) (line_at text (length text)) → ParsesAs view r (syntax_of text)
-end_means view text s place (Ok script) h so e = sym (so [] h) ∙ read-end text s _ e
-end_means view text s place (Err (Syntax line)) h so e = sym (so [] h) ∙ read-end text s None e.0 ∙ ap (λ n. Err n) (sym e.1)
-end_means view text s place (Err TooLarge) h so e = absurd e
-end_means view text s place (Err NoMemory) h so e = absurd e
+pub end_means : (text : List ℕ) (s : ParserState) (place : ℕ) (r : Result (Vec command_views.Command Global) SyntaxFault) → SpellsFrom text place [] → Means text s place → Finishes r (whole s) (line_at text (length text)) → ParsesAs r (syntax_of text)
+end_means text s place (Ok script) h so e = sym (so [] h) ∙ read-end text s _ e
+end_means text s place (Err (Syntax line)) h so e = sym (so [] h) ∙ read-end text s None e.0 ∙ ap (λ n. Err n) (sym e.1)
+end_means text s place (Err TooLarge) h so e = absurd e
+end_means text s place (Err NoMemory) h so e = absurd e
 
 -- the end of a text is never refused as a text that is too large
-pub finishes_small : (view : View) (r : Result (Vec command_views.Command Global) SyntaxFault) (tree : Option (List Node)) (line : ℕ) → Finishes view r tree line → r ≡ Err TooLarge → ⊥
-finishes_small view (Ok script) tree line h e = cc
-finishes_small view (Err (Syntax at)) tree line h e = cc
-finishes_small view (Err TooLarge) tree line h e = absurd h
-finishes_small view (Err NoMemory) tree line h e = absurd h
+pub finishes_small : (r : Result (Vec command_views.Command Global) SyntaxFault) (tree : Option (List Node)) (line : ℕ) → Finishes r tree line → r ≡ Err TooLarge → ⊥
+finishes_small (Ok script) tree line h e = cc
+finishes_small (Err (Syntax at)) tree line h e = cc
+finishes_small (Err TooLarge) tree line h e = absurd h
+finishes_small (Err NoMemory) tree line h e = absurd h

@@ -1,4 +1,3 @@
-pub mod EachString
 pub mod Grammar
 pub mod Line
 pub mod Machine
@@ -8,7 +7,6 @@ pub mod Spelling
 pub mod Syntax
 pub mod Token
 pub mod Tree
-pub mod TreeOf
 pub mod Value
 pub mod White
 pub mod Symbol

@@ -24,4 +24,4 @@ pub use parser::{SyntaxFault, parse};
 pub use script::ParsedScript;
 pub use test_name::TestName;
 pub use token::{Token, TokenKind, tokens};
-pub use tree::{Argument, Command, Test, Tests, Text, octets_in};
+pub use tree::{Argument, Command, Test, Tests, Text};

@@ -4,15 +4,12 @@ ghost use Rattle.std.specs.Prelude.{◌≡◌, ◌≤◌, ◌<◌, ◌↔◌, �
 ghost use Rattle.sieve_limits.specs.Limits.{block_room, test_depth, text_limit};
 ghost use Rattle.sieve_syntax.specs.Machine;
 ghost use Rattle.sieve_syntax.specs.Machine.{whole};
-ghost use Rattle.sieve_syntax.specs.view.Literals.{IsOneLiteral, SeesLiterals, View};
 ghost use Rattle.sieve_syntax.specs.view.Parsed.{Finishes, Goes, Parses, ParsesAs};
 ghost use Rattle.sieve_syntax.specs.view.Reader.{state_value};
-ghost use Rattle.sieve_syntax.specs.view.TreeOf.{as_parts};
-ghost use Rattle.sieve_syntax.specs.EachString.{EachString};
 ghost use Rattle.sieve_syntax.specs.Syntax.{IsFaultLine, WritesText, syntax_of};
 ghost use Rattle.sieve_syntax.specs.Token.{IsInside, line_at};
 ghost use Rattle.sieve_syntax.specs.Tree.{Node};
-ghost use Rattle.sieve_syntax.specs.view.Script.{nodes_by, nodes_of};
+ghost use Rattle.sieve_syntax.specs.view.Script.{nodes_of};
 ghost use Rattle.sieve_syntax.specs.Symbol.{symbol_of};
 ghost use Rattle.sieve_syntax.specs.declared.parser.SyntaxFault.TheVariants.{NoMemory};
 
@@ -65,8 +62,6 @@ pub fn parse(alloc: Global, text: &[u8]) -> Result<ParsedScript, SyntaxFault>
         → IsFaultLine text.now line × ((tree : List Node) → WritesText tree text.now → ⊥) }
     // The tree or the line is what `syntax_of` says.
     ensures exact { Parses result (syntax_of text.now) }
-    // Each string of the tree is one literal.
-    ensures literal { IfOk result (λ script. EachString IsOneLiteral (nodes_by as_parts script)) }
 {
     if text.len() > MAX_TEXT {
         return Err(SyntaxFault::TooLarge);
@@ -81,7 +76,7 @@ pub fn parse(alloc: Global, text: &[u8]) -> Result<ParsedScript, SyntaxFault>
 fn read_commands(alloc: Global, text: &[u8]) -> Result<Vec<Command>, SyntaxFault>
     requires { length text.now ≤ text_limit }
     ensures small { IsErrOf result SyntaxFault.TooLarge → ⊥ }
-    ensures exact { (view : View) → SeesLiterals view → ParsesAs view result (syntax_of text.now) }
+    ensures exact { ParsesAs result (syntax_of text.now) }
 {
     let mut outer = Outer {
         blocks: Vec::new(alloc),
@@ -113,9 +108,8 @@ fn read_token(
 ) -> Result<ParserState, SyntaxFault>
     requires line { token.line < 4294967296 }
     requires inside { IsInside text.now token }
-    ensures { (view : View) → SeesLiterals view
-        → Goes view outer.new result (Machine.step test_depth block_room
-        (state_value view outer.old state) (symbol_of text.now token)) token.line }
+    ensures { Goes outer.new result (Machine.step test_depth block_room
+        (state_value outer.old state) (symbol_of text.now token)) token.line }
 {
     let symbol = read_symbol(alloc, text, token)?;
     match step(alloc, outer, state, symbol) {
@@ -129,7 +123,7 @@ fn read_token(
 #[tactic(auto, unfolding(crate::specs::Machine::whole))]
 fn finish(text: &[u8], outer: Outer, state: ParserState) -> Result<Vec<Command>, SyntaxFault>
     requires { length text.now ≤ text_limit }
-    ensures { (view : View) → Finishes view result (whole (state_value view outer state))
+    ensures { Finishes result (whole (state_value outer state))
         (line_at text.now (length text.now)) }
 {
     if let ParserState::Between = state {

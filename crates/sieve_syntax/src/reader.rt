@@ -2,9 +2,8 @@
 
 ghost use Rattle.std.specs.Prelude.{◌≡◌, IfOk};
 ghost use Rattle.sieve_syntax.specs.Machine.{node_with, test_with};
-ghost use Rattle.sieve_syntax.specs.view.Literals.{View};
 ghost use Rattle.sieve_syntax.specs.view.Reader.{head_value};
-ghost use Rattle.sieve_syntax.specs.view.TreeOf.{block_of, node_of, test_of, tests_of};
+ghost use Rattle.sieve_syntax.specs.view.Tree.{block_of, node_of, test_of, tests_of};
 
 use crate::command_name::CommandName;
 use crate::test_name::TestName;
@@ -70,8 +69,8 @@ pub(crate) fn command_with(
     tests: Tests,
     block: Option<Vec<Command>>,
 ) -> Result<Command, AllocError>
-    ensures { IfOk result (λ command. (view : View) → node_of view command
-        ≡ node_with (head_value view head) (tests_of view tests) (block_of view block)) }
+    ensures { IfOk result (λ command. node_of command
+        ≡ node_with (head_value head) (tests_of tests) (block_of block)) }
 {
     Ok(Command {
         name: CommandName::new(alloc, head.name)?,
@@ -84,8 +83,7 @@ pub(crate) fn command_with(
 
 /// The test with this head and these tests.
 pub(crate) fn finished_test(alloc: Global, head: Head, tests: Tests) -> Result<Test, AllocError>
-    ensures { IfOk result (λ test. (view : View)
-        → test_of view test ≡ test_with (head_value view head) (tests_of view tests)) }
+    ensures { IfOk result (λ test. test_of test ≡ test_with (head_value head) (tests_of tests)) }
 {
     Ok(Test {
         name: TestName::new(alloc, head.name)?,

@@ -4,9 +4,8 @@ ghost use Rattle.std.specs.Prelude.{◌≡◌, ◌∷◌, ◌++◌, [], if◌the
 ghost use Rattle.sieve_limits.specs.Limits.{block_room, test_depth};
 ghost use Rattle.sieve_syntax.specs.Machine;
 ghost use Rattle.sieve_syntax.specs.Machine.{after_command, after_listed, bare_head, close, close_block, for_list, for_one, step, with_argument};
-ghost use Rattle.sieve_syntax.specs.view.Literals.{SeesLiterals, View};
 ghost use Rattle.sieve_syntax.specs.view.Reader.{Advances, head_value, levels_value, outer_value, state_value, symbol_as};
-ghost use Rattle.sieve_syntax.specs.view.TreeOf.{argument_of, test_of, tests_of, text_of};
+ghost use Rattle.sieve_syntax.specs.view.Tree.{argument_of, test_of, tests_of, text_of};
 ghost use Rattle.sieve_syntax.specs.declared.reader.Outer.{Outer};
 ghost use Rattle.sieve_syntax.specs.declared.step.Stop.TheVariants.{NoMemory};
 
@@ -45,8 +44,8 @@ impl From<AllocError> for Stop {
 /// The state after a symbol that stands between commands.
 #[tactic(auto, unfolding(crate::specs::Machine::step))]
 fn between(alloc: Global, outer: &mut Outer, symbol: Symbol) -> Result<ParserState, Stop>
-    ensures { (view : View) → Advances view outer.new result (step test_depth block_room
-        (Machine.between (outer_value view outer.old)) (symbol_as symbol)) }
+    ensures { Advances outer.new result (step test_depth block_room
+        (Machine.between (outer_value outer.old)) (symbol_as symbol)) }
 {
     match symbol {
         Symbol::Identifier { name, line } => {
@@ -87,8 +86,8 @@ fn add_command(done: &mut Vec<Command>, command: Command) -> Result<(), Stop>
 /// The end of the innermost block.
 #[tactic(auto, unfolding(crate::specs::Machine::close_block))]
 fn close_block(alloc: Global, outer: &mut Outer) -> Result<ParserState, Stop>
-    ensures { (view : View) → Advances view outer.new result
-        (close_block (outer_value view outer.old).blocks (outer_value view outer.old).done) }
+    ensures { Advances outer.new result
+        (close_block (outer_value outer.old).blocks (outer_value outer.old).done) }
 {
     match outer.blocks.pop() {
         None => Err(Stop::Fault),
@@ -107,9 +106,9 @@ const FEW_ARGUMENTS: usize = 4;
 
 /// After one more argument of a head.
 fn after_argument(head: Head, argument: Argument) -> Result<ParserState, Stop>
-    ensures { (view : View) (outer : Outer) → Advances view outer result
-        (Some (Machine.in_arguments (outer_value view outer) (levels_value view outer.levels.items)
-        (with_argument (head_value view head) (argument_of view argument)))) }
+    ensures { (outer : Outer) → Advances outer result
+        (Some (Machine.in_arguments (outer_value outer) (levels_value outer.levels.items)
+        (with_argument (head_value head) (argument_of argument)))) }
 {
     let mut head = head;
     if head.args.len() < FEW_ARGUMENTS {
@@ -127,14 +126,17 @@ fn in_arguments(
     head: Head,
     symbol: Symbol,
 ) -> Result<ParserState, Stop>
-    ensures { (view : View) → SeesLiterals view → Advances view outer.new result
-        (step test_depth block_room (Machine.in_arguments (outer_value view outer.old)
-        (levels_value view outer.old.levels.items) (head_value view head)) (symbol_as symbol)) }
+    ensures { Advances outer.new result
+        (step test_depth block_room (Machine.in_arguments (outer_value outer.old)
+        (levels_value outer.old.levels.items) (head_value head)) (symbol_as symbol)) }
 {
     match symbol {
         Symbol::String { octets, line } => {
             let mut items = Vec::with_capacity(alloc, 1)?;
-            items.push(Text::written(alloc, octets, line)?)?;
+            items.push(Text {
+                string: octets,
+                line,
+            })?;
             let argument = Argument::Strings {
                 items,
                 bracketed: false,
@@ -164,10 +166,10 @@ fn open_test(
     name: SmallOctets,
     line: u32,
 ) -> Result<ParserState, Stop>
-    ensures { (view : View) → Advances view outer.new result
-        (if nat_lt (length (levels_value view outer.old.levels.items)) test_depth
-        then Some (Machine.in_arguments (outer_value view outer.old) (for_one (head_value view head)
-        ∷ levels_value view outer.old.levels.items) (bare_head name.items line)) else None) }
+    ensures { Advances outer.new result
+        (if nat_lt (length (levels_value outer.old.levels.items)) test_depth
+        then Some (Machine.in_arguments (outer_value outer.old) (for_one (head_value head)
+        ∷ levels_value outer.old.levels.items) (bare_head name.items line)) else None) }
 {
     if outer.levels.len() >= MAX_TEST_DEPTH {
         return Err(Stop::Fault);
@@ -178,10 +180,10 @@ fn open_test(
 
 /// Into a list of tests, where there is depth for one.
 fn open_list(alloc: Global, outer: &mut Outer, head: Head) -> Result<ParserState, Stop>
-    ensures { (view : View) → Advances view outer.new result
-        (if nat_lt (length (levels_value view outer.old.levels.items)) test_depth
-        then Some (Machine.before_test (outer_value view outer.old) (for_list
-        (head_value view head) [] ∷ levels_value view outer.old.levels.items)) else None) }
+    ensures { Advances outer.new result
+        (if nat_lt (length (levels_value outer.old.levels.items)) test_depth
+        then Some (Machine.before_test (outer_value outer.old) (for_list
+        (head_value head) [] ∷ levels_value outer.old.levels.items)) else None) }
 {
     if outer.levels.len() >= MAX_TEST_DEPTH {
         return Err(Stop::Fault);
@@ -198,15 +200,18 @@ fn before_string(
     items: Vec<Text>,
     symbol: Symbol,
 ) -> Result<ParserState, Stop>
-    ensures { (view : View) → SeesLiterals view → (outer : Outer)
-        → Advances view outer result (step test_depth block_room
-        (Machine.before_string (outer_value view outer) (levels_value view outer.levels.items)
-        (head_value view head) (map (text_of view) items.items)) (symbol_as symbol)) }
+    ensures { (outer : Outer)
+        → Advances outer result (step test_depth block_room
+        (Machine.before_string (outer_value outer) (levels_value outer.levels.items)
+        (head_value head) (map text_of items.items)) (symbol_as symbol)) }
 {
     match symbol {
         Symbol::String { octets, line } => {
             let mut items = items;
-            items.push(Text::written(alloc, octets, line)?)?;
+            items.push(Text {
+                string: octets,
+                line,
+            })?;
             Ok(ParserState::AfterString(head, items))
         }
         _ => Err(Stop::Fault),
@@ -216,9 +221,9 @@ fn before_string(
 /// In a list of strings, after a string: a comma or the end of the list.
 #[tactic(auto, unfolding(crate::specs::Machine::step))]
 fn after_string(head: Head, items: Vec<Text>, symbol: Symbol) -> Result<ParserState, Stop>
-    ensures { (view : View) (outer : Outer) → Advances view outer result (step test_depth block_room
-        (Machine.after_string (outer_value view outer) (levels_value view outer.levels.items)
-        (head_value view head) (map (text_of view) items.items)) (symbol_as symbol)) }
+    ensures { (outer : Outer) → Advances outer result (step test_depth block_room
+        (Machine.after_string (outer_value outer) (levels_value outer.levels.items)
+        (head_value head) (map text_of items.items)) (symbol_as symbol)) }
 {
     match symbol {
         Symbol::Comma => Ok(ParserState::BeforeString(head, items)),
@@ -236,9 +241,9 @@ fn after_string(head: Head, items: Vec<Text>, symbol: Symbol) -> Result<ParserSt
 /// In a list of tests, where a test has to come.
 #[tactic(auto, unfolding(crate::specs::Machine::step))]
 fn before_test(alloc: Global, symbol: Symbol) -> Result<ParserState, Stop>
-    ensures { (view : View) (outer : Outer)
-        → Advances view outer result (step test_depth block_room (Machine.before_test
-        (outer_value view outer) (levels_value view outer.levels.items)) (symbol_as symbol)) }
+    ensures { (outer : Outer)
+        → Advances outer result (step test_depth block_room (Machine.before_test
+        (outer_value outer) (levels_value outer.levels.items)) (symbol_as symbol)) }
 {
     match symbol {
         Symbol::Identifier { name, line } => Ok(ParserState::Arguments(make_head(
@@ -257,9 +262,9 @@ fn close(
     tests: Tests,
     symbol: Symbol,
 ) -> Result<ParserState, Stop>
-    ensures { (view : View) → Advances view outer.new result
-        (close block_room (outer_value view outer.old) (levels_value view outer.old.levels.items)
-        (head_value view head) (tests_of view tests) (symbol_as symbol)) }
+    ensures { Advances outer.new result
+        (close block_room (outer_value outer.old) (levels_value outer.old.levels.items)
+        (head_value head) (tests_of tests) (symbol_as symbol)) }
 {
     match outer.levels.pop() {
         None => close_command(alloc, outer, head, tests, symbol),
@@ -286,9 +291,9 @@ fn close_in_list(
     before: Vec<Test>,
     symbol: Symbol,
 ) -> Result<ParserState, Stop>
-    ensures { (view : View) → Advances view outer.new result
-        (after_listed (outer_value view outer.old) (levels_value view outer.old.levels.items)
-        (head_value view owner) (map (test_of view) before.items) (symbol_as symbol)) }
+    ensures { Advances outer.new result
+        (after_listed (outer_value outer.old) (levels_value outer.old.levels.items)
+        (head_value owner) (map test_of before.items) (symbol_as symbol)) }
 {
     match symbol {
         Symbol::Comma => {
@@ -312,9 +317,8 @@ fn close_command(
     tests: Tests,
     symbol: Symbol,
 ) -> Result<ParserState, Stop>
-    ensures { (view : View)
-        → Advances view outer.new result (after_command block_room (outer_value view outer.old)
-        (head_value view head) (tests_of view tests) (symbol_as symbol)) }
+    ensures { Advances outer.new result (after_command block_room (outer_value outer.old)
+        (head_value head) (tests_of tests) (symbol_as symbol)) }
 {
     match symbol {
         Symbol::Semicolon => {
@@ -342,8 +346,8 @@ pub(crate) fn step(
     state: ParserState,
     symbol: Symbol,
 ) -> Result<ParserState, Stop>
-    ensures { (view : View) → SeesLiterals view → Advances view outer.new result
-        (step test_depth block_room (state_value view outer.old state) (symbol_as symbol)) }
+    ensures { Advances outer.new result
+        (step test_depth block_room (state_value outer.old state) (symbol_as symbol)) }
 {
     match state {
         ParserState::Between => between(alloc, outer, symbol),

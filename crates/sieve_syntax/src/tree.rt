@@ -1,16 +1,11 @@
-//! The tree of a script by its grammar (RFC 5228, section 8.2). In the tree of a text a string is one literal, the octets
-//! that it stands for; the validator cuts it into parts where it stands. A line is one plus the number of LF before it.
+//! The tree of a script by its grammar (RFC 5228, section 8.2). A line is one plus the number of LF before it.
 
-ghost use Rattle.std.specs.Prelude.{◌≡◌, IfOk};
-ghost use Rattle.sieve_syntax.specs.view.Literals.{IsLiteral, SeesLiterals, View};
-ghost use Rattle.sieve_syntax.specs.view.Tree.{octets_of, text_of};
-ghost use Rattle.sieve_syntax.specs.view.TreeOf as by;
+ghost use Rattle.std.specs.Prelude.{◌≡◌};
+ghost use Rattle.sieve_syntax.specs.view.Tree.{text_of};
 
 use crate::command_name::CommandName;
 use crate::test_name::TestName;
 use octets::SmallOctets;
-use sieve_variables::{Part, Parts};
-use std::alloc::{AllocError, Global};
 use std::mem::size_of;
 
 /// A command, with its arguments, its tests and its block (RFC 5228, section 2.9).
@@ -60,45 +55,18 @@ pub enum Argument {
     Tag { name: SmallOctets, line: u32 },
 }
 
-/// A string: its parts in order, and the line where it begins. What the parts stand for, joined, is what the string stands for.
+/// A string: the octets that it stands for, and the line where it begins.
 #[derive(Drop)]
 pub struct Text {
-    pub string: Parts,
+    pub string: SmallOctets,
     pub line: u32,
 }
 
-/// The parts of a string that is one literal.
-fn one_literal(alloc: Global, octets: SmallOctets) -> Result<Parts, AllocError>
-    ensures { IfOk result (λ string. IsLiteral string octets.items) }
-{
-    Ok(Parts::one(Part::literal(alloc, octets)?))
-}
-
 impl Text {
-    /// A string of a text's tree.
-    pub(crate) fn written(alloc: Global, octets: SmallOctets, line: u32) -> Result<Text, AllocError>
-        ensures { (view : View) → SeesLiterals view → IfOk result
-            (λ text. by.text_of view text ≡ record { string = octets.items; line = line }) }
-    {
-        let string = one_literal(alloc, octets)?;
-        Ok(Text { string, line })
-    }
-
-    /// The octets that a string of a text's tree stands for. Takes no memory.
+    /// The octets that the string stands for. Takes no memory.
     pub fn octets(&self) -> &[u8]
         ensures { result.now ≡ (text_of self.now).string }
     {
-        octets_in(self.string.as_slice())
-    }
-}
-
-/// The octets that parts stand for that are one literal, as those of each string of a text's tree; others stand for none here. Takes no
-/// memory.
-pub fn octets_in(parts: &[Part]) -> &[u8]
-    ensures { result.now ≡ octets_of parts.now }
-{
-    match parts {
-        [part] => part.plain_octets(),
-        _ => &[],
+        self.string.as_slice()
     }
 }

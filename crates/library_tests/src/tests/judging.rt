@@ -4,7 +4,7 @@ use super::{holds, same};
 use sieve_check::{CheckFault, Checked, Rule, check};
 use sieve_profile::Profile;
 use sieve_reading::{
-    Ask, Branch, Comparison, Condition, Leaf, MatchType, PartRef, Statement, Text, ValueSource,
+    Ask, Branch, Comparison, Condition, Leaf, MatchType, PartRef, Parts, Statement, ValueSource,
 };
 use sieve_syntax::{ParsedScript, parse};
 use std::alloc::Global;
@@ -117,26 +117,23 @@ fn branches_belong_to_their_if(rt: HostRuntime) -> Result<(), Fail> {
     Ok(())
 }
 
-fn check_text(rt: &impl Abort, text: &Text, octets: &[u8], line: u32) {
-    match text.string.as_slice() {
-        [part] => {
-            match part.as_ref() {
-                PartRef::Literal(literal) => same(rt, "a literal", literal, octets),
-                _ => panic!(rt; "another part"),
-            }
-            holds(rt, "its line", text.line == line);
-        }
-        _ => panic!(rt; "another tree"),
+fn check_text(rt: &impl Abort, text: &Parts, octets: &[u8]) {
+    match text.as_slice() {
+        [part] => match part.as_ref() {
+            PartRef::Literal(literal) => same(rt, "a literal", literal, octets),
+            _ => panic!(rt; "another part"),
+        },
+        _ => panic!(rt; "another string"),
     }
 }
 
 /// The strings of the test.
-fn check_strings(rt: &impl Abort, names: &[Text], keys: &[Text]) {
+fn check_strings(rt: &impl Abort, names: &[Parts], keys: &[Parts]) {
     match (names, keys) {
         ([name], [first, second]) => {
-            check_text(rt, name, b"a", 1);
-            check_text(rt, first, b"b", 2);
-            check_text(rt, second, b"c", 2);
+            check_text(rt, name, b"a");
+            check_text(rt, first, b"b");
+            check_text(rt, second, b"c");
         }
         _ => panic!(rt; "other strings"),
     }
@@ -162,8 +159,8 @@ fn check_header(rt: &impl Abort, condition: Condition) {
 /// The names of fields and the keys of the test.
 fn check_source<S: Drop>(
     rt: &impl Abort,
-    source: ValueSource<Vec<Text>, Vec<Text>, S>,
-    keys: Vec<Text>,
+    source: ValueSource<Vec<Parts>, Vec<Parts>, S>,
+    keys: Vec<Parts>,
 ) {
     match source {
         ValueSource::Fields { part: None, names } => check_strings(

@@ -24,9 +24,16 @@ placed_in count pool op = targeting (λ left. count - left) (op_in pool op)
 
 -- whether an operation neither asks nor acts, and what it is then
 abbrev pub is_plain : Op → Bool
+is_plain op.True = true
+is_plain op.False = true
+is_plain op.Not = true
 is_plain (op.Test place) = false
+is_plain (op.Jump left) = true
+is_plain (op.JumpIfFalse left) = true
+is_plain (op.JumpIfTrue left) = true
 is_plain (op.Act place line) = false
-is_plain other = true
+is_plain op.Stop = true
+is_plain op.Return = true
 
 abbrev pub plain_as : Op → Operation
 plain_as op = op_in no_pool op

@@ -2,10 +2,9 @@
 use Rattle.std.specs.Prelude.{List, map, Option}
 use Rattle.std.specs.Option.{option_map}
 use Rattle.std.specs.declared.alloc.Global.{Global}
+use Rattle.std.specs.declared.boxed.Box.{Box}
 use Rattle.std.specs.declared.vec.Vec.{Vec}
 use Rattle.sieve_reading.specs.Reading as reading
-use Rattle.sieve_reading.specs.view.Tree.{text_of}
-use Rattle.sieve_syntax.specs.declared.tree.Text.{Text}
 use Rattle.sieve_variables.specs.Part.{Part}
 use Rattle.sieve_reading.specs.declared.reading.Ask.{Ask}
 use Rattle.sieve_reading.specs.declared.reading.Ask.TheVariants.{Compares, Exists, Over, Under, MailboxExists, Duplicate}
@@ -24,13 +23,9 @@ use Rattle.sieve_reading.specs.declared.reading.ValueSource.TheVariants as sourc
 use Rattle.sieve_reading.specs.declared.reading.TestReading.{TestReading}
 use Rattle.sieve_reading.specs.declared.reading.TestReading.TheVariants.{Always, Never, Asks, AllOf, AnyOf, Not}
 
--- strings, each as its parts
-abbrev pub texts_as : List Text → List (List Part)
-texts_as texts = map (λ t. t.string) (map text_of texts)
-
 -- a list of strings as a reading keeps it
-abbrev pub list_as : Vec Text Global → List (List Part)
-list_as texts = texts_as texts.items
+abbrev pub list_as : Vec (List Part) Global → List (List Part)
+list_as texts = texts.items
 
 -- the zone in which a date is shown, what is taken of a body, and where a test takes values from, by what the names of fields, the lists,
 -- a list that may be left out, and the strings in it are
@@ -94,24 +89,27 @@ leaf_by list given_list string given_string answer (Reject how reason) = reading
 abbrev pub date_zone_as : DateZone (List Part) → reading.DateZone
 date_zone_as = date_zone_by (λ parts. parts)
 
-abbrev pub transform_as : BodyTransform (Vec Text Global) → reading.BodyTransform
+abbrev pub transform_as : BodyTransform (Vec (List Part) Global) → reading.BodyTransform
 transform_as = body_by list_as
 
-abbrev pub source_as : ValueSource (Vec Text Global) (Vec Text Global) (List Part) → reading.ValueSource
+abbrev pub source_as : ValueSource (Vec (List Part) Global) (Vec (List Part) Global) (List Part) → reading.ValueSource
 source_as = source_by list_as list_as (option_map list_as) (λ parts. parts)
 
-abbrev pub settings_as : settings.Settings (Vec Text Global) (List Part) → reading.Settings
+abbrev pub settings_as : settings.Settings (Vec (List Part) Global) (List Part) → reading.Settings
 settings_as = filed_by (option_map list_as) (λ string. string)
 
-abbrev pub vacation_as : vacations.Vacation (Vec Text Global) (List Part) → reading.Vacation
+abbrev pub ReadVacation : Type 0
+ReadVacation = vacations.Vacation (Vec (List Part) Global) (List Part)
+
+abbrev pub vacation_as : ReadVacation → reading.Vacation
 vacation_as = answered_by (λ parts. parts) (option_map list_as) (λ string. string)
 
 -- what a test asks, and what a command does, as they are read
 abbrev pub ReadAsk : Type 0
-ReadAsk = Ask (Vec Text Global) (Vec Text Global) (List Part)
+ReadAsk = Ask (Vec (List Part) Global) (Vec (List Part) Global) (List Part)
 
 abbrev pub ReadLeaf : Type 0
-ReadLeaf = Leaf (Vec Text Global) (List Part) (vacations.Vacation (Vec Text Global) (List Part))
+ReadLeaf = Leaf (Vec (List Part) Global) (List Part) (Box ReadVacation Global)
 
 abbrev pub ask_as : ReadAsk → reading.Ask
 ask_as = ask_by list_as list_as (option_map list_as) (λ parts. parts)
@@ -125,7 +123,7 @@ test_reading_as AnyOf = reading.reads_any
 test_reading_as Not = reading.reads_not
 
 abbrev pub leaf_as : ReadLeaf → reading.Leaf
-leaf_as = leaf_by list_as (option_map list_as) (λ parts. parts) (λ string. string) vacation_as
+leaf_as = leaf_by list_as (option_map list_as) (λ parts. parts) (λ string. string) (λ boxed. vacation_as boxed.value)
 
 abbrev pub command_reading_as : CommandReading → reading.CommandReading
 command_reading_as If = reading.reads_if

@@ -1,11 +1,10 @@
 -- What the parser returned, against what the text means.
 use Rattle.std.specs.Prelude.{◌≡◌, ℕ, List, map, Option, Some, None, Result, Ok, Err}
-use Rattle.sieve_syntax.specs.view.Literals.{View}
 use Rattle.sieve_syntax.specs.Machine.{ParserState}
 use Rattle.sieve_syntax.specs.view.Reader.{state_value}
 use Rattle.sieve_syntax.specs.Tree.{Node}
 use Rattle.sieve_syntax.specs.view.Script.{nodes_of}
-use Rattle.sieve_syntax.specs.view.TreeOf.{node_of}
+use Rattle.sieve_syntax.specs.view.Tree.{node_of}
 use Rattle.sieve_syntax.specs.declared.parser.SyntaxFault.{SyntaxFault}
 use Rattle.sieve_syntax.specs.declared.parser.SyntaxFault.TheVariants.{Syntax, TooLarge, NoMemory}
 use Rattle.std.specs.declared.alloc.Global.{Global}
@@ -15,12 +14,12 @@ use Rattle.sieve_syntax.specs.declared.tree.Command as commands
 use Rattle.sieve_syntax.specs.declared.reader.Outer as outers
 use Rattle.sieve_syntax.specs.declared.reader.ParserState as states
 
--- the commands, by what their strings are seen as, are what the text means, or the line of the fault is
-abbrev pub ParsesAs : View → Result (Vec commands.Command Global) SyntaxFault → Result (List Node) ℕ → Type 0
-ParsesAs view (Ok v) meaning = meaning ≡ Ok (map (node_of view) v.items)
-ParsesAs view (Err (Syntax line)) meaning = meaning ≡ Err line
-ParsesAs view (Err TooLarge) meaning = Unit {0}
-ParsesAs view (Err NoMemory) meaning = Unit {0}
+-- the commands are what the text means, or the line of the fault is
+abbrev pub ParsesAs : Result (Vec commands.Command Global) SyntaxFault → Result (List Node) ℕ → Type 0
+ParsesAs (Ok v) meaning = meaning ≡ Ok (map node_of v.items)
+ParsesAs (Err (Syntax line)) meaning = meaning ≡ Err line
+ParsesAs (Err TooLarge) meaning = Unit {0}
+ParsesAs (Err NoMemory) meaning = Unit {0}
 
 -- the tree is what the text means, or the line of the fault is
 abbrev pub Parses : Result scripts.ParsedScript SyntaxFault → Result (List Node) ℕ → Type 0
@@ -30,15 +29,15 @@ Parses (Err TooLarge) meaning = Unit {0}
 Parses (Err NoMemory) meaning = Unit {0}
 
 -- the state is the next one, or there is none and the line is the token's
-abbrev pub Goes : View → outers.Outer → Result states.ParserState SyntaxFault → Option ParserState → ℕ → Type 0
-Goes view o (Ok s) next line = next ≡ Some (state_value view o s)
-Goes view o (Err (Syntax at)) next line = (next ≡ None) × (at ≡ line)
-Goes view o (Err TooLarge) next line = ⊥
-Goes view o (Err NoMemory) next line = Unit {0}
+abbrev pub Goes : outers.Outer → Result states.ParserState SyntaxFault → Option ParserState → ℕ → Type 0
+Goes o (Ok s) next line = next ≡ Some (state_value o s)
+Goes o (Err (Syntax at)) next line = (next ≡ None) × (at ≡ line)
+Goes o (Err TooLarge) next line = ⊥
+Goes o (Err NoMemory) next line = Unit {0}
 
 -- the commands are the whole tree, or there is none and the line is that of the end
-abbrev pub Finishes : View → Result (Vec commands.Command Global) SyntaxFault → Option (List Node) → ℕ → Type 0
-Finishes view (Ok v) tree line = tree ≡ Some (map (node_of view) v.items)
-Finishes view (Err (Syntax at)) tree line = (tree ≡ None) × (at ≡ line)
-Finishes view (Err TooLarge) tree line = ⊥
-Finishes view (Err NoMemory) tree line = ⊥
+abbrev pub Finishes : Result (Vec commands.Command Global) SyntaxFault → Option (List Node) → ℕ → Type 0
+Finishes (Ok v) tree line = tree ≡ Some (map node_of v.items)
+Finishes (Err (Syntax at)) tree line = (tree ≡ None) × (at ≡ line)
+Finishes (Err TooLarge) tree line = ⊥
+Finishes (Err NoMemory) tree line = ⊥

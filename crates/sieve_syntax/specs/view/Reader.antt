@@ -1,7 +1,6 @@
--- The view of the program's reader as a state of the machine, by what its strings are seen as.
+-- The view of the program's reader as a state of the machine.
 use Rattle.std.specs.Prelude.{◌≡◌, List, Option, Some, None, Result, Ok, Err, map, reverse}
-use Rattle.sieve_syntax.specs.view.Literals.{View}
-use Rattle.sieve_syntax.specs.view.TreeOf.{node_of, test_of, tests_of, text_of, argument_of}
+use Rattle.sieve_syntax.specs.view.Tree.{node_of, test_of, tests_of, text_of, argument_of}
 use Rattle.sieve_syntax.specs.Symbol.{Symbol, identifier, tag_symbol, number_symbol, string_symbol, semicolon, open_brace, close_brace, open_parenthesis, close_parenthesis, open_bracket, close_bracket, comma, bad}
 use Rattle.sieve_syntax.specs.Machine.{Head, Level, for_one, for_list, Open, Outer, ParserState, between, in_arguments, before_string, after_string, before_test, after_tests}
 use Rattle.sieve_syntax.specs.declared.symbol.Symbol as symbols
@@ -31,36 +30,36 @@ symbol_as symbol_variants.CloseBracket = close_bracket
 symbol_as symbol_variants.Comma = comma
 symbol_as symbol_variants.Bad = bad
 
-abbrev pub head_value : View → heads.Head → Head
-head_value view h = record { name = h.name.items; line = h.line; args = map (argument_of view) h.args.items }
+abbrev pub head_value : heads.Head → Head
+head_value h = record { name = h.name.items; line = h.line; args = map argument_of h.args.items }
 
-abbrev pub level_value : View → levels.Level → Level
-level_value view (level_variants.One h) = for_one (head_value view h)
-level_value view (level_variants.List h before) = for_list (head_value view h) (map (test_of view) before.items)
+abbrev pub level_value : levels.Level → Level
+level_value (level_variants.One h) = for_one (head_value h)
+level_value (level_variants.List h before) = for_list (head_value h) (map test_of before.items)
 
-abbrev pub open_value : View → opens.Open → Open
-open_value view b = record { done = map (node_of view) b.done.items; head = head_value view b.head; tests = tests_of view b.tests }
+abbrev pub open_value : opens.Open → Open
+open_value b = record { done = map node_of b.done.items; head = head_value b.head; tests = tests_of b.tests }
 
 -- the newest first
-abbrev pub levels_value : View → List levels.Level → List Level
-levels_value view ls = map (level_value view) (reverse ls)
+abbrev pub levels_value : List levels.Level → List Level
+levels_value ls = map level_value (reverse ls)
 
-abbrev pub opens_value : View → List opens.Open → List Open
-opens_value view bs = map (open_value view) (reverse bs)
+abbrev pub opens_value : List opens.Open → List Open
+opens_value bs = map open_value (reverse bs)
 
-abbrev pub outer_value : View → outers.Outer → Outer
-outer_value view o = record { blocks = opens_value view o.blocks.items; done = map (node_of view) o.done.items }
+abbrev pub outer_value : outers.Outer → Outer
+outer_value o = record { blocks = opens_value o.blocks.items; done = map node_of o.done.items }
 
-abbrev pub state_value : View → outers.Outer → states.ParserState → ParserState
-state_value view o state_variants.Between = between (outer_value view o)
-state_value view o (state_variants.Arguments h) = in_arguments (outer_value view o) (levels_value view o.levels.items) (head_value view h)
-state_value view o (state_variants.BeforeString h items) = before_string (outer_value view o) (levels_value view o.levels.items) (head_value view h) (map (text_of view) items.items)
-state_value view o (state_variants.AfterString h items) = after_string (outer_value view o) (levels_value view o.levels.items) (head_value view h) (map (text_of view) items.items)
-state_value view o state_variants.BeforeTest = before_test (outer_value view o) (levels_value view o.levels.items)
-state_value view o (state_variants.AfterTests h ts) = after_tests (outer_value view o) (levels_value view o.levels.items) (head_value view h) (tests_of view ts)
+abbrev pub state_value : outers.Outer → states.ParserState → ParserState
+state_value o state_variants.Between = between (outer_value o)
+state_value o (state_variants.Arguments h) = in_arguments (outer_value o) (levels_value o.levels.items) (head_value h)
+state_value o (state_variants.BeforeString h items) = before_string (outer_value o) (levels_value o.levels.items) (head_value h) (map text_of items.items)
+state_value o (state_variants.AfterString h items) = after_string (outer_value o) (levels_value o.levels.items) (head_value h) (map text_of items.items)
+state_value o state_variants.BeforeTest = before_test (outer_value o) (levels_value o.levels.items)
+state_value o (state_variants.AfterTests h ts) = after_tests (outer_value o) (levels_value o.levels.items) (head_value h) (tests_of ts)
 
 -- what a step returned is the machine's next state, or a fault where there is none, unless memory ran out
-abbrev pub Advances : View → outers.Outer → Result states.ParserState stops.Stop → Option ParserState → Type 0
-Advances view o (Ok s) next = next ≡ Some (state_value view o s)
-Advances view o (Err stop_variants.Fault) next = next ≡ None
-Advances view o (Err stop_variants.NoMemory) next = Unit {0}
+abbrev pub Advances : outers.Outer → Result states.ParserState stops.Stop → Option ParserState → Type 0
+Advances o (Ok s) next = next ≡ Some (state_value o s)
+Advances o (Err stop_variants.Fault) next = next ≡ None
+Advances o (Err stop_variants.NoMemory) next = Unit {0}

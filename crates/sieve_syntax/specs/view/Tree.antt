@@ -1,35 +1,50 @@
 -- The program's tree of a text.
-use Rattle.std.specs.Prelude.{ℕ, List, [], ◌∷◌, Option}
-use Rattle.std.specs.declared.alloc.Global.{Global}
+use Rattle.std.specs.Prelude.{List, Option, Some, None, map}
 use Rattle.std.specs.declared.vec.Vec.{Vec}
-use Rattle.sieve_syntax.specs.Tree.{Text, Argument, Test, Tests, Node, Block}
+use Rattle.std.specs.declared.alloc.Global.{Global}
+use Rattle.sieve_syntax.specs.Tree.{Text, Argument, strings, number, tag, Test, test, Tests, no_tests, one_test, test_list, tests, Node, node, Block, no_block, block, nodes}
 use Rattle.sieve_syntax.specs.declared.tree.Argument as arguments
 use Rattle.sieve_syntax.specs.declared.tree.Command as commands
 use Rattle.sieve_syntax.specs.declared.tree.Test as one_tests
 use Rattle.sieve_syntax.specs.declared.tree.Tests as some_tests
 use Rattle.sieve_syntax.specs.declared.tree.Text as texts
-use Rattle.sieve_syntax.specs.view.TreeOf as by
-use Rattle.sieve_variables.specs.Part.{Part, literal}
-
--- the octets of a string that is one literal, as each string of a text's tree is
-abbrev pub octets_of : List Part → List ℕ
-octets_of (literal octets ∷ []) = octets
-octets_of other = []
+use Rattle.sieve_syntax.specs.declared.tree.Argument.TheVariants as argument_variants
+use Rattle.sieve_syntax.specs.declared.tree.Tests.TheOpen as test_layers
 
 abbrev pub text_of : texts.Text → Text
-text_of = by.text_of octets_of
+text_of t = record { string = t.string.items; line = t.line }
 
 abbrev pub argument_of : arguments.Argument → Argument
-argument_of = by.argument_of octets_of
+argument_of (argument_variants.Strings items bracketed) = strings (map text_of items.items) bracketed
+argument_of (argument_variants.Number value line) = number value line
+argument_of (argument_variants.Tag name line) = tag name.items line
+
+-- a layer of tests, with the tests below it already seen
+abbrev pub tests_step : test_layers.Tests-F Tests Test → Tests
+tests_step test_layers.None = no_tests
+tests_step (test_layers.One t) = one_test t.value
+tests_step (test_layers.List ts) = test_list (tests ts.value.items)
+
+abbrev pub test_step : test_layers.Test-F Tests Test → Test
+test_step t = test t.name t.line (map argument_of t.args.items) t.tests
 
 abbrev pub tests_of : some_tests.Tests → Tests
-tests_of = by.tests_of octets_of
+tests_of = some_tests.fold-Tests Tests Test tests_step test_step
 
 abbrev pub test_of : one_tests.Test → Test
-test_of = by.test_of octets_of
+test_of = one_tests.fold-Test Tests Test tests_step test_step
+
+abbrev pub block_step : Option (Vec Node Global) → Block
+block_step None = no_block
+block_step (Some v) = block (nodes v.items)
+
+-- a layer of commands, with the commands in its block already seen
+abbrev pub command_step : commands.Command-F Node → Node
+command_step c = node c.name c.line (map argument_of c.args.items) (tests_of c.tests) (block_step c.block)
 
 abbrev pub node_of : commands.Command → Node
-node_of = by.node_of octets_of
+node_of = commands.fold-Command Node command_step
 
 abbrev pub block_of : Option (Vec commands.Command Global) → Block
-block_of = by.block_of octets_of
+block_of None = no_block
+block_of (Some v) = block (nodes (map node_of v.items))

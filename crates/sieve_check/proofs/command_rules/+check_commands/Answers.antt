@@ -84,7 +84,7 @@ check_commands-loop-command-preserved t c =
       found = commands_go_on here all rest c.in-Some.command was next goes c.in_ok-next.ensures.found ∙ c.loop-command.invariant.found;
       goes = commands_move here all rest c.in-Some.command was next goes ∙ c.loop-command.invariant.goes;
       read =
-          c.in_ok-script.ensures chain
+          c.in_ok-script-2.ensures chain
           ∙ ap (script_before c.loop-command.script) (c.in_ok-next.ensures.read chain ∙ sym (commands_more here all rest c.in-Some.command was next goes))
           ∙ c.loop-command.invariant.read;
     }

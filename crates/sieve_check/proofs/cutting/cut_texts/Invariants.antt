@@ -1,14 +1,9 @@
-use Rattle.std.proofs.Common.{◌≡◌, ◌++◌, drop, map, take}
-use Rattle.sieve_syntax.specs.view.Tree as seen
-use Rattle.sieve_check.specs.Parted.{parted_text}
+use Rattle.std.proofs.Common.{◌≡◌, ◌++◌, drop, map}
+use Rattle.sieve_syntax.specs.view.Tree.{text_of}
+use Rattle.sieve_check.specs.Cut.{parts_in}
 use Rattle.sieve_check.specs.view.Context.{context_as}
-use Rattle.sieve_reading.specs.view.Tree.{text_of}
-use Rattle.sieve_check.proofs.InPlace.{IsLeft}
 use Rattle.sieve_check.proofs.cutting.cut_texts.Given as goal
 
--- the strings that are cut and the others, when they are cut, are all strings cut; and the others are as they were
-abbrev pub invariant-loop-i : goal.invariant-loop-i
-invariant-loop-i l = record {
-  cut : map (parted_text (context_as l.context) l.role) (map seen.text_of l.initial.texts.items) ≡ map text_of (take l.i l.texts.items) ++ map (parted_text (context_as l.context) l.role) (map seen.text_of (drop l.i l.initial.texts.items));
-  left : IsLeft l.i l.texts.items l.initial.texts.items;
-}
+-- the parts of the strings so far, and then those of the strings that are left, are those of all
+abbrev pub invariant-loop-text : goal.invariant-loop-text
+invariant-loop-text l = l.cut.items ++ map (λ t. parts_in (context_as l.context) l.role t.string) (map text_of (drop l.text-index l.texts)) ≡ map (λ t. parts_in (context_as l.context) l.role t.string) (map text_of l.texts)

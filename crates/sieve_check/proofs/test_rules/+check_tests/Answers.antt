@@ -2,7 +2,7 @@ use Rattle.std.proofs.Common.{◌≡◌, [], ◌∷◌, map, rules, arith, sym, 
 use Rattle.std.proofs.lemmas.Grind.{common_steps}
 use Rattle.std.proofs.lemmas.Result.{IfOk-weaker}
 use Rattle.sieve_syntax.specs.Tree.{tests}
-use Rattle.sieve_syntax.specs.view.Tree.{octets_of, test_of, tests_of}
+use Rattle.sieve_syntax.specs.view.Tree.{test_of, tests_of}
 use Rattle.sieve_check.specs.Breach.{breaches_in}
 use Rattle.sieve_check.specs.CheckFault.{IsFirst}
 use Rattle.sieve_check.specs.Element.{test_list_elements, tests_elements}
@@ -36,7 +36,7 @@ check_test_list-loop-test-preserved t c =
     let others = conditions context (tests (map test_of rest)) in record {
       found = list_goes_on context all rest c.in-Some.test was c.in_ok-condition.ensures.found ∙ c.loop-test.invariant.found;
       read =
-          c.in_ok-conditions.ensures others
+          c.in_ok-conditions-2.ensures others
           ∙ ap (λ x. conditions_before c.loop-test.conditions.items (one_condition x others)) c.in_ok-condition.ensures.read
           ∙ ap (conditions_before c.loop-test.conditions.items) (sym (list_more context all rest c.in-Some.test was))
           ∙ c.loop-test.invariant.read;
@@ -59,7 +59,7 @@ unfolding tests_elements
 check_tests-returns-in-None-clause-found t c =
     let context = context_as c.args.context in
     ap (λ ts. breaches_in (tests_elements context (tests_of ts))) c.in-None.is
-    ∙ ap (λ ts. breaches_in (tests_elements context ts)) (none_seen octets_of)
+    ∙ ap (λ ts. breaches_in (tests_elements context ts)) none_seen
     ∙ none_in
 
 pub check_tests-returns-in-None-clause-read : goal.check_tests-returns-in-None-clause-read
@@ -70,7 +70,7 @@ pub check_tests-returns-in_ok-with_condition-in-One-clause-read : goal.check_tes
 check_tests-returns-in_ok-with_condition-in-One-clause-read t c =
     let context = context_as c.args.context in
     c.in_ok-with_condition-in-One.ensures no_conditions
-    ∙ ap (λ l. conditions_before l (one_condition (condition_as c.in_ok-condition-in-One.condition) no_conditions)) c.new-in-One.ensures.items
+    ∙ ap (λ l. conditions_before l (one_condition (condition_as c.in_ok-condition-in-One.condition) no_conditions)) c.in_ok-none-in-One.ensures.items
     ∙ ap (λ x. one_condition x no_conditions) c.in_ok-condition-in-One.ensures.read
     ∙ one_read c.args.tests c.in-One.test c.into_inner.result context c.in-One.is c.into_inner.ensures
 

@@ -1,6 +1,5 @@
 use Rattle.std.proofs.Common.{Some}
 use Rattle.sieve_operations.specs.Joined.{list_in}
-use Rattle.sieve_reading.specs.view.Reading.{texts_as}
 use Rattle.sieve_code.specs.Pool.{Pool}
 use Rattle.sieve_code.proofs.Keeping.{kept_as, kept_still}
 use Rattle.sieve_code.proofs.pools.Pools.add_given.Goals as goal
@@ -10,4 +9,4 @@ returns-in-None c = rw c.in-None.is (kept_still _ _)
 
 pub returns-in_ok-place-in-Some : goal.returns-in_ok-place-in-Some
 returns-in_ok-place-in-Some c =
-    rw c.in-Some.is (kept_as Some _ _ (λ (p : Pool). list_in p.lists c.in_ok-place-in-Some.place) (texts_as c.in-Some.texts.items) c.in_ok-place-in-Some.ensures)
+    rw c.in-Some.is (kept_as Some _ _ (λ (p : Pool). list_in p.lists c.in_ok-place-in-Some.place) c.in-Some.texts.items c.in_ok-place-in-Some.ensures)

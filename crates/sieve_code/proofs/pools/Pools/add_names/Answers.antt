@@ -1,7 +1,6 @@
 use Rattle.std.proofs.Common.{ap, length, subst, sym, ◌∙◌}
 use Rattle.std.proofs.lemmas.Result.{IfOk-weaker}
 use Rattle.sieve_operations.specs.Joined.{Lists, list_in, lists_plus}
-use Rattle.sieve_reading.specs.view.Reading.{texts_as}
 use Rattle.sieve_code.specs.Pool.{Kept}
 use Rattle.sieve_code.specs.view.Pools.{pool_as}
 use Rattle.sieve_code.proofs.Keeping.{names_kept, names_shared}
@@ -9,13 +8,13 @@ use Rattle.sieve_code.proofs.pools.Pools.add_names.Goals as goal
 
 pub returns-in-Some : goal.returns-in-Some
 returns-in-Some c =
-    let p = pool_as c.args.self.now in let texts = texts_as c.args.texts.items in
+    let p = pool_as c.args.self.now in let texts = c.args.texts.items in
     IfOk-weaker c.place_of.result _ _
-    (λ place is. subst (λ n. Kept p p (λ r. list_in r.names n) texts) (sym is) (names_shared p c.in-Some.place texts (λ more. c.in-Some.ensures more ∙ ap texts_as c.as_slice.ensures.value)))
+    (λ place is. subst (λ n. Kept p p (λ r. list_in r.names n) texts) (sym is) (names_shared p c.in-Some.place texts (λ more. c.in-Some.ensures more ∙ c.as_slice.ensures.value)))
     c.place_of.ensures.is
 
 pub returns-in_ok-push-in-None : goal.returns-in_ok-push-in-None
 returns-in_ok-push-in-None c =
     let p = pool_as c.args.self.now in
-    names_kept p _ c.in_ok-place-in-None.place (texts_as c.args.texts.items) (c.in_ok-place-in-None.ensures.is ∙ c.len.ensures) (ap (λ (l : Lists). record p { names = l }) c.in_ok-push-in-None.ensures.new)
+    names_kept p _ c.in_ok-place-in-None.place c.args.texts.items (c.in_ok-place-in-None.ensures.is ∙ c.len.ensures) (ap (λ (l : Lists). record p { names = l }) c.in_ok-push-in-None.ensures.new)
     (λ more. ap (λ (l : Lists). list_in (lists_plus l more) (length p.names.ends)) (sym c.in_ok-push-in-None.ensures.new) ∙ c.in_ok-push-in-None.ensures.kept more)

@@ -1,14 +1,14 @@
 use Rattle.std.specs.Option.{option_map}
 use Rattle.sieve_operations.specs.Joined.{list_in}
 use Rattle.sieve_reading.specs.Reading.{flag_leaf, keep_leaf, redirect_leaf, reject_leaf, set_leaf, vacation_leaf}
-use Rattle.sieve_reading.specs.view.Reading.{texts_as, vacation_as}
+use Rattle.sieve_reading.specs.view.Reading.{vacation_as}
 use Rattle.sieve_code.specs.Pool.{Pool, given_list, string_in, vacation_in}
 use Rattle.sieve_code.proofs.Keeping.{kept_as, kept_still}
 use Rattle.sieve_code.proofs.pools.Pools.pack_leaf.Goals as goal
 
 pub returns-in_ok-flags-in-Keep : goal.returns-in_ok-flags-in-Keep
 returns-in_ok-flags-in-Keep c =
-    rw c.in-Keep.is (kept_as keep_leaf _ _ (λ (p : Pool). given_list p c.in_ok-flags-in-Keep.flags) (option_map (λ given. texts_as given.items) c.in-Keep.flags) c.in_ok-flags-in-Keep.ensures)
+    rw c.in-Keep.is (kept_as keep_leaf _ _ (λ (p : Pool). given_list p c.in_ok-flags-in-Keep.flags) (option_map (λ given. given.items) c.in-Keep.flags) c.in_ok-flags-in-Keep.ensures)
 
 pub returns-in_ok-address-in-Redirect : goal.returns-in_ok-address-in-Redirect
 returns-in_ok-address-in-Redirect c =
@@ -23,7 +23,7 @@ returns-in_ok-value-in-Set c =
 
 pub returns-in_ok-flags-in-Flags : goal.returns-in_ok-flags-in-Flags
 returns-in_ok-flags-in-Flags c =
-    rw c.in-Flags.is (kept_as (flag_leaf c.in-Flags.change c.in-Flags.variable) _ _ (λ (p : Pool). list_in p.lists c.in_ok-flags-in-Flags.flags) (texts_as c.in-Flags.flags.items) c.in_ok-flags-in-Flags.ensures)
+    rw c.in-Flags.is (kept_as (flag_leaf c.in-Flags.change c.in-Flags.variable) _ _ (λ (p : Pool). list_in p.lists c.in_ok-flags-in-Flags.flags) c.in-Flags.flags.items c.in_ok-flags-in-Flags.ensures)
 
 pub returns-in-Include : goal.returns-in-Include
 returns-in-Include c = rw c.in-Include.is (kept_still _ _)

@@ -4,14 +4,14 @@
 -- of a variable that scripts share (RFC 6609, section 3.4.1). What stands before a command is the
 -- context under which it is judged.
 use Rattle.std.specs.Prelude.{ℕ, List, [], ◌∷◌, Option, map, drop, if◌then◌else◌}
-use Rattle.sieve_syntax.specs.Tree as syntax
+use Rattle.sieve_syntax.specs.Tree.{Argument, strings, number, tag}
+use Rattle.sieve_reading.specs.CutArgument.{CutArgument, cut_strings, cut_number, cut_tag}
 use Rattle.sieve_check.specs.Context.{Context, takes_references}
 use Rattle.sieve_check.specs.Said.{said_arguments}
 use Rattle.sieve_reading.specs.Role.{first_role}
 use Rattle.sieve_table.specs.Role.{names_variable}
 use Rattle.sieve_reading.specs.Shape.{known_labels}
 use Rattle.sieve_table.specs.Table.{Row}
-use Rattle.sieve_reading.specs.Tree.{Text, Argument, strings, number, tag}
 use Rattle.sieve_reading.specs.declared.label.Label.{Label}
 use Rattle.sieve_table.specs.declared.row.Role.{Role}
 use Rattle.sieve_variables.specs.Part.{Part, literal, variable_part, scoped_part}
@@ -25,23 +25,21 @@ parts_in context role octets =
     if names_variable role then variable_part (scoped context.scope.declared (variable_named octets)) ∷ [] else
     if takes_references context.required role then map (scoped_part context.scope.declared) (parts_of_text octets) else literal octets ∷ []
 
-abbrev pub parted_text : Context → Option Role → syntax.Text → Text
-parted_text context role t = record { string = parts_in context role t.string; line = t.line }
-
-abbrev pub parted_argument : Context → Option Role → syntax.Argument → Argument
-parted_argument context role (syntax.strings items bracketed) = strings (map (parted_text context role) items) bracketed
-parted_argument context role (syntax.number value line) = number value line
-parted_argument context role (syntax.tag name line) = tag name line
+-- an argument in its role
+abbrev pub cut_argument : Context → Option Role → Argument → CutArgument
+cut_argument context role (strings items bracketed) = cut_strings (map (λ t. parts_in context role t.string) items)
+cut_argument context role (number value line) = cut_number value
+cut_argument context role (tag name line) = cut_tag
 
 -- arguments, each by its label
-abbrev pub parted_labelled : Context → List Label → List syntax.Argument → List Argument
-parted_labelled context labels [] = []
-parted_labelled context labels (a ∷ args) = parted_argument context (first_role labels) a ∷ parted_labelled context (drop 1 labels) args
+abbrev pub cut_labelled : Context → List Label → List Argument → List CutArgument
+cut_labelled context labels [] = []
+cut_labelled context labels (a ∷ args) = cut_argument context (first_role labels) a ∷ cut_labelled context (drop 1 labels) args
 
 -- the same, by what their strings say
-abbrev pub parted_said : Context → List Label → List syntax.Argument → List Argument
-parted_said context labels args = parted_labelled context labels (said_arguments context.required labels args)
+abbrev pub cut_said : Context → List Label → List Argument → List CutArgument
+cut_said context labels args = cut_labelled context labels (said_arguments context.required labels args)
 
 -- the arguments of a command or a test of a row
-abbrev pub parted_row : Context → Row → List syntax.Argument → List Argument
-parted_row context row args = parted_said context (known_labels context.profile row args) args
+abbrev pub cut_row : Context → Row → List Argument → List CutArgument
+cut_row context row args = cut_said context (known_labels context.profile row args) args
