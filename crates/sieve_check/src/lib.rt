@@ -20,7 +20,7 @@ pub use checked::Checked;
 pub use judged::{FaultKind, JudgeFault, Judged, judge};
 pub use octets::SmallOctets;
 pub use sieve_reading::{
-    Branch, Condition, Part, PartRef, Parts, Statement, Text, Variable, VariableRef,
+    Branch, Condition, Part, PartRef, Parts, Statement, Variable, VariableRef,
 };
 pub use sieve_table::Rule;
 pub use validator::{CheckFault, check};
