@@ -1,6 +1,6 @@
 -- What the arguments of a command or a test give, by their labels, by which the rules and the cut of strings go too. Any arguments give
 -- something: what isn't given is empty, or what counts by default.
-use Rattle.std.specs.Prelude.{ℕ, Bool, false, List, [], ◌∷◌, Option, Some, None, is_some, map, drop, if◌then◌else◌}
+use Rattle.std.specs.Prelude.{ℕ, Bool, false, List, [], ◌∷◌, Option, Some, None, is_some, drop, if◌then◌else◌}
 use Rattle.match_text.specs.Comparator.{collation_named}
 use Rattle.match_text.specs.declared.comparators.Collation.{Collation}
 use Rattle.match_text.specs.declared.comparators.Collation.TheVariants.{Casemap}
