@@ -7,7 +7,7 @@ use Rattle.sieve_reading.specs.CommandReading as commands
 use Rattle.sieve_reading.specs.Given.{address_part_of, collation_or_casemap, given_text, given_texts, has_tag, in_role, match_type_of, relation_or_eq, tags_of}
 use Rattle.sieve_reading.specs.Reading.{ValueSource, body_values, clock_values, compares, date_values, envelope_values, exists_ask, field_values, fileinto_leaf, flag_leaf, flag_values, include_leaf, keep_leaf, mailboxes_ask, reads_act, reads_ask, redirect_leaf, reject_leaf, set_leaf, string_values, vacation_leaf}
 use Rattle.sieve_reading.specs.TestReading as tests
-use Rattle.sieve_reading.specs.Tree.{Argument}
+use Rattle.sieve_reading.specs.CutArgument.{CutArgument}
 use Rattle.sieve_reading.specs.declared.label.Label.{Label}
 use Rattle.sieve_reading.specs.declared.reading.FlagChange.{FlagChange}
 use Rattle.sieve_reading.specs.declared.reading.FlagChange.TheVariants as change
@@ -35,7 +35,7 @@ two f {a} {a'} {b} {b'} first second = ap (λ x. f x b) first ∙ ap (f a') seco
 three : {A B C D : Type 0} (f : A → B → C → D) {a a' : A} {b b' : B} {c c' : C} → a ≡ a' → b ≡ b' → c ≡ c' → f a b c ≡ f a' b' c'
 three f {a} {a'} {b} {b'} {c} {c'} first second third = two (λ x y. f x y c) first second ∙ ap (f a' b') third
 
-module _ (labels others : List Label) (args arguments : List Argument) (same_tags : tags_of labels ≡ tags_of others) where
+module _ (labels others : List Label) (args arguments : List CutArgument) (same_tags : tags_of labels ≡ tags_of others) where
   compare_alike : (source another : ValueSource) → source ≡ another → AreAlike comparing labels others args arguments → reads_ask (tests.compares_by source labels args) ≡ reads_ask (tests.compares_by another others arguments)
   compare_alike source another same alike =
       three (λ s c k. reads_ask (compares s c k)) same
@@ -99,8 +99,8 @@ module _ (labels others : List Label) (args arguments : List Argument) (same_tag
   commands_alike command.Reject alike = ap (λ reason. reads_act (reject_leaf rejection.Reject reason)) alike.0
   commands_alike command.Ereject alike = ap (λ reason. reads_act (reject_leaf rejection.Ereject reason)) alike.0
 
-pub tests_by_asked : (kind : TestKind) (labels others : List Label) (args arguments : List Argument) → tags_of labels ≡ tags_of others → AreAlike (asked_by_test kind) labels others args arguments → tests.test_reading_by kind labels args ≡ tests.test_reading_by kind others arguments
+pub tests_by_asked : (kind : TestKind) (labels others : List Label) (args arguments : List CutArgument) → tags_of labels ≡ tags_of others → AreAlike (asked_by_test kind) labels others args arguments → tests.test_reading_by kind labels args ≡ tests.test_reading_by kind others arguments
 tests_by_asked kind labels others args arguments same_tags alike = tests_alike labels others args arguments same_tags kind alike
 
-pub commands_by_asked : (kind : CommandKind) (labels others : List Label) (args arguments : List Argument) → tags_of labels ≡ tags_of others → AreAlike (asked_by_command kind) labels others args arguments → commands.command_reading_by kind labels args ≡ commands.command_reading_by kind others arguments
+pub commands_by_asked : (kind : CommandKind) (labels others : List Label) (args arguments : List CutArgument) → tags_of labels ≡ tags_of others → AreAlike (asked_by_command kind) labels others args arguments → commands.command_reading_by kind labels args ≡ commands.command_reading_by kind others arguments
 commands_by_asked kind labels others args arguments same_tags alike = commands_alike labels others args arguments same_tags kind alike

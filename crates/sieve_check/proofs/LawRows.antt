@@ -12,7 +12,6 @@ use Rattle.sieve_reading.specs.Given.{has_tag}
 use Rattle.sieve_reading.specs.Reading.{discard_leaf, keep_leaf}
 use Rattle.sieve_check.specs.Script.{block_commands, chain_of, condition_of, conditions, conditions_in, chain_with, script_of}
 use Rattle.sieve_table.specs.Table.{command_named, test_named}
-use Rattle.sieve_check.proofs.Truth.{not_both}
 
 -- a command that ends by a semicolon, one with a test and a block, and one with a block alone
 abbrev plain : List ℕ → ℕ → syntax.Node

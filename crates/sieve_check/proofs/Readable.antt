@@ -2,10 +2,10 @@
 use Rattle.std.proofs.Common.{◌≡◌, Bool, true, false, not, ◌&&◌, ◌||◌, List, [], ◌++◌, Option, None, Some, refl, sym, ap, ◌∙◌, subst}
 use Rattle.std.proofs.lemmas.Bool.{and_parts, or_parts}
 use denote.Enum.Bare.{sameb, same_true}
-use Rattle.sieve_syntax.specs.Tree.{Argument, Test, test, Tests, no_tests, one_test, test_list, TestList, end_tests, more_tests, Node, node, Block, no_block, block, Nodes, end_nodes, more_nodes, nodes}
-use Rattle.sieve_check.specs.Breach.{breaches_in, breaches_of, command_breaks, test_breaks}
-use Rattle.sieve_check.specs.Context.{Context, allows_else, after, after_block, after_kind, continues_if, inside, script_start}
-use Rattle.sieve_check.specs.Element.{block_elements, command_arguments, node_elements, nodes_elements, test_arguments, test_elements, test_list_elements, tests_elements, the_command, the_test}
+use Rattle.sieve_syntax.specs.Tree.{Argument, Tests, Node, node, Block, no_block, block}
+use Rattle.sieve_check.specs.Breach.{breaches_in, command_breaks, test_breaks}
+use Rattle.sieve_check.specs.Context.{Context, allows_else, after, after_block, after_kind, continues_if}
+use Rattle.sieve_check.specs.Element.{block_elements, command_arguments, node_elements, tests_elements, the_command}
 use Rattle.sieve_check.specs.Cut.{cut_row}
 use Rattle.sieve_check.specs.Script.{command_kind_reading, command_reading, node_reading, test_reading}
 use Rattle.sieve_check.specs.Use.{block_fits, has_bad_arguments, has_bad_tag, has_block, lacks_kind, lacks_own, tests_fit, tests_there}
@@ -19,8 +19,7 @@ use Rattle.sieve_reading.specs.CutArgument.{CutArgument}
 use Rattle.sieve_reading.specs.declared.label.Label.{Label}
 use Rattle.sieve_reading.specs.declared.label.Shape.{Shape}
 use Rattle.sieve_profile.proofs.Each.{of_each}
-use Rattle.sieve_profile.specs.Profile.{Profile}
-use Rattle.sieve_table.specs.Known.{known_command, known_test}
+use Rattle.sieve_table.specs.Known.{known_command}
 use Rattle.sieve_table.specs.Table.{Row, command_row, test_row}
 use Rattle.sieve_table.specs.contracts.row.Inner as inners
 use Rattle.sieve_table.specs.contracts.table.CommandKind as every_command
@@ -32,7 +31,7 @@ use Rattle.sieve_table.specs.declared.rule.Rule.TheVariants.{BadArguments, BadTa
 use Rattle.sieve_table.specs.declared.table.CommandKind.{CommandKind}
 use Rattle.sieve_table.specs.declared.table.TestKind.{TestKind}
 use Rattle.sieve_check.proofs.Truth.{agree, alike, never_both, not_false}
-use Rattle.sieve_check.proofs.Unbroken.{keeps, none_in_both, nothing_before}
+use Rattle.sieve_check.proofs.Unbroken.{keeps, nothing_before}
 
 -- WHAT A READING NEEDS
 

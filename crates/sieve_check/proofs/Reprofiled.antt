@@ -11,7 +11,7 @@ use Rattle.sieve_check.specs.Breach.{use_lacks}
 use Rattle.sieve_check.specs.Collating.{argument_lacks, arguments_lack, collation_lacks, known_collation, name_lacks, needed_for, text_lacks}
 use Rattle.sieve_check.specs.Context.{Context, after, after_block, after_kind, after_nodes, inside, naming_said, script_start, under}
 use Rattle.sieve_check.specs.Element.{Element, among, argument_elements, block_elements, command_arguments, elements_of, judged_labels, labelled_elements, node_elements, nodes_elements, row_elements, test_arguments, test_elements, test_list_elements, tests_elements, text_elements, the_command, the_number, the_test, the_text}
-use Rattle.sieve_check.specs.Cut.{cut_argument, cut_labelled, cut_row, cut_said, parted_text}
+use Rattle.sieve_check.specs.Cut.{cut_argument, cut_labelled, cut_row, cut_said}
 use Rattle.sieve_check.specs.Said.{said, said_arguments}
 use Rattle.sieve_check.specs.Script.{block_commands, chain_of, chain_with, command_reading, condition_of, conditions, conditions_in, script_of, test_reading}
 use Rattle.sieve_reading.specs.CommandReading.{command_reading_by}
@@ -21,7 +21,6 @@ use Rattle.sieve_check.specs.Use.{has_block, is_well_used, lacks_required}
 use Rattle.sieve_reading.specs.Label.{labels_of}
 use Rattle.sieve_reading.specs.Role.{first_role}
 use Rattle.sieve_reading.specs.Shape.{known_labels, known_shape, known_shapes, shape_of}
-use Rattle.sieve_reading.specs.Tree as cut
 use Rattle.sieve_reading.specs.declared.label.Label.{Label}
 use Rattle.sieve_reading.specs.declared.label.Shape.{Shape}
 use Rattle.sieve_reading.specs.declared.label.Shape.TheVariants as shape
@@ -226,12 +225,8 @@ module _ (p q : Profile) (same : is_known p ≡ is_known q) where
   -- THE SCRIPT
 
   module _ (c : Context) where
-    texts_cut : (role : Option Role) (ts : List Text) → map (parted_text (under p c) role) ts ≡ map (parted_text (under q c) role) ts
-    texts_cut role [] = refl
-    texts_cut role (t ∷ ts) = ap (λ l. parted_text (under q c) role t ∷ l) (texts_cut role ts)
-
     argument_cut : (role : Option Role) (a : Argument) → cut_argument (under p c) role a ≡ cut_argument (under q c) role a
-    argument_cut role (strings items bracketed) = ap (λ l. cut.strings l bracketed) (texts_cut role items)
+    argument_cut role (strings items bracketed) = refl
     argument_cut role (number value line) = refl
     argument_cut role (tag name line) = refl
 

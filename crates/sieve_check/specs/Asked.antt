@@ -5,7 +5,7 @@ use Rattle.std.specs.Prelude.{◌≡◌, Bool, true, false, not, ◌&&◌, List,
 use Rattle.std.specs.List.{filter, flat_map, list_all, list_any}
 use denote.Enum.Bare.{sameb}
 use Rattle.sieve_reading.specs.Given.{given_number, given_text, given_texts, given_variable, in_role, literal_in, number_in, text_in, texts_in, variable_in}
-use Rattle.sieve_reading.specs.Tree.{Argument}
+use Rattle.sieve_reading.specs.CutArgument.{CutArgument}
 use Rattle.sieve_reading.specs.declared.label.Label.{Label}
 use Rattle.sieve_table.specs.Role.{is_expanded, names_variable, same_role}
 use Rattle.sieve_table.specs.Table.{Row, tag_row}
@@ -153,7 +153,7 @@ gives_all row asked = list_all (gives row) asked
 -- ARGUMENTS THAT ARE READ ALIKE
 
 -- arguments, there or not, that are the same as what they are read as
-abbrev pub ReadsSame : Sort → Presence → (argument other : Option Argument) → Type 0
+abbrev pub ReadsSame : Sort → Presence → (argument other : Option CutArgument) → Type 0
 ReadsSame texts always argument other = texts_in argument ≡ texts_in other
 ReadsSame texts perhaps argument other = given_texts argument ≡ given_texts other
 ReadsSame one_text always argument other = text_in argument ≡ text_in other
@@ -165,6 +165,6 @@ ReadsSame one_variable perhaps argument other = given_variable argument ≡ give
 ReadsSame one_number always argument other = number_in argument ≡ number_in other
 ReadsSame one_number perhaps argument other = given_number argument ≡ given_number other
 
-abbrev pub AreAlike : List Asked → (labels others : List Label) → (args arguments : List Argument) → Type 0
+abbrev pub AreAlike : List Asked → (labels others : List Label) → (args arguments : List CutArgument) → Type 0
 AreAlike [] labels others args arguments = Unit {0}
 AreAlike (asked ∷ rest) labels others args arguments = ReadsSame asked.sort asked.presence (in_role asked.role labels args) (in_role asked.role others arguments) × AreAlike rest labels others args arguments
