@@ -35,9 +35,9 @@ SAYS_NOTHING = re.compile(
     r"|== ErrorKind::OutOfMemory\b",
     re.M,
 )
-# What asks for room by a number. Apart from it: what is brought or is ghost.
+# What asks for room by a number. Apart from it: what is brought or is ghost, and a function where it is declared.
 ROOM = re.compile(r"\b(?:with_capacity|reserve(?:_exact)?|resize(?:_with)?|repeat(?:_n)?)(?=\()|\bvec!(?=\[in [^;\]]*;[^;\]]*;)")
-ASKS_NOTHING = re.compile(r"^ *(?:pub(?:\(\w+\))? )?(?:ghost|use) [^;]*;", re.M)
+ASKS_NOTHING = re.compile(r"^ *(?:pub(?:\(\w+\))? )?(?:ghost|use) [^;]*;|\bfn \w+", re.M)
 # The patterns of each table.
 KINDS = {"no_memory.tsv": (OUT_OF_MEMORY, SAYS_NOTHING), "room.tsv": (ROOM, ASKS_NOTHING)}
 
