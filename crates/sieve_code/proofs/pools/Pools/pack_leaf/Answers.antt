@@ -1,8 +1,10 @@
+use Rattle.std.proofs.Common.{subst}
 use Rattle.std.specs.Option.{option_map}
 use Rattle.sieve_operations.specs.Joined.{list_in}
-use Rattle.sieve_reading.specs.Reading.{flag_leaf, keep_leaf, redirect_leaf, reject_leaf, set_leaf, vacation_leaf}
+use Rattle.sieve_reading.specs.Reading.{Vacation, flag_leaf, keep_leaf, redirect_leaf, reject_leaf, set_leaf, vacation_leaf}
 use Rattle.sieve_reading.specs.view.Reading.{vacation_as}
-use Rattle.sieve_code.specs.Pool.{Pool, given_list, string_in, vacation_in}
+use Rattle.sieve_code.specs.Pool.{Kept, Pool, given_list, string_in, vacation_in}
+use Rattle.sieve_code.specs.view.Pools.{pool_as}
 use Rattle.sieve_code.proofs.Keeping.{kept_as, kept_still}
 use Rattle.sieve_code.proofs.pools.Pools.pack_leaf.Goals as goal
 
@@ -30,7 +32,9 @@ returns-in-Include c = rw c.in-Include.is (kept_still _ _)
 
 pub returns-in_ok-vacation-in-Vacation-2 : goal.returns-in_ok-vacation-in-Vacation-2
 returns-in_ok-vacation-in-Vacation-2 c =
-    rw c.in-Vacation.is (rw c.in_ok-vacation-in-Vacation-2.ensures.ok (kept_as vacation_leaf _ _ (λ (p : Pool). vacation_in p c.in_ok-vacation-in-Vacation.vacation) (vacation_as c.in-Vacation.vacation) c.in_ok-vacation-in-Vacation.ensures))
+    let packed : Pool → Vacation = λ p. vacation_in p c.in_ok-vacation-in-Vacation.vacation in
+    let kept = subst (λ v. Kept (pool_as c.args.self.now) (pool_as c.add_vacation.new.self) packed (vacation_as v)) c.into_inner.ensures c.in_ok-vacation-in-Vacation.ensures in
+    rw c.in-Vacation.is (rw c.in_ok-vacation-in-Vacation-2.ensures.ok (kept_as vacation_leaf _ _ packed (vacation_as c.in-Vacation.vacation.value) kept))
 
 pub returns-in_ok-reason-in-Reject : goal.returns-in_ok-reason-in-Reject
 returns-in_ok-reason-in-Reject c =
