@@ -1,4 +1,4 @@
-"""The rows of files in `examples/rows`.
+"""The rows of files in `examples/rows`..
 
 A file has paragraphs, with empty lines between them, and each is a case. A line `== TITLE` at the head of one is the title of it and of
 those after it, and a line `# ..` is a comment. What stands after a mark and a space is a line of octets; where a backslash stands
@@ -11,8 +11,8 @@ and without such a line it is empty; then the lines of the verdict, `> `; or the
 `=` alone for none.
 
 `*.faults`: the faults of scripts. Behind `== FAULT`, which is `ok` for none, stands a text a line, with escapes, and `\\` alone for no
-octets. Lines `| ` stand before each text of the paragraph and of those after it, up to other such lines; `|\\` stands for none. `+ `, the
-names of the profile in their order, holds for the paragraph.
+octets; `FAULT: TEXT` is its title. Lines `| ` stand before each text of the paragraph and of those after it, up to other such lines; `|\\`
+stands for none. `+ `, the names of the profile in their order, holds for the paragraph.
 
 `*.sessions`: `< ` a line of the input, `> ` one of the replies, `+ ` the names of the profile, `= ` the status where it isn't 0.
 
@@ -100,7 +100,7 @@ def of_faults(path, room):
         for text in texts:
             script = front + unescaped(text if text != "\\" else "")
             replies = runs.lines("ok", "main none", runs.SETTINGS, *runs.profile_lines(names), f'script personal "main" {fault}', "total 0 messages 0 errors")
-            yield runs.session(room, f"{path.name}, {text}", runs.put(b"script personal main", script) + b"report\n", replies, names=names)
+            yield runs.session(room, f"{path.name}, {fault}: {text}", runs.put(b"script personal main", script) + b"report\n", replies, names=names)
 
 
 def of_sessions(path, room):
