@@ -3,10 +3,8 @@ that is shown beside its `date`, files that servers keep, the oldest Python, and
 
 Faults are planted in what is read, and each has to be noticed.
 """
-import functools
 import pathlib
 import re
-import shutil
 import sys
 from unittest import mock
 
@@ -15,7 +13,7 @@ from .manual import COMMANDS, SITE_TOOL, TOP, told_by
 from .runs import LeftOut, Reading, Run, lines
 
 README, GATE, SERVERS = "README.md", "docs/GATE.md", sorted(str(it.relative_to(TOP)) for it in (TOP / "examples/ci").glob("*.yml"))
-# Pages that tools make of the sources, and one of what has been.
+# Pages that tools make of the sources.
 MADE = ("docs/CLAUSES.md", "docs/RULES.md")
 SHOWN = [README, "CONTRIBUTING.md", *sorted(f"docs/{it.name}" for it in (TOP / "docs").glob("*.md") if f"docs/{it.name}" not in MADE), *SERVERS]
 CODE = re.compile(r"^```\w*\n(.*?)^```|`([^`\n]+)`", re.M | re.S)
@@ -42,7 +40,7 @@ def names(path):
     yield "asked for in the README", asked, code(part(README, r"These are off unless asked for.*?: (.*?)\. "))
     for file, name in ("clock", "date"), ("envelopes", "envelopes"), ("mailbox", "mailbox"):
         told = [it.split() for it in re.findall(r"^\+ (.*)", homes.text_of(f"examples/rows/{file}.sessions"), re.M)]
-        yield from ((f"all names but {name} in {file}.sessions", [it for it in asked if it != name], it) for it in told if name not in it)
+        yield from ((f"all names but {name} in {file}.sessions", [it for it in asked if it != name], it) for it in told if name not in it and len(it) > 4)
     yield "always known in the language", known, code(part(homes.LANGUAGE, r"\*\*Always known\*\* are (.*?)\. "))
 
 
@@ -103,19 +101,19 @@ def commands(text, is_code):
 
 
 def helped(path, words):
-    """The help for a command, and its words from the program on, or nothing where another project has the help. An option alone may be any
-    program's, and a command alone is one of the tool for sites."""
-    site, names = (sys.executable, "-B", str(SITE_TOOL)), [it.rpartition("/")[2] for it in words]
-    if words[:1] and words[0].startswith("--"):
-        return "".join([*(told_by(path, "sievebench", "help", it) for it in ("test", "session", "dump")), *(told_by(path, *site, it, "--help") for it in COMMANDS)]), words
-    if words[:1] and words[0] in COMMANDS:
+    """The help for a command, and its words from the program on; nothing where that is another project's. An option alone may be that of any
+    command, and a word alone a command of the tool for sites."""
+    site, ours = (sys.executable, "-B", str(SITE_TOOL)), ("test", "session", "dump")
+    if words[0].startswith("--"):
+        return "".join([*(told_by(path, "sievebench", "help", it) for it in ours), *(told_by(path, *site, it, "--help") for it in COMMANDS)]), words
+    if words[0] in COMMANDS:
         return told_by(path, *site, words[0], "--help"), words
-    for at, (word, name) in enumerate(zip(words, names)):
-        more = words[at + 1] if at + 1 < len(words) else ""
+    for at, (word, more) in enumerate(zip(words, [*words[1:], ""])):
+        name = word.rpartition("/")[2]
         if name == "sievebench-site":
             return told_by(path, *site, *([more] if more in COMMANDS else []), "--help"), words[at:]
         if name == "sievebench":
-            return told_by(path, "sievebench", *(["help", more] if more in ("test", "session", "dump") else ["--help"])), words[at:]
+            return told_by(path, "sievebench", *(["help", more] if more in ours else ["--help"])), words[at:]
         if word.startswith("tools/"):
             return told_by(path, str(TOP / word), "--help"), words[at:]
     return None
