@@ -1,9 +1,8 @@
-"""The rows of files in `examples/rows`.
+"""The rows of files in `examples/rows`. The title of a row's run begins with the name of its file, and is its name in `docs/language.tsv`.
 
 A file has paragraphs, with empty lines between them, and each is a case. A line `== TITLE` at the head of one is the title of it and of
 those after it, and a line `# ..` is a comment. What stands after a mark and a space is a line of octets; where a backslash stands
-between the two, as in `@\\ A: b\\r\\n`, the octets have the escapes \\n, \\r, \\t, \\\\ and \\xHH, and no LF of their own. So do texts and
-parts.
+between the two, as in `@\\ A: b\\r\\n`, the octets have the escapes \\n, \\r, \\t, \\\\ and \\xHH, and no LF of their own. So do texts.
 
 `*.rows`: what becomes of a script and a mail. `| ` a line of the script, and where there is none, the script of the case before; `@ ` a
 line of the mail, which has no octets without one; `% ` the envelope's sender and recipient; `+ ` the names of the profile in their order,
@@ -11,13 +10,13 @@ and without such a line it is empty; then the lines of the verdict, `> `; or the
 `=` alone for none.
 
 `*.faults`: the faults of scripts. Behind `== FAULT`, which is `ok` for none, stands a text a line, with escapes, and `\\` alone for no
-octets. Lines `| ` stand before each text of the paragraph and of those after it, up to other such lines; `|\\` stands for none. `+ `, the
-names of the profile in their order, holds for the paragraph.
+octets; `FAULT: TEXT` is its title. Lines `| ` stand before each text of the paragraph and of those after it, up to other such lines; `|\\`
+stands for none. `+ `, the names of the profile in their order, holds for the paragraph.
 
 `*.sessions`: `< ` a line of the input, `> ` one of the replies, `+ ` the names of the profile, `= ` the status where it isn't 0.
 
-`*.words`: `$ ` the words of a command line after `sievebench`, as a shell reads them; `> ` a part of what stands on standard output,
-`2> ` of standard error, each with escapes; `= ` the status where it isn't 0. Where an output has no part, nothing may stand there.
+`*.words`: `$ ` the words of a command line after `sievebench`, as a shell reads them; `> ` a line of standard output, `2> ` of standard
+error; `= ` the status where it isn't 0.
 """
 import re
 import sys
@@ -100,7 +99,7 @@ def of_faults(path, room):
         for text in texts:
             script = front + unescaped(text if text != "\\" else "")
             replies = runs.lines("ok", "main none", runs.SETTINGS, *runs.profile_lines(names), f'script personal "main" {fault}', "total 0 messages 0 errors")
-            yield runs.session(room, f"{path.name}, {text}", runs.put(b"script personal main", script) + b"report\n", replies, names=names)
+            yield runs.session(room, f"{path.name}, {fault}: {text}", runs.put(b"script personal main", script) + b"report\n", replies, names=names)
 
 
 def of_sessions(path, room):
@@ -115,7 +114,7 @@ def of_words(path, room):
     """The cases of a `*.words` file."""
     for title, paragraph in paragraphs(path):
         case = Case(f"{path.name}, {title}", paragraph, ["$", ">", "2>", "="])
-        output, error = ([unescaped(part) for part in case.lines.get(mark, [])] for mark in (">", "2>"))
+        output, error = (case.octets.get(mark, b"") for mark in (">", "2>"))
         yield runs.Run(case.title, room, f"sievebench {case.lines['$'][0]}", output, error, case.status())
 
 
