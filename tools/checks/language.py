@@ -1,5 +1,5 @@
 """Whether each sentence of `docs/LANGUAGE.md` on what a script does names what fails where it is false. `docs/language.tsv` has a line for each
-sentence and each row of a table, in their order: it, and behind tabs rows of `examples/rows`, each by the title of its run, and checks, each by
+sentence and each row of a table, in their order: it, and after tabs rows of `examples/rows`, each by the title of its run, and checks, each by
 its module and words that stand there; or `-` where it says nothing of a script. What a sentence has between marks of code stands in something
 that it names.
 """

@@ -9,7 +9,7 @@ line of the mail, which has no octets without one; `% ` the envelope's sender an
 and without such a line it is empty; then the lines of the verdict, `> `; or the script's fault, `! `; or the lines of its code, `= `, with
 `=` alone for none.
 
-`*.faults`: the faults of scripts. Behind `== FAULT`, which is `ok` for none, stands a text a line, with escapes, and `\\` alone for no
+`*.faults`: the faults of scripts. After `== FAULT`, which is `ok` for none, stands a text a line, with escapes, and `\\` alone for no
 octets; `FAULT: TEXT` is its title. Lines `| ` stand before each text of the paragraph and of those after it, up to other such lines; `|\\`
 stands for none. `+ `, the names of the profile in their order, holds for the paragraph.
 
