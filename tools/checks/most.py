@@ -26,15 +26,15 @@ def fitting(piece, *others, limit=TEXT_LIMIT):
     return (limit - sum(map(len, others))) // len(piece)
 
 
-def turns(room, title, cases, names=""):
+def turns(room, title, cases, names="", sender=""):
     """A session of scripts and mails in turn, with a report of each: its cases are a script, a mail, the lines of its verdict, and the
     script's fault, if it has one."""
-    octets, told = [b"main personal main\n"], ["ok"]
+    octets, told = [b"main personal main\n", *([b"envelope %s \n" % sender.encode()] if sender else [])], ["ok"] * (2 if sender else 1)
     for script, mail, verdict, *fault in cases:
         octets += [put(b"script personal main", script), put(b"message m", mail), b"report\n"]
         verdict = [*KEPT, 'error personal "main" line 0 invalid-script'] if fault else verdict
         judged = f'script personal "main" {fault[0] if fault else "ok"}'
-        told += ["ok", "ok", 'main personal "main"', runs.SETTINGS, *runs.profile_lines(names), judged, 'message "m"', *(f"  {line}" for line in verdict)]
+        told += ["ok", "ok", 'main personal "main"', runs.SETTINGS.replace('""', f'"{sender}"', 1), *runs.profile_lines(names), judged, 'message "m"', *(f"  {line}" for line in verdict)]
         told += [] if any(line.startswith("read ") for line in verdict) else ['  read personal "main"']
         told += [f'total 1 messages {sum(line.startswith("error ") for line in verdict)} errors']
     return runs.session(room, f"as many as there may be: {title}", b"".join(octets), lines(*told), names=names)
@@ -170,6 +170,25 @@ def of_lists(room):
     most = fitting(b'"a",', form % b"[]", b'"z"')
     told = [(form % listed(b'"a"', count, b'"z"'), b"", ['vacation "x" addresses' + ' "a"' * (count - 1) + ' "z"', *KEPT]) for count in around(most, 15, 16)]
     yield turns(room, "addresses of vacation", told, "vacation")
+
+
+def of_counts(room):
+    """Values that are counted: strings, addresses of the envelope, flags, and a body, which is one."""
+    front = b'require ["variables", "imap4flags", "envelope", "relational", "body"];\n'
+    names = "body relational"
+    for title, form, piece, empty, sender in [
+        ("strings that are counted", b'if string :count "eq" %s "%d" { discard; }', b'"a"', b'""', ""),
+        ("addresses of the envelope that are counted", b'if envelope :count "eq" %s "%d" { discard; }', b'"from"', b'"to"', "a@b.example"),
+    ]:
+        most = fitting(piece + b",", front, form % (b"[]", 9_999_999), empty)
+        cases = [(front + form % (listed(piece, count + 1, empty), count), b"", ["discard"]) for count in around(most, 9, 12, 15, 16, 17)]
+        yield turns(room, title, cases, names, sender)
+    flags = [b"f%05x" % number for number in range(fitting(b"f00000 ", front, b'setflag "";if hasflag :count "eq" "9999999" { discard; }'))]
+    cases = [(front + b'setflag "%s";if hasflag :count "eq" "%d" { discard; }' % (b" ".join(flags[:count]), count), b"", ["discard"]) for count in around(len(flags), 9, 12, 15, 16)]
+    yield turns(room, "flags that are counted", cases, names)
+    most = fitting(b"x", b"\n", limit=MESSAGE_LIMIT)
+    cases = [(front + b'if body :raw :count "eq" "1" { discard; }', b"\n" + b"x" * count, ["discard"]) for count in around(most, 8, 16, 20)]
+    yield turns(room, "octets of a body that is counted", cases, names)
 
 
 def of_commands(room):
@@ -411,7 +430,7 @@ def of_words(room):
 
 def of_sessions(room):
     """All of them."""
-    for part in (of_values, of_fields, of_keys, of_lists, of_commands, of_faults, of_strings, of_references, of_names, of_bodies, of_words):
+    for part in (of_values, of_fields, of_keys, of_lists, of_counts, of_commands, of_faults, of_strings, of_references, of_names, of_bodies, of_words):
         folder = room / f"most_{part.__name__}"
         folder.mkdir()
         yield from some(part.__name__, part(folder))

@@ -1,9 +1,11 @@
-"""Each place where the libraries and the program say themselves that memory is out, and each where they ask for room by a number.
+"""Each place where the libraries and the program say themselves that memory is out, each where they ask for room by a number, and each call of
+what answers that memory is out where a number is too large.
 
 A place of the first kind answers it of something else than what answered it first, so nothing but its reason says that memory was refused
-there. One of the second kind may ask for more than there is. The tables `no_memory.tsv` and `room.tsv` have a row for each, in cells with tabs
-between them: the crate; the function, after its type; what stands at the place; a word for what refuses there, or for what the room holds; and the
-reason, which a reader checks. Of room it says what bounds it.
+there. One of the second kind may ask for more than there is, and one of the third may be handed a number that nothing has. The tables
+`no_memory.tsv`, `room.tsv` and `by_number.tsv` have a row for each, in cells with tabs between them: the crate; the function, after its type; what
+stands at the place; a word for what refuses there, for what the room holds, or for what is counted; and the reason, which a reader checks. Of room
+and of numbers it says what bounds them. What is called in a place of the third kind is what has such a reason in `no_memory.tsv`.
 
 A word in backquotes is a name that the function must have: where it calls something else, what refuses is something else. Nothing more of the
 function is compared, so an edit that neither adds a place nor takes one away breaks no table. Faults are planted in a small crate and in both
@@ -38,8 +40,9 @@ SAYS_NOTHING = re.compile(
 # What asks for room by a number. Apart from it: what is brought or is ghost, and a function where it is declared.
 ROOM = re.compile(r"\b(?:with_capacity|reserve(?:_exact)?|resize(?:_with)?|repeat(?:_n)?)(?=\()|\bvec!(?=\[in [^;\]]*;[^;\]]*;)")
 ASKS_NOTHING = re.compile(r"^ *(?:pub(?:\(\w+\))? )?(?:ghost|use) [^;]*;|\bfn \w+", re.M)
-# The patterns of each table.
-KINDS = {"no_memory.tsv": (OUT_OF_MEMORY, SAYS_NOTHING), "room.tsv": (ROOM, ASKS_NOTHING)}
+# The patterns of each table; those of calls are made of another.
+KINDS = {"no_memory.tsv": (OUT_OF_MEMORY, SAYS_NOTHING), "room.tsv": (ROOM, ASKS_NOTHING), "by_number.tsv": (None, ASKS_NOTHING)}
+OF_A_NUMBER, NOTHING = "no memory was refused", re.compile(r"(?!)")
 
 Row = collections.namedtuple("Row", COLUMNS)
 # Its crate, its function, and what stands there; its file and line, and the text of the function after its name, without its contract.
@@ -124,7 +127,7 @@ class Places(Reading):
 
     def found(self, path):
         """What is otherwise."""
-        places = places_in(self.index(), self.table.name)
+        places = places_in(self.index(), self.table)
         self.looked = len(places)
         rows, wrong = read(self.table)
         return [*wrong, *compared(self.table.name, rows, places)]
@@ -132,7 +135,17 @@ class Places(Reading):
 
 def places_in(index, table):
     """The places of a table's kind."""
-    return [it for file in files_of(index) for it in places_of(file, *KINDS[table])]
+    pattern, apart = KINDS[table.name]
+    called = {} if pattern else calls(table.parent / "no_memory.tsv")
+    return [it for file in files_of(index) for it in places_of(file, pattern or called.get(file.crate, NOTHING), apart)]
+
+
+def calls(table):
+    """Of each crate the calls of what answers that memory is out of a number."""
+    names = {}
+    for row in (it for it in read(table)[0] if it.reason.startswith(OF_A_NUMBER)):
+        names.setdefault(row.crate, []).append(row.function.rpartition("::")[2])
+    return {crate: re.compile(rf"\b(?:{'|'.join(them)})(?=\()") for crate, them in names.items()}
 
 
 class Rows(Reading):
@@ -145,7 +158,7 @@ class Rows(Reading):
 
     def found(self, path):
         """The rows of which it isn't."""
-        places, (rows, _) = places_in(audits.crates(), self.command), read(self.table)
+        places, (rows, _) = places_in(audits.crates(), self.table), read(self.table)
         self.looked = len(rows)
         others = [(row, [*rows[:at], *more, *rows[at + 1 :]]) for at, row in enumerate(rows) for more in ([], [row, row])]
         return [f"nothing says so of {row}" for row, those in others if not list(compared(self.command, those, places))]
@@ -182,15 +195,29 @@ impl Bag {
         }
     }
 }
+
+/// One more. More than 64 bits are answered as out of memory.
+fn next(count: u64) -> Result<u64, AllocError> {
+    count.checked_add(1).ok_or(AllocError)
+}
+
+fn count(bag: &Bag) -> Result<u64, AllocError> {
+    next(bag.len)
+}
 """,
     "no_memory.tsv": """\
 crate	function	place	word	reason
 low	Fault::from	Fault::NoMemory	`AllocError`	`?` puts it there
 low	Bag::put	Fault::NoMemory	`put`	`put` has no other refusal
+low	next	AllocError	`checked_add`	no memory was refused, but a count has 64 bits
 """,
     "room.tsv": """\
 crate	function	place	word	reason
 low	Bag::put	Vec::with_capacity	parts	one for each
+""",
+    "by_number.tsv": """\
+crate	function	place	word	reason
+low	count	next	what is there	each has an octet
 """,
 }
 # What is changed in a file, what stands in its place, and what must be said of both tables.
@@ -211,6 +238,8 @@ PLANTED = [
     ("a place less", SOURCE, "Err(Fault::NoMemory)", "Err(Fault::Full)", ["low, Bag::put: Fault::NoMemory: 0 found, 1 in no_memory.tsv: take out the row of what is gone, of `put`"]),
     ("room more", SOURCE, "let count", "self.names.reserve(1)?;\n        let count", ["low, Bag::put: reserve: 1 found, 0 in room.tsv: add a row with its reason for what is new, of crates/low/src/lib.rt:20"]),
     ("room less", SOURCE, "Vec::with_capacity(self.alloc, count)?", "Vec::new(self.alloc)", ["low, Bag::put: Vec::with_capacity: 0 found, 1 in room.tsv: take out the row of what is gone, of parts"]),
+    ("a number more", SOURCE, "next(bag.len)", "next(next(bag.len)?)", ["low, count: next: 2 found, 1 in by_number.tsv: add a row with its reason for what is new, of crates/low/src/lib.rt:35, crates/low/src/lib.rt:35"]),
+    ("a number less", SOURCE, "next(bag.len)", "Ok(bag.len)", ["low, count: next: 0 found, 1 in by_number.tsv: take out the row of what is gone, of what is there"]),
     ("another call refuses", SOURCE, "self.put(", "self.put_all(", ["low, Bag::put: it has no `put`, which no_memory.tsv has as the word of Fault::NoMemory: say in the row what stands there now"]),
     (
         "another type has the function",
@@ -257,9 +286,10 @@ class Planted(Reading):
 
 
 def of_code(room):
-    """Both tables, and whether changes of them and of the code are noticed."""
+    """The tables, and whether changes of them and of the code are noticed."""
     yield Places("the places that say that memory is out", TABLES / "no_memory.tsv", audits.crates)
     yield Places("the places that ask for room by a number", TABLES / "room.tsv", audits.crates)
+    yield Places("the calls of what refuses a number", TABLES / "by_number.tsv", audits.crates)
     yield from (Rows(TABLES / table) for table in KINDS)
     for number, planted in enumerate(PLANTED):
         yield Planted(room / str(number), *planted)
