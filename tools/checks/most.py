@@ -29,7 +29,7 @@ def fitting(piece, *others, limit=TEXT_LIMIT):
 def turns(room, title, cases, names="", sender=""):
     """A session of scripts and mails in turn, with a report of each: its cases are a script, a mail, the lines of its verdict, and the
     script's fault, if it has one."""
-    octets, told = [b"main personal main\n", *([b"envelope %s \n" % sender.encode()] if sender else [])], ["ok"] * (2 if sender else 1)
+    octets, told = [b"main personal main\n", *([b'envelope %s ""\n' % sender.encode()] if sender else [])], ["ok"] * (2 if sender else 1)
     for script, mail, verdict, *fault in cases:
         octets += [put(b"script personal main", script), put(b"message m", mail), b"report\n"]
         verdict = [*KEPT, 'error personal "main" line 0 invalid-script'] if fault else verdict
