@@ -60,6 +60,10 @@ def case_of(user: User, main: Main, mail: Mail, verdict: Verdict, found: Survey,
     return Case(user, main, mail, verdict, unjudged, seconds, block, bool(unjudged) and is_skipped(verdict, found))
 
 
+# The cases of a batch, and its mails without an envelope.
+Told = Tuple[List[Case], List[Mail]]
+
+
 class Judged(NamedTuple):
     """All cases, in the order of the mails, the users and the main scripts; the surveys of the users; the mails without an envelope."""
 
@@ -101,7 +105,10 @@ class Judge:
 
     def all(self) -> Judged:
         """The cases of all batches."""
-        found = self.batches(self.batch, self.refused)
+        return self.judged(self.batches(self.batch, self.refused))
+
+    def judged(self, found: List[Told]) -> Judged:
+        """The cases of all batches, of what comes of each."""
         cases = sorted((case for cases, _ in found for case in cases), key=lambda case: case.mail.path)
         bare = {mail.path: mail for _, mails in found for mail in mails}
         return Judged(cases, self.surveys, [bare[path] for path in sorted(bare)], self.progress.seconds())
@@ -129,21 +136,26 @@ class Judge:
         finally:
             self.progress.end()
 
-    def batch(self, batch: Batch) -> Tuple[List[Case], List[Mail]]:
-        """The cases of a batch, and its mails without an envelope."""
-        user, found = batch.user, self.surveys[batch.number]
-        cases = []
+    def batch(self, batch: Batch) -> Told:
+        """What is told of a batch."""
         with self.held(batch) as held:
-            for main in batch.mains:
-                began = time.monotonic()
-                told = chained(held.bench, main.scripts, held.mails)
-                seconds = (time.monotonic() - began) / len(held.mails)
-                for name, mail in held.mails.items():
-                    cases.append(case_of(user, main, mail, told[name], found, seconds))
+            cases = self.cases(batch, held)
         self.progress.add(len(batch.mails))
         return cases, held.bare
 
-    def refused(self, batch: Batch) -> Tuple[List[Case], List[Mail]]:
+    def cases(self, batch: Batch, held: Held) -> List[Case]:
+        """The cases of a batch that is in a session."""
+        user, found = batch.user, self.surveys[batch.number]
+        cases = []
+        for main in batch.mains:
+            began = time.monotonic()
+            told = chained(held.bench, main.scripts, held.mails)
+            seconds = (time.monotonic() - began) / len(held.mails)
+            for name, mail in held.mails.items():
+                cases.append(case_of(user, main, mail, told[name], found, seconds))
+        return cases
+
+    def refused(self, batch: Batch) -> Told:
         """The cases of mails for which memory is refused."""
         self.progress.add(len(batch.mails))
         cases = [(main, mail, mail.expected.block(main)) for main in batch.mains for mail in batch.mails]

@@ -81,7 +81,7 @@ class Telling:
 
     def trace(self, case: Case) -> Trace:
         """Where the run of a case comes."""
-        return self.places.facts.judge.traces.get((case.mail.path, case.main.key), ())
+        return self.places.facts.traces.get((case.mail.path, case.main.key), ())
 
     def branches(self, trace: Trace, path: bytes, line: int) -> Iterator[Inside]:
         """The branches in which the commands of a line are to which a run comes."""
@@ -116,7 +116,7 @@ class Telling:
     def visit(self, visit: Visit) -> Markup:
         """A script that was looked up."""
         if visit not in self.visits:
-            branches = filter(None, (self.places.branch_link(visit.path, it) for it in visit.places))
+            branches = filter(None, (self.places.branch_link(visit.path, it) for it in sorted(visit.places)))
             below = listed(branches)
             self.visits[visit] = joined([self.places.script_link(visit.path), below])
         return self.visits[visit]

@@ -16,7 +16,7 @@ from .mails import Mail
 from .mains import Script
 from .program import Program
 from .report_rows import Row, rows_of
-from .traces import TracingJudge, UntestedTraced, Visit
+from .traces import Traced, Visit
 from .untested import Tried
 from .words import quoted, word_of
 
@@ -30,15 +30,15 @@ class Facts:
 
     def __init__(self, site: Site, program: Program, jobs: int, edit: Optional[Diff] = None) -> None:
         self.site, self.edit = site, edit
-        self.judge = TracingJudge(site, program, jobs)
-        self.checked = Checked(found_in(site, self.judge.all()), False, False)
-        self.untested = UntestedTraced(self.judge)
-        self.rows: List[Row] = rows_of(self.checked.cases, self.judge.traces)
+        traced = Traced(site, program, jobs)
+        self.judge, self.traces = traced.judge, traced.traces
+        self.checked = Checked(found_in(site, self.judge.judged(traced.found)), False, False)
+        self.rows: List[Row] = rows_of(self.checked.cases, self.traces)
         self.mails: List[Mail] = [mail for row in self.rows for mail in row.mails]
         self.scripts: Dict[bytes, Script] = {it.path: it for user in site.users for it in user.scripts}
         self.commands: Dict[bytes, List[Command]] = {path: commands(it.text) for path, it in self.scripts.items()}
         self.left: Dict[bytes, List[Tried]] = {}
-        for tried in self.untested.left():
+        for tried in traced.left():
             self.left.setdefault(tried.script.path, []).append(tried)
         # Of each script that runs look up the mails of these runs, and those that come to each place, by their verdicts.
         self.asked: Dict[bytes, Set[int]] = {}
@@ -50,7 +50,7 @@ class Facts:
         numbers = {mail.path: number for number, mail in enumerate(self.mails)}
         alike: Dict[Tuple[Visit, Tuple[bytes, ...]], Set[int]] = {}
         for case in self.checked.cases:
-            for visit in self.judge.traces.get((case.mail.path, case.main.key), ()):
+            for visit in self.traces.get((case.mail.path, case.main.key), ()):
                 alike.setdefault((visit, case.lines()), set()).add(numbers[case.mail.path])
         for (visit, verdict), mails in alike.items():
             self.asked.setdefault(visit.path, set()).update(mails)

@@ -3,17 +3,18 @@ from __future__ import annotations
 
 import itertools
 import json
-from typing import Callable, Dict, Iterator, List, Set
+from typing import Dict, Iterator, List, Optional
 
 from .changes import Change, changes, commands
 from .chains import Bench, chained
 from .faults import sentence_of
 from .findings import PLAIN
 from .folder import Site, User
-from .judge import Batch, Held, Judge, put_settings
+from .judge import Batch, Held, Judge, Told
 from .mains import Main, Script
-from .program import NO_MEMORY, Program, Session, Verdict
-from .reach import Reach
+from .program import NO_MEMORY, Place, Program, Verdict
+from .reach import Came, Reach, places_of, with_end
+from .seats import Seat, Seats
 from .shown import Look
 from .sieve_text import required
 
@@ -22,8 +23,6 @@ SOME, FEW = 4, 40
 # So much of a command is shown.
 SHOWN = 120
 Verdicts = Dict[bytes, Verdict]
-# Gives the mails that come to each block of a script, or may.
-Entered = Callable[[Held, Main, Script, List[bytes]], Dict[int, List[bytes]]]
 
 
 class Tried:
@@ -66,19 +65,25 @@ class Untested:
         # The mails for which memory is refused.
         self.refused: Dict[bytes, None] = {}
         self.numbers = itertools.count()
-        self.judge.batches(self.try_batch, self.refuse_batch)
+        self.few = Seats(program, self.judge.seats.begin)
+        with self.few:
+            self.found = self.judge.batches(self.try_batch, self.refuse_batch)
 
-    def refuse_batch(self, batch: Batch) -> None:
+    def refuse_batch(self, batch: Batch) -> Told:
         """Leaves out mails for which memory is refused."""
         self.refused.update(dict.fromkeys(mail.path for mail in batch.mails))
+        return self.judge.refused(batch)
 
-    def try_batch(self, batch: Batch) -> None:
-        """Tries the changes on some mails, and asks where these come."""
+    def try_batch(self, batch: Batch) -> Told:
+        """Judges some mails, tries the changes on them, and asks where these come."""
         number = next(self.numbers)
-        with self.judge.held(batch) as held, self.judge.program.session() as session:
-            few = Few(self.judge, held, session)
-            for main in batch.user.mains:
-                base = chained(held.bench, main.scripts, held.mails)
+        with self.judge.held(batch) as held, self.few.taken(batch.fresh) as seat:
+            cases = self.judge.cases(batch, held)
+            few = Few(self.judge, held, seat, batch.user)
+            names = {mail.path: name for name, mail in held.mails.items()}
+            for main in batch.mains:
+                base = {names[it.mail.path]: it.verdict for it in cases if it.main is main}
+                came = self.came(batch, few, main, base)
                 for script in looked_up(batch.user, base):
                     self.unasked.pop(script.path, None)
                     tried = self.tried.get(script.path)
@@ -86,17 +91,23 @@ class Untested:
                         continue
                     # Parts that are tried at once begin at different changes: what one notices, the other needn't try.
                     start = len(tried) * (number % self.judge.jobs) // self.judge.jobs
-                    trial = Trial(held, few, main, script, base, self.entered)
+                    trial = Trial(few, main, script, base, came)
                     for it in [*tried[start:], *tried[:start]]:
                         if it.open():
                             trial.take(it)
                     trial.end()
                     trial.ask([it for it in tried if it.open() and not it.reached])
+        self.judge.progress.add(len(batch.mails))
+        return cases, held.bare
 
-    def entered(self, held: Held, main: Main, script: Script, ids: List[bytes]) -> Dict[int, List[bytes]]:
-        """The mails that come to each block of a script, or may."""
-        blocks = [it.block for it in commands(script.text) if it.block is not None]
-        return Reach(held.bench, ids, main, script).entered(blocks)
+    def came(self, batch: Batch, few: "Few", main: Main, verdicts: Verdicts) -> Dict[bytes, Optional[Came]]:
+        """Of each mail the places to which its run comes; nothing where the run fails."""
+        return Reach(few.held.bench, list(verdicts), main).came(self.places(batch, verdicts))
+
+    def places(self, batch: Batch, verdicts: Verdicts) -> Dict[Place, List[int]]:
+        """The places of the scripts that some verdicts looked up and that can run."""
+        faults, found = self.judge.surveys[batch.number].faults, looked_up(batch.user, verdicts)
+        return {it.at(): places_of(commands(it.text)) for it in found if it.at() not in faults}
 
     def judged(self) -> List[Tried]:
         """All changes of the scripts that some verdict looked up."""
@@ -131,47 +142,46 @@ def looked_up(user: User, verdicts: Verdicts) -> List[Script]:
 class Few:
     """A session into which mails of another are put as they are wanted."""
 
-    def __init__(self, judge: Judge, held: Held, session: Session) -> None:
-        self.judge, self.held, self.session = judge, held, session
-        self.bench = Bench(session, {})
-        self.bench.become(held.bench.scripts)
-        put_settings(session, judge.site)
-        self.there: Set[bytes] = set()
+    def __init__(self, judge: Judge, held: Held, seat: Seat, user: User) -> None:
+        self.judge, self.held, self.seat = judge, held, seat
+        seat.put_scripts(user)
 
     def bench_of(self, ids: List[bytes]) -> Bench:
         """A session with these mails: the other one, with all, where they aren't few."""
         if len(ids) > FEW:
             return self.held.bench
-        for name in self.there - set(ids):
-            self.session.edit("drop-message", [name], None, "the end of a mail")
-        for name in ids:
-            if name not in self.there:
-                self.judge.put_mail(self.session, name, self.held.mails[name])
-        self.there = set(ids)
-        return self.bench
+        self.seat.become({name: self.held.mails[name] for name in ids}, self.judge.put_mail)
+        return self.seat.bench
 
 
 class Trial:
     """The changes of a script, tried on some mails under a main script."""
 
-    def __init__(self, held: Held, few: Few, main: Main, script: Script, base: Verdicts, entered: Entered) -> None:
-        self.held, self.few, self.main, self.script, self.base = held, few, main, script, base
+    def __init__(
+        self, few: Few, main: Main, script: Script, base: Verdicts, came: Dict[bytes, Optional[Came]]
+    ) -> None:
+        self.few, self.main, self.script, self.base = few, main, script, base
         self.ids = [name for name, verdict in base.items() if (script.at(), True) in verdict.reads]
         self.variables = b"variables" in required(script.text)[1]
-        # The mails that come to each block, or may.
-        self.entered = entered(held, main, script, self.ids)
+        # The places to which each mail comes, where that is known.
+        found = {name: came[name] for name in self.ids}
+        self.came = {name: None if it is None else it[script.at()] for name, it in found.items()}
+
+    def coming(self, place: int) -> List[bytes]:
+        """The mails that come to a place, or may."""
+        return [name for name, found in self.came.items() if found is None or place in found]
 
     def around(self, it: Tried) -> List[bytes]:
         """The mails that come to the block in which a change is."""
         inside = it.change.command.inside
-        return self.ids if inside is None else self.entered[inside]
+        return self.ids if inside is None else self.coming(inside)
 
     def mails(self, it: Tried) -> List[bytes]:
         """The mails that could notice a change: those that come to the block in which it is. A condition that is made false is noticed
         by those alone that come to its own block, unless it sets variables where it doesn't hold as a whole."""
         block = it.change.command.block
         narrow = it.change.denies() and not self.variables
-        return self.entered[block] if narrow and block is not None else self.around(it)
+        return self.coming(block) if narrow and block is not None else self.around(it)
 
     def take(self, it: Tried) -> None:
         """Tries a change, on a few mails first."""
@@ -190,18 +200,22 @@ class Trial:
 
     def end(self) -> None:
         """Puts the script's own text back."""
-        for bench in (self.held.bench, self.few.bench):
+        for bench in (self.few.held.bench, self.few.seat.bench):
             bench.replace(self.script.at(), self.script.text)
 
     def ask(self, left: List[Tried]) -> None:
-        """Asks which of these changes mails come to, a few mails first."""
+        """Asks which of these changes mails come to, a few mails first, where that isn't known: before an `elsif`, and of runs that fail."""
+        known = {place for found in self.came.values() for place in found or ()}
+        unknown = None in self.came.values()
         points = {it.change.command.start(): it.change.command for it in left if self.around(it)}
-        found: Set[int] = set()
-        for ids in parts_of(self.ids):
-            reach = Reach(self.few.bench_of(ids), ids, self.main, self.script)
-            found |= reach.reached([it for start, it in points.items() if start not in found])
+        asked = [it for start, it in points.items() if start not in known and (unknown or it.name() == b"elsif")]
+        for ids in parts_of(self.ids) if asked else ():
+            reach = Reach(self.few.bench_of(ids), ids, self.main)
+            for it in asked:
+                if it.start() not in known and reach.ended(self.script.at(), *with_end(self.script.text, it)):
+                    known.add(it.start())
         for it in left:
-            it.reached = it.reached or it.change.command.start() in found
+            it.reached = it.reached or it.change.command.start() in known
 
 
 def parts_of(ids: List[bytes]) -> Iterator[List[bytes]]:
