@@ -310,7 +310,7 @@ def of_servers(room):
     write(room / "site", site({"1.eml": b"Subject: a\n\n"}, main=b"discard;"))
     packs = f'mkdir bin && ln -s "$(readlink -f "$(command -v sievebench)")" bin/sievebench && python3 {shlex.quote(str(PACK))} bin/sievebench-site'
     yield Run("examples for servers: a repository", room, f"{packs} && {GIT} init -q && {GIT} add site && {GIT} commit -qm one")
-    for name, pages in (("github", ["report.html"]), ("gitlab", ["report.html", "changes.html"])):
+    for name, pages in (("github", ["report.html"]), ("gitlab", ["report.html", "changes.html"]), ("github-shards", ["report.html"]), ("gitlab-shards", ["report.html"])):
         text = (SERVERS / f"{name}.yml").read_text(encoding="utf-8")
         steps = re.findall(STEP, text, re.M)
         assert [page for _, page in steps] == pages and all(re.search(rf"paths?: .*\b{page}", text) for page in pages), f"examples for servers: {name}.yml"
