@@ -2,15 +2,20 @@
 
 from __future__ import annotations
 
+import itertools
 import os
 from typing import Dict, List, Optional, Set, Tuple
 
+from . import cautions
 from .changes import Command, commands
 from .checked import Checked, found_in
 from .diff import Diff
 from .ends import refuse
+from .expected import Key
 from .files import OUTPUTS, octets_of, refuse_unwritable
+from .findings import Finding
 from .folder import Site
+from .judge import Case
 from .letterheads import Letterhead, letterhead_of
 from .mails import Mail
 from .mains import Script
@@ -33,7 +38,12 @@ class Facts:
         traced = Traced(site, program, jobs)
         self.judge, self.traces = traced.judge, traced.traces
         self.checked = Checked(found_in(site, self.judge.judged(traced.found)), False, False)
-        self.rows: List[Row] = rows_of(self.checked.cases, self.traces)
+        # Of each mail its head and the addresses of its envelope as words, and what a server may do otherwise under each main script.
+        self.heads: Dict[bytes, Tuple[Letterhead, str]] = {}
+        self.cautions: Dict[Tuple[bytes, Key], Tuple[Finding, ...]] = {}
+        for _, cases in itertools.groupby(self.checked.cases, lambda case: case.mail.path):
+            self.take_mail(list(cases))
+        self.rows: List[Row] = rows_of(self.checked.cases, self.traces, self.cautions)
         self.mails: List[Mail] = [mail for row in self.rows for mail in row.mails]
         self.scripts: Dict[bytes, Script] = {it.path: it for user in site.users for it in user.scripts}
         self.commands: Dict[bytes, List[Command]] = {path: commands(it.text) for path, it in self.scripts.items()}
@@ -58,11 +68,16 @@ class Facts:
             for place in visit.places:
                 places.setdefault(place, {}).setdefault(verdict, set()).update(mails)
 
-    def letterhead(self, mail: Mail) -> Tuple[Letterhead, Tuple[str, str]]:
-        """The head of a mail, and the addresses of its envelope as words."""
+    def take_mail(self, cases: List[Case]) -> None:
+        """Tells what is read from the mail of some cases."""
+        mail = cases[0].mail
         octets = octets_of(mail.path)
         envelope = self.judge.envelope_of(mail, octets)
-        return letterhead_of(octets), (word_of(envelope.sender or b""), word_of(envelope.recipient or b""))
+        addresses = f"{word_of(envelope.sender or b'')} {word_of(envelope.recipient or b'')}"
+        self.heads[mail.path] = letterhead_of(octets), addresses
+        for case in cases:
+            found = cautions.of_case(self.site, case.user, case.verdict, envelope, octets)
+            self.cautions[mail.path, case.main.key] = tuple(dict.fromkeys([*cautions.of_mail(b"", octets), *found]))
 
 
 def refuse_place(path: bytes, folder: bytes) -> None:

@@ -160,10 +160,8 @@ def answers_of(judge: Judge, batch: Batch) -> Iterator[Answer]:
 
 def cautions_of(judge: Judge, user: User, mail: Mail, verdict: Verdict) -> List[Finding]:
     """What a server may do otherwise with a mail, and what the site lacks for the scripts that were looked up."""
-    octets, seen = octets_of(mail.path), {place for place, _ in verdict.reads}
-    why = cautions.why_no_answer(judge.envelope_of(mail, octets), octets)
-    scripts = [script for script in user.scripts if script.at() in seen]
-    found = [*cautions.of_verdict(judge.site, user, verdict, why), *cautions.of_scripts(judge.site, scripts)]
+    octets = octets_of(mail.path)
+    found = cautions.of_case(judge.site, user, verdict, judge.envelope_of(mail, octets), octets)
     return list(dict.fromkeys([*cautions.of_mail(mail.path, octets), *found]))
 
 
