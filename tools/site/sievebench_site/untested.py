@@ -32,7 +32,7 @@ class Tried:
         self.script, self.change = script, change
         self.text = change.command.shown(script.text)
         self.same = change.is_none(script.text)
-        self.faulty = self.noticed = self.reached = False
+        self.tried = self.faulty = self.noticed = self.reached = False
 
     def open(self) -> bool:
         """Whether it could be noticed and wasn't until now."""
@@ -92,7 +92,8 @@ class Untested:
                     # Parts that are tried at once begin at different changes: what one notices, the other needn't try.
                     start = len(tried) * (number % self.judge.jobs) // self.judge.jobs
                     trial = Trial(few, main, script, base, came)
-                    for it in [*tried[start:], *tried[:start]]:
+                    # Those for which the same mails are wanted stand together.
+                    for it in sorted([*tried[start:], *tried[:start]], key=lambda it: trial.block(it) or 0):
                         if it.open():
                             trial.take(it)
                     trial.end()
@@ -144,13 +145,17 @@ class Few:
 
     def __init__(self, judge: Judge, held: Held, seat: Seat, user: User) -> None:
         self.judge, self.held, self.seat = judge, held, seat
+        self.there: Dict[bytes, None] = {}
         seat.put_scripts(user)
 
     def bench_of(self, ids: List[bytes]) -> Bench:
         """A session with these mails: the other one, with all, where they aren't few."""
         if len(ids) > FEW:
             return self.held.bench
-        self.seat.become({name: self.held.mails[name] for name in ids}, self.judge.put_mail)
+        # Those that are there stay as long as all are few.
+        names = dict.fromkeys([*self.there, *ids])
+        self.there = names if len(names) <= FEW else dict.fromkeys(ids)
+        self.seat.become({name: self.held.mails[name] for name in self.there}, self.judge.put_mail)
         return self.seat.bench
 
 
@@ -167,36 +172,37 @@ class Trial:
         found = {name: came[name] for name in self.ids}
         self.came = {name: None if it is None else it[script.at()] for name, it in found.items()}
 
-    def coming(self, place: int) -> List[bytes]:
-        """The mails that come to a place, or may."""
-        return [name for name, found in self.came.items() if found is None or place in found]
+    def coming(self, block: Optional[int]) -> List[bytes]:
+        """The mails that come to a block, or may; all where it is none."""
+        return [name for name, found in self.came.items() if block is None or found is None or block in found]
 
-    def around(self, it: Tried) -> List[bytes]:
-        """The mails that come to the block in which a change is."""
-        inside = it.change.command.inside
-        return self.ids if inside is None else self.coming(inside)
-
-    def mails(self, it: Tried) -> List[bytes]:
-        """The mails that could notice a change: those that come to the block in which it is. A condition that is made false is noticed
-        by those alone that come to its own block, unless it sets variables where it doesn't hold as a whole."""
-        block = it.change.command.block
-        narrow = it.change.denies() and not self.variables
-        return self.coming(block) if narrow and block is not None else self.around(it)
+    def block(self, it: Tried) -> Optional[int]:
+        """The block to which the mails come that could notice a change: the one in which it is, if it is in one. A condition that is made
+        false is noticed by those alone that come to its own block, unless it sets variables where it doesn't hold as a whole."""
+        command = it.change.command
+        return command.block if it.change.denies() and not self.variables else command.inside
 
     def take(self, it: Tried) -> None:
         """Tries a change, on a few mails first."""
-        place, text = it.script.at(), it.change.of(it.script.text)
-        for ids in parts_of(self.mails(it)):
+        place, text, mails = it.script.at(), it.change.of(it.script.text), self.coming(self.block(it))
+        # Where no mail comes there, it is tried once, since it may leave a fault.
+        for ids in parts_of(mails) if mails or not it.tried else ():
             bench = self.few.bench_of(ids)
             bench.replace(place, text)
             told = chained(bench, self.main.scripts, ids)
             # Other parts of the mails are tried at the same time, so what is known is never unset.
+            it.tried = True
             if bench.faults.get(place):
                 it.faulty = True
-            elif any(told[name].texts() != self.base[name].texts() for name in ids):
+            elif any(self.differs(name, told[name]) for name in ids):
                 it.noticed = True
             if not it.open():
                 return
+
+    def differs(self, name: bytes, verdict: Verdict) -> bool:
+        """Whether a mail's verdict isn't what it was."""
+        before = self.base[name]
+        return verdict is not before and verdict.texts() != before.texts()
 
     def end(self) -> None:
         """Puts the script's own text back."""
@@ -207,7 +213,7 @@ class Trial:
         """Asks which of these changes mails come to, a few mails first, where that isn't known: before an `elsif`, and of runs that fail."""
         known = {place for found in self.came.values() for place in found or ()}
         unknown = None in self.came.values()
-        points = {it.change.command.start(): it.change.command for it in left if self.around(it)}
+        points = {it.change.command.start(): it.change.command for it in left if self.coming(it.change.command.inside)}
         asked = [it for start, it in points.items() if start not in known and (unknown or it.name() == b"elsif")]
         for ids in parts_of(self.ids) if asked else ():
             reach = Reach(self.few.bench_of(ids), ids, self.main)
@@ -219,11 +225,12 @@ class Trial:
 
 
 def parts_of(ids: List[bytes]) -> Iterator[List[bytes]]:
-    """Mails in parts: some, more, and all others; one part without mails where there are none."""
+    """Mails in parts: some, more, and all; one part without mails where there are none."""
     yield ids[:SOME]
-    for part in (ids[SOME:FEW], ids[FEW:]):
-        if part:
-            yield part
+    if len(ids) > SOME:
+        yield ids[SOME:FEW]
+    if len(ids) > FEW:
+        yield ids
 
 
 def text_of(found: Untested, look: Look, quiet: bool) -> str:
