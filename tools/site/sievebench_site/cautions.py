@@ -4,7 +4,7 @@ from __future__ import annotations
 
 import functools
 import re
-from typing import FrozenSet, Iterable, Iterator, NamedTuple, Optional, Tuple
+from typing import FrozenSet, Iterable, Iterator, List, NamedTuple, Optional, Tuple
 
 from .chains import store_parts
 from .envelopes import Envelope, fields_of
@@ -41,12 +41,13 @@ CLOCK = Lack(b"currentdate", "no-clock", "It asks for the current date, and the 
 BOXES = Lack(b"mailboxexists", "no-mailboxes", "It asks whether a mailbox exists, and the site has no mailboxes.")
 
 
-def of_case(site: Site, user: User, verdict: Verdict, envelope: Envelope, octets: bytes) -> Iterator[Finding]:
-    """What a server may do otherwise with a mail of these octets, and what the site lacks for the scripts that were looked up."""
+def of_case(
+    site: Site, user: User, scripts: List[Script], verdict: Verdict, envelope: Envelope, octets: bytes
+) -> Iterator[Finding]:
+    """What a server may do otherwise with a mail of these octets, and what the site lacks for those of some scripts that were looked up."""
     answers = any(line.text.startswith(ANSWER) for line in verdict.lines)
     yield from of_verdict(site, user, verdict, why_no_answer(envelope, octets) if answers else None)
-    seen = {place for place, _ in verdict.reads}
-    yield from of_scripts(site, [script for script in user.scripts if script.at() in seen])
+    yield from of_scripts(site, [script for script in scripts if (script.at(), True) in verdict.reads])
 
 
 def of_scripts(site: Site, scripts: Iterable[Script]) -> Iterator[Finding]:
@@ -78,13 +79,12 @@ def names_in(mailboxes: bytes) -> FrozenSet[bytes]:
 def of_verdict(site: Site, user: User, verdict: Verdict, why_unanswered: Optional[str]) -> Iterator[Finding]:
     """What is said of the lines of a verdict."""
     for line in verdict.lines:
-        path, number = entered_by(user, line)
-        if line.text.startswith(b"store "):
+        if site.mailboxes and line.text.startswith(b"store "):
             words, _, asks = store_parts(line.text)
             if b"create" not in asks:
-                yield from of_store(site, path, number, unquoted(words[1]), b"special-use" in asks)
+                yield from of_store(site, *entered_by(user, line), unquoted(words[1]), b"special-use" in asks)
         elif line.text.startswith(ANSWER) and why_unanswered:
-            yield no_answer(path, number, why_unanswered)
+            yield no_answer(*entered_by(user, line), why_unanswered)
 
 
 def no_answer(path: bytes, line: int, why: str) -> Finding:

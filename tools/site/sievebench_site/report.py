@@ -4,7 +4,7 @@ from __future__ import annotations
 
 import itertools
 import os
-from typing import Dict, List, Optional, Set, Tuple
+from typing import Dict, Iterable, List, Optional, Set, Tuple
 
 from . import cautions
 from .changes import Command, commands
@@ -25,8 +25,9 @@ from .traces import Traced, Visit
 from .untested import Tried
 from .words import quoted, word_of
 
-# The verdicts of the mails that come to a place, each with the numbers of the mails.
+# The verdicts of mails that come to a place, each with the numbers of the mails.
 Came = Dict[Tuple[bytes, ...], Set[int]]
+Visits = Tuple[Visit, ...]
 
 
 class Facts:
@@ -41,6 +42,10 @@ class Facts:
         # Of each mail its head and the addresses of its envelope as words, and what a server may do otherwise under each main script.
         self.heads: Dict[bytes, Tuple[Letterhead, str]] = {}
         self.cautions: Dict[Tuple[bytes, Key], Tuple[Finding, ...]] = {}
+        # The scripts of each user that ask for what the site lacks: most have none.
+        self.asking: Dict[bytes, List[Script]] = {}
+        for user in site.users:
+            self.asking[user.name] = [it for it in user.scripts if any(cautions.of_scripts(site, [it]))]
         for _, cases in itertools.groupby(self.checked.cases, lambda case: case.mail.path):
             self.take_mail(list(cases))
         self.rows: List[Row] = rows_of(self.checked.cases, self.traces, self.cautions)
@@ -50,23 +55,30 @@ class Facts:
         self.left: Dict[bytes, List[Tried]] = {}
         for tried in traced.left():
             self.left.setdefault(tried.script.path, []).append(tried)
-        # Of each script that runs look up the mails of these runs, and those that come to each place, by their verdicts.
-        self.asked: Dict[bytes, Set[int]] = {}
-        self.came: Dict[bytes, Dict[int, Came]] = {}
+        # Of each script that runs look up what comes of these runs: the mails by their verdicts, of each visit.
+        self.visits: Dict[bytes, Dict[Visit, Came]] = {}
         self.take_traces()
 
     def take_traces(self) -> None:
         """Tells where the mails come."""
         numbers = {mail.path: number for number, mail in enumerate(self.mails)}
-        alike: Dict[Tuple[Visit, Tuple[bytes, ...]], Set[int]] = {}
         for case in self.checked.cases:
+            number, lines = numbers[case.mail.path], case.lines()
             for visit in self.traces.get((case.mail.path, case.main.key), ()):
-                alike.setdefault((visit, case.lines()), set()).add(numbers[case.mail.path])
-        for (visit, verdict), mails in alike.items():
-            self.asked.setdefault(visit.path, set()).update(mails)
-            places = self.came.setdefault(visit.path, {})
-            for place in visit.places:
-                places.setdefault(place, {}).setdefault(verdict, set()).update(mails)
+                found = self.visits.setdefault(visit.path, {}).setdefault(visit, {})
+                found.setdefault(lines, set()).add(number)
+
+    def visits_to(self, path: bytes, points: Iterable[Optional[int]]) -> Visits:
+        """The visits of a script that come to one of some places."""
+        return tuple(visit for visit in self.visits.get(path, ()) if not visit.places.isdisjoint(points))
+
+    def came(self, visits: Visits) -> Came:
+        """The mails of some visits of a script, by their verdicts."""
+        found: Came = {}
+        for visit in visits:
+            for lines, mails in self.visits[visit.path][visit].items():
+                found.setdefault(lines, set()).update(mails)
+        return found
 
     def take_mail(self, cases: List[Case]) -> None:
         """Tells what is read from the mail of some cases."""
@@ -76,7 +88,8 @@ class Facts:
         addresses = f"{word_of(envelope.sender or b'')} {word_of(envelope.recipient or b'')}"
         self.heads[mail.path] = letterhead_of(octets), addresses
         for case in cases:
-            found = cautions.of_case(self.site, case.user, case.verdict, envelope, octets)
+            scripts = self.asking.get(case.user.name, [])
+            found = cautions.of_case(self.site, case.user, scripts, case.verdict, envelope, octets)
             self.cautions[mail.path, case.main.key] = tuple(dict.fromkeys([*cautions.of_mail(b"", octets), *found]))
 
 

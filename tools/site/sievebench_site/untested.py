@@ -84,14 +84,14 @@ class Untested:
             for main in batch.mains:
                 base = {names[it.mail.path]: it.verdict for it in cases if it.main is main}
                 came = self.came(batch, few, main, base)
-                for script in looked_up(batch.user, base):
+                for script, readers in looked_up(batch.user, base).items():
                     self.unasked.pop(script.path, None)
                     tried = self.tried.get(script.path)
                     if not tried:
                         continue
                     # Parts that are tried at once begin at different changes: what one notices, the other needn't try.
                     start = len(tried) * (number % self.judge.jobs) // self.judge.jobs
-                    trial = Trial(few, main, script, base, came)
+                    trial = Trial(few, main, script, base, {name: came[name] for name in readers})
                     # Those for which the same mails are wanted stand together.
                     for it in sorted([*tried[start:], *tried[:start]], key=lambda it: trial.block(it) or 0):
                         if it.open():
@@ -134,10 +134,14 @@ class Untested:
         return counts["noticed"] * 100 >= percent * counts["changes"]
 
 
-def looked_up(user: User, verdicts: Verdicts) -> List[Script]:
-    """The scripts that some of these verdicts looked up: no other can matter to them."""
-    there = {place for verdict in set(verdicts.values()) for place, found in verdict.reads if found}
-    return [script for script in user.scripts if script.at() in there]
+def looked_up(user: User, verdicts: Verdicts) -> Dict[Script, List[bytes]]:
+    """The scripts that some of these verdicts looked up, each with their mails: no other can matter to them."""
+    readers: Dict[Place, List[bytes]] = {}
+    for name, verdict in verdicts.items():
+        for place, there in verdict.reads:
+            if there:
+                readers.setdefault(place, []).append(name)
+    return {script: readers[script.at()] for script in user.scripts if script.at() in readers}
 
 
 class Few:
@@ -166,11 +170,10 @@ class Trial:
         self, few: Few, main: Main, script: Script, base: Verdicts, came: Dict[bytes, Optional[Came]]
     ) -> None:
         self.few, self.main, self.script, self.base = few, main, script, base
-        self.ids = [name for name, verdict in base.items() if (script.at(), True) in verdict.reads]
+        self.ids = list(came)
         self.variables = b"variables" in required(script.text)[1]
         # The places to which each mail comes, where that is known.
-        found = {name: came[name] for name in self.ids}
-        self.came = {name: None if it is None else it[script.at()] for name, it in found.items()}
+        self.came = {name: None if it is None else it[script.at()] for name, it in came.items()}
 
     def coming(self, block: Optional[int]) -> List[bytes]:
         """The mails that come to a block, or may; all where it is none."""

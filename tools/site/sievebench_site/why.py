@@ -161,7 +161,7 @@ def answers_of(judge: Judge, batch: Batch) -> Iterator[Answer]:
 def cautions_of(judge: Judge, user: User, mail: Mail, verdict: Verdict) -> List[Finding]:
     """What a server may do otherwise with a mail, and what the site lacks for the scripts that were looked up."""
     octets = octets_of(mail.path)
-    found = cautions.of_case(judge.site, user, verdict, judge.envelope_of(mail, octets), octets)
+    found = cautions.of_case(judge.site, user, user.scripts, verdict, judge.envelope_of(mail, octets), octets)
     return list(dict.fromkeys([*cautions.of_mail(mail.path, octets), *found]))
 
 
