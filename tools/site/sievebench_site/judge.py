@@ -171,9 +171,16 @@ class Judge:
 
     def put_mail(self, session: Session, name: bytes, mail: Mail) -> bool:
         """Puts a mail with its envelope, and says whether it has one."""
+        return self.put(session, name, mail, *self.read(mail))
+
+    def read(self, mail: Mail) -> Tuple[bytes, Envelope]:
+        """The octets of a mail, and its envelope."""
         octets = octets_of(mail.path)
+        return octets, self.envelope_of(mail, octets)
+
+    def put(self, session: Session, name: bytes, mail: Mail, octets: bytes, envelope: Envelope) -> bool:
+        """Puts a mail of these octets with this envelope, and says whether it has one."""
         session.edit("message", [name], octets, f"the mail {quoted(mail.path)}")
-        envelope = self.envelope_of(mail, octets)
         if envelope.sender or envelope.recipient:
             words = [name, envelope.sender or b"", envelope.recipient or b""]
             session.edit("message-envelope", words, None, f"the envelope of {quoted(mail.path)}")
@@ -240,10 +247,11 @@ def put_settings(session: Session, site: Site) -> None:
 
 
 def batches_of(site: Site, jobs: int, shard: Optional[Shard] = None) -> Iterator[Batch]:
-    """The mails of each user, in batches that aren't large and give each job some."""
+    """The mails of each user, in batches that aren't large and give each job as many."""
     for number, user in enumerate(site.users):
         for mains, mails in shard.parts_of(user) if shard else [(user.mains, user.mails)]:
-            most = max(FEW_MAILS, min(BATCH_MAILS, -(-len(mails) // jobs)))
+            rounds = -(-len(mails) // (BATCH_MAILS * jobs))
+            most = max(FEW_MAILS, -(-len(mails) // max(1, rounds * jobs)))
             for part in parts_of(mails, most):
                 yield Batch(number, user, mains, part)
 

@@ -1,18 +1,21 @@
 """The command untested: what can be changed in the scripts so that no mail's verdict notices."""
 from __future__ import annotations
 
+import contextlib
 import itertools
 import json
-from typing import Dict, Iterator, List, Optional
+from typing import Dict, Iterator, List, Optional, Tuple
 
 from .changes import Change, changes, commands
 from .chains import Bench, chained
+from .envelopes import Envelope
 from .faults import sentence_of
 from .findings import PLAIN
 from .folder import Site, User
 from .judge import Batch, Held, Judge, Told
+from .mails import Mail
 from .mains import Main, Script
-from .program import NO_MEMORY, Place, Program, Verdict
+from .program import NO_MEMORY, Place, Program, Session, Verdict
 from .reach import Came, Reach, places_of, with_end
 from .seats import Seat, Seats
 from .shown import Look
@@ -65,8 +68,8 @@ class Untested:
         # The mails for which memory is refused.
         self.refused: Dict[bytes, None] = {}
         self.numbers = itertools.count()
-        self.few = Seats(program, self.judge.seats.begin)
-        with self.few:
+        self.seats = {most: Seats(program, self.judge.seats.begin) for most in (SOME, FEW)}
+        with self.seats[SOME], self.seats[FEW]:
             self.found = self.judge.batches(self.try_batch, self.refuse_batch)
 
     def refuse_batch(self, batch: Batch) -> Told:
@@ -77,9 +80,10 @@ class Untested:
     def try_batch(self, batch: Batch) -> Told:
         """Judges some mails, tries the changes on them, and asks where these come."""
         number = next(self.numbers)
-        with self.judge.held(batch) as held, self.few.taken(batch.fresh) as seat:
+        with self.judge.held(batch) as held, contextlib.ExitStack() as room:
             cases = self.judge.cases(batch, held)
-            few = Few(self.judge, held, seat, batch.user)
+            seats = {most: room.enter_context(it.taken(batch.fresh)) for most, it in self.seats.items()}
+            few = Few(self.judge, held, seats, batch.user)
             names = {mail.path: name for name, mail in held.mails.items()}
             for main in batch.mains:
                 base = {names[it.mail.path]: it.verdict for it in cases if it.main is main}
@@ -145,22 +149,36 @@ def looked_up(user: User, verdicts: Verdicts) -> Dict[Script, List[bytes]]:
 
 
 class Few:
-    """A session into which mails of another are put as they are wanted."""
+    """Sessions into which mails of another are put as they are wanted: one for some, and one for a few."""
 
-    def __init__(self, judge: Judge, held: Held, seat: Seat, user: User) -> None:
-        self.judge, self.held, self.seat = judge, held, seat
-        self.there: Dict[bytes, None] = {}
-        seat.put_scripts(user)
+    def __init__(self, judge: Judge, held: Held, seats: Dict[int, Seat], user: User) -> None:
+        self.judge, self.held, self.seats = judge, held, seats
+        # The mails that are there, and what was read of them.
+        self.there: Dict[int, List[bytes]] = {most: [] for most in seats}
+        self.known: Dict[bytes, Tuple[bytes, Envelope]] = {}
+        for seat in seats.values():
+            seat.put_scripts(user)
+
+    def benches(self) -> List[Bench]:
+        """All sessions."""
+        return [self.held.bench, *(seat.bench for seat in self.seats.values())]
 
     def bench_of(self, ids: List[bytes]) -> Bench:
         """A session with these mails: the other one, with all, where they aren't few."""
-        if len(ids) > FEW:
+        most = next((it for it in self.seats if len(ids) <= it), None)
+        if most is None:
             return self.held.bench
-        # Those that are there stay as long as all are few.
-        names = dict.fromkeys([*self.there, *ids])
-        self.there = names if len(names) <= FEW else dict.fromkeys(ids)
-        self.seat.become({name: self.held.mails[name] for name in self.there}, self.judge.put_mail)
-        return self.seat.bench
+        # Others that are there stay as long as they are few.
+        names = list(dict.fromkeys([*self.there[most], *ids]))
+        self.there[most] = names if len(names) <= most + SOME else ids
+        self.seats[most].become({name: self.held.mails[name] for name in self.there[most]}, self.put_mail)
+        return self.seats[most].bench
+
+    def put_mail(self, session: Session, name: bytes, mail: Mail) -> bool:
+        """Puts a mail, which is read once."""
+        if name not in self.known:
+            self.known[name] = self.judge.read(mail)
+        return self.judge.put(session, name, mail, *self.known[name])
 
 
 class Trial:
@@ -181,9 +199,10 @@ class Trial:
 
     def block(self, it: Tried) -> Optional[int]:
         """The block to which the mails come that could notice a change: the one in which it is, if it is in one. A condition that is made
-        false is noticed by those alone that come to its own block, unless it sets variables where it doesn't hold as a whole."""
+        false is noticed by those alone that come to its own block, unless it may set variables where it doesn't hold as a whole."""
         command = it.change.command
-        return command.block if it.change.denies() and not self.variables else command.inside
+        sets = self.variables and b":matches" in [token.octets for token in command.tokens]
+        return command.block if it.change.denies() and not sets else command.inside
 
     def take(self, it: Tried) -> None:
         """Tries a change, on a few mails first."""
@@ -209,7 +228,7 @@ class Trial:
 
     def end(self) -> None:
         """Puts the script's own text back."""
-        for bench in (self.few.held.bench, self.few.seat.bench):
+        for bench in self.few.benches():
             bench.replace(self.script.at(), self.script.text)
 
     def ask(self, left: List[Tried]) -> None:

@@ -81,11 +81,16 @@ class Questions(Room):
             for name in wanted:
                 session.edit("message", [name], b"Subject: " + name, "a mail")
             reach = Reach(bench, list(wanted), Main((b"main",), (), None, (MAIN,)))
-            for most in (1_000, 3, 1):
+            # All places of both scripts are asked for at once, or so many at a time.
+            whole = sum(map(len, places.values()))
+            for most, reports in ((1_000, 1), (whole - 1, 2), (1, whole)):
                 with self.subTest(most=most), mock.patch("sievebench_site.reach.AT_ONCE", most):
+                    with mock.patch.object(session, "report", wraps=session.report) as report:
+                        told = reach.came(places)
+                    self.assertEqual(report.call_count, reports)
                     found = {
                         name: came and {script: sorted(it) for script, it in came.items()}
-                        for name, came in reach.came(places).items()
+                        for name, came in told.items()
                     }
                     self.assertEqual(found, wanted)
             self.assertEqual(bench.scripts, SCRIPTS)

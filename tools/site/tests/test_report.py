@@ -115,10 +115,12 @@ class Rows(Pages):
                 "mains": "main\n",
                 "mails/1.eml": "no memory to run",
                 "mails/2.eml": "Subject: b\n\n",
+                "mails/3.eml": "Subject: no memory to ask\n\n",
             }
         )
         page = self.page()
-        self.assertEqual([row[2] for row in self.table(page)[1:]], ["? not judged", "○ nothing expected discard"])
+        judged = "○ nothing expected discard"
+        self.assertEqual([row[2] for row in self.table(page)[1:]], ["? not judged", judged, judged])
         self.assertIn("--memory gives more", " ".join(text_of(it) for it in with_class(page, "row")))
         self.assertEqual(self.lines(page, "personal/main.sieve")[1][0], "1 comes")
 
