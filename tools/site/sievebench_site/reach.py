@@ -1,10 +1,10 @@
 """Where runs come to, asked of the program: by marks, which are flags of a store of their own, and by an error on a line of its own."""
 from __future__ import annotations
 
-from typing import Dict, FrozenSet, Iterable, Iterator, List, Optional, Set, Tuple
+from typing import Dict, FrozenSet, Iterable, List, Optional, Set, Tuple
 
 from .chains import Bench, chained
-from .changes import Command, with_inserted
+from .changes import ACTIONS, BRANCHES, DECLARATIONS, Command, with_inserted
 from .mains import Main
 from .program import Place, Verdict
 from .sieve_text import required
@@ -17,6 +17,8 @@ BOX = b"reached.invalid"
 REQUIRED = (b"fileinto", b"copy", b"imap4flags")
 # What stands before an `elsif` or an `else` belongs to the branch before it, and before a `require` no command may stand.
 NO_START = (b"elsif", b"else", b"require")
+# After these a run goes on, if it doesn't fail.
+GOES_ON = (*ACTIONS, *BRANCHES, *DECLARATIONS, b"set", b"setflag", b"addflag", b"removeflag")
 # Of each script the places to which a run came.
 Came = Dict[Place, FrozenSet[int]]
 
@@ -52,17 +54,26 @@ def marks_in(verdict: Verdict, box: bytes) -> Optional[List[bytes]]:
     return next((text[len(store) :].split() for text in texts if text.startswith(store)), [])
 
 
-def places_of(found: Iterable[Command]) -> List[int]:
-    """All places of commands that a run may come to."""
-    return sorted({place for it in found for place in places_in(it)})
-
-
-def places_in(command: Command) -> Iterator[int]:
-    """Where a command begins, and its block."""
-    if command.name() not in NO_START:
-        yield command.start()
-    if command.block is not None:
-        yield command.block
+def places_of(found: Iterable[Command]) -> Dict[int, int]:
+    """All places of a script's commands that a run may come to, each with the first place to which it comes as often unless it fails: a run
+    goes on in a block, up to a command that may end it."""
+    first: Dict[int, int] = {}
+    # Of each block where the run has gone on since, and the block around it.
+    since: Dict[Optional[int], Optional[int]] = {None: None}
+    around: Dict[int, Optional[int]] = {}
+    for it in found:
+        if it.name() not in NO_START:
+            start = since[it.inside]
+            since[it.inside] = first[it.start()] = it.start() if start is None else start
+        if it.block is not None:
+            first[it.block] = since[it.block] = it.block
+            around[it.block] = it.inside
+        if it.name() not in GOES_ON:
+            block = it.inside
+            while block is not None:
+                since[block], block = None, around[block]
+            since[None] = None
+    return first
 
 
 def with_end(text: bytes, command: Command) -> Tuple[bytes, int]:
@@ -90,23 +101,25 @@ class Reach:
     def __init__(self, bench: Bench, ids: List[bytes], main: Main) -> None:
         self.bench, self.ids, self.main = bench, ids, main
 
-    def came(self, places: Dict[Place, List[int]]) -> Dict[bytes, Optional[Came]]:
+    def came(self, places: Dict[Place, Dict[int, int]]) -> Dict[bytes, Optional[Came]]:
         """Of each mail those of some places to which its run comes; nothing where the run fails."""
-        asked = [(script, at) for script, found in places.items() for at in found]
-        marks: Dict[Place, Dict[bytes, int]] = {script: {} for script in places}
-        for number, (script, at) in enumerate(asked):
-            marks[script][mark(number)] = at
+        asked = [(script, at) for script, found in places.items() for at in sorted(set(found.values()))]
+        numbers = {point: number for number, point in enumerate(asked)}
+        marks: Dict[Place, Dict[bytes, List[int]]] = {script: {} for script in places}
+        for script, found in places.items():
+            for at, first in found.items():
+                marks[script].setdefault(mark(numbers[script, first]), []).append(at)
         told: Dict[bytes, Optional[FrozenSet[bytes]]] = dict.fromkeys(self.ids, frozenset())
-        for first in range(0, len(asked), AT_ONCE):
-            for name, more in self.marks(asked[first : first + AT_ONCE], first).items():
-                found = told[name]
-                told[name] = None if found is None or more is None else found | more
+        for start in range(0, len(asked), AT_ONCE):
+            for name, more in self.marks(asked[start : start + AT_ONCE], start).items():
+                before = told[name]
+                told[name] = None if before is None or more is None else before | more
         # Many runs come to the same places.
         same: Dict[FrozenSet[int], FrozenSet[int]] = {}
         known: Dict[Optional[FrozenSet[bytes]], Optional[Came]] = {None: None}
         for got in set(told.values()):
             if got is not None:
-                came = {script: frozenset(it[word] for word in it.keys() & got) for script, it in marks.items()}
+                came = {script: frozenset(at for word in it.keys() & got for at in it[word]) for script, it in marks.items()}
                 known[got] = {script: same.setdefault(it, it) for script, it in came.items()}
         return {name: known[got] for name, got in told.items()}
 

@@ -109,7 +109,7 @@ class Untested:
         """Of each mail the places to which its run comes; nothing where the run fails."""
         return Reach(few.held.bench, list(verdicts), main).came(self.places(batch, verdicts))
 
-    def places(self, batch: Batch, verdicts: Verdicts) -> Dict[Place, List[int]]:
+    def places(self, batch: Batch, verdicts: Verdicts) -> Dict[Place, Dict[int, int]]:
         """The places of the scripts that some verdicts looked up and that can run."""
         faults, found = self.judge.surveys[batch.number].faults, looked_up(batch.user, verdicts)
         return {it.at(): places_of(commands(it.text)) for it in found if it.at() not in faults}

@@ -1,5 +1,7 @@
 """Questions to the program: the texts that ask, and what is known by the answers."""
 
+import itertools
+import re
 from typing import Dict, List, Optional
 from unittest import mock
 
@@ -63,6 +65,23 @@ class Questions(Room):
         self.assertEqual(own_box([b"a@Reached.Invalid", b"xreached.invalid"]), b"xxreached.invalid")
 
     def test_places(self) -> None:
+        # A letter stands before each place: a small one where a run comes that came to the place of the large one.
+        rows = [
+            b"<A>keep; <a>discard; <a>stop; <B>keep; <b>keep;",
+            b'require "include"; <A>include "x"; <B>keep; <b>return; <C>keep;',
+            b"<A>if true {<B> <b>keep;} <a>if true {<C> <c>keep;} elsif true {<D>} else {<E> <e>stop;} <F>keep;",
+            b"<A>if true {<B> <b>if true {<C> <c>if true {<D> <d>stop;} <E>keep;} <F>keep;} <G>if true {<H>} <g>keep;",
+        ]
+        for row in rows:
+            with self.subTest(row=row):
+                cut = re.split(rb"<(.)>", row)
+                ends = list(itertools.accumulate(len(it) for it in cut[::2]))
+                found = list(zip(cut[1::2], ends))
+                firsts = {letter: at for letter, at in found if letter.isupper()}
+                wanted = {at: firsts[letter.upper()] for letter, at in found}
+                self.assertEqual(places_of(commands(b"".join(cut[::2]))), wanted)
+
+    def test_runs(self) -> None:
         places = {script: places_of(commands(text)) for script, text in SCRIPTS.items()}
         main, part = SCRIPTS[MAIN], SCRIPTS[PART]
         start, first, second, last = (main.index(it) for it in (b"if header", b" include", b" stop", b"keep"))
@@ -82,7 +101,7 @@ class Questions(Room):
                 session.edit("message", [name], b"Subject: " + name, "a mail")
             reach = Reach(bench, list(wanted), Main((b"main",), (), None, (MAIN,)))
             # All places of both scripts are asked for at once, or so many at a time.
-            whole = sum(map(len, places.values()))
+            whole = sum(len(set(it.values())) for it in places.values())
             for most, reports in ((1_000, 1), (whole - 1, 2), (1, whole)):
                 with self.subTest(most=most), mock.patch("sievebench_site.reach.AT_ONCE", most):
                     with mock.patch.object(session, "report", wraps=session.report) as report:
