@@ -19,6 +19,8 @@ REQUIRED = (b"fileinto", b"copy", b"imap4flags")
 NO_START = (b"elsif", b"else", b"require")
 # After these a run goes on, if it doesn't fail.
 GOES_ON = (*ACTIONS, *BRANCHES, *DECLARATIONS, b"set", b"setflag", b"addflag", b"removeflag")
+# Of each script its places, each with the first to which a run comes as often.
+Places = Dict[Place, Dict[int, int]]
 # Of each script the places to which a run came.
 Came = Dict[Place, FrozenSet[int]]
 
@@ -101,7 +103,7 @@ class Reach:
     def __init__(self, bench: Bench, ids: List[bytes], main: Main) -> None:
         self.bench, self.ids, self.main = bench, ids, main
 
-    def came(self, places: Dict[Place, Dict[int, int]]) -> Dict[bytes, Optional[Came]]:
+    def came(self, places: Places) -> Dict[bytes, Optional[Came]]:
         """Of each mail those of some places to which its run comes; nothing where the run fails."""
         asked = [(script, at) for script, found in places.items() for at in sorted(set(found.values()))]
         numbers = {point: number for number, point in enumerate(asked)}

@@ -10,7 +10,7 @@ from .folder import Site
 from .judge import Batch, Told
 from .mains import Main
 from .program import NoMemory, Place, Program
-from .reach import Came, Reach, with_error
+from .reach import Came, Places, Reach, with_error
 from .untested import Few, Untested, Verdicts
 
 
@@ -49,25 +49,26 @@ class Traced(Untested):
         except NoMemory:
             return super().refuse_batch(batch)
 
-    def came(self, batch: Batch, few: Few, main: Main, verdicts: Verdicts) -> Dict[bytes, Optional[Came]]:
-        """Of each mail the places to which its run comes. Those of runs that fail are asked one by one."""
-        told = super().came(batch, few, main, verdicts)
+    def came(
+        self, batch: Batch, few: Few, main: Main, verdicts: Verdicts, places: Places
+    ) -> Dict[bytes, Optional[Came]]:
+        """Of each mail those of some places to which its run comes. Those of runs that fail are asked one by one."""
+        told = super().came(batch, few, main, verdicts, places)
         failing = [name for name, came in told.items() if came is None]
         if failing:
-            told.update(self.ended(batch, few, main, {name: verdicts[name] for name in failing}))
+            told.update(ended(Reach(few.bench_of(failing), failing, main), places))
         paths = {script.at(): script.path for script in batch.user.scripts}
         for name, came in told.items():
             trace = tuple(Visit(paths[at], came[at]) for at, _ in verdicts[name].reads if came and at in came)
             self.traces[few.held.mails[name].path, main.key] = self.known.setdefault(trace, trace)
         return told
 
-    def ended(self, batch: Batch, few: Few, main: Main, verdicts: Verdicts) -> Dict[bytes, Came]:
-        """The same of mails whose runs fail: those that come to a place end there by an error that is put there."""
-        reach = Reach(few.bench_of(list(verdicts)), list(verdicts), main)
-        asked = self.places(batch, verdicts)
-        found: Dict[bytes, Dict[Place, Set[int]]] = {name: {script: set() for script in asked} for name in verdicts}
-        for script, places in asked.items():
-            for place in places:
-                for name in reach.ended(script, *with_error(reach.bench.scripts[script], place)):
-                    found[name][script].add(place)
-        return {name: {at: frozenset(places) for at, places in came.items()} for name, came in found.items()}
+
+def ended(reach: Reach, places: Places) -> Dict[bytes, Came]:
+    """Of mails whose runs fail those of some places to which they come: a run ends there by an error that is put there."""
+    found: Dict[bytes, Dict[Place, Set[int]]] = {name: {script: set() for script in places} for name in reach.ids}
+    for script, asked in places.items():
+        for place in asked:
+            for name in reach.ended(script, *with_error(reach.bench.scripts[script], place)):
+                found[name][script].add(place)
+    return {name: {script: frozenset(it) for script, it in came.items()} for name, came in found.items()}

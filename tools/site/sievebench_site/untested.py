@@ -4,7 +4,7 @@ from __future__ import annotations
 import contextlib
 import itertools
 import json
-from typing import Dict, Iterator, List, Optional, Tuple
+from typing import Dict, Iterable, Iterator, List, Optional, Tuple
 
 from .changes import Change, changes, commands
 from .chains import Bench, chained
@@ -16,7 +16,7 @@ from .judge import Batch, Held, Judge, Told
 from .mails import Mail
 from .mains import Main, Script
 from .program import NO_MEMORY, Place, Program, Session, Verdict
-from .reach import Came, Reach, places_of, with_end
+from .reach import Came, Places, Reach, places_of, with_end
 from .seats import Seat, Seats
 from .shown import Look
 from .sieve_text import required
@@ -87,8 +87,9 @@ class Untested:
             names = {mail.path: name for name, mail in held.mails.items()}
             for main in batch.mains:
                 base = {names[it.mail.path]: it.verdict for it in cases if it.main is main}
-                came = self.came(batch, few, main, base)
-                for script, readers in looked_up(batch.user, base).items():
+                found = looked_up(batch.user, base)
+                came = self.came(batch, few, main, base, self.places(batch, found))
+                for script, readers in found.items():
                     self.unasked.pop(script.path, None)
                     tried = self.tried.get(script.path)
                     if not tried:
@@ -105,14 +106,16 @@ class Untested:
         self.judge.progress.add(len(batch.mails))
         return cases, held.bare
 
-    def came(self, batch: Batch, few: "Few", main: Main, verdicts: Verdicts) -> Dict[bytes, Optional[Came]]:
-        """Of each mail the places to which its run comes; nothing where the run fails."""
-        return Reach(few.held.bench, list(verdicts), main).came(self.places(batch, verdicts))
+    def came(
+        self, batch: Batch, few: "Few", main: Main, verdicts: Verdicts, places: Places
+    ) -> Dict[bytes, Optional[Came]]:
+        """Of each mail those of some places to which its run comes; nothing where the run fails."""
+        return Reach(few.held.bench, list(verdicts), main).came(places)
 
-    def places(self, batch: Batch, verdicts: Verdicts) -> Dict[Place, Dict[int, int]]:
-        """The places of the scripts that some verdicts looked up and that can run."""
-        faults, found = self.judge.surveys[batch.number].faults, looked_up(batch.user, verdicts)
-        return {it.at(): places_of(commands(it.text)) for it in found if it.at() not in faults}
+    def places(self, batch: Batch, scripts: Iterable[Script]) -> Places:
+        """The places of scripts, of those that can run."""
+        faults = self.judge.surveys[batch.number].faults
+        return {it.at(): places_of(commands(it.text)) for it in scripts if it.at() not in faults}
 
     def judged(self) -> List[Tried]:
         """All changes of the scripts that some verdict looked up."""
@@ -192,10 +195,13 @@ class Trial:
         self.variables = b"variables" in required(script.text)[1]
         # The places to which each mail comes, where that is known.
         self.came = {name: None if it is None else it[script.at()] for name, it in came.items()}
+        self.comings: Dict[Optional[int], List[bytes]] = {None: self.ids}
 
     def coming(self, block: Optional[int]) -> List[bytes]:
         """The mails that come to a block, or may; all where it is none."""
-        return [name for name, found in self.came.items() if block is None or found is None or block in found]
+        if block not in self.comings:
+            self.comings[block] = [name for name, it in self.came.items() if it is None or block in it]
+        return self.comings[block]
 
     def block(self, it: Tried) -> Optional[int]:
         """The block to which the mails come that could notice a change: the one in which it is, if it is in one. A condition that is made
