@@ -113,7 +113,8 @@ class ScriptPart:
 
     def visits_to(self, *found: Command) -> Visits:
         """The visits that come to one of some commands."""
-        return self.places.facts.visits_to(self.script.path, [point_of(it) for it in found])
+        points = [point for point in map(point_of, found) if point is not None]
+        return self.places.facts.visits_to(self.script.path, points)
 
     def of_visits(self, visits: Visits) -> Tuple[int, Markup]:
         """How many mails these visits have, and with which verdicts."""

@@ -285,9 +285,7 @@ class Session:
 def faults_in(head: bytes) -> Dict[Place, Optional[Fault]]:
     """The fault of each script, if any, by what a report tells before the mails."""
     found = filter(None, map(SCRIPT_LINE.fullmatch, head.split(b"\n")))
-    return {
-        (it[1].decode(), unquoted(it[2])): (int(it[3]), it[4].decode()) if it[3] else None for it in found
-    }
+    return {(it[1].decode(), unquoted(it[2])): (int(it[3]), it[4].decode()) if it[3] else None for it in found}
 
 
 def verdict_of(told: List[bytes]) -> Verdict:

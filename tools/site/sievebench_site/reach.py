@@ -121,7 +121,9 @@ class Reach:
         known: Dict[Optional[FrozenSet[bytes]], Optional[Came]] = {None: None}
         for got in set(told.values()):
             if got is not None:
-                came = {script: frozenset(at for word in it.keys() & got for at in it[word]) for script, it in marks.items()}
+                came = {
+                    script: frozenset(at for word in it.keys() & got for at in it[word]) for script, it in marks.items()
+                }
                 known[got] = {script: same.setdefault(it, it) for script, it in came.items()}
         return {name: known[got] for name, got in told.items()}
 

@@ -68,7 +68,7 @@ class Facts:
                 found = self.visits.setdefault(visit.path, {}).setdefault(visit, {})
                 found.setdefault(lines, set()).add(number)
 
-    def visits_to(self, path: bytes, points: Iterable[Optional[int]]) -> Visits:
+    def visits_to(self, path: bytes, points: Iterable[int]) -> Visits:
         """The visits of a script that come to one of some places."""
         return tuple(visit for visit in self.visits.get(path, ()) if not visit.places.isdisjoint(points))
 

@@ -187,9 +187,7 @@ class Few:
 class Trial:
     """The changes of a script, tried on some mails under a main script."""
 
-    def __init__(
-        self, few: Few, main: Main, script: Script, base: Verdicts, came: Dict[bytes, Optional[Came]]
-    ) -> None:
+    def __init__(self, few: Few, main: Main, script: Script, base: Verdicts, came: Dict[bytes, Optional[Came]]) -> None:
         self.few, self.main, self.script, self.base = few, main, script, base
         self.ids = list(came)
         self.variables = b"variables" in required(script.text)[1]
@@ -205,7 +203,8 @@ class Trial:
 
     def block(self, it: Tried) -> Optional[int]:
         """The block to which the mails come that could notice a change: the one in which it is, if it is in one. A condition that is made
-        false is noticed by those alone that come to its own block, unless it may set variables where it doesn't hold as a whole."""
+        false is noticed by those alone that come to its own block, unless it may set variables where it doesn't hold.
+        """
         command = it.change.command
         sets = self.variables and b":matches" in [token.octets for token in command.tokens]
         return command.block if it.change.denies() and not sets else command.inside
@@ -245,9 +244,10 @@ class Trial:
         asked = [it for start, it in points.items() if start not in known and (unknown or it.name() == b"elsif")]
         for ids in parts_of(self.ids) if asked else ():
             reach = Reach(self.few.bench_of(ids), ids, self.main)
-            for it in asked:
-                if it.start() not in known and reach.ended(self.script.at(), *with_end(self.script.text, it)):
-                    known.add(it.start())
+            for command in asked:
+                text, line = with_end(self.script.text, command)
+                if command.start() not in known and reach.ended(self.script.at(), text, line):
+                    known.add(command.start())
         for it in left:
             it.reached = it.reached or it.change.command.start() in known
 

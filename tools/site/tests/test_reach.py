@@ -35,7 +35,9 @@ class Questions(Room):
             with self.subTest(text=text):
                 end = text.find(b";") + 1 if text.startswith(b"require") else 0
                 first, second = [it.start() for it in commands(text) if it.acts()]
-                wanted = text[:end] + front + text[end:first] + asked % 3 + text[first:second] + asked % 0 + text[second:]
+                wanted = (
+                    text[:end] + front + text[end:first] + asked % 3 + text[first:second] + asked % 0 + text[second:]
+                )
                 self.assertEqual(marked(text, [(first, 3), (second, 0)], b"b"), wanted)
 
     def test_marks_of_verdicts(self) -> None:
@@ -108,7 +110,7 @@ class Questions(Room):
                         told = reach.came(places)
                     self.assertEqual(report.call_count, reports)
                     found = {
-                        name: came and {script: sorted(it) for script, it in came.items()}
+                        name: None if came is None else {script: sorted(it) for script, it in came.items()}
                         for name, came in told.items()
                     }
                     self.assertEqual(found, wanted)
