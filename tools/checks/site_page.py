@@ -48,6 +48,14 @@ HOSTILE = site(
     broken=b"keep;\nkep;\n",
 )
 HOSTILE["personal/open.sieve"] = b"if true {\n"
+# A mail of a list, which no server answers, and one of a person; a mailbox that isn't there; and a mail that begins with a mark.
+AWAY = site(
+    {"1.eml": b"List-Id: <b>a.b</b>\n\n", "2.eml": b"From: a@b.example\n\n", "3.eml": b"\xef\xbb\xbfX: y\nFrom: a@b.example\n\n"},
+    main=b'require ["vacation", "fileinto", "date"];\nif currentdate "year" "1" {}\nvacation "away"; fileinto "<Gone>";\n',
+)
+AWAY.update({"envelope": b"a@b.example c@d.example\n", "with": b"vacation\nmailbox\ndate\n", "mailboxes": b"Work\n"})
+# The kinds of remarks on each of these mails.
+REMARKS = {"1.eml": ["no-answer", "no-mailbox", "no-clock"], "2.eml": ["no-mailbox", "no-clock"], "3.eml": ["byte-order-mark", "no-mailbox", "no-clock"]}
 GIT = "git -c user.name=a -c user.email=a@b.example"
 
 
@@ -155,6 +163,20 @@ def same_as_why(looking):
             yield (name, scripts), (text_of(row[0]), [text_of(it.find("a")) if len(it) else text_of(it).partition(": ")[0] for it in items])
             below = [(text_of(it.find("a")), re.match(r"line (\d+)", text_of(link))[1]) for it in items for link in it.findall("ul/li/a")]
             yield sorted(taken), sorted(f"{script}:{line}" for script, line in below)
+
+
+def remarks(looking):
+    """The remarks on what a server may do otherwise are those of `why`, as text."""
+    yield [], [it for it in looking.page.iter("b")]
+    told = {}
+    for section in with_class(looking.page, "row"):
+        verdicts, mails = section.iter("table")
+        for *_, file in rows_of(mails):
+            told[os.path.basename(file)] = [text_of(it) for it in with_class(verdicts, "caution")]
+    yield REMARKS, {name: [re.search(r"([a-z-]+): [A-Z]", it)[1] for it in found] for name, found in sorted(told.items())}
+    for name, found in told.items():
+        said = looking.told(f"why away/site {name}")[1].partition("otherwise:\n")[2].partition("  scripts that")[0]
+        yield [re.sub(r"^ +away/site/(mails/\S+?:1: )?", "", line) for line in said.splitlines()], found
 
 
 def same_as_untested(looking):
@@ -310,7 +332,7 @@ def of_servers(room):
     write(room / "site", site({"1.eml": b"Subject: a\n\n"}, main=b"discard;"))
     packs = f'mkdir bin && ln -s "$(readlink -f "$(command -v sievebench)")" bin/sievebench && python3 {shlex.quote(str(PACK))} bin/sievebench-site'
     yield Run("examples for servers: a repository", room, f"{packs} && {GIT} init -q && {GIT} add site && {GIT} commit -qm one")
-    for name, pages in (("github", ["report.html"]), ("gitlab", ["report.html", "changes.html"])):
+    for name, pages in (("github", ["report.html"]), ("gitlab", ["report.html", "changes.html"]), ("github-shards", ["report.html"]), ("gitlab-shards", ["report.html"])):
         text = (SERVERS / f"{name}.yml").read_text(encoding="utf-8")
         steps = re.findall(STEP, text, re.M)
         assert [page for _, page in steps] == pages and all(re.search(rf"paths?: .*\b{page}", text) for page in pages), f"examples for servers: {name}.yml"
@@ -334,6 +356,8 @@ def of_sites(room):
     yield Looking("the page of the example", room, "office/site", office)
     yield Looking("it says what `why` says", room, "office/site", same_as_why)
     yield Looking("it says what `untested` says", room, "office/site", same_as_untested)
+    write(room / "away/site", AWAY)
+    yield Looking("it says what `why` says of servers", room, "away/site", remarks)
     yield Looking("markup in mails and scripts is text", room, "hostile/site", hostile)
     if site_browser.is_there():
         yield Opening(room)

@@ -2,8 +2,9 @@
 
 from __future__ import annotations
 
+import functools
 import re
-from typing import Iterable, Iterator, NamedTuple, Optional, Tuple
+from typing import FrozenSet, Iterable, Iterator, List, NamedTuple, Optional, Tuple
 
 from .chains import store_parts
 from .envelopes import Envelope, fields_of
@@ -16,6 +17,7 @@ from .sieve_text import lines_with
 from .texts import mark_of
 from .words import lines_of, quoted, unquoted
 
+ANSWER = b"vacation "
 ANY = re.compile(b".*", re.S)
 # Fields by whose values a mail isn't answered (RFC 5230, section 4.6; RFC 3834, section 2), as Pigeonhole 0.5.19 has them.
 UNANSWERED = [
@@ -39,6 +41,15 @@ CLOCK = Lack(b"currentdate", "no-clock", "It asks for the current date, and the 
 BOXES = Lack(b"mailboxexists", "no-mailboxes", "It asks whether a mailbox exists, and the site has no mailboxes.")
 
 
+def of_case(
+    site: Site, user: User, scripts: List[Script], verdict: Verdict, envelope: Envelope, octets: bytes
+) -> Iterator[Finding]:
+    """What a server may do otherwise with a mail of these octets, and what the site lacks for those of some scripts that were looked up."""
+    answers = any(line.text.startswith(ANSWER) for line in verdict.lines)
+    yield from of_verdict(site, user, verdict, why_no_answer(envelope, octets) if answers else None)
+    yield from of_scripts(site, [script for script in scripts if (script.at(), True) in verdict.reads])
+
+
 def of_scripts(site: Site, scripts: Iterable[Script]) -> Iterator[Finding]:
     """Where scripts ask for what the site lacks."""
     lacks = [it for it, has in ((CLOCK, site.clock is not None), (BOXES, bool(site.mailboxes))) if not has]
@@ -51,7 +62,7 @@ def of_scripts(site: Site, scripts: Iterable[Script]) -> Iterator[Finding]:
 def of_store(site: Site, path: bytes, line: int, name: bytes, use: bool) -> Iterator[Finding]:
     """What is said of a store into a mailbox that nothing makes. One of a special use goes to this mailbox where none has the use (RFC 8579,
     section 4)."""
-    if site.mailboxes and name.upper() != b"INBOX" and name not in lines_of(site.mailboxes):
+    if site.mailboxes and name.upper() != b"INBOX" and name not in names_in(site.mailboxes):
         unless = "unless a mailbox has the special use, " if use else ""
         text = (
             f"No line of mailboxes is {quoted(name)}, and nothing makes it: {unless}the server keeps the mail in INBOX."
@@ -59,16 +70,21 @@ def of_store(site: Site, path: bytes, line: int, name: bytes, use: bool) -> Iter
         yield Finding(path, line, "no-mailbox", text, NOTE)
 
 
+@functools.lru_cache(maxsize=1)
+def names_in(mailboxes: bytes) -> FrozenSet[bytes]:
+    """The names of a list of mailboxes."""
+    return frozenset(lines_of(mailboxes))
+
+
 def of_verdict(site: Site, user: User, verdict: Verdict, why_unanswered: Optional[str]) -> Iterator[Finding]:
     """What is said of the lines of a verdict."""
     for line in verdict.lines:
-        path, number = entered_by(user, line)
-        if line.text.startswith(b"store "):
+        if site.mailboxes and line.text.startswith(b"store "):
             words, _, asks = store_parts(line.text)
             if b"create" not in asks:
-                yield from of_store(site, path, number, unquoted(words[1]), b"special-use" in asks)
-        elif line.text.startswith(b"vacation ") and why_unanswered:
-            yield no_answer(path, number, why_unanswered)
+                yield from of_store(site, *entered_by(user, line), unquoted(words[1]), b"special-use" in asks)
+        elif line.text.startswith(ANSWER) and why_unanswered:
+            yield no_answer(*entered_by(user, line), why_unanswered)
 
 
 def no_answer(path: bytes, line: int, why: str) -> Finding:

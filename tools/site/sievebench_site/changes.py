@@ -1,6 +1,7 @@
 """The commands of a script, and what can be changed in it so that all other lines stay where they are."""
 from __future__ import annotations
 
+import functools
 import re
 from typing import Iterable, Iterator, List, NamedTuple, Optional, Tuple
 
@@ -93,6 +94,8 @@ class Change(NamedTuple):
         return text[self.start : self.end].strip().lower() == self.octets.strip()
 
 
+# Of most scripts they are asked for several times.
+@functools.lru_cache(maxsize=1024)
 def commands(text: bytes) -> List[Command]:
     """The commands of a script in the order of their names, also those in blocks; of one with a fault of syntax up to the fault."""
     found: List[Command] = []

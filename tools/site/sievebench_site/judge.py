@@ -60,6 +60,10 @@ def case_of(user: User, main: Main, mail: Mail, verdict: Verdict, found: Survey,
     return Case(user, main, mail, verdict, unjudged, seconds, block, bool(unjudged) and is_skipped(verdict, found))
 
 
+# The cases of a batch, and its mails without an envelope.
+Told = Tuple[List[Case], List[Mail]]
+
+
 class Judged(NamedTuple):
     """All cases, in the order of the mails, the users and the main scripts; the surveys of the users; the mails without an envelope."""
 
@@ -101,7 +105,10 @@ class Judge:
 
     def all(self) -> Judged:
         """The cases of all batches."""
-        found = self.batches(self.batch, self.refused)
+        return self.judged(self.batches(self.batch, self.refused))
+
+    def judged(self, found: List[Told]) -> Judged:
+        """The cases of all batches, of what comes of each."""
         cases = sorted((case for cases, _ in found for case in cases), key=lambda case: case.mail.path)
         bare = {mail.path: mail for _, mails in found for mail in mails}
         return Judged(cases, self.surveys, [bare[path] for path in sorted(bare)], self.progress.seconds())
@@ -129,21 +136,26 @@ class Judge:
         finally:
             self.progress.end()
 
-    def batch(self, batch: Batch) -> Tuple[List[Case], List[Mail]]:
-        """The cases of a batch, and its mails without an envelope."""
-        user, found = batch.user, self.surveys[batch.number]
-        cases = []
+    def batch(self, batch: Batch) -> Told:
+        """What is told of a batch."""
         with self.held(batch) as held:
-            for main in batch.mains:
-                began = time.monotonic()
-                told = chained(held.bench, main.scripts, held.mails)
-                seconds = (time.monotonic() - began) / len(held.mails)
-                for name, mail in held.mails.items():
-                    cases.append(case_of(user, main, mail, told[name], found, seconds))
+            cases = self.cases(batch, held)
         self.progress.add(len(batch.mails))
         return cases, held.bare
 
-    def refused(self, batch: Batch) -> Tuple[List[Case], List[Mail]]:
+    def cases(self, batch: Batch, held: Held) -> List[Case]:
+        """The cases of a batch that is in a session."""
+        user, found = batch.user, self.surveys[batch.number]
+        cases = []
+        for main in batch.mains:
+            began = time.monotonic()
+            told = chained(held.bench, main.scripts, held.mails)
+            seconds = (time.monotonic() - began) / len(held.mails)
+            for name, mail in held.mails.items():
+                cases.append(case_of(user, main, mail, told[name], found, seconds))
+        return cases
+
+    def refused(self, batch: Batch) -> Told:
         """The cases of mails for which memory is refused."""
         self.progress.add(len(batch.mails))
         cases = [(main, mail, mail.expected.block(main)) for main in batch.mains for mail in batch.mails]
@@ -159,9 +171,16 @@ class Judge:
 
     def put_mail(self, session: Session, name: bytes, mail: Mail) -> bool:
         """Puts a mail with its envelope, and says whether it has one."""
+        return self.put(session, name, mail, *self.read(mail))
+
+    def read(self, mail: Mail) -> Tuple[bytes, Envelope]:
+        """The octets of a mail, and its envelope."""
         octets = octets_of(mail.path)
+        return octets, self.envelope_of(mail, octets)
+
+    def put(self, session: Session, name: bytes, mail: Mail, octets: bytes, envelope: Envelope) -> bool:
+        """Puts a mail of these octets with this envelope, and says whether it has one."""
         session.edit("message", [name], octets, f"the mail {quoted(mail.path)}")
-        envelope = self.envelope_of(mail, octets)
         if envelope.sender or envelope.recipient:
             words = [name, envelope.sender or b"", envelope.recipient or b""]
             session.edit("message-envelope", words, None, f"the envelope of {quoted(mail.path)}")
@@ -228,10 +247,11 @@ def put_settings(session: Session, site: Site) -> None:
 
 
 def batches_of(site: Site, jobs: int, shard: Optional[Shard] = None) -> Iterator[Batch]:
-    """The mails of each user, in batches that aren't large and give each job some."""
+    """The mails of each user, in batches that aren't large and give each job as many."""
     for number, user in enumerate(site.users):
         for mains, mails in shard.parts_of(user) if shard else [(user.mains, user.mails)]:
-            most = max(FEW_MAILS, min(BATCH_MAILS, -(-len(mails) // jobs)))
+            rounds = -(-len(mails) // (BATCH_MAILS * jobs))
+            most = max(FEW_MAILS, -(-len(mails) // max(1, rounds * jobs)))
             for part in parts_of(mails, most):
                 yield Batch(number, user, mains, part)
 

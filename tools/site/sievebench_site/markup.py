@@ -2,6 +2,7 @@
 
 from __future__ import annotations
 
+import functools
 import html
 from typing import Iterable, Union
 
@@ -18,7 +19,14 @@ Inside = Union[str, Markup]
 
 def shown(text: Inside) -> Markup:
     """A text as a page shows it, in which nothing is markup; markup as it is."""
-    return text if isinstance(text, Markup) else Markup(html.escape(text))
+    return text if isinstance(text, Markup) else escaped(text)
+
+
+# Most texts stand in a page many times.
+@functools.lru_cache(maxsize=4096)
+def escaped(text: str) -> Markup:
+    """A text in which nothing is markup."""
+    return Markup(html.escape(text))
 
 
 def joined(parts: Iterable[Inside], between: Inside = "") -> Markup:

@@ -4,6 +4,7 @@ from __future__ import annotations
 
 from typing import Dict, Iterator, List
 
+from .findings import PLAIN, Finding
 from .groups import changes, counted
 from .judge import Case
 from .mails import Mail
@@ -52,8 +53,8 @@ class Telling:
 
     def mail(self, mail: Mail) -> Markup:
         """A mail."""
-        head, envelope = self.places.letterheads[mail.path]
-        told = (head.sender, head.recipients, " ".join(envelope), self.places.name(mail.path))
+        head, addresses = self.places.facts.heads[mail.path]
+        told = (head.sender, head.recipients, addresses, self.places.name(mail.path))
         subject = tag("th", head.subject or "no subject", scope="row")
         return tag("tr", subject, *(tag("td", it) for it in told), id=self.places.mails[mail.path])
 
@@ -64,10 +65,17 @@ class Telling:
         return tag("tr", tag("th", self.places.label(case), scope="row"), *(tag("td", it) for it in cells))
 
     def verdict(self, case: Case) -> Markup:
-        """The lines of a verdict, each with the command that entered it and the branch in which that is."""
+        """The lines of a verdict, each with the command that entered it and the branch in which that is, and what a server may do otherwise."""
+        found = self.places.facts.cautions[case.mail.path, case.main.key]
+        others = [tag("p", "What a server may do otherwise:"), listed(map(self.caution, found))] if found else []
         if case.unjudged:
-            return tag("span", f"not judged: {case.unjudged}")
-        return listed((self.line(case, line) for line in case.verdict.lines), class_="verdict")
+            return joined([tag("span", f"not judged: {case.unjudged}"), *others])
+        return joined([listed((self.line(case, line) for line in case.verdict.lines), class_="verdict"), *others])
+
+    def caution(self, it: Finding) -> Markup:
+        """What a server may do otherwise, with a link to the line that it is about where that is one of a script."""
+        place = [self.places.line_link(it.path, it.line), ": "] if it.path else []
+        return tag("span", *place, f"{it.kind}: {PLAIN.line(it.text.encode('latin-1'))}", class_="caution")
 
     def line(self, case: Case, line: Line) -> Markup:
         """A line of a verdict."""
@@ -81,7 +89,7 @@ class Telling:
 
     def trace(self, case: Case) -> Trace:
         """Where the run of a case comes."""
-        return self.places.facts.judge.traces.get((case.mail.path, case.main.key), ())
+        return self.places.facts.traces.get((case.mail.path, case.main.key), ())
 
     def branches(self, trace: Trace, path: bytes, line: int) -> Iterator[Inside]:
         """The branches in which the commands of a line are to which a run comes."""
@@ -116,7 +124,7 @@ class Telling:
     def visit(self, visit: Visit) -> Markup:
         """A script that was looked up."""
         if visit not in self.visits:
-            branches = filter(None, (self.places.branch_link(visit.path, it) for it in visit.places))
+            branches = filter(None, (self.places.branch_link(visit.path, it) for it in sorted(visit.places)))
             below = listed(branches)
             self.visits[visit] = joined([self.places.script_link(visit.path), below])
         return self.visits[visit]

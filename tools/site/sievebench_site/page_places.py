@@ -31,7 +31,6 @@ class Places:
         self.title = PLAIN.name(os.path.basename(os.path.abspath(self.folder)))
         self.mails = {mail.path: f"m{number}" for number, mail in enumerate(facts.mails, 1)}
         self.scripts = {path: f"s{number}" for number, path in enumerate(facts.scripts, 1)}
-        self.letterheads = {mail.path: facts.letterhead(mail) for mail in facts.mails}
         self.paths: Dict[Tuple[bytes, Place], bytes] = {}
         self.branch_link = functools.lru_cache(maxsize=None)(self.made_branch_link)
 
@@ -42,7 +41,7 @@ class Places:
 
     def subject(self, mail: Mail) -> str:
         """What a mail is called: by its subject, or where it has none by its file."""
-        return self.letterheads[mail.path][0].subject or self.name(mail.path)
+        return self.facts.heads[mail.path][0].subject or self.name(mail.path)
 
     def label(self, case: Case) -> str:
         """What the line of main scripts of a case is called."""

@@ -2,7 +2,7 @@
 
 from __future__ import annotations
 
-from typing import Dict, Iterable, Iterator, List, Optional, Set, Tuple
+from typing import Dict, Iterator, List, Set, Tuple
 
 from .changes import Command
 from .findings import PLAIN
@@ -10,7 +10,7 @@ from .groups import counted
 from .mains import Script
 from .markup import Inside, Markup, joined, link, listed, table, tag
 from .page_places import Places, verdict_text
-from .report import Came
+from .report import Came, Visits
 from .traces import point_of
 
 # So many verdicts are shown of a line.
@@ -56,7 +56,9 @@ class ScriptPart:
         self.places, self.script, self.remarks = places, script, remarks
         self.id = places.scripts[script.path]
         self.cannot_run = any(kind in (FAULT, SKIPPED) for told in remarks.values() for kind, _ in told)
-        self.came: Optional[Dict[int, Came]] = None if self.cannot_run else places.facts.came.get(script.path)
+        self.asked = script.path in places.facts.visits and not self.cannot_run
+        # Most lines have mails in common with others.
+        self.told: Dict[Visits, Tuple[int, Markup]] = {}
         self.commands: Dict[int, List[Command]] = {}
         for command in places.facts.commands[script.path]:
             self.commands.setdefault(command.line(), []).append(command)
@@ -78,9 +80,9 @@ class ScriptPart:
         """How many mails come to the script."""
         if self.cannot_run:
             return tag("p", "It can't be run, as is said below.")
-        if self.came is None:
+        if not self.asked:
             return tag("p", "No verdict looks it up.")
-        mails = len(self.places.facts.asked[self.script.path])
+        mails, _ = self.of_visits(tuple(self.places.facts.visits[self.script.path]))
         left = len(self.places.facts.left.get(self.script.path, []))
         noticed = f"No mail notices {counted(left, 'change')} of it." if left else "Each change of it is noticed."
         return tag("p", f"{counted(mails, 'mail')} {comes(mails)} here. {noticed}")
@@ -89,8 +91,8 @@ class ScriptPart:
         """A line."""
         found = [it for it in self.commands.get(number, []) if it.name() != b"require"]
         kinds = dict.fromkeys(kind for kind, _ in self.remarks.get(number, []))
-        told = self.mails(found) if found and self.came is not None else Markup()
-        missed = self.came is not None and any(not self.came_to(point_of(it)) for it in found)
+        told = self.mails(found) if found and self.asked else Markup()
+        missed = self.asked and any(not self.visits_to(it) for it in found)
         text = PLAIN.text(line.rstrip(b"\r").expandtabs(8))
         place = f"{self.id}-{number}"
         script = joined([tag("code", text), listed(self.remark(it) for it in self.remarks.get(number, []))])
@@ -109,29 +111,32 @@ class ScriptPart:
         kind, text = remark
         return tag("span", tag("span", SIGNS[kind], aria_hidden="true"), text, class_=kind)
 
-    def came_to(self, place: Optional[int]) -> Came:
-        """The mails that come to a place, by their verdicts."""
-        return (self.came or {}).get(-1 if place is None else place, {})
+    def visits_to(self, *found: Command) -> Visits:
+        """The visits that come to one of some commands."""
+        points = [point for point in map(point_of, found) if point is not None]
+        return self.places.facts.visits_to(self.script.path, points)
+
+    def of_visits(self, visits: Visits) -> Tuple[int, Markup]:
+        """How many mails these visits have, and with which verdicts."""
+        if visits not in self.told:
+            came = self.places.facts.came(visits)
+            mails = {mail for found in came.values() for mail in found}
+            self.told[visits] = len(mails), self.verdicts(came)
+        return self.told[visits]
 
     def mails(self, found: List[Command]) -> Markup:
         """How many mails come to the commands of a line, and with which verdicts; of branches how many take them."""
-        came: Came = {}
-        for command in found:
-            for verdict, mails in self.came_to(point_of(command)).items():
-                came.setdefault(verdict, set()).update(mails)
-        told = joined(self.counts(found, came), ", ")
-        if not came:
-            return tag("span", told, class_="none")
-        return tag("details", tag("summary", told), self.verdicts(came))
+        mails, verdicts = self.of_visits(self.visits_to(*found))
+        told = joined(self.counts(found[0], mails), ", ")
+        return tag("details", tag("summary", told), verdicts) if mails else tag("span", told, class_="none")
 
-    def counts(self, found: List[Command], came: Came) -> Iterator[str]:
+    def counts(self, first: Command, mails: int) -> Iterator[str]:
         """The counts of a line in words."""
-        first, mails = found[0], len(mails_in(came.values()))
         begins = point_of(first) != first.block
         if begins:
             yield f"{mails:,} {comes(mails)}" if mails else "none comes here"
         if first.block is not None and (mails or not begins):
-            taken = len(mails_in(self.came_to(first.block).values()))
+            taken, _ = self.of_visits(self.places.facts.visits_to(self.script.path, [first.block]))
             yield f"{taken:,} {'takes' if taken == 1 else 'take'} it" if taken else "none takes it"
 
     def verdicts(self, came: Came) -> Markup:
@@ -152,8 +157,3 @@ class ScriptPart:
 def comes(count: int) -> str:
     """The word for so many mails."""
     return "comes" if count == 1 else "come"
-
-
-def mails_in(groups: Iterable[Set[int]]) -> Set[int]:
-    """All mails of some groups."""
-    return {mail for group in groups for mail in group}

@@ -4,6 +4,7 @@ from __future__ import annotations
 
 import collections
 import contextlib
+import functools
 import os
 import re
 import subprocess
@@ -144,8 +145,9 @@ class Session:
         # Lines of replies that were read and not looked at yet, and the beginning of the next one.
         self.lines: Deque[bytes] = collections.deque()
         self.begun: List[bytes] = []
-        # Many verdicts are the same one.
+        # Many verdicts are the same one, and many reports after an edit are that before it.
         self.known: Dict[bytes, Verdict] = {}
+        self.report_of = functools.lru_cache(maxsize=4)(self.made_report)
 
     def end(self) -> None:
         """Ends the session, which mustn't have failed until now."""
@@ -243,15 +245,17 @@ class Session:
         self.drain()
         self.write(b"report\n")
         self.flush()
-        head, *mails = self.told().split(b"\nmessage ")
-        report = Report({}, {})
-        for found in head.split(b"\n"):
-            self.take_script(found, report.faults)
+        return self.report_of(self.told())
+
+    def made_report(self, told: bytes) -> Report:
+        """What a report tells."""
+        head, *mails = told.split(b"\nmessage ")
+        verdicts: Dict[bytes, Verdict] = {}
         for mail in mails:
             name, _, lines = mail.partition(b"\n")
             if lines:
-                report.verdicts[unquoted(name)] = self.verdict(lines)
-        return report
+                verdicts[unquoted(name)] = self.verdict(lines)
+        return Report(faults_in(head), verdicts)
 
     def told(self) -> bytes:
         """All that a report tells but for its last line, after an LF."""
@@ -269,13 +273,6 @@ class Session:
                 self.fail()
             octets += more
 
-    def take_script(self, found: bytes, faults: Dict[Place, Optional[Fault]]) -> None:
-        """Takes the line of a script."""
-        match = SCRIPT_LINE.fullmatch(found)
-        if match:
-            place = match[1].decode(), unquoted(match[2])
-            faults[place] = (int(match[3]), match[4].decode()) if match[3] else None
-
     def verdict(self, lines: bytes) -> Verdict:
         """What the lines of a mail tell, of which the first may be its envelope."""
         lines = lines.partition(b"\n")[2] if lines.startswith(b"  envelope ") else lines
@@ -284,19 +281,41 @@ class Session:
         return self.known[lines]
 
 
+@functools.lru_cache(maxsize=64)
+def faults_in(head: bytes) -> Dict[Place, Optional[Fault]]:
+    """The fault of each script, if any, by what a report tells before the mails."""
+    found = filter(None, map(SCRIPT_LINE.fullmatch, head.split(b"\n")))
+    return {(it[1].decode(), unquoted(it[2])): (int(it[3]), it[4].decode()) if it[3] else None for it in found}
+
+
 def verdict_of(told: List[bytes]) -> Verdict:
     """The verdict that the lines of a mail tell."""
     lines: List[Line] = []
     reads = []
     for found in told:
-        at, read = AT_LINE.fullmatch(found), READ_LINE.fullmatch(found)
+        at, read = at_in(found), read_in(found)
         if at:
-            lines[-1] = Line(lines[-1].text, ((at[1].decode(), unquoted(at[2])), int(at[3])))
+            lines[-1] = Line(lines[-1].text, at)
         elif read:
-            reads.append(((read[1].decode(), unquoted(read[2])), not read[3]))
+            reads.append(read)
         elif not found.startswith(b"  envelope "):
             lines.append(Line(found[2:]))
     return Verdict(tuple(lines), tuple(reads))
+
+
+# Many verdicts have the same lines.
+@functools.lru_cache(maxsize=1024)
+def at_in(found: bytes) -> Optional[Tuple[Place, int]]:
+    """The script and the line that a line of a verdict tells, if it does."""
+    at = AT_LINE.fullmatch(found)
+    return ((at[1].decode(), unquoted(at[2])), int(at[3])) if at else None
+
+
+@functools.lru_cache(maxsize=1024)
+def read_in(found: bytes) -> Optional[Tuple[Place, bool]]:
+    """The script that was looked up, and whether it was there, if a line of a verdict tells that."""
+    read = READ_LINE.fullmatch(found)
+    return ((read[1].decode(), unquoted(read[2])), not read[3]) if read else None
 
 
 def reason(command: str, kind: str) -> str:

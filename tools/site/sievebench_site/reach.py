@@ -1,44 +1,81 @@
-"""Where runs come to, asked of the program: by redirects to addresses of their own, and by an error on a line of its own."""
+"""Where runs come to, asked of the program: by marks, which are flags of a store of their own, and by an error on a line of its own."""
 from __future__ import annotations
 
-from typing import Dict, Iterable, List, Set, Tuple
+from typing import Dict, FrozenSet, Iterable, List, Optional, Set, Tuple
 
 from .chains import Bench, chained
-from .changes import Command, with_inserted
-from .mains import Main, Script
-from .program import Verdict
+from .changes import ACTIONS, BRANCHES, DECLARATIONS, Command, with_inserted
+from .mains import Main
+from .program import Place, Verdict
 from .sieve_text import required
 from .words import quoted
 
-# A run has at most 32 actions, and some of its own.
-AT_ONCE = 20
-DOMAIN = b"reached.invalid"
+# So many places are asked for at once: a script has room for that.
+AT_ONCE = 1_000
+BOX = b"reached.invalid"
+# What a mark requires. The program always knows it.
+REQUIRED = (b"fileinto", b"copy", b"imap4flags")
+# What stands before an `elsif` or an `else` belongs to the branch before it, and before a `require` no command may stand.
+NO_START = (b"elsif", b"else", b"require")
+# After these a run goes on, if it doesn't fail.
+GOES_ON = (*ACTIONS, *BRANCHES, *DECLARATIONS, b"set", b"setflag", b"addflag", b"removeflag")
+# Of each script its places, each with the first to which a run comes as often.
+Places = Dict[Place, Dict[int, int]]
+# Of each script the places to which a run came.
+Came = Dict[Place, FrozenSet[int]]
 
 
-def own_domain(texts: Iterable[bytes]) -> bytes:
-    """A domain of which no script speaks."""
-    domain, whole = DOMAIN, b"\n".join(texts).lower()
-    while domain in whole:
-        domain = b"x" + domain
-    return domain
+def own_box(texts: Iterable[bytes]) -> bytes:
+    """A mailbox of which no script speaks."""
+    box, whole = BOX, b"\n".join(texts).lower()
+    while box in whole:
+        box = b"x" + box
+    return box
 
 
-def address(number: int, domain: bytes) -> bytes:
-    """The address of a question."""
-    return b"%d@%b" % (number, domain)
+def mark(number: int) -> bytes:
+    """A mark, as the line of a store has it."""
+    return b'"%d"' % number
 
 
-def redirect_line(number: int, domain: bytes) -> bytes:
-    """The line of a verdict where a run came to a question."""
-    return b"redirect " + quoted(address(number, domain)).encode()
-
-
-def with_fronts(text: bytes, places: List[int], domain: bytes) -> bytes:
-    """The script with a copy redirected at each of these places: that changes nothing of what else the script does."""
+def marked(text: bytes, places: Iterable[Tuple[int, int]], box: bytes) -> bytes:
+    """The script with a mark at each of these places, by its number. A copy of the mail is stored once, whatever marks it gets: that is one
+    of the 32 actions of a run, and changes nothing of what else the script does."""
     end, names = required(text)
-    front = [] if b"copy" in names else [(end, b' require "copy";')]
-    asked = [(place, b' redirect :copy "%b"; ' % address(it, domain)) for it, place in enumerate(places)]
+    lacks = b", ".join(b'"%b"' % name for name in REQUIRED if name not in names)
+    front = [(end, b" require [%b];" % lacks)] if lacks else []
+    asked = [(at, b' fileinto :copy :flags %b "%b"; ' % (mark(number), box)) for at, number in places]
     return with_inserted(text, [*front, *asked])
+
+
+def marks_in(verdict: Verdict, box: bytes) -> Optional[List[bytes]]:
+    """The marks to which a run came, in the order in which it came there first; nothing where it failed, which drops them."""
+    texts, store = verdict.texts(), b"store %b " % quoted(box).encode()
+    if any(text.startswith(b"error ") for text in texts):
+        return None
+    return next((text[len(store) :].split() for text in texts if text.startswith(store)), [])
+
+
+def places_of(found: Iterable[Command]) -> Dict[int, int]:
+    """All places of a script's commands that a run may come to, each with the first place to which it comes as often unless it fails: a run
+    goes on in a block, up to a command that may end it."""
+    first: Dict[int, int] = {}
+    # Of each block where the run has gone on since, and the block around it.
+    since: Dict[Optional[int], Optional[int]] = {None: None}
+    around: Dict[int, Optional[int]] = {}
+    for it in found:
+        if it.name() not in NO_START:
+            start = since[it.inside]
+            since[it.inside] = first[it.start()] = it.start() if start is None else start
+        if it.block is not None:
+            first[it.block] = since[it.block] = it.block
+            around[it.block] = it.inside
+        if it.name() not in GOES_ON:
+            block = it.inside
+            while block is not None:
+                since[block], block = None, around[block]
+            since[None] = None
+    return first
 
 
 def with_end(text: bytes, command: Command) -> Tuple[bytes, int]:
@@ -61,80 +98,57 @@ def with_error(text: bytes, place: int) -> Tuple[bytes, int]:
 
 
 class Reach:
-    """Asks which commands of a script some mail's run comes to, under a main script."""
+    """Asks to which places of scripts the runs of some mails come, under a main script."""
 
-    def __init__(self, bench: Bench, ids: List[bytes], main: Main, script: Script) -> None:
-        self.bench, self.ids, self.main, self.script = bench, ids, main, script
-        self.domain = own_domain(bench.scripts.values())
+    def __init__(self, bench: Bench, ids: List[bytes], main: Main) -> None:
+        self.bench, self.ids, self.main = bench, ids, main
 
-    def reached(self, commands: List[Command]) -> Set[int]:
-        """Those of the commands that are reached, by where they begin. An `if` is reached where its condition is asked for."""
-        found: Set[int] = set()
-        left = [it for it in commands if it.name() == b"elsif"]
-        asked = [it for it in commands if it.name() != b"elsif"]
-        for at in range(0, len(asked), AT_ONCE):
-            group = asked[at : at + AT_ONCE]
-            lines = self.lines(with_fronts(self.script.text, [it.start() for it in group], self.domain))
-            seen = {it.start() for n, it in enumerate(group) if redirect_line(n, self.domain) in lines}
-            found |= seen
-            if any(line.startswith(b"error ") for line in lines):
-                left += [it for it in group if it.start() not in seen]
-        for it in left:
-            text, line = with_end(self.script.text, it)
-            place, name = self.script.at()
-            if f"error {place} {quoted(name)} line {line} bad-address".encode() in self.lines(text):
-                found.add(it.start())
-        self.bench.replace(self.script.at(), self.script.text)
+    def came(self, places: Places) -> Dict[bytes, Optional[Came]]:
+        """Of each mail those of some places to which its run comes; nothing where the run fails."""
+        asked = [(script, at) for script, found in places.items() for at in sorted(set(found.values()))]
+        numbers = {point: number for number, point in enumerate(asked)}
+        marks: Dict[Place, Dict[bytes, List[int]]] = {script: {} for script in places}
+        for script, found in places.items():
+            for at, first in found.items():
+                marks[script].setdefault(mark(numbers[script, first]), []).append(at)
+        told: Dict[bytes, Optional[FrozenSet[bytes]]] = dict.fromkeys(self.ids, frozenset())
+        for start in range(0, len(asked), AT_ONCE):
+            for name, more in self.marks(asked[start : start + AT_ONCE], start).items():
+                before = told[name]
+                told[name] = None if before is None or more is None else before | more
+        # Many runs come to the same places.
+        same: Dict[FrozenSet[int], FrozenSet[int]] = {}
+        known: Dict[Optional[FrozenSet[bytes]], Optional[Came]] = {None: None}
+        for got in set(told.values()):
+            if got is not None:
+                came = {
+                    script: frozenset(at for word in it.keys() & got for at in it[word]) for script, it in marks.items()
+                }
+                known[got] = {script: same.setdefault(it, it) for script, it in came.items()}
+        return {name: known[got] for name, got in told.items()}
+
+    def marks(self, asked: List[Tuple[Place, int]], first: int) -> Dict[bytes, Optional[FrozenSet[bytes]]]:
+        """The marks that each mail's run gets at these places, of which the first has this number; nothing where it fails."""
+        box = own_box(self.bench.scripts.values())
+        points: Dict[Place, List[Tuple[int, int]]] = {}
+        for number, (script, at) in enumerate(asked, first):
+            points.setdefault(script, []).append((at, number))
+        verdicts = self.verdicts({it: marked(self.bench.scripts[it], found, box) for it, found in points.items()})
+        told = {verdict: marks_in(verdict, box) for verdict in set(verdicts.values())}
+        known = {verdict: None if found is None else frozenset(found) for verdict, found in told.items()}
+        return {name: known[verdict] for name, verdict in verdicts.items()}
+
+    def ended(self, script: Place, text: bytes, line: int) -> Set[bytes]:
+        """The mails whose runs end by an error of a script that has this text, on this line of it."""
+        end = f"error {script[0]} {quoted(script[1])} line {line} bad-address".encode()
+        return {name for name, verdict in self.verdicts({script: text}).items() if end in verdict.texts()}
+
+    def verdicts(self, texts: Dict[Place, bytes]) -> Dict[bytes, Verdict]:
+        """The verdicts with these texts of scripts."""
+        before = {script: self.bench.scripts[script] for script in texts}
+        for script, text in texts.items():
+            self.bench.replace(script, text)
+        found = chained(self.bench, self.main.scripts, self.ids)
+        for script, text in before.items():
+            self.bench.replace(script, text)
         return found
-
-    def entered(self, blocks: List[int]) -> Dict[int, List[bytes]]:
-        """The mails that come to each block, by where it begins, and those of which that isn't known, since their runs fail."""
-        found: Dict[int, List[bytes]] = {}
-        for at in range(0, len(blocks), AT_ONCE):
-            group = blocks[at : at + AT_ONCE]
-            came, failed = self.asked(group)
-            found.update({it: [name for name in self.ids if name in failed or name in came[it]] for it in group})
-        self.bench.replace(self.script.at(), self.script.text)
-        return found
-
-    def asked(self, places: List[int]) -> Tuple[Dict[int, Set[bytes]], Set[bytes]]:
-        """The mails that come to each of a few places, and those of which that isn't known, since their runs fail."""
-        came: Dict[int, Set[bytes]] = {place: set() for place in places}
-        lines = {redirect_line(number, self.domain): came[place] for number, place in enumerate(places)}
-        failed: Set[bytes] = set()
-        for name, verdict in self.verdicts(with_fronts(self.script.text, places, self.domain)).items():
-            for line in verdict.lines:
-                if line.text in lines:
-                    lines[line.text].add(name)
-                elif line.text.startswith(b"error "):
-                    failed.add(name)
-        return came, failed
-
-    def came(self, places: List[int]) -> Tuple[Dict[int, Set[bytes]], Set[bytes]]:
-        """The same of any number of places."""
-        found: Dict[int, Set[bytes]] = {}
-        failed: Set[bytes] = set()
-        for at in range(0, len(places), AT_ONCE):
-            came, wrong = self.asked(places[at : at + AT_ONCE])
-            found.update(came)
-            failed |= wrong
-        self.bench.replace(self.script.at(), self.script.text)
-        return found, failed
-
-    def ended(self, place: int) -> Set[bytes]:
-        """The mails that come to a place, be it that their runs fail later."""
-        text, line = with_error(self.script.text, place)
-        where, name = self.script.at()
-        end = f"error {where} {quoted(name)} line {line} bad-address".encode()
-        found = {it for it, verdict in self.verdicts(text).items() if end in verdict.texts()}
-        self.bench.replace(self.script.at(), self.script.text)
-        return found
-
-    def verdicts(self, text: bytes) -> Dict[bytes, Verdict]:
-        """The verdicts with this text of the script."""
-        self.bench.replace(self.script.at(), text)
-        return chained(self.bench, self.main.scripts, self.ids)
-
-    def lines(self, text: bytes) -> Set[bytes]:
-        """The lines of all verdicts with this text of the script."""
-        return {line.text for verdict in set(self.verdicts(text).values()) for line in verdict.lines}

@@ -5,7 +5,7 @@ from __future__ import annotations
 from typing import Dict, FrozenSet, Iterable, List, NamedTuple, Tuple
 
 from .expected import Key
-from .findings import PLAIN
+from .findings import PLAIN, Finding
 from .folder import Site
 from .judge import Case
 from .mails import Mail
@@ -14,6 +14,7 @@ from .traces import Trace
 # More columns than these are hard to read.
 COLUMNS = 12
 Traces = Dict[Tuple[bytes, Key], Trace]
+Cautions = Dict[Tuple[bytes, Key], Tuple[Finding, ...]]
 
 
 class Outcome(NamedTuple):
@@ -54,18 +55,19 @@ class Row(NamedTuple):
         return min(outcome_of(case).rank for case in self.cases)
 
 
-def rows_of(cases: Iterable[Case], traces: Traces) -> List[Row]:
+def rows_of(cases: Iterable[Case], traces: Traces, cautions: Cautions) -> List[Row]:
     """The mails in rows: those with the worst verdicts first, and then in the order of the mails."""
     mails: Dict[bytes, List[Case]] = {}
     for case in cases:
         mails.setdefault(case.mail.path, []).append(case)
     rows: Dict[object, Row] = {}
     for found in mails.values():
-        alike = tuple(
-            (it.main.key, it.verdict, it.block and it.block.lines, it.unjudged, traces.get((it.mail.path, it.main.key)))
-            for it in found
-        )
-        rows.setdefault(alike, Row([], found)).mails.append(found[0].mail)
+        alike = []
+        for it in found:
+            at = it.mail.path, it.main.key
+            same = it.verdict, it.block and it.block.lines, it.unjudged, traces.get(at), cautions.get(at)
+            alike.append((it.main.key, same))
+        rows.setdefault(tuple(alike), Row([], found)).mails.append(found[0].mail)
     return sorted(rows.values(), key=Row.rank)
 
 

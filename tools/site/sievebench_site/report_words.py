@@ -9,9 +9,10 @@ Writes one page of HTML, which needs no network and no script to be read: a litt
 sorts the table of mails, and finds a mail, a user or a mailbox.
 
 The page has the counts of check; a table of the mails by main scripts, with equal rows folded; of
-each mail its subject and addresses, the verdicts beside what is expected, the scripts that were
-looked up, and the branch that each action came from; and each script with its faults, how many
-mails come to each line and with which verdicts, and the changes that untested finds unnoticed.
+each mail its subject and addresses, the verdicts beside what is expected, what a server may do
+otherwise, the scripts that were looked up, and the branch that each action came from; and each
+script with its faults, how many mails come to each line and with which verdicts, and the changes
+that untested finds unnoticed.
 
 --against REVISION also shows what diff --git REVISION says.
 

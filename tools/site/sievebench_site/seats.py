@@ -25,8 +25,8 @@ class Seat:
         self.room = contextlib.ExitStack()
         self.session: Session = self.room.enter_context(program.session())
         self.bench = Bench(self.session, {})
-        self.ids: Dict[bytes, bytes] = {}
-        # The mails whose envelope isn't known, by their files.
+        # The mails by their ids, and the ids of those whose envelope isn't known.
+        self.mails: Dict[bytes, Mail] = {}
         self.bare: Set[bytes] = set()
         self.number = 0
 
@@ -37,17 +37,27 @@ class Seat:
 
     def put_mails(self, mails: List[Mail], put: Putting) -> Tuple[Dict[bytes, Mail], List[Mail]]:
         """Brings the mails to these, and gives them by their ids, and those without an envelope."""
-        wanted = {mail.path for mail in mails}
-        for path in [it for it in self.ids if it not in wanted]:
-            self.session.edit("drop-message", [self.ids.pop(path)], None, "the end of a mail")
-            self.bare.discard(path)
-        for mail in mails:
-            if mail.path not in self.ids:
-                self.number += 1
-                self.ids[mail.path] = name = b"%d" % self.number
+        ids = {mail.path: name for name, mail in self.mails.items()}
+        wanted = {ids.get(mail.path) or self.new_id(): mail for mail in mails}
+        self.become(wanted, put)
+        return wanted, [mail for name, mail in wanted.items() if name in self.bare]
+
+    def new_id(self) -> bytes:
+        """An id that no mail had."""
+        self.number += 1
+        return b"%d" % self.number
+
+    def become(self, wanted: Dict[bytes, Mail], put: Putting) -> None:
+        """Brings the mails to these."""
+        for name in [it for it, mail in self.mails.items() if it not in wanted or wanted[it].path != mail.path]:
+            self.session.edit("drop-message", [name], None, "the end of a mail")
+            del self.mails[name]
+            self.bare.discard(name)
+        for name, mail in wanted.items():
+            if name not in self.mails:
+                self.mails[name] = mail
                 if not put(self.session, name, mail):
-                    self.bare.add(mail.path)
-        return {self.ids[mail.path]: mail for mail in mails}, [mail for mail in mails if mail.path in self.bare]
+                    self.bare.add(name)
 
     def end(self) -> None:
         """Ends the session, which mustn't have failed until now."""

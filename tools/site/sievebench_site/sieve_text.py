@@ -2,6 +2,7 @@
 
 from __future__ import annotations
 
+import functools
 import re
 from typing import Iterable, Iterator, List, NamedTuple, Optional, Tuple
 
@@ -43,8 +44,12 @@ def line_at(text: bytes, place: int) -> int:
     return text.count(b"\n", 0, place) + 1
 
 
+# Of the scripts of many mails this is asked for each mail.
+@functools.lru_cache(maxsize=1024)
 def lines_with(text: bytes, word: bytes) -> List[int]:
     """The lines that have this word of a command or a test, each once."""
+    if word not in text.lower():
+        return []
     return sorted({line_at(text, it.start) for it in tokens(text) if it.kind == "word" and it.octets == word})
 
 

@@ -1,19 +1,23 @@
 """The command untested: what can be changed in the scripts so that no mail's verdict notices."""
 from __future__ import annotations
 
+import contextlib
 import itertools
 import json
-from typing import Callable, Dict, Iterator, List, Set
+from typing import Dict, Iterable, Iterator, List, Optional, Tuple
 
 from .changes import Change, changes, commands
 from .chains import Bench, chained
+from .envelopes import Envelope
 from .faults import sentence_of
 from .findings import PLAIN
 from .folder import Site, User
-from .judge import Batch, Held, Judge, put_settings
+from .judge import Batch, Held, Judge, Told
+from .mails import Mail
 from .mains import Main, Script
-from .program import NO_MEMORY, Program, Session, Verdict
-from .reach import Reach
+from .program import NO_MEMORY, Place, Program, Session, Verdict
+from .reach import Came, Places, Reach, places_of, with_end
+from .seats import Seat, Seats
 from .shown import Look
 from .sieve_text import required
 
@@ -22,8 +26,6 @@ SOME, FEW = 4, 40
 # So much of a command is shown.
 SHOWN = 120
 Verdicts = Dict[bytes, Verdict]
-# Gives the mails that come to each block of a script, or may.
-Entered = Callable[[Held, Main, Script, List[bytes]], Dict[int, List[bytes]]]
 
 
 class Tried:
@@ -33,7 +35,7 @@ class Tried:
         self.script, self.change = script, change
         self.text = change.command.shown(script.text)
         self.same = change.is_none(script.text)
-        self.faulty = self.noticed = self.reached = False
+        self.tried = self.faulty = self.noticed = self.reached = False
 
     def open(self) -> bool:
         """Whether it could be noticed and wasn't until now."""
@@ -66,37 +68,54 @@ class Untested:
         # The mails for which memory is refused.
         self.refused: Dict[bytes, None] = {}
         self.numbers = itertools.count()
-        self.judge.batches(self.try_batch, self.refuse_batch)
+        self.seats = {most: Seats(program, self.judge.seats.begin) for most in (SOME, FEW)}
+        with self.seats[SOME], self.seats[FEW]:
+            self.found = self.judge.batches(self.try_batch, self.refuse_batch)
 
-    def refuse_batch(self, batch: Batch) -> None:
+    def refuse_batch(self, batch: Batch) -> Told:
         """Leaves out mails for which memory is refused."""
         self.refused.update(dict.fromkeys(mail.path for mail in batch.mails))
+        return self.judge.refused(batch)
 
-    def try_batch(self, batch: Batch) -> None:
-        """Tries the changes on some mails, and asks where these come."""
+    def try_batch(self, batch: Batch) -> Told:
+        """Judges some mails, tries the changes on them, and asks where these come."""
         number = next(self.numbers)
-        with self.judge.held(batch) as held, self.judge.program.session() as session:
-            few = Few(self.judge, held, session)
-            for main in batch.user.mains:
-                base = chained(held.bench, main.scripts, held.mails)
-                for script in looked_up(batch.user, base):
+        with self.judge.held(batch) as held, contextlib.ExitStack() as room:
+            cases = self.judge.cases(batch, held)
+            seats = {most: room.enter_context(it.taken(batch.fresh)) for most, it in self.seats.items()}
+            few = Few(self.judge, held, seats, batch.user)
+            names = {mail.path: name for name, mail in held.mails.items()}
+            for main in batch.mains:
+                base = {names[it.mail.path]: it.verdict for it in cases if it.main is main}
+                found = looked_up(batch.user, base)
+                came = self.came(batch, few, main, base, self.places(batch, found))
+                for script, readers in found.items():
                     self.unasked.pop(script.path, None)
                     tried = self.tried.get(script.path)
                     if not tried:
                         continue
                     # Parts that are tried at once begin at different changes: what one notices, the other needn't try.
                     start = len(tried) * (number % self.judge.jobs) // self.judge.jobs
-                    trial = Trial(held, few, main, script, base, self.entered)
-                    for it in [*tried[start:], *tried[:start]]:
+                    trial = Trial(few, main, script, base, {name: came[name] for name in readers})
+                    # Those for which the same mails are wanted stand together.
+                    for it in sorted([*tried[start:], *tried[:start]], key=lambda it: trial.block(it) or 0):
                         if it.open():
                             trial.take(it)
                     trial.end()
                     trial.ask([it for it in tried if it.open() and not it.reached])
+        self.judge.progress.add(len(batch.mails))
+        return cases, held.bare
 
-    def entered(self, held: Held, main: Main, script: Script, ids: List[bytes]) -> Dict[int, List[bytes]]:
-        """The mails that come to each block of a script, or may."""
-        blocks = [it.block for it in commands(script.text) if it.block is not None]
-        return Reach(held.bench, ids, main, script).entered(blocks)
+    def came(
+        self, batch: Batch, few: "Few", main: Main, verdicts: Verdicts, places: Places
+    ) -> Dict[bytes, Optional[Came]]:
+        """Of each mail those of some places to which its run comes; nothing where the run fails."""
+        return Reach(few.held.bench, list(verdicts), main).came(places)
+
+    def places(self, batch: Batch, scripts: Iterable[Script]) -> Places:
+        """The places of scripts, of those that can run."""
+        faults = self.judge.surveys[batch.number].faults
+        return {it.at(): places_of(commands(it.text)) for it in scripts if it.at() not in faults}
 
     def judged(self) -> List[Tried]:
         """All changes of the scripts that some verdict looked up."""
@@ -122,94 +141,124 @@ class Untested:
         return counts["noticed"] * 100 >= percent * counts["changes"]
 
 
-def looked_up(user: User, verdicts: Verdicts) -> List[Script]:
-    """The scripts that some of these verdicts looked up: no other can matter to them."""
-    there = {place for verdict in set(verdicts.values()) for place, found in verdict.reads if found}
-    return [script for script in user.scripts if script.at() in there]
+def looked_up(user: User, verdicts: Verdicts) -> Dict[Script, List[bytes]]:
+    """The scripts that some of these verdicts looked up, each with their mails: no other can matter to them."""
+    readers: Dict[Place, List[bytes]] = {}
+    for name, verdict in verdicts.items():
+        for place, there in verdict.reads:
+            if there:
+                readers.setdefault(place, []).append(name)
+    return {script: readers[script.at()] for script in user.scripts if script.at() in readers}
 
 
 class Few:
-    """A session into which mails of another are put as they are wanted."""
+    """Sessions into which mails of another are put as they are wanted: one for some, and one for a few."""
 
-    def __init__(self, judge: Judge, held: Held, session: Session) -> None:
-        self.judge, self.held, self.session = judge, held, session
-        self.bench = Bench(session, {})
-        self.bench.become(held.bench.scripts)
-        put_settings(session, judge.site)
-        self.there: Set[bytes] = set()
+    def __init__(self, judge: Judge, held: Held, seats: Dict[int, Seat], user: User) -> None:
+        self.judge, self.held, self.seats = judge, held, seats
+        # The mails that are there, and what was read of them.
+        self.there: Dict[int, List[bytes]] = {most: [] for most in seats}
+        self.known: Dict[bytes, Tuple[bytes, Envelope]] = {}
+        for seat in seats.values():
+            seat.put_scripts(user)
+
+    def benches(self) -> List[Bench]:
+        """All sessions."""
+        return [self.held.bench, *(seat.bench for seat in self.seats.values())]
 
     def bench_of(self, ids: List[bytes]) -> Bench:
         """A session with these mails: the other one, with all, where they aren't few."""
-        if len(ids) > FEW:
+        most = next((it for it in self.seats if len(ids) <= it), None)
+        if most is None:
             return self.held.bench
-        for name in self.there - set(ids):
-            self.session.edit("drop-message", [name], None, "the end of a mail")
-        for name in ids:
-            if name not in self.there:
-                self.judge.put_mail(self.session, name, self.held.mails[name])
-        self.there = set(ids)
-        return self.bench
+        # Others that are there stay as long as they are few.
+        names = list(dict.fromkeys([*self.there[most], *ids]))
+        self.there[most] = names if len(names) <= most + SOME else ids
+        self.seats[most].become({name: self.held.mails[name] for name in self.there[most]}, self.put_mail)
+        return self.seats[most].bench
+
+    def put_mail(self, session: Session, name: bytes, mail: Mail) -> bool:
+        """Puts a mail, which is read once."""
+        if name not in self.known:
+            self.known[name] = self.judge.read(mail)
+        return self.judge.put(session, name, mail, *self.known[name])
 
 
 class Trial:
     """The changes of a script, tried on some mails under a main script."""
 
-    def __init__(self, held: Held, few: Few, main: Main, script: Script, base: Verdicts, entered: Entered) -> None:
-        self.held, self.few, self.main, self.script, self.base = held, few, main, script, base
-        self.ids = [name for name, verdict in base.items() if (script.at(), True) in verdict.reads]
+    def __init__(self, few: Few, main: Main, script: Script, base: Verdicts, came: Dict[bytes, Optional[Came]]) -> None:
+        self.few, self.main, self.script, self.base = few, main, script, base
+        self.ids = list(came)
         self.variables = b"variables" in required(script.text)[1]
-        # The mails that come to each block, or may.
-        self.entered = entered(held, main, script, self.ids)
+        # The places to which each mail comes, where that is known.
+        self.came = {name: None if it is None else it[script.at()] for name, it in came.items()}
+        self.comings: Dict[Optional[int], List[bytes]] = {None: self.ids}
 
-    def around(self, it: Tried) -> List[bytes]:
-        """The mails that come to the block in which a change is."""
-        inside = it.change.command.inside
-        return self.ids if inside is None else self.entered[inside]
+    def coming(self, block: Optional[int]) -> List[bytes]:
+        """The mails that come to a block, or may; all where it is none."""
+        if block not in self.comings:
+            self.comings[block] = [name for name, it in self.came.items() if it is None or block in it]
+        return self.comings[block]
 
-    def mails(self, it: Tried) -> List[bytes]:
-        """The mails that could notice a change: those that come to the block in which it is. A condition that is made false is noticed
-        by those alone that come to its own block, unless it sets variables where it doesn't hold as a whole."""
-        block = it.change.command.block
-        narrow = it.change.denies() and not self.variables
-        return self.entered[block] if narrow and block is not None else self.around(it)
+    def block(self, it: Tried) -> Optional[int]:
+        """The block to which the mails come that could notice a change: the one in which it is, if it is in one. A condition that is made
+        false is noticed by those alone that come to its own block, unless it may set variables where it doesn't hold.
+        """
+        command = it.change.command
+        sets = self.variables and b":matches" in [token.octets for token in command.tokens]
+        return command.block if it.change.denies() and not sets else command.inside
 
     def take(self, it: Tried) -> None:
         """Tries a change, on a few mails first."""
-        place, text = it.script.at(), it.change.of(it.script.text)
-        for ids in parts_of(self.mails(it)):
+        place, text, mails = it.script.at(), it.change.of(it.script.text), self.coming(self.block(it))
+        # Where no mail comes there, it is tried once, since it may leave a fault.
+        for ids in parts_of(mails) if mails or not it.tried else ():
             bench = self.few.bench_of(ids)
             bench.replace(place, text)
             told = chained(bench, self.main.scripts, ids)
             # Other parts of the mails are tried at the same time, so what is known is never unset.
+            it.tried = True
             if bench.faults.get(place):
                 it.faulty = True
-            elif any(told[name].texts() != self.base[name].texts() for name in ids):
+            elif any(self.differs(name, told[name]) for name in ids):
                 it.noticed = True
             if not it.open():
                 return
 
+    def differs(self, name: bytes, verdict: Verdict) -> bool:
+        """Whether a mail's verdict isn't what it was."""
+        before = self.base[name]
+        return verdict is not before and verdict.texts() != before.texts()
+
     def end(self) -> None:
         """Puts the script's own text back."""
-        for bench in (self.held.bench, self.few.bench):
+        for bench in self.few.benches():
             bench.replace(self.script.at(), self.script.text)
 
     def ask(self, left: List[Tried]) -> None:
-        """Asks which of these changes mails come to, a few mails first."""
-        points = {it.change.command.start(): it.change.command for it in left if self.around(it)}
-        found: Set[int] = set()
-        for ids in parts_of(self.ids):
-            reach = Reach(self.few.bench_of(ids), ids, self.main, self.script)
-            found |= reach.reached([it for start, it in points.items() if start not in found])
+        """Asks which of these changes mails come to, a few mails first, where that isn't known: before an `elsif`, and of runs that fail."""
+        known = {place for found in self.came.values() for place in found or ()}
+        unknown = None in self.came.values()
+        points = {it.change.command.start(): it.change.command for it in left if self.coming(it.change.command.inside)}
+        asked = [it for start, it in points.items() if start not in known and (unknown or it.name() == b"elsif")]
+        for ids in parts_of(self.ids) if asked else ():
+            reach = Reach(self.few.bench_of(ids), ids, self.main)
+            for command in asked:
+                text, line = with_end(self.script.text, command)
+                if command.start() not in known and reach.ended(self.script.at(), text, line):
+                    known.add(command.start())
         for it in left:
-            it.reached = it.reached or it.change.command.start() in found
+            it.reached = it.reached or it.change.command.start() in known
 
 
 def parts_of(ids: List[bytes]) -> Iterator[List[bytes]]:
-    """Mails in parts: some, more, and all others; one part without mails where there are none."""
+    """Mails in parts: some, more, and all; one part without mails where there are none."""
     yield ids[:SOME]
-    for part in (ids[SOME:FEW], ids[FEW:]):
-        if part:
-            yield part
+    if len(ids) > SOME:
+        yield ids[SOME:FEW]
+    if len(ids) > FEW:
+        yield ids
 
 
 def text_of(found: Untested, look: Look, quiet: bool) -> str:

@@ -1,12 +1,11 @@
 """The command why: what entered each line of a mail's verdict, the scripts that were looked up, and the branches that the run took."""
 from __future__ import annotations
 
-import functools
 from typing import Dict, Iterator, List, NamedTuple, Optional, Tuple
 
 from . import cautions
 from .chains import Bench, Course, Flags, chained, step
-from .changes import ACTIONS, BRANCHES, Command, blank, commands, with_inserted
+from .changes import ACTIONS, BRANCHES, Command, blank, commands
 from .ends import refuse
 from .files import octets_of
 from .findings import Finding
@@ -15,7 +14,7 @@ from .judge import Batch, Judge, why_unjudged
 from .mails import Mail
 from .mains import Main
 from .program import Place, Program, Verdict
-from .reach import AT_ONCE, address, own_domain, redirect_line
+from .reach import mark, marked, marks_in, own_box
 from .shown import Look
 from .sieve_text import with_flags
 from .words import unquoted, words_of
@@ -64,7 +63,7 @@ class Question:
         verdict = self.run({place: text})
         self.texts: Texts = {at: bench.scripts[at] for at, there in verdict.reads if there}
         self.texts[place] = text
-        self.domain = own_domain(self.texts.values())
+        self.box = own_box(self.texts.values())
         error = error_of(verdict)
         self.failing = self.take_out(error)
         # Whether the runs that answer don't fail.
@@ -108,30 +107,15 @@ class Question:
         return branches
 
     def branches(self) -> List[Branch]:
-        """The branches that the run takes, in order."""
-        groups = [self.all[at : at + AT_ONCE] for at in range(0, len(self.all), AT_ONCE)]
-        taken = [it for group in groups for it in self.taken(group)]
-        if len(groups) < 2:
-            return taken
-        if len(taken) <= AT_ONCE:
-            return self.taken(taken)
-        return sorted(taken, key=functools.cmp_to_key(self.compared))
-
-    def compared(self, one: Branch, other: Branch) -> int:
-        """Which of two branches that the run takes comes first."""
-        return -1 if self.taken([one, other])[0] == one else 1
-
-    def taken(self, asked: List[Branch]) -> List[Branch]:
-        """Those of some branches that the run takes, in order."""
-        pieces: Dict[Place, List[Tuple[int, bytes]]] = {}
-        for number, it in enumerate(asked):
-            question = b' redirect "%b"; ' % address(number, self.domain)
-            pieces.setdefault(it.place, []).append((it.block, question))
-        asking = {place: with_inserted(self.texts[place], found) for place, found in pieces.items()}
-        verdict = self.run({**self.texts, **asking})
-        self.known = self.known and error_of(verdict) is None
-        lines = {redirect_line(number, self.domain): it for number, it in enumerate(asked)}
-        return [lines[line.text] for line in verdict.lines if line.text in lines]
+        """The branches that the run takes, in the order in which it takes them first."""
+        points: Dict[Place, List[Tuple[int, int]]] = {}
+        for number, it in enumerate(self.all):
+            points.setdefault(it.place, []).append((it.block, number))
+        asking = {place: marked(self.texts[place], found, self.box) for place, found in points.items()}
+        found = marks_in(self.run({**self.texts, **asking}), self.box)
+        self.known = self.known and found is not None
+        branches = {mark(number): it for number, it in enumerate(self.all)}
+        return [branches[it] for it in found or []]
 
 
 def without(text: bytes, left_out: List[Command]) -> bytes:
@@ -176,10 +160,8 @@ def answers_of(judge: Judge, batch: Batch) -> Iterator[Answer]:
 
 def cautions_of(judge: Judge, user: User, mail: Mail, verdict: Verdict) -> List[Finding]:
     """What a server may do otherwise with a mail, and what the site lacks for the scripts that were looked up."""
-    octets, seen = octets_of(mail.path), {place for place, _ in verdict.reads}
-    why = cautions.why_no_answer(judge.envelope_of(mail, octets), octets)
-    scripts = [script for script in user.scripts if script.at() in seen]
-    found = [*cautions.of_verdict(judge.site, user, verdict, why), *cautions.of_scripts(judge.site, scripts)]
+    octets = octets_of(mail.path)
+    found = cautions.of_case(judge.site, user, user.scripts, verdict, judge.envelope_of(mail, octets), octets)
     return list(dict.fromkeys([*cautions.of_mail(mail.path, octets), *found]))
 
 

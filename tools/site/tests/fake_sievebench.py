@@ -186,7 +186,10 @@ class Bench:
         """The reply to a line."""
         command, *rest = [unquoted(word) for word in words]
         if command == b"report":
-            refused = any(b"no memory to run" in mail for mail, _ in self.mails.values())
+            lacks = [b"no memory to run"]
+            if any(b"reached.invalid" in script for script in self.scripts.values()):
+                lacks.append(b"no memory to ask")
+            refused = any(lack in mail for lack in lacks for mail, _ in self.mails.values())
             return ["no no-memory"] if refused and self.main else self.report()
         if command == b"dump":
             text = self.scripts.get((rest[0].decode(), rest[1]), b"kep;")

@@ -139,8 +139,10 @@ class Verdicts(Room):
         site.users[0].mails[:] = mails
         self.assertEqual([len(batch.mails) for batch in batches_of(site, 4)], [50, 10, 1, 1, 1, 1])
         self.assertEqual([it for batch in batches_of(site, 4) for it in batch.mails], mails)
-        site.users[0].mails[:] = [mail] * 3_000
-        self.assertEqual([len(batch.mails) for batch in batches_of(site, 4)], [500] * 6)
+        # Each of the four jobs gets as many mails, in batches of at most 500.
+        for count, batches in ((2_000, [500] * 4), (3_000, [375] * 8)):
+            site.users[0].mails[:] = [mail] * count
+            self.assertEqual([len(batch.mails) for batch in batches_of(site, 4)], batches)
 
     def test_envelopes(self) -> None:
         test = 'require "envelope"; if envelope "from" "{}@x" {{ if envelope "to" "{}@x" {{ discard; }} }}'

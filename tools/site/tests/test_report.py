@@ -115,10 +115,12 @@ class Rows(Pages):
                 "mains": "main\n",
                 "mails/1.eml": "no memory to run",
                 "mails/2.eml": "Subject: b\n\n",
+                "mails/3.eml": "Subject: no memory to ask\n\n",
             }
         )
         page = self.page()
-        self.assertEqual([row[2] for row in self.table(page)[1:]], ["? not judged", "○ nothing expected discard"])
+        judged = "○ nothing expected discard"
+        self.assertEqual([row[2] for row in self.table(page)[1:]], ["? not judged", judged, judged])
         self.assertIn("--memory gives more", " ".join(text_of(it) for it in with_class(page, "row")))
         self.assertEqual(self.lines(page, "personal/main.sieve")[1][0], "1 comes")
 
@@ -173,6 +175,43 @@ class Lines(Pages):
         said = {text_of(it[0]): text_of(it[1]) for it in with_class(page, "script")}
         self.assertEqual(said["personal/idle.sieve"], "No verdict looks it up.")
         self.assertEqual(said["personal/wrong.sieve"], "It can't be run, as is said below.")
+
+
+class Cautions(Pages):
+    """What a server may do otherwise, as `why` says it."""
+
+    def test_cautions(self) -> None:
+        main = 'require "fileinto"; fileinto "<b>Gone";\nif false { currentdate "year" "1"; }'
+        mails: Files = {
+            "1.eml": "Subject: a\n\n",
+            "2.eml": b"\xef\xbb\xbfX: y\nSubject: b\n\n",
+            "3.eml": "Subject: c\n\n",
+        }
+        self.site({"personal/main.sieve": main, "mains": "main\n", "with": "mailbox\n", "mailboxes": "Work\n"})
+        self.site({f"mails/{name}": octets for name, octets in mails.items()})
+        gone = (
+            'no-mailbox: No line of mailboxes is "<b>Gone", and nothing makes it: the server keeps the mail in INBOX.'
+        )
+        clock = "no-clock: It asks for the current date, and the site has no clock."
+        wanted = [f"personal/main.sieve:1: {gone}", f"personal/main.sieve:2: {clock}"]
+        page = self.page()
+        rows = [[text_of(it) for it in with_class(row, "caution")] for row in with_class(page, "row")]
+        self.assertEqual([row[0] for row in self.table(page)[1:]], ["a and 1 more mail", "b"])
+        mark = "byte-order-mark: It begins with a byte order mark, the octets EF BB BF, so that its first line is no field."
+        self.assertEqual(rows, [wanted, [mark, *wanted]])
+        links = [
+            text_of(with_id(page, it.get("href", "")[1:])[2][0])
+            for it in with_class(page, "caution")
+            for it in it.iter("a")
+        ]
+        self.assertEqual(links, main.split("\n") * 2)
+        for name, told in (("1.eml", rows[0]), ("2.eml", rows[1])):
+            lines = self.ran("why", "site", name)[1]
+            start, end = (
+                lines.index(f"  {it}:") for it in ("what a server may do otherwise", "scripts that are looked up")
+            )
+            said = [line.strip().replace("site/", "", 1) for line in lines[start + 1 : end]]
+            self.assertEqual(said, [it if it != mark else f"mails/{name}:1: {mark}" for it in told])
 
 
 class Texts(Room):
