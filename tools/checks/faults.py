@@ -11,7 +11,7 @@ TOP = pathlib.Path(__file__).resolve().parent.parent.parent
 TABLE, TOOL = TOP / "docs/faults.tsv", TOP / "tools/site/sievebench_site/faults.py"
 COLUMNS = ["word", "sentence", "wrong", "right", "cause", "told", "front", "scripts", "with"]
 # The functions that give the words, in the order in which the table has them.
-SOURCES = [TOP / "crates" / path for path in ("sieve_check/src/judged.rt", "sieve_table/src/rule.rt", "sieve_actions/src/error.rt")]
+SOURCES = [TOP / "crates" / path for path in ("sieve_check/src/judged.rt", "sieve_table/src/rule.rt", "sieve_delivery/src/error.rt")]
 WORD = re.compile(r'=> b"([a-z-]+)"')
 SENTENCE = re.compile(r'^    "([a-z-]+)": "(.*)",$', re.M)
 SERIES = re.compile(r"([^;]*?)(\d+)([^;]*;) \.\. \1(\d+)\3")

@@ -324,7 +324,7 @@ def of_lists():
     rules = [row[0].strip("`") for row in rows(LANGUAGE, "\n## Faults")]
     yield Same("the rules, in order", LANGUAGE, rules, {"the sources": words("crates/sieve_table/src/rule.rt")})
     errors = [word for row in rows(LANGUAGE, "\n### Errors") for word in re.findall(r"`([a-z-]+)`", row[0])]
-    yield Same("the errors of a run", LANGUAGE, sorted(errors), {"the sources": sorted(words("crates/sieve_actions/src/error.rt"))})
+    yield Same("the errors of a run", LANGUAGE, sorted(errors), {"the sources": sorted(words("crates/sieve_delivery/src/error.rt"))})
 
 
 def of_places():

@@ -6,13 +6,13 @@ use Rattle.std.specs.List.{flat_map, list_any}
 use Rattle.devices.specs.Writers.{name_text, quoted}
 use Rattle.sieve_check.specs.Judgement.{Judgement, sound, faulty, fault_of, fault_word, judgement_of}
 use Rattle.sieve_check.specs.declared.judged.FaultKind.{FaultKind}
-use Rattle.sieve_actions.specs.State.{Entered, actions_in}
-use Rattle.sieve_actions.specs.declared.action.Entry.{Entry}
-use Rattle.sieve_actions.specs.view.Actions.{entered_of, entries_as}
-use Rattle.sieve_actions.specs.declared.envelope.Addresses.{Addresses}
-use Rattle.sieve_actions.specs.declared.envelope.Envelope.{Envelope}
+use Rattle.sieve_delivery.specs.State.{Entered, actions_in}
+use Rattle.sieve_delivery.specs.declared.action.Entry.{Entry}
+use Rattle.sieve_delivery.specs.view.Actions.{entered_of, entries_as}
+use Rattle.sieve_delivery.specs.declared.envelope.Addresses.{Addresses}
+use Rattle.sieve_delivery.specs.declared.envelope.Envelope.{Envelope}
 use Rattle.script_names.specs.declared.name.ScriptName.{ScriptName}
-use Rattle.sieve_actions.specs.declared.error.RunError.{RunError}
+use Rattle.sieve_delivery.specs.declared.error.RunError.{RunError}
 use Rattle.sieve_profile.specs.Profile.{Profile, has}
 use Rattle.sieve_profile.specs.declared.extension.Extension.{Extension}
 use Rattle.sieve_profile.specs.declared.extension.Extension.TheVariants.{Lines}

@@ -8,9 +8,9 @@ use Rattle.std.specs.Option.{option_map}
 use lib.Pointwise.{pointwise}
 use Rattle.indexmap.specs.IndexMap as ordered
 use Rattle.script_names.specs.Name.{name_eq}
-use Rattle.sieve_actions.specs.Delivery.{Arrival}
+use Rattle.sieve_delivery.specs.Delivery.{Arrival}
 use Rattle.script_names.specs.declared.name.ScriptName.{ScriptName}
-use Rattle.sieve_actions.specs.declared.envelope.Addresses.{Addresses}
+use Rattle.sieve_delivery.specs.declared.envelope.Addresses.{Addresses}
 use Rattle.sieve_run.specs.Frame.{Agree, Texts, outcome_over}
 use Rattle.sieve_run.specs.Run.{is_looked_up}
 use Rattle.sieve_run.specs.Verdict.{Verdict}

@@ -13,7 +13,7 @@ use Rattle.indexmap.specs.IndexMap as ordered
 use Rattle.sieve_limits.specs.Limits.{address_limit, expected_limit, id_limit, mailbox_limit, mailboxes_limit, message_count_limit, message_limit, name_limit, script_count_limit, text_limit}
 use Rattle.script_names.specs.Name.{name_cmp}
 use Rattle.script_names.specs.declared.name.ScriptName.{ScriptName}
-use Rattle.sieve_actions.specs.declared.envelope.Addresses.{Addresses}
+use Rattle.sieve_delivery.specs.declared.envelope.Addresses.{Addresses}
 use Rattle.bench.specs.Content.{Content, Edit, Sample, after, new_content, put_script, put_message, unless, text_at, message_at, put_over, with_script, with_message, changed, are_long, is_long, is_long_id, script_refusal, message_refusal, set_for_all, set_for_one, sample_with, is_large, is_large_for_one, main_with, envelope_with}
 use Rattle.bench.specs.Edits.{IsInOrder, IsWithinLimits, AreAddressesWithin, AreOrdered, AreDistinct, made_or_old, content_after, message_edits, rebuild, envelope_edits}
 use Rattle.bench.specs.Test.{after_all, then_edit}

@@ -4,8 +4,8 @@ use Rattle.date_text.specs.Zone.{west}
 use Rattle.sieve_limits.specs.Limits.{text_limit}
 use Rattle.script_names.specs.declared.location.Location.TheVariants.{Personal, Global}
 use Rattle.sieve_check.specs.Judgement.{judgement_of, sound, faulty}
-use Rattle.sieve_reading.specs.Reading.{keep_leaf}
-use Rattle.sieve_reading.specs.Script.{acts, no_commands}
+use Rattle.sieve_script.specs.Reading.{keep_leaf}
+use Rattle.sieve_script.specs.Script.{acts, no_commands}
 use Rattle.sieve_check.specs.declared.judged.FaultKind.{FaultKind}
 use Rattle.sieve_run.specs.Run.{outcome_of, exec}
 use Rattle.script_names.specs.declared.name.ScriptName.{ScriptName}

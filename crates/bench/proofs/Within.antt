@@ -10,8 +10,8 @@ use lib.Pointwise.{pointwise}
 use Rattle.sieve_limits.specs.Limits.{address_limit, expected_limit, id_limit, mailbox_limit, mailboxes_limit, message_count_limit, message_limit, name_limit, script_count_limit, text_limit}
 use Rattle.script_names.specs.Name.{name_cmp, name_eq}
 use Rattle.script_names.specs.declared.name.ScriptName.{ScriptName}
-use Rattle.sieve_actions.specs.declared.envelope.Addresses.{Addresses}
-use Rattle.sieve_actions.specs.declared.envelope.Envelope.{Envelope}
+use Rattle.sieve_delivery.specs.declared.envelope.Addresses.{Addresses}
+use Rattle.sieve_delivery.specs.declared.envelope.Envelope.{Envelope}
 use Rattle.bench.specs.Content.{Content, Edit, Sample, after, new_content, put_script, put_message, rename_script, remove_script, remove_message, text_at, message_at, put_over, with_script, with_message, changed, with_renamed, without_script, without_message, is_long, is_long_id, script_refusal, message_refusal, rename_refusal, remove_script_refusal, absent_refusal, are_long, set_for_all, set_for_one, setting_refusal, one_refusal, is_large, is_large_for_one, main_with, envelope_with, sample_with}
 use Rattle.bench.specs.Edits.{IsInOrder, IsWithinLimits, AreScriptsWithin, AreMessagesWithin, AreAddressesWithin, AreOrdered, made_or_old, content_after, IsEnvelopeWithin}
 use Rattle.sieve_profile.specs.Profile.{Profile}

@@ -2,7 +2,7 @@
 use Rattle.std.specs.Prelude.{◌≡◌, ℕ, ◌+◌, Bool, true, false, ◌||◌, nat_lt, List, [], ◌∷◌, ◌++◌, length}
 use Rattle.sieve_limits.specs.Limits.{name_limit, text_limit}
 use Rattle.sieve_check.specs.Judgement.{Judgement, judgement_of, sound, faulty}
-use Rattle.sieve_reading.specs.Script.{Commands}
+use Rattle.sieve_script.specs.Script.{Commands}
 use Rattle.sieve_code.specs.Choice.{code_of}
 use Rattle.sieve_code.specs.Dump.{line_text}
 use Rattle.sieve_code.specs.Operation.{Operation}

@@ -6,8 +6,8 @@ use Rattle.std.specs.Map.{keys_of, values_of}
 use lib.Pointwise.{pointwise}
 use Rattle.sieve_limits.specs.Limits.{address_limit, expected_limit, id_limit, mailbox_limit, mailboxes_limit, message_count_limit, message_limit, name_limit, script_count_limit, text_limit}
 use Rattle.script_names.specs.Name.{name_cmp}
-use Rattle.sieve_actions.specs.declared.envelope.Addresses.{Addresses}
-use Rattle.sieve_actions.specs.declared.envelope.Envelope.{Envelope}
+use Rattle.sieve_delivery.specs.declared.envelope.Addresses.{Addresses}
+use Rattle.sieve_delivery.specs.declared.envelope.Envelope.{Envelope}
 use Rattle.script_names.specs.declared.name.ScriptName.{ScriptName}
 use Rattle.bench.specs.Content.{Content, Edit, Sample, after, put_script, put_message, set_for_all, set_for_one}
 use Rattle.bench.specs.declared.fault.EditFault.{EditFault}

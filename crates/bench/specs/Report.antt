@@ -6,10 +6,10 @@ use Rattle.date_text.specs.Zone.{zone_text}
 use Rattle.devices.specs.Writers.{name_text, quoted}
 use Rattle.sieve_check.specs.Judgement.{Judgement, judgement_of, sound, faulty, fault_word}
 use Rattle.script_names.specs.declared.name.ScriptName.{ScriptName}
-use Rattle.sieve_actions.specs.Delivery.{mailbox_count}
-use Rattle.sieve_actions.specs.State.{Entered}
-use Rattle.sieve_actions.specs.declared.envelope.Addresses.{Addresses}
-use Rattle.sieve_actions.specs.declared.envelope.Envelope.{Envelope}
+use Rattle.sieve_delivery.specs.Delivery.{mailbox_count}
+use Rattle.sieve_delivery.specs.State.{Entered}
+use Rattle.sieve_delivery.specs.declared.envelope.Addresses.{Addresses}
+use Rattle.sieve_delivery.specs.declared.envelope.Envelope.{Envelope}
 use Rattle.sieve_run.specs.Library.{library_of}
 use Rattle.sieve_run.specs.Lines.{action_line, agrees, error_lines, implicit_lines, origin_line, lookup_lines, verdict_lines}
 use Rattle.sieve_run.specs.Run.{outcome_of}

@@ -2,7 +2,7 @@
 use Rattle.std.specs.Prelude.{◌≡◌, ◌⊎◌, ℕ, Bool, true, false, ◌&&◌, ◌==◌, if◌then◌else◌, List, [], ◌∷◌, ◌++◌, map, fold, Some, Result, Ok, Err, IsOkAnd}
 use Rattle.std.specs.List.{list_all}
 use Rattle.sieve_check.specs.Judgement.{Judgement, judgement_of, sound, faulty}
-use Rattle.sieve_actions.specs.declared.envelope.Envelope.{Envelope}
+use Rattle.sieve_delivery.specs.declared.envelope.Envelope.{Envelope}
 use Rattle.sieve_run.specs.Meter.{next_run}
 use Rattle.bench.specs.Content.{Content, Edit, after, new_content, put_script, put_message, set_for_all}
 use Rattle.bench.specs.Edits.{envelope_edits}

@@ -5,7 +5,7 @@ ghost use Rattle.std.specs.Option.{option_copied};
 ghost use Rattle.devices.specs.Writers.{Writes};
 ghost use Rattle.bench.specs.Report.{addresses_line, addresses_text, main_line, envelope_line, extension_text, mailboxes_line, profile_line, script_line, indent, indented, message_line, expectation_line, expectation_text, total_line};
 ghost use Rattle.bench.specs.view.Lines.{action_text, error_text, implicit_text, lookup_text, told_text};
-ghost use Rattle.sieve_actions.specs.view.Actions.{entered_of};
+ghost use Rattle.sieve_delivery.specs.view.Actions.{entered_of};
 ghost use Rattle.sieve_profile.specs.Extension.{extensions};
 ghost use Rattle.sieve_profile.specs.Profile.{has};
 ghost use Rattle.sieve_run.specs.Lines.{error_line, implicit_line, origin_line};

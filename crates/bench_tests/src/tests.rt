@@ -13,7 +13,7 @@ mod readers;
 mod test_jobs;
 mod usage;
 
-use sievebench::{Bench, Counted, Location, Meter, Octets, ScriptName};
+use session_server::{Bench, Counted, Location, Meter, Octets, ScriptName};
 use std::alloc::{AllocError, Global};
 use std::process::Abort;
 use std::test::Fail;

@@ -9,7 +9,7 @@ use devices::Counted;
 use octets::Octets;
 use sieve_profile::Profile;
 use sieve_run::Meter;
-use sievebench::{
+use session_server::{
     Argument, End, Job, SessionEnd, TestWords, UsageFault, command_of, session, status_of,
 };
 use std::alloc::AllocError;

@@ -13,10 +13,10 @@ use Rattle.sieve_check.specs.Context.{Context, under}
 use Rattle.sieve_check.specs.Element.{Element, elements_of, the_command, the_number, the_test, the_text}
 use Rattle.sieve_check.specs.Said.{said}
 use Rattle.sieve_check.specs.Use.{has_bad_tag, has_late_tag, has_repeated, is_other_tag}
-use Rattle.sieve_reading.specs.Label.{Expected, expected_after, expecting, label_at, labels_from, slots_of}
-use Rattle.sieve_reading.specs.Shape.{known_labels, known_shape, known_shapes, shape_of, shapes_of}
-use Rattle.sieve_reading.specs.declared.label.Shape.{Shape}
-use Rattle.sieve_reading.specs.declared.label.Shape.TheVariants as shape
+use Rattle.sieve_script.specs.Label.{Expected, expected_after, expecting, label_at, labels_from, slots_of}
+use Rattle.sieve_script.specs.Shape.{known_labels, known_shape, known_shapes, shape_of, shapes_of}
+use Rattle.sieve_script.specs.declared.label.Shape.{Shape}
+use Rattle.sieve_script.specs.declared.label.Shape.TheVariants as shape
 use Rattle.sieve_table.specs.Known.{is_known_row, is_known_tag, only_if}
 use Rattle.sieve_table.specs.Table.{Row, command_named, command_row, test_named, test_row}
 use Rattle.sieve_table.specs.declared.rule.Rule.{Rule}

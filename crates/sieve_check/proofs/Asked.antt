@@ -3,15 +3,15 @@ use Rattle.std.proofs.Common.{◌≡◌, true, List, None, Some, refl, ap, ◌�
 use Rattle.match_text.specs.Comparator.{collation_named}
 use Rattle.match_text.specs.Relation.{relation_named}
 use Rattle.sieve_check.specs.Asked.{AreAlike, asked_by_command, asked_by_test, changing_flags, comparing, gives_all}
-use Rattle.sieve_reading.specs.CommandReading as commands
-use Rattle.sieve_reading.specs.Given.{address_part_of, collation_or_casemap, given_text, given_texts, has_tag, in_role, match_type_of, relation_or_eq, tags_of}
-use Rattle.sieve_reading.specs.Reading.{ValueSource, body_values, clock_values, compares, date_values, envelope_values, exists_ask, field_values, fileinto_leaf, flag_leaf, flag_values, include_leaf, keep_leaf, mailboxes_ask, reads_act, reads_ask, redirect_leaf, reject_leaf, set_leaf, string_values, vacation_leaf}
-use Rattle.sieve_reading.specs.TestReading as tests
-use Rattle.sieve_reading.specs.CutArgument.{CutArgument}
-use Rattle.sieve_reading.specs.declared.label.Label.{Label}
-use Rattle.sieve_reading.specs.declared.reading.FlagChange.{FlagChange}
-use Rattle.sieve_reading.specs.declared.reading.FlagChange.TheVariants as change
-use Rattle.sieve_reading.specs.declared.reading.Rejection.TheVariants as rejection
+use Rattle.sieve_script.specs.CommandReading as commands
+use Rattle.sieve_script.specs.Given.{address_part_of, collation_or_casemap, given_text, given_texts, has_tag, in_role, match_type_of, relation_or_eq, tags_of}
+use Rattle.sieve_script.specs.Reading.{ValueSource, body_values, clock_values, compares, date_values, envelope_values, exists_ask, field_values, fileinto_leaf, flag_leaf, flag_values, include_leaf, keep_leaf, mailboxes_ask, reads_act, reads_ask, redirect_leaf, reject_leaf, set_leaf, string_values, vacation_leaf}
+use Rattle.sieve_script.specs.TestReading as tests
+use Rattle.sieve_script.specs.CutArgument.{CutArgument}
+use Rattle.sieve_script.specs.declared.label.Label.{Label}
+use Rattle.sieve_script.specs.declared.reading.FlagChange.{FlagChange}
+use Rattle.sieve_script.specs.declared.reading.FlagChange.TheVariants as change
+use Rattle.sieve_script.specs.declared.reading.Rejection.TheVariants as rejection
 use Rattle.sieve_profile.proofs.Each.{of_each}
 use Rattle.sieve_table.specs.Table.{command_row, test_row}
 use Rattle.sieve_table.specs.contracts.table.CommandKind as every_command

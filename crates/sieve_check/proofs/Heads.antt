@@ -15,7 +15,7 @@ use Rattle.sieve_check.specs.Element.{the_command, the_test, test_arguments, com
 use Rattle.sieve_table.specs.Known.{known_command, known_test}
 use Rattle.sieve_table.specs.Table.{Row, command_row, test_row}
 use Rattle.sieve_check.specs.Use.{has_block}
-use Rattle.sieve_reading.specs.Shape.{known_shapes}
+use Rattle.sieve_script.specs.Shape.{known_shapes}
 use Rattle.sieve_check.specs.view.Finds.{Finds}
 use Rattle.sieve_check.specs.view.Head.{test_head, command_head, kind_found}
 use Rattle.sieve_check.specs.view.Use.{row_found}

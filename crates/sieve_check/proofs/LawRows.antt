@@ -8,8 +8,8 @@ use Rattle.sieve_check.specs.Naming.{declares, mentions_in, set_by, sets}
 use Rattle.sieve_check.specs.Order.{written_by}
 use Rattle.sieve_check.specs.Marks.{act_mark, all_mark, always_mark, any_mark, block_end, branch_marks, choice_end, condition_marks, conditions_marks, else_mark, join_end, marks, never_mark, not_mark, return_mark, stop_mark, test_mark}
 use Rattle.sieve_profile.specs.Profile.{empty_profile}
-use Rattle.sieve_reading.specs.Given.{has_tag}
-use Rattle.sieve_reading.specs.Reading.{discard_leaf, keep_leaf}
+use Rattle.sieve_script.specs.Given.{has_tag}
+use Rattle.sieve_script.specs.Reading.{discard_leaf, keep_leaf}
 use Rattle.sieve_check.specs.Script.{block_commands, chain_of, condition_of, conditions, conditions_in, chain_with, script_of}
 use Rattle.sieve_table.specs.Table.{command_named, test_named}
 

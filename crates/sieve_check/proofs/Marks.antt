@@ -9,9 +9,9 @@ use Rattle.sieve_check.specs.Marks.{Mark, DoesAll, act_mark, all_mark, always_ma
 use Rattle.sieve_check.specs.Script.{block_commands, chain_of, chain_with, command_reading, condition_of, conditions, conditions_in, node_reading, test_reading}
 use Rattle.sieve_check.specs.Use.{block_fits, has_block, tests_fit}
 use Rattle.sieve_profile.specs.Profile.{Profile}
-use Rattle.sieve_reading.specs.Reading as reading
-use Rattle.sieve_reading.specs.Reading.{CommandReading, TestReading}
-use Rattle.sieve_reading.specs.Script.{Chain, Condition, chain_with_command, first_condition, joined}
+use Rattle.sieve_script.specs.Reading as reading
+use Rattle.sieve_script.specs.Reading.{CommandReading, TestReading}
+use Rattle.sieve_script.specs.Script.{Chain, Condition, chain_with_command, first_condition, joined}
 use Rattle.sieve_syntax.specs.Tree.{Test, test, Tests, no_tests, one_test, test_list, TestList, end_tests, more_tests, Node, node, Block, no_block, block, Nodes, end_nodes, more_nodes, nodes}
 use Rattle.sieve_table.specs.Known.{known_command, known_test}
 use Rattle.sieve_table.specs.declared.row.Inner.TheVariants as inner

@@ -4,7 +4,7 @@ use Rattle.sieve_syntax.specs.Tree.{Argument}
 use Rattle.sieve_check.specs.Context.{Context, allows_else, after_kind, is_require, naming_said, required_after}
 use Rattle.sieve_table.specs.Required.{Required}
 use Rattle.sieve_check.specs.Scope.{Scope}
-use Rattle.sieve_reading.specs.Shape.{known_labels}
+use Rattle.sieve_script.specs.Shape.{known_labels}
 use Rattle.sieve_check.specs.view.Context.{at_spot}
 use Rattle.sieve_profile.specs.view.Profile.{profile_as}
 use Rattle.sieve_table.specs.view.Required.{required_as}

@@ -10,10 +10,10 @@ use Rattle.sieve_check.specs.Element.{Element, among, argument_elements, block_e
 use Rattle.sieve_check.specs.Naming.{HasSetBefore, element_mentions, is_command, mentions_in, Mention, command_mentions, set_by}
 use Rattle.sieve_check.specs.Scope.{Scope, no_names}
 use Rattle.sieve_check.specs.Use.{has_block, is_well_used}
-use Rattle.sieve_reading.specs.Role.{first_role}
-use Rattle.sieve_reading.specs.Shape.{known_labels, known_shapes}
+use Rattle.sieve_script.specs.Role.{first_role}
+use Rattle.sieve_script.specs.Shape.{known_labels, known_shapes}
 use Rattle.sieve_table.specs.Table.{Row, command_row, test_row}
-use Rattle.sieve_reading.specs.declared.label.Label.{Label}
+use Rattle.sieve_script.specs.declared.label.Label.{Label}
 use Rattle.sieve_profile.specs.Profile.{Profile}
 use Rattle.sieve_table.specs.Known.{known_command, known_test}
 use Rattle.sieve_table.specs.declared.row.Role.{Role}

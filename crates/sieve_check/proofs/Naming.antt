@@ -15,11 +15,11 @@ use Rattle.sieve_check.specs.Element.{Element, among, argument_elements, block_e
 use Rattle.sieve_check.specs.Naming.{Mention, sets, declares, command_mentions, element_mentions, mentions_in, names_in_role, octets_in, set_by, without_name}
 use Rattle.sieve_check.specs.Said.{said_arguments}
 use Rattle.sieve_check.specs.Scope.{Scope, assigning, assigning_argument, assigning_arguments, assigning_texts, declaring_argument, declaring_texts, is_assigned, no_names, with_declared}
-use Rattle.sieve_reading.specs.Role.{first_role}
+use Rattle.sieve_script.specs.Role.{first_role}
 use Rattle.sieve_table.specs.Role.{has_role}
-use Rattle.sieve_reading.specs.Shape.{known_labels, known_shapes}
+use Rattle.sieve_script.specs.Shape.{known_labels, known_shapes}
 use Rattle.sieve_check.specs.Use.{has_block, is_well_used}
-use Rattle.sieve_reading.specs.declared.label.Label.{Label}
+use Rattle.sieve_script.specs.declared.label.Label.{Label}
 use Rattle.sieve_profile.specs.Profile.{Profile}
 use Rattle.sieve_table.specs.Known.{known_command, known_test}
 use Rattle.sieve_table.specs.Table.{Row, command_row, test_row}

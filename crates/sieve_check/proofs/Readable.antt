@@ -9,15 +9,15 @@ use Rattle.sieve_check.specs.Element.{block_elements, command_arguments, node_el
 use Rattle.sieve_check.specs.Cut.{cut_row}
 use Rattle.sieve_check.specs.Script.{command_kind_reading, command_reading, node_reading, test_reading}
 use Rattle.sieve_check.specs.Use.{block_fits, has_bad_arguments, has_bad_tag, has_block, lacks_kind, lacks_own, tests_fit, tests_there}
-use Rattle.sieve_reading.specs.CommandReading as commands
-use Rattle.sieve_reading.specs.Label.{labels_of, row_is_filled}
-use Rattle.sieve_reading.specs.Reading as reading
-use Rattle.sieve_reading.specs.Reading.{TestReading, reads_always, reads_never, reads_ask, reads_all, reads_any, reads_not, CommandReading}
-use Rattle.sieve_reading.specs.Shape.{known_labels, known_shapes}
-use Rattle.sieve_reading.specs.TestReading as tests
-use Rattle.sieve_reading.specs.CutArgument.{CutArgument}
-use Rattle.sieve_reading.specs.declared.label.Label.{Label}
-use Rattle.sieve_reading.specs.declared.label.Shape.{Shape}
+use Rattle.sieve_script.specs.CommandReading as commands
+use Rattle.sieve_script.specs.Label.{labels_of, row_is_filled}
+use Rattle.sieve_script.specs.Reading as reading
+use Rattle.sieve_script.specs.Reading.{TestReading, reads_always, reads_never, reads_ask, reads_all, reads_any, reads_not, CommandReading}
+use Rattle.sieve_script.specs.Shape.{known_labels, known_shapes}
+use Rattle.sieve_script.specs.TestReading as tests
+use Rattle.sieve_script.specs.CutArgument.{CutArgument}
+use Rattle.sieve_script.specs.declared.label.Label.{Label}
+use Rattle.sieve_script.specs.declared.label.Shape.{Shape}
 use Rattle.sieve_profile.proofs.Each.{of_each}
 use Rattle.sieve_table.specs.Known.{known_command}
 use Rattle.sieve_table.specs.Table.{Row, command_row, test_row}

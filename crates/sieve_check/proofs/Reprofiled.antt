@@ -14,16 +14,16 @@ use Rattle.sieve_check.specs.Element.{Element, among, argument_elements, block_e
 use Rattle.sieve_check.specs.Cut.{cut_argument, cut_labelled, cut_row, cut_said}
 use Rattle.sieve_check.specs.Said.{said, said_arguments}
 use Rattle.sieve_check.specs.Script.{block_commands, chain_of, chain_with, command_reading, condition_of, conditions, conditions_in, script_of, test_reading}
-use Rattle.sieve_reading.specs.CommandReading.{command_reading_by}
-use Rattle.sieve_reading.specs.Script.{Chain, chain_with_command, first_condition, joined, no_conditions, one_condition}
-use Rattle.sieve_reading.specs.TestReading.{test_reading_by}
+use Rattle.sieve_script.specs.CommandReading.{command_reading_by}
+use Rattle.sieve_script.specs.Script.{Chain, chain_with_command, first_condition, joined, no_conditions, one_condition}
+use Rattle.sieve_script.specs.TestReading.{test_reading_by}
 use Rattle.sieve_check.specs.Use.{has_block, is_well_used, lacks_required}
-use Rattle.sieve_reading.specs.Label.{labels_of}
-use Rattle.sieve_reading.specs.Role.{first_role}
-use Rattle.sieve_reading.specs.Shape.{known_labels, known_shape, known_shapes, shape_of}
-use Rattle.sieve_reading.specs.declared.label.Label.{Label}
-use Rattle.sieve_reading.specs.declared.label.Shape.{Shape}
-use Rattle.sieve_reading.specs.declared.label.Shape.TheVariants as shape
+use Rattle.sieve_script.specs.Label.{labels_of}
+use Rattle.sieve_script.specs.Role.{first_role}
+use Rattle.sieve_script.specs.Shape.{known_labels, known_shape, known_shapes, shape_of}
+use Rattle.sieve_script.specs.declared.label.Label.{Label}
+use Rattle.sieve_script.specs.declared.label.Shape.{Shape}
+use Rattle.sieve_script.specs.declared.label.Shape.TheVariants as shape
 use Rattle.sieve_table.specs.Known.{is_known, is_known_tag, is_need_known, known_command, known_test, only_if}
 use Rattle.sieve_table.specs.Table.{Row, command_named, command_row, tag_row, test_named, test_row}
 use Rattle.sieve_table.specs.Required.{Required}

@@ -8,10 +8,10 @@ use Rattle.sieve_check.specs.Context.{Context, after, after_block, after_kind, i
 use Rattle.sieve_check.specs.Element.{Element, among, argument_elements, block_elements, command_arguments, judged_labels, labelled_elements, node_elements, nodes_elements, row_elements, test_arguments, test_elements, test_list_elements, tests_elements, text_elements, the_command, the_number, the_test, the_text}
 use Rattle.sieve_check.specs.Requirement.{IsJudgedUnder, JudgesAfterRequires, is_require_command, leading_requires, requires_kind, requiring_command, requiring_commands}
 use Rattle.sieve_check.specs.Use.{has_block, is_well_used}
-use Rattle.sieve_reading.specs.Role.{first_role}
-use Rattle.sieve_reading.specs.Shape.{known_labels, known_shapes}
+use Rattle.sieve_script.specs.Role.{first_role}
+use Rattle.sieve_script.specs.Shape.{known_labels, known_shapes}
 use Rattle.sieve_table.specs.Table.{Row, command_row, test_row}
-use Rattle.sieve_reading.specs.declared.label.Label.{Label}
+use Rattle.sieve_script.specs.declared.label.Label.{Label}
 use Rattle.sieve_check.proofs.Truth.{not_both}
 use Rattle.sieve_table.specs.Required.{Required}
 use Rattle.sieve_profile.specs.Profile.{Profile}

@@ -12,9 +12,9 @@ use Rattle.sieve_check.specs.CheckFault.{IsFirst}
 use Rattle.sieve_check.specs.Context.{Context}
 use Rattle.sieve_check.specs.Element.{Element, text_elements, the_text, argument_elements, labelled_elements}
 use Rattle.sieve_check.specs.Said.{said}
-use Rattle.sieve_reading.specs.Role.{first_role}
+use Rattle.sieve_script.specs.Role.{first_role}
 use Rattle.sieve_check.specs.view.Finds.{Finds, FindsIn}
-use Rattle.sieve_reading.specs.declared.label.Label.{Label}
+use Rattle.sieve_script.specs.declared.label.Label.{Label}
 use Rattle.sieve_table.specs.declared.row.Role.{Role}
 use Rattle.sieve_table.specs.declared.rule.Rule.{Rule}
 use Rattle.sieve_table.specs.declared.rule.Rule.TheVariants.{BadCharacter}

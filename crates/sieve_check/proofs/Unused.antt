@@ -17,10 +17,10 @@ use Rattle.sieve_check.specs.Element.{Element, elements_of, the_command, the_num
 use Rattle.sieve_check.specs.Judgement.{judgement_by, judgement_from, judgement_of, sound}
 use Rattle.sieve_check.specs.Said.{said}
 use Rattle.sieve_check.specs.Use.{has_block}
-use Rattle.sieve_reading.specs.Shape.{known_shapes}
+use Rattle.sieve_script.specs.Shape.{known_shapes}
 use Rattle.sieve_check.specs.Script.{script_of}
 use Rattle.sieve_check.specs.Cut.{cut_row}
-use Rattle.sieve_reading.specs.Script.{Commands}
+use Rattle.sieve_script.specs.Script.{Commands}
 use Rattle.sieve_table.specs.Capability.{capabilities, is_name_of}
 use Rattle.sieve_table.specs.Known.{extension_of, is_asked_for, is_known, is_shown_by_no_word, known_command, known_test, may_be_required, names_known}
 use Rattle.sieve_table.specs.Role.{has_role}

@@ -5,12 +5,12 @@ use Rattle.sieve_check.specs.Breach.{Breach, breach_if, breaches_in, use_lacks}
 use Rattle.sieve_check.specs.CheckFault.{IsFirst}
 use Rattle.sieve_check.specs.Context.{Context}
 use Rattle.sieve_check.specs.Element.{among, labelled_elements, judged_labels}
-use Rattle.sieve_reading.specs.Label.{labels_of, row_is_filled}
-use Rattle.sieve_reading.specs.Shape.{known_labels, known_shapes}
+use Rattle.sieve_script.specs.Label.{labels_of, row_is_filled}
+use Rattle.sieve_script.specs.Shape.{known_labels, known_shapes}
 use Rattle.sieve_table.specs.Table.{Row}
 use Rattle.sieve_check.specs.Use.{are_bad, has_bad_arguments, has_bad_tag}
 use Rattle.sieve_check.specs.view.Use.{row_found}
-use Rattle.sieve_reading.specs.declared.label.Label.{Label}
+use Rattle.sieve_script.specs.declared.label.Label.{Label}
 use Rattle.sieve_table.specs.declared.rule.Rule.TheVariants.{NotRequired, ElsePlace, BadTag, BadArguments}
 use Rattle.sieve_check.specs.declared.validator.CheckFault.{CheckFault}
 use Rattle.sieve_check.specs.declared.validator.CheckFault.TheVariants as faults

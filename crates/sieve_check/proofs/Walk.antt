@@ -17,8 +17,8 @@ use Rattle.sieve_check.specs.Element.{Element, block_elements, node_elements, no
 use Rattle.sieve_check.specs.view.Context.{at_spot}
 use Rattle.sieve_check.specs.Script.{block_commands, chain_of, chain_with, command_kind_reading, command_reading, condition_of, conditions, conditions_in, test_kind_reading, test_reading}
 use Rattle.sieve_check.specs.view.Head.{command_head, test_head}
-use Rattle.sieve_reading.specs.Reading.{CommandReading, TestReading}
-use Rattle.sieve_reading.specs.Script.{Chain, Commands, Condition, Conditions, chain_with_command, first_condition, joined, no_branches, no_commands, no_conditions, one_condition}
+use Rattle.sieve_script.specs.Reading.{CommandReading, TestReading}
+use Rattle.sieve_script.specs.Script.{Chain, Commands, Condition, Conditions, chain_with_command, first_condition, joined, no_branches, no_commands, no_conditions, one_condition}
 use Rattle.sieve_table.specs.Known.{known_command, known_test}
 use Rattle.sieve_table.specs.declared.table.CommandKind.{CommandKind}
 use Rattle.sieve_table.specs.declared.table.TestKind.{TestKind}

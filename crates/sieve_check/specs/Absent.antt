@@ -7,9 +7,9 @@ use Rattle.sieve_check.specs.Collating.{known_collation}
 use Rattle.sieve_check.specs.Context.{Context}
 use Rattle.sieve_check.specs.Said.{said}
 use Rattle.sieve_check.specs.Element.{Element, the_command, the_test, the_text, the_number}
-use Rattle.sieve_reading.specs.Shape.{shapes_of}
-use Rattle.sieve_reading.specs.declared.label.Shape.{Shape}
-use Rattle.sieve_reading.specs.declared.label.Shape.TheVariants as shape
+use Rattle.sieve_script.specs.Shape.{shapes_of}
+use Rattle.sieve_script.specs.declared.label.Shape.{Shape}
+use Rattle.sieve_script.specs.declared.label.Shape.TheVariants as shape
 use Rattle.sieve_table.specs.Known.{is_known_row, is_known_tag, may_be_required}
 use Rattle.sieve_table.specs.Role.{has_role}
 use Rattle.sieve_table.specs.Table.{Row, command_named, command_row, test_named, test_row}

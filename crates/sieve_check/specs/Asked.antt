@@ -4,9 +4,9 @@
 use Rattle.std.specs.Prelude.{◌≡◌, Bool, true, false, not, ◌&&◌, List, [], ◌∷◌, ◌++◌, Option, Some, None}
 use Rattle.std.specs.List.{filter, flat_map, list_all, list_any}
 use denote.Enum.Bare.{sameb}
-use Rattle.sieve_reading.specs.Given.{given_number, given_text, given_texts, given_variable, in_role, literal_in, number_in, text_in, texts_in, variable_in}
-use Rattle.sieve_reading.specs.CutArgument.{CutArgument}
-use Rattle.sieve_reading.specs.declared.label.Label.{Label}
+use Rattle.sieve_script.specs.Given.{given_number, given_text, given_texts, given_variable, in_role, literal_in, number_in, text_in, texts_in, variable_in}
+use Rattle.sieve_script.specs.CutArgument.{CutArgument}
+use Rattle.sieve_script.specs.declared.label.Label.{Label}
 use Rattle.sieve_table.specs.Role.{is_expanded, names_variable, same_role}
 use Rattle.sieve_table.specs.Table.{Row, tag_row}
 use Rattle.sieve_table.specs.contracts.row.Form.{the_type}

@@ -18,9 +18,9 @@ use Rattle.sieve_table.specs.Required.{Required, is_required}
 use Rattle.sieve_table.specs.Role.{has_role, names_variable}
 use Rattle.sieve_table.specs.Rule.{all_rules}
 use Rattle.sieve_check.specs.Scope.{Scope, is_assigned, is_new_local}
-use Rattle.sieve_reading.specs.Label.{labels_of}
-use Rattle.sieve_reading.specs.Shape.{known_labels, known_shapes}
-use Rattle.sieve_reading.specs.declared.label.Shape.{Shape}
+use Rattle.sieve_script.specs.Label.{labels_of}
+use Rattle.sieve_script.specs.Shape.{known_labels, known_shapes}
+use Rattle.sieve_script.specs.declared.label.Shape.{Shape}
 use Rattle.sieve_table.specs.Table.{Row, command_row, test_row}
 use Rattle.sieve_check.specs.Use.{has_bad_tag, has_bad_arguments, has_block, lacks_required}
 use Rattle.sieve_table.specs.declared.capability.Capability.TheVariants.{Include}

@@ -9,8 +9,8 @@ use Rattle.sieve_profile.specs.Profile.{Profile}
 use Rattle.sieve_syntax.specs.Tree.{Argument, Text, strings, number, tag}
 use Rattle.sieve_check.specs.Said.{said}
 use Rattle.sieve_check.specs.Use.{is_lacking}
-use Rattle.sieve_reading.specs.Role.{first_role}
-use Rattle.sieve_reading.specs.declared.label.Label.{Label}
+use Rattle.sieve_script.specs.Role.{first_role}
+use Rattle.sieve_script.specs.declared.label.Label.{Label}
 use Rattle.sieve_table.specs.Known.{is_known, only_if}
 use Rattle.sieve_table.specs.Required.{Required}
 use Rattle.sieve_table.specs.Role.{has_role}

@@ -5,8 +5,8 @@ use Rattle.sieve_table.specs.Role.{is_expanded}
 use Rattle.sieve_check.specs.Said.{said_arguments}
 use Rattle.sieve_check.specs.Scope.{Scope, naming_arguments, no_names}
 use Rattle.sieve_profile.specs.Profile.{Profile}
-use Rattle.sieve_reading.specs.Shape.{known_labels}
-use Rattle.sieve_reading.specs.declared.label.Label.{Label}
+use Rattle.sieve_script.specs.Shape.{known_labels}
+use Rattle.sieve_script.specs.declared.label.Label.{Label}
 use Rattle.sieve_table.specs.Known.{known_command}
 use Rattle.sieve_table.specs.Required.{Required, is_required, nothing_required, requiring}
 use Rattle.sieve_table.specs.Table.{command_row, same_command}

@@ -5,14 +5,14 @@
 -- context under which it is judged.
 use Rattle.std.specs.Prelude.{ℕ, List, [], ◌∷◌, Option, map, drop, if◌then◌else◌}
 use Rattle.sieve_syntax.specs.Tree.{Argument, strings, number, tag}
-use Rattle.sieve_reading.specs.CutArgument.{CutArgument, cut_strings, cut_number, cut_tag}
+use Rattle.sieve_script.specs.CutArgument.{CutArgument, cut_strings, cut_number, cut_tag}
 use Rattle.sieve_check.specs.Context.{Context, takes_references}
 use Rattle.sieve_check.specs.Said.{said_arguments}
-use Rattle.sieve_reading.specs.Role.{first_role}
+use Rattle.sieve_script.specs.Role.{first_role}
 use Rattle.sieve_table.specs.Role.{names_variable}
-use Rattle.sieve_reading.specs.Shape.{known_labels}
+use Rattle.sieve_script.specs.Shape.{known_labels}
 use Rattle.sieve_table.specs.Table.{Row}
-use Rattle.sieve_reading.specs.declared.label.Label.{Label}
+use Rattle.sieve_script.specs.declared.label.Label.{Label}
 use Rattle.sieve_table.specs.declared.row.Role.{Role}
 use Rattle.sieve_variables.specs.Part.{Part, literal, variable_part, scoped_part}
 use Rattle.sieve_variables.specs.Scan.{parts_of_text}

@@ -5,13 +5,13 @@ use Rattle.std.specs.List.{list_any}
 use Rattle.sieve_syntax.specs.Tree.{Node, node, Nodes, end_nodes, more_nodes, nodes, Block, no_block, block, Test, test, Tests, no_tests, one_test, test_list, TestList, end_tests, more_tests, Text, Argument, strings, number, tag}
 use Rattle.sieve_check.specs.Context.{Context, script_start, inside, after, after_kind}
 use Rattle.sieve_profile.specs.Profile.{Profile}
-use Rattle.sieve_reading.specs.Role.{first_role}
+use Rattle.sieve_script.specs.Role.{first_role}
 use Rattle.sieve_table.specs.Known.{known_command, known_test}
-use Rattle.sieve_reading.specs.Shape.{known_labels, known_shapes}
+use Rattle.sieve_script.specs.Shape.{known_labels, known_shapes}
 use Rattle.sieve_table.specs.Table.{Row, command_row, same_tag, test_row}
 use Rattle.sieve_check.specs.Use.{is_well_used, has_block}
-use Rattle.sieve_reading.specs.declared.label.Label.{Label}
-use Rattle.sieve_reading.specs.declared.label.Label.TheVariants.{Tagged}
+use Rattle.sieve_script.specs.declared.label.Label.{Label}
+use Rattle.sieve_script.specs.declared.label.Label.TheVariants.{Tagged}
 use Rattle.sieve_table.specs.declared.row.Role.{Role}
 use Rattle.sieve_table.specs.declared.table.CommandKind.{CommandKind}
 use Rattle.sieve_table.specs.declared.table.Tag.TheVariants.{Contains, Matches}

@@ -2,9 +2,9 @@
 -- nothing of the tree vanishes from what a run goes by: each command that stops, returns or acts is there once, each test with what it
 -- joins, and each block in its branch.
 use Rattle.std.specs.Prelude.{◌≡◌, ℕ, Bool, true, false, List, [], ◌∷◌, ◌++◌, Option, Some, None}
-use Rattle.sieve_reading.specs.Reading as reading
-use Rattle.sieve_reading.specs.Reading.{Ask, TestReading, CommandReading, Leaf}
-use Rattle.sieve_reading.specs.Script.{Commands, no_commands, stops, returns, acts, chooses, Branches, no_branches, else_branch, test_branch, Condition, always, never, asks, negated, all_hold, any_holds, Conditions, no_conditions, one_condition}
+use Rattle.sieve_script.specs.Reading as reading
+use Rattle.sieve_script.specs.Reading.{Ask, TestReading, CommandReading, Leaf}
+use Rattle.sieve_script.specs.Script.{Commands, no_commands, stops, returns, acts, chooses, Branches, no_branches, else_branch, test_branch, Condition, always, never, asks, negated, all_hold, any_holds, Conditions, no_conditions, one_condition}
 use Rattle.sieve_check.specs.Context.{Context, after, after_kind, inside, script_start}
 use Rattle.sieve_check.specs.Script.{command_reading, node_reading, script_of, test_reading}
 use Rattle.sieve_profile.specs.Profile.{Profile}

@@ -4,15 +4,15 @@ use Rattle.std.specs.Prelude.{◌≡◌, ⊤, ℕ, Bool, true, false, not, List,
 use Rattle.std.specs.List.{before_last, filter, flat_map}
 use Rattle.std.specs.Str.{str_eq_ignore_ascii_case}
 use Rattle.sieve_syntax.specs.Tree.{Argument, strings, number, tag}
-use Rattle.sieve_reading.specs.Role.{first_role}
+use Rattle.sieve_script.specs.Role.{first_role}
 use Rattle.sieve_table.specs.Role.{has_role}
 use Rattle.sieve_check.specs.Element.{Element, the_command, the_test, the_text, the_number}
 use Rattle.sieve_check.specs.Said.{said_arguments}
 use Rattle.sieve_profile.specs.Profile.{Profile}
 use Rattle.sieve_table.specs.Required.{Required}
-use Rattle.sieve_reading.specs.Shape.{known_labels}
+use Rattle.sieve_script.specs.Shape.{known_labels}
 use Rattle.sieve_table.specs.Known.{known_command}
-use Rattle.sieve_reading.specs.declared.label.Label.{Label}
+use Rattle.sieve_script.specs.declared.label.Label.{Label}
 use Rattle.sieve_table.specs.Table.{command_row}
 use Rattle.sieve_table.specs.declared.row.Role.{Role}
 use Rattle.sieve_table.specs.declared.row.Role.TheVariants.{NameToSet, NamesToDeclare}

@@ -3,8 +3,8 @@
 use Rattle.std.specs.Prelude.{ℕ, Bool, false, not, ◌&&◌, List, [], ◌∷◌, Option, Some, None, map, drop, if◌then◌else◌}
 use Rattle.encoded_characters.specs.Scan.{characters_replaced}
 use Rattle.sieve_syntax.specs.Tree.{Text, Argument, strings, number, tag}
-use Rattle.sieve_reading.specs.Role.{first_role}
-use Rattle.sieve_reading.specs.declared.label.Label.{Label}
+use Rattle.sieve_script.specs.Role.{first_role}
+use Rattle.sieve_script.specs.declared.label.Label.{Label}
 use Rattle.sieve_table.specs.Required.{Required, is_required}
 use Rattle.sieve_table.specs.Role.{same_role}
 use Rattle.sieve_table.specs.declared.capability.Capability.TheVariants.{EncodedCharacter}

@@ -7,9 +7,9 @@ use Rattle.std.specs.Str.{str_eq_ignore_ascii_case}
 use Rattle.sieve_syntax.specs.Tree.{Text, Argument, strings, number, tag}
 use Rattle.sieve_variables.specs.Name.{folded_name, is_identifier}
 use Rattle.sieve_variables.specs.Variable.{with_name}
-use Rattle.sieve_reading.specs.Role.{first_role}
+use Rattle.sieve_script.specs.Role.{first_role}
 use Rattle.sieve_table.specs.Role.{has_role}
-use Rattle.sieve_reading.specs.declared.label.Label.{Label}
+use Rattle.sieve_script.specs.declared.label.Label.{Label}
 use Rattle.sieve_table.specs.declared.row.Role.{Role}
 use Rattle.sieve_table.specs.declared.row.Role.TheVariants.{NameToSet, NamesToDeclare}
 

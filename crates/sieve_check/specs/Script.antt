@@ -6,11 +6,11 @@ use Rattle.sieve_profile.specs.Profile.{Profile}
 use Rattle.sieve_syntax.specs.Tree.{Argument, Test, test, Tests, no_tests, one_test, test_list, TestList, end_tests, more_tests, Node, node, Block, no_block, block, Nodes, end_nodes, more_nodes, nodes}
 use Rattle.sieve_check.specs.Context.{Context, after, after_kind, inside, script_start}
 use Rattle.sieve_check.specs.Cut.{cut_row}
-use Rattle.sieve_reading.specs.CommandReading.{command_reading_by}
-use Rattle.sieve_reading.specs.Reading.{CommandReading, TestReading}
-use Rattle.sieve_reading.specs.Script.{Chain, Commands, Condition, Conditions, chain_with_command, first_condition, joined, no_branches, no_commands, no_conditions, one_condition}
-use Rattle.sieve_reading.specs.Shape.{known_labels}
-use Rattle.sieve_reading.specs.TestReading.{test_reading_by}
+use Rattle.sieve_script.specs.CommandReading.{command_reading_by}
+use Rattle.sieve_script.specs.Reading.{CommandReading, TestReading}
+use Rattle.sieve_script.specs.Script.{Chain, Commands, Condition, Conditions, chain_with_command, first_condition, joined, no_branches, no_commands, no_conditions, one_condition}
+use Rattle.sieve_script.specs.Shape.{known_labels}
+use Rattle.sieve_script.specs.TestReading.{test_reading_by}
 use Rattle.sieve_table.specs.Known.{known_command, known_test}
 use Rattle.sieve_table.specs.Table.{command_row, test_row}
 use Rattle.sieve_table.specs.declared.table.CommandKind.{CommandKind}

@@ -4,13 +4,13 @@ use Rattle.std.specs.List.{list_any}
 use denote.Enum.Bare.{sameb}
 use Rattle.sieve_syntax.specs.Tree.{Tests, no_tests, one_test, test_list, Block, no_block, block}
 use Rattle.sieve_table.specs.Required.{Required, is_required}
-use Rattle.sieve_reading.specs.Given.{is_of_kind}
-use Rattle.sieve_reading.specs.Positional.{is_positional_label}
-use Rattle.sieve_reading.specs.Label.{labels_of, row_is_filled}
+use Rattle.sieve_script.specs.Given.{is_of_kind}
+use Rattle.sieve_script.specs.Positional.{is_positional_label}
+use Rattle.sieve_script.specs.Label.{labels_of, row_is_filled}
 use Rattle.sieve_table.specs.Table.{Row, tag_row}
-use Rattle.sieve_reading.specs.declared.label.Label.{Label}
-use Rattle.sieve_reading.specs.declared.label.Label.TheVariants.{Tagged, OtherTag, Own, InSlot, Unfit}
-use Rattle.sieve_reading.specs.declared.label.Shape.{Shape}
+use Rattle.sieve_script.specs.declared.label.Label.{Label}
+use Rattle.sieve_script.specs.declared.label.Label.TheVariants.{Tagged, OtherTag, Own, InSlot, Unfit}
+use Rattle.sieve_script.specs.declared.label.Shape.{Shape}
 use Rattle.sieve_table.specs.declared.capability.Capability.{Capability}
 use Rattle.sieve_table.specs.contracts.row.Inner.{the_type}
 use Rattle.sieve_table.specs.declared.row.Inner.{Inner}

@@ -6,7 +6,7 @@ ghost use Rattle.sieve_check.specs.Breach.{breaches_at, has_unknown_namespace, i
 ghost use Rattle.sieve_check.specs.Context.{takes_references};
 ghost use Rattle.sieve_check.specs.Element.{argument_elements, labelled_elements, text_elements, the_number, the_text};
 ghost use Rattle.sieve_table.specs.Role.{has_role, names_variable};
-ghost use Rattle.sieve_reading.specs.Shape.{known_labels};
+ghost use Rattle.sieve_script.specs.Shape.{known_labels};
 ghost use Rattle.sieve_check.specs.view.Context.{context_as};
 ghost use Rattle.sieve_table.specs.view.Required.{required_as};
 ghost use Rattle.sieve_check.specs.view.Finds.{Finds, FindsIn};
@@ -24,7 +24,7 @@ use crate::usage::{has_bad_arguments, has_bad_tag, lacks_required};
 use crate::validator::CheckFault;
 use date_text::DatePart;
 use match_text::relation_named;
-use sieve_reading::{Label, RowLabels, after_first, first_role, known_labels};
+use sieve_script::{Label, RowLabels, after_first, first_role, known_labels};
 use sieve_syntax::{Argument, Tests, Text};
 use sieve_table::{
     Capability, Required, Role, Row, Rule, has_role, is_address_field, is_envelope_part,

@@ -1,9 +1,9 @@
 //! Checked scripts.
 ghost use Rattle.std.specs.Prelude.{◌≡◌};
 ghost use Rattle.sieve_check.specs.Faultless.{IsFaultless};
-ghost use Rattle.sieve_reading.specs.view.Script.{commands_as};
+ghost use Rattle.sieve_script.specs.view.Script.{commands_as};
 
-use sieve_reading::Statement;
+use sieve_script::Statement;
 
 /// A script that breaks no rule: its abstract script. Only the validator makes one.
 #[derive(Drop)]

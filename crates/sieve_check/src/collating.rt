@@ -9,7 +9,7 @@ ghost use Rattle.sieve_table.specs.view.Required.{required_as};
 use crate::said::said;
 use match_text::{Collation, collation_named};
 use sieve_profile::Profile;
-use sieve_reading::{Label, after_first, first_role};
+use sieve_script::{Label, after_first, first_role};
 use sieve_syntax::{Argument, Text};
 use sieve_table::{Capability, Required, Role, has_role, is_known};
 use std::alloc::{AllocError, Global};

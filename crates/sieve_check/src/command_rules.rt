@@ -7,11 +7,11 @@ ghost use Rattle.sieve_check.specs.Context.{after, after_kind, after_nodes, cont
 ghost use Rattle.sieve_check.specs.Element.{node_elements, nodes_elements, tests_elements};
 ghost use Rattle.sieve_check.specs.Cut.{cut_said};
 ghost use Rattle.sieve_check.specs.Script.{chain_of, chain_with, command_kind_reading, conditions_in};
-ghost use Rattle.sieve_reading.specs.Script.{Chain, chain_with_command, first_condition};
-ghost use Rattle.sieve_reading.specs.Shape.{known_labels};
-ghost use Rattle.sieve_reading.specs.view.Reading.{command_reading_as};
-ghost use Rattle.sieve_reading.specs.view.Script.{commands_as, condition_as};
-ghost use Rattle.sieve_reading.specs.view.CutArgument.{cut_as};
+ghost use Rattle.sieve_script.specs.Script.{Chain, chain_with_command, first_condition};
+ghost use Rattle.sieve_script.specs.Shape.{known_labels};
+ghost use Rattle.sieve_script.specs.view.Reading.{command_reading_as};
+ghost use Rattle.sieve_script.specs.view.Script.{commands_as, condition_as};
+ghost use Rattle.sieve_script.specs.view.CutArgument.{cut_as};
 ghost use Rattle.sieve_profile.specs.view.Profile.{profile_as};
 ghost use Rattle.sieve_table.specs.Known as spec;
 ghost use Rattle.sieve_table.specs.Table.{command_row};
@@ -28,7 +28,7 @@ use crate::scope::Scope;
 use crate::test_rules::check_tests;
 use crate::validator::CheckFault;
 use sieve_profile::Profile;
-use sieve_reading::{
+use sieve_script::{
     Branch, CommandReading, Condition, CutArgument, Label, ScriptBuilder, Statement,
     first_condition, read_command,
 };

@@ -5,7 +5,7 @@ ghost use Rattle.sieve_syntax.specs.view.Tree.{argument_of, text_of};
 ghost use Rattle.sieve_check.specs.Context as spec;
 ghost use Rattle.sieve_check.specs.Scope.{no_names};
 ghost use Rattle.sieve_profile.specs.view.Profile.{profile_as};
-ghost use Rattle.sieve_reading.specs.Shape.{known_labels};
+ghost use Rattle.sieve_script.specs.Shape.{known_labels};
 ghost use Rattle.sieve_check.specs.Element.{among, finds_parts};
 ghost use Rattle.sieve_check.specs.view.Context.{at_spot, context_as};
 ghost use Rattle.sieve_table.specs.view.Required.{required_as};
@@ -14,7 +14,7 @@ ghost use Rattle.sieve_table.specs.Table.{command_row};
 
 use crate::scope::Scope;
 use sieve_profile::Profile;
-use sieve_reading::Label;
+use sieve_script::Label;
 use sieve_syntax::{Argument, Text};
 use sieve_table::{Capability, CommandKind, Required, Role, Tag, is_expanded, same_tag};
 

@@ -8,7 +8,7 @@ ghost use Rattle.sieve_table.specs.view.Required.{required_as};
 
 use encoded_characters::replaced;
 use octets::SmallOctets;
-use sieve_reading::{Label, after_first, first_role};
+use sieve_script::{Label, after_first, first_role};
 use sieve_syntax::{Argument, Text};
 use sieve_table::{Capability, Required, Role, has_role};
 use std::alloc::{AllocError, Global};

@@ -9,7 +9,7 @@ ghost use Rattle.sieve_check.specs.Scope as spec;
 
 use octets::Octets;
 use sieve_limits::MAX_LOCALS;
-use sieve_reading::{Label, after_first, first_role};
+use sieve_script::{Label, after_first, first_role};
 use sieve_syntax::{Argument, Text};
 use sieve_table::{Role, has_role};
 use sieve_variables::{Names, folded, is_identifier};

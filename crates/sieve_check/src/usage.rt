@@ -2,13 +2,13 @@
 ghost use Rattle.std.specs.Prelude.{◌≡◌};
 ghost use Rattle.std.specs.List.{list_any};
 ghost use Rattle.sieve_syntax.specs.view.Tree.{tests_of};
-ghost use Rattle.sieve_reading.specs.Given.{is_of_kind};
-ghost use Rattle.sieve_reading.specs.Positional.{is_positional_label};
+ghost use Rattle.sieve_script.specs.Given.{is_of_kind};
+ghost use Rattle.sieve_script.specs.Positional.{is_positional_label};
 ghost use Rattle.sieve_check.specs.Use as spec;
 ghost use Rattle.sieve_table.specs.view.Required.{required_as};
 ghost use Rattle.sieve_table.specs.view.Row.{row_as};
 
-use sieve_reading::Label;
+use sieve_script::Label;
 use sieve_syntax::Tests;
 use sieve_table::{Capability, Inner, Required, Row, TagKind, same_kind};
 

@@ -1,8 +1,8 @@
 -- The code of commands does what the commands do.
 use Rattle.std.proofs.Common.{ℕ, false, ◌∷◌, length, refl}
-use Rattle.sieve_reading.specs.Reading as reading
-use Rattle.sieve_reading.specs.Script as script
-use Rattle.sieve_reading.specs.Script.{Condition, Commands, no_commands, chooses, Branches, no_branches, else_branch, test_branch}
+use Rattle.sieve_script.specs.Reading as reading
+use Rattle.sieve_script.specs.Script as script
+use Rattle.sieve_script.specs.Script.{Condition, Commands, no_commands, chooses, Branches, no_branches, else_branch, test_branch}
 use Rattle.sieve_code.specs.Choice.{Tail, past_branches, branches_before, commands_before, condition_before}
 use Rattle.sieve_code.specs.Operation.{jump_op, jump_if_op, act_op, stop_op, return_op}
 use Rattle.sieve_code.specs.Walk.{Walk, by_stop, by_return, acted, branches_walk, commands_walk}

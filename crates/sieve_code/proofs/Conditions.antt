@@ -1,8 +1,8 @@
 -- The code of conditions asks what they ask.
 use Rattle.std.proofs.Common.{◌≡◌, Bool, true, false, not, ◌∷◌, length, refl, ◌∙◌}
-use Rattle.sieve_reading.specs.Reading.{Ask}
-use Rattle.sieve_reading.specs.Script as script
-use Rattle.sieve_reading.specs.Script.{Condition, always, never, negated, all_hold, any_holds, Conditions, no_conditions, one_condition}
+use Rattle.sieve_script.specs.Reading.{Ask}
+use Rattle.sieve_script.specs.Script as script
+use Rattle.sieve_script.specs.Script.{Condition, always, never, negated, all_hold, any_holds, Conditions, no_conditions, one_condition}
 use Rattle.sieve_code.specs.Choice.{Tail, condition_before, joined_before, list_before}
 use Rattle.sieve_code.specs.Operation.{set_op, invert_op, test_op, jump_if_op}
 use Rattle.sieve_code.specs.Walk.{Walk, condition_walk, all_walk, any_walk}

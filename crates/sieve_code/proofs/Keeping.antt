@@ -2,11 +2,11 @@
 use Rattle.std.proofs.Common.{◌≡◌, ℕ, zero, suc, true, false, List, [], ◌∷◌, ◌++◌, length, map, get_or, slice_get, Option, Some, refl, sym, ap, ◌∙◌, subst}
 use Rattle.std.proofs.Math.Seq.{get_or-append_seam}
 use Rattle.std.proofs.lemmas.List.{append-nil, append_assoc}
-use Rattle.sieve_operations.specs.Joined.{Lists, list_in, lists_plus, lists_with, no_lists}
-use Rattle.sieve_reading.specs.Reading as reading
-use Rattle.sieve_reading.specs.declared.reading.Vacation.{Vacation}
+use Rattle.packed_strings.specs.Joined.{Lists, list_in, lists_plus, lists_with, no_lists}
+use Rattle.sieve_script.specs.Reading as reading
+use Rattle.sieve_script.specs.declared.reading.Vacation.{Vacation}
 use Rattle.sieve_variables.specs.Part.{Part}
-use Rattle.sieve_reading.specs.declared.reading.Ask.TheVariants as asked
+use Rattle.sieve_script.specs.declared.reading.Ask.TheVariants as asked
 use Rattle.sieve_code.specs.Pool.{Grows, Keeps, Kept, PackedAsk, PackedLeaf, Pool, ask_at, ask_in, given_list, given_string, leaf_at, leaf_in, leaf_of, no_pool, plus, vacation_in}
 use Rattle.sieve_code.specs.Operation.{Operation}
 use Rattle.sieve_code.specs.view.Op.{is_plain, op_in, plain_as}

@@ -1,7 +1,7 @@
 -- The targets' places in all of the code.
 use Rattle.std.proofs.Common.{◌≡◌, ℕ, ◌-◌, List, [], ◌∷◌, length, map, refl, sym, ap, ◌∙◌}
 use Rattle.std.proofs.lemmas.List.{length-map}
-use Rattle.sieve_reading.specs.Script.{Commands}
+use Rattle.sieve_script.specs.Script.{Commands}
 use Rattle.sieve_code.specs.Choice.{Tail, code_of, placed, tail_of}
 use Rattle.sieve_code.specs.Operation.{targeting}
 use Rattle.sieve_code.specs.Pool.{Pool}

@@ -3,17 +3,17 @@ use Rattle.std.proofs.Common.{◌≡◌, ℕ, ◌<◌, ◌≤◌, Bool, true, fa
 use Rattle.std.specs.declared.alloc.Global.{Global}
 use Rattle.std.specs.declared.boxed.Box.{Box}
 use Rattle.std.specs.declared.vec.Vec.{Vec}
-use Rattle.sieve_reading.specs.Script.{Condition, Conditions, no_conditions, one_condition, Commands, no_commands, Branches, no_branches, else_branch, test_branch}
-use Rattle.sieve_reading.specs.view.Reading.{ReadAsk, ReadLeaf, ask_as, leaf_as}
-use Rattle.sieve_reading.specs.view.Script.{Before, BranchBefore, branch_as, branch_step, branches_as, commands_as, condition_as, conditions_as, else_as, put_each, statement_as, statement_step}
-use Rattle.sieve_reading.specs.declared.script.Branch as declared_branches
-use Rattle.sieve_reading.specs.declared.script.Condition as declared_conditions
-use Rattle.sieve_reading.specs.declared.script.Condition.TheVariants as condition
-use Rattle.sieve_reading.specs.declared.script.Statement as statements
-use Rattle.sieve_reading.specs.declared.script.Statement.TheFolds as folds
-use Rattle.sieve_reading.specs.declared.script.Statement.TheOpen as layers
-use Rattle.sieve_reading.specs.declared.script.Statement.TheVariants as statement
-use Rattle.sieve_reading.proofs.ScriptSeen.{seen_act, seen_all, seen_always, seen_any, seen_asks, seen_branch, seen_choose, seen_never, seen_not, seen_return, seen_stop}
+use Rattle.sieve_script.specs.Script.{Condition, Conditions, no_conditions, one_condition, Commands, no_commands, Branches, no_branches, else_branch, test_branch}
+use Rattle.sieve_script.specs.view.Reading.{ReadAsk, ReadLeaf, ask_as, leaf_as}
+use Rattle.sieve_script.specs.view.Script.{Before, BranchBefore, branch_as, branch_step, branches_as, commands_as, condition_as, conditions_as, else_as, put_each, statement_as, statement_step}
+use Rattle.sieve_script.specs.declared.script.Branch as declared_branches
+use Rattle.sieve_script.specs.declared.script.Condition as declared_conditions
+use Rattle.sieve_script.specs.declared.script.Condition.TheVariants as condition
+use Rattle.sieve_script.specs.declared.script.Statement as statements
+use Rattle.sieve_script.specs.declared.script.Statement.TheFolds as folds
+use Rattle.sieve_script.specs.declared.script.Statement.TheOpen as layers
+use Rattle.sieve_script.specs.declared.script.Statement.TheVariants as statement
+use Rattle.sieve_script.proofs.ScriptSeen.{seen_act, seen_all, seen_always, seen_any, seen_asks, seen_branch, seen_choose, seen_never, seen_not, seen_return, seen_stop}
 use Rattle.sieve_code.specs.Choice.{Tail, branches_before, commands_before, condition_before, joined_before, list_before}
 use Rattle.sieve_code.specs.Operation.{set_op, invert_op, test_op, jump_if_op, act_op, stop_op, return_op}
 use Rattle.sieve_code.specs.view.Branches.{branch_before, has_branch}

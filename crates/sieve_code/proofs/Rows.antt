@@ -1,8 +1,8 @@
 -- Worked rows of walks, of which the laws speak.
 use Rattle.std.proofs.Common.{◌≡◌, true, false, List, [], ◌∷◌, None, refl, codes}
 use Rattle.match_text.specs.declared.comparators.Collation.TheVariants.{Casemap}
-use Rattle.sieve_reading.specs.Reading.{Ask, field_values, compares, over_ask, keep_leaf, discard_leaf}
-use Rattle.sieve_reading.specs.declared.reading.MatchType.TheVariants.{Contains}
+use Rattle.sieve_script.specs.Reading.{Ask, field_values, compares, over_ask, keep_leaf, discard_leaf}
+use Rattle.sieve_script.specs.declared.reading.MatchType.TheVariants.{Contains}
 use Rattle.sieve_variables.specs.Part.{literal}
 use Rattle.sieve_code.specs.Operation.{Operation, test_op, jump_op, jump_if_op, act_op, stop_op, return_op}
 use Rattle.sieve_code.specs.Walk.{Walk, at_end, by_stop, by_return, cut_off, asked, acted, code_walk, walk_from, gone, met_ask, met_leaf, ended, unanswered}

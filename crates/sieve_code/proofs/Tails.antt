@@ -1,6 +1,6 @@
 -- Walks over tails of code.
 use Rattle.std.proofs.Common.{◌≡◌, ℕ, zero, suc, ◌-◌, ◌≤◌, Bool, true, false, not, if◌then◌else◌, [], ◌∷◌, ◌++◌, length, drop, Some, None, refl, sym, ap, ◌∙◌, arith, append_assoc, length-append}
-use Rattle.sieve_reading.specs.Reading.{Ask, Leaf}
+use Rattle.sieve_script.specs.Reading.{Ask, Leaf}
 use Rattle.sieve_code.specs.Choice.{Tail}
 use Rattle.sieve_code.specs.Operation.{Operation, set_op, invert_op, test_op, jump_op, jump_if_op, act_op, stop_op, return_op, target_of}
 use Rattle.sieve_code.specs.Walk.{Walk, at_end, by_stop, by_return, cut_off, asked, acted}

@@ -1,6 +1,6 @@
 -- No part of a script's walk is cut off.
-use Rattle.sieve_reading.specs.Script as script
-use Rattle.sieve_reading.specs.Script.{Condition, always, never, negated, all_hold, any_holds, Conditions, no_conditions, one_condition, Commands, no_commands, chooses, Branches, no_branches, else_branch, test_branch}
+use Rattle.sieve_script.specs.Script as script
+use Rattle.sieve_script.specs.Script.{Condition, always, never, negated, all_hold, any_holds, Conditions, no_conditions, one_condition, Commands, no_commands, chooses, Branches, no_branches, else_branch, test_branch}
 use Rattle.sieve_code.specs.Walk.{Walk, IsWhole, all_walk, any_walk, at_end, branches_walk, condition_walk, commands_walk, script_walk}
 
 mutual

@@ -1,8 +1,8 @@
 -- Which operations the code of an abstract script has: those of its conditions (RFC 5228, sections 5.2 to 5.10) and commands (sections
 -- 3.1, 3.3 and 4) in the order of the text, with jumps between them.
 use Rattle.std.specs.Prelude.{ℕ, ◌-◌, ◌<◌, ◌≤◌, ◌≡◌, Bool, true, false, not, List, [], ◌∷◌, length, map, Some, slice_get}
-use Rattle.sieve_reading.specs.Script as script
-use Rattle.sieve_reading.specs.Script.{Condition, always, never, negated, all_hold, any_holds, Conditions, no_conditions, one_condition, Commands, no_commands, chooses, Branches, no_branches, else_branch, test_branch}
+use Rattle.sieve_script.specs.Script as script
+use Rattle.sieve_script.specs.Script.{Condition, always, never, negated, all_hold, any_holds, Conditions, no_conditions, one_condition, Commands, no_commands, chooses, Branches, no_branches, else_branch, test_branch}
 use Rattle.sieve_code.specs.Operation.{Operation, set_op, invert_op, test_op, jump_op, jump_if_op, act_op, stop_op, return_op, target_of, targeting}
 
 -- Operations up to the end of the code. Here a jump has for its target how many operations there are from the target to the

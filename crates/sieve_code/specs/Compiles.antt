@@ -1,6 +1,6 @@
 -- What it is for operations to be the code of an abstract script.
 use Rattle.std.specs.Prelude.{◌≡◌, List, length}
-use Rattle.sieve_reading.specs.Script.{Commands}
+use Rattle.sieve_script.specs.Script.{Commands}
 use Rattle.sieve_code.specs.Choice.{code_of}
 use Rattle.sieve_code.specs.Operation.{Operation}
 use Rattle.sieve_code.specs.Walk.{code_walk, script_walk}

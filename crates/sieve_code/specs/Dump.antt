@@ -9,13 +9,13 @@ use Rattle.devices.specs.Writers.{quoted}
 use Rattle.script_names.specs.declared.location.Location.{Location}
 use Rattle.message_text.specs.declared.addressing.AddressPart.{AddressPart}
 use Rattle.message_text.specs.declared.addressing.AddressPart.TheVariants as address_part
-use Rattle.sieve_reading.specs.Reading.{BodyTransform, raw_transform, content_transform, text_transform, DateZone, local_zone, original_zone, named_zone, field_values, envelope_values, string_values, flag_values, date_values, clock_values, body_values, ValueSource, Ask, compares, exists_ask, over_ask, under_ask, mailboxes_ask, duplicate_ask, Settings, Vacation, Leaf, keep_leaf, fileinto_leaf, redirect_leaf, discard_leaf, set_leaf, flag_leaf, include_leaf, vacation_leaf, reject_leaf, rejection_word}
-use Rattle.sieve_reading.specs.declared.reading.Comparison.{Comparison}
-use Rattle.sieve_reading.specs.declared.reading.FlagChange.{FlagChange}
-use Rattle.sieve_reading.specs.declared.reading.FlagChange.TheVariants as change
-use Rattle.sieve_reading.specs.declared.reading.MatchType.{MatchType}
-use Rattle.sieve_reading.specs.declared.reading.Rejection.{Rejection}
-use Rattle.sieve_reading.specs.declared.reading.MatchType.TheVariants.{Is, Contains, Matches, Value, Count}
+use Rattle.sieve_script.specs.Reading.{BodyTransform, raw_transform, content_transform, text_transform, DateZone, local_zone, original_zone, named_zone, field_values, envelope_values, string_values, flag_values, date_values, clock_values, body_values, ValueSource, Ask, compares, exists_ask, over_ask, under_ask, mailboxes_ask, duplicate_ask, Settings, Vacation, Leaf, keep_leaf, fileinto_leaf, redirect_leaf, discard_leaf, set_leaf, flag_leaf, include_leaf, vacation_leaf, reject_leaf, rejection_word}
+use Rattle.sieve_script.specs.declared.reading.Comparison.{Comparison}
+use Rattle.sieve_script.specs.declared.reading.FlagChange.{FlagChange}
+use Rattle.sieve_script.specs.declared.reading.FlagChange.TheVariants as change
+use Rattle.sieve_script.specs.declared.reading.MatchType.{MatchType}
+use Rattle.sieve_script.specs.declared.reading.Rejection.{Rejection}
+use Rattle.sieve_script.specs.declared.reading.MatchType.TheVariants.{Is, Contains, Matches, Value, Count}
 use Rattle.sieve_variables.specs.Part.{Part, literal, variable_part, match_part}
 use Rattle.sieve_variables.specs.Variable.{Variable, local_variable, global_variable}
 use Rattle.sieve_variables.specs.declared.modifier.LetterCase.{LetterCase}

@@ -1,6 +1,6 @@
 -- The operations of compiled code. They have one truth register.
 use Rattle.std.specs.Prelude.{ℕ, Bool, Option, Some, None}
-use Rattle.sieve_reading.specs.Reading.{Ask, Leaf}
+use Rattle.sieve_script.specs.Reading.{Ask, Leaf}
 
 -- An operation: it sets the register, inverts it, sets it to what a test asks of the delivery, goes to another operation,
 -- always or where the register has that truth, does what a command does, with its line, ends the run, or ends its script.

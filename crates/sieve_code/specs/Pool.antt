@@ -2,18 +2,18 @@
 use Rattle.std.specs.Prelude.{◌≡◌, ℕ, Box, List, [], ◌++◌, Option, Some, None, slice_get, slice_index_or}
 use Rattle.std.specs.Option.{option_map}
 use Rattle.std.specs.declared.alloc.Global.{Global}
-use Rattle.sieve_reading.specs.Reading as reading
-use Rattle.sieve_reading.specs.Reading.{discard_leaf}
-use Rattle.sieve_reading.specs.declared.reading.Ask.{Ask}
-use Rattle.sieve_reading.specs.declared.reading.Ask.TheVariants as asked
-use Rattle.sieve_reading.specs.declared.reading.BodyTransform.{BodyTransform}
-use Rattle.sieve_reading.specs.declared.reading.DateZone.{DateZone}
-use Rattle.sieve_reading.specs.declared.reading.Leaf.{Leaf}
-use Rattle.sieve_reading.specs.declared.reading.Settings.{Settings}
-use Rattle.sieve_reading.specs.declared.reading.Vacation.{Vacation}
-use Rattle.sieve_reading.specs.declared.reading.ValueSource.{ValueSource}
-use Rattle.sieve_reading.specs.view.Reading.{answered_by, ask_by, body_by, date_zone_by, filed_by, leaf_by, source_by}
-use Rattle.sieve_operations.specs.Joined.{Lists, list_in, lists_plus, no_lists}
+use Rattle.sieve_script.specs.Reading as reading
+use Rattle.sieve_script.specs.Reading.{discard_leaf}
+use Rattle.sieve_script.specs.declared.reading.Ask.{Ask}
+use Rattle.sieve_script.specs.declared.reading.Ask.TheVariants as asked
+use Rattle.sieve_script.specs.declared.reading.BodyTransform.{BodyTransform}
+use Rattle.sieve_script.specs.declared.reading.DateZone.{DateZone}
+use Rattle.sieve_script.specs.declared.reading.Leaf.{Leaf}
+use Rattle.sieve_script.specs.declared.reading.Settings.{Settings}
+use Rattle.sieve_script.specs.declared.reading.Vacation.{Vacation}
+use Rattle.sieve_script.specs.declared.reading.ValueSource.{ValueSource}
+use Rattle.sieve_script.specs.view.Reading.{answered_by, ask_by, body_by, date_zone_by, filed_by, leaf_by, source_by}
+use Rattle.packed_strings.specs.Joined.{Lists, list_in, lists_plus, no_lists}
 use Rattle.sieve_variables.specs.Part.{Part}
 
 -- what a test asks and what a command does, with the places of their strings

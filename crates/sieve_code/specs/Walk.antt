@@ -1,8 +1,8 @@
 -- What a script and its code do, apart from what the message answers: a tree of decisions.
 use Rattle.std.specs.Prelude.{ℕ, zero, suc, ◌+◌, Bool, true, false, not, List, [], ◌∷◌, Option, Some, None, slice_get, if◌then◌else◌}
-use Rattle.sieve_reading.specs.Reading.{Ask, Leaf}
-use Rattle.sieve_reading.specs.Script as script
-use Rattle.sieve_reading.specs.Script.{Condition, always, never, negated, all_hold, any_holds, Conditions, no_conditions, one_condition, Commands, no_commands, chooses, Branches, no_branches, else_branch, test_branch}
+use Rattle.sieve_script.specs.Reading.{Ask, Leaf}
+use Rattle.sieve_script.specs.Script as script
+use Rattle.sieve_script.specs.Script.{Condition, always, never, negated, all_hold, any_holds, Conditions, no_conditions, one_condition, Commands, no_commands, chooses, Branches, no_branches, else_branch, test_branch}
 use Rattle.sieve_code.specs.Operation.{Operation, set_op, invert_op, test_op, jump_op, jump_if_op, act_op, stop_op, return_op}
 
 -- A walk: it has come to the end, it was ended by `stop` (RFC 5228, section 3.3) or by `return` (RFC 6609, section 3.3), or its

@@ -2,8 +2,8 @@
 ghost use Rattle.std.specs.Prelude.{◌≡◌, ◌<◌, length, Some, slice_get};
 ghost use Rattle.std.specs.Option.{option_copied};
 ghost use Rattle.devices.specs.Writers.{Writes};
-ghost use Rattle.sieve_operations.specs.Joined.{list_in};
-ghost use Rattle.sieve_operations.specs.view.Ops.{body_op_as, settings_op_as, source_op_as, vacation_op_as, zone_op_as};
+ghost use Rattle.packed_strings.specs.Joined.{list_in};
+ghost use Rattle.packed_strings.specs.view.Ops.{body_op_as, settings_op_as, source_op_as, vacation_op_as, zone_op_as};
 ghost use Rattle.sieve_code.specs.Choice.{AllGoForward};
 ghost use Rattle.sieve_code.specs.Compiles.{IsCode};
 ghost use Rattle.sieve_code.specs.Dump.{line_at};
@@ -15,8 +15,8 @@ use crate::dump::write_line;
 use crate::op::{Op, PackedAsk, PackedLeaf, PackedSettings, PackedSource, PackedVacation};
 use crate::pools::Pools;
 use devices::{Sink, WriteFault};
-use sieve_operations::{BodyOp, FieldNames, SettingsOp, SourceOp, Strings, VacationOp, ZoneOp};
-use sieve_reading::{Ask, BodyTransform, DateZone};
+use packed_strings::{BodyOp, FieldNames, SettingsOp, SourceOp, Strings, VacationOp, ZoneOp};
+use sieve_script::{Ask, BodyTransform, DateZone};
 use sieve_variables::Part;
 
 /// The code of a checked script. It starts at the first operation and ends after the last. Each jump goes forward, and at most

@@ -1,7 +1,7 @@
 //! The operations of commands (RFC 5228, sections 3 and 4).
 ghost use Rattle.std.specs.Prelude.{◌≡◌, ◌∷◌, if◌then◌else◌, List, length, OnOk};
-ghost use Rattle.sieve_reading.specs.Script.{Branches, no_commands};
-ghost use Rattle.sieve_reading.specs.view.Script.{branches_as, commands_as, condition_as, statement_as};
+ghost use Rattle.sieve_script.specs.Script.{Branches, no_commands};
+ghost use Rattle.sieve_script.specs.view.Script.{branches_as, commands_as, condition_as, statement_as};
 ghost use Rattle.sieve_code.specs.Choice.{branches_before, commands_before};
 ghost use Rattle.sieve_code.specs.Operation.{Operation, jump_op};
 ghost use Rattle.sieve_code.specs.view.Branches.{branch_before, has_branch};
@@ -9,7 +9,7 @@ ghost use Rattle.sieve_code.specs.view.Branches.{branch_before, has_branch};
 use crate::condition_code::put_condition;
 use crate::op::Op;
 use crate::tail::Tail;
-use sieve_reading::{Branch, Statement};
+use sieve_script::{Branch, Statement};
 use std::alloc::AllocError;
 
 /// Puts a jump past the branches before a tail where a branch follows there; so many operations stand after them.

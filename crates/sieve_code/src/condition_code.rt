@@ -1,13 +1,13 @@
 //! The operations of conditions (RFC 5228, section 5).
 ghost use Rattle.std.specs.Prelude.{◌≡◌, ◌∷◌, if◌then◌else◌, true, OnOk};
-ghost use Rattle.sieve_reading.specs.view.Script.{condition_as, conditions_as};
+ghost use Rattle.sieve_script.specs.view.Script.{condition_as, conditions_as};
 ghost use Rattle.sieve_code.specs.Choice.{condition_before, joined_before};
 ghost use Rattle.sieve_code.specs.Operation.{jump_if_op, set_op};
 ghost use Rattle.sieve_code.specs.view.Op.{is_plain, plain_as};
 
 use crate::op::Op;
 use crate::tail::Tail;
-use sieve_reading::Condition;
+use sieve_script::Condition;
 use std::alloc::AllocError;
 
 /// The operation that sets the register.

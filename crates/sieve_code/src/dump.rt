@@ -15,7 +15,7 @@ use crate::dump_strings::{write_list, write_number};
 use crate::dump_tests::write_compares;
 use crate::op::{Op, PackedAsk, PackedLeaf};
 use devices::{Piece, Sink, WriteFault, write_out, write_pieces};
-use sieve_reading::{Ask, Leaf};
+use sieve_script::{Ask, Leaf};
 
 /// Writes what a test asks.
 #[tactic(auto, unfolding(crate::specs::Dump::ask_text))]

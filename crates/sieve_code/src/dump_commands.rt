@@ -3,13 +3,13 @@ ghost use Rattle.std.specs.Prelude.{◌≡◌, ◌++◌, codes};
 ghost use Rattle.std.specs.Option.{option_copied};
 ghost use Rattle.devices.specs.Writers.{Writes};
 ghost use Rattle.sieve_code.specs.Dump as spec;
-ghost use Rattle.sieve_operations.specs.view.Ops.{settings_op_as};
+ghost use Rattle.packed_strings.specs.view.Ops.{settings_op_as};
 
 use crate::dump_strings::{name_of, scope_word, write_list, write_number, write_string};
 use devices::{Piece, Sink, WriteFault, write_out, write_pieces};
 use script_names::Location;
-use sieve_operations::{SettingsOp, Strings};
-use sieve_reading::FlagChange;
+use packed_strings::{SettingsOp, Strings};
+use sieve_script::FlagChange;
 use sieve_variables::{LetterCase, Modifiers, Part, Variable};
 
 /// Writes a command's word and then a string.

@@ -2,13 +2,13 @@
 ghost use Rattle.std.specs.Prelude.{◌++◌};
 ghost use Rattle.devices.specs.Writers.{Writes};
 ghost use Rattle.sieve_code.specs.Dump as spec;
-ghost use Rattle.sieve_operations.specs.view.Ops.{vacation_op_as};
+ghost use Rattle.packed_strings.specs.view.Ops.{vacation_op_as};
 
 use crate::dump_commands::{given_word, write_given_string, write_worded};
 use crate::dump_strings::{write_list, write_number};
 use devices::{Sink, WriteFault, write_out};
-use sieve_operations::{Strings, VacationOp};
-use sieve_reading::Rejection;
+use packed_strings::{Strings, VacationOp};
+use sieve_script::Rejection;
 use sieve_variables::Part;
 
 /// Writes for how many days a sender gets no other response, where that is said.

@@ -7,7 +7,7 @@ ghost use Rattle.sieve_variables.specs.view.Variable.{variable_ref_as};
 ghost use Rattle.sieve_code.specs.view.Marked.{marked_part, marked_string};
 
 use devices::{Piece, Sink, WriteFault, write_out, write_pieces};
-use sieve_operations::Strings;
+use packed_strings::Strings;
 use sieve_variables::{Part, PartRef, VariableRef};
 
 /// The word that says whose a variable is.

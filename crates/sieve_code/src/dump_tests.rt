@@ -3,14 +3,14 @@ ghost use Rattle.std.specs.Prelude.{◌≡◌, ◌++◌, codes};
 ghost use Rattle.match_text.specs.Relation.{relation_word};
 ghost use Rattle.devices.specs.Writers.{Writes};
 ghost use Rattle.sieve_code.specs.Dump.{address_part_word, address_words, collation_word, comparing_words, date_words, further_list, further_string, internal_list, match_word, source_text, transform_words, zone_words};
-ghost use Rattle.sieve_operations.specs.view.Ops.{body_op_as, source_op_as, zone_op_as};
+ghost use Rattle.packed_strings.specs.view.Ops.{body_op_as, source_op_as, zone_op_as};
 
 use crate::dump_strings::{write_further_list, write_string};
 use devices::{Piece, Sink, WriteFault, write_out, write_pieces};
 use match_text::{Collation, Relation};
 use message_text::AddressPart;
-use sieve_operations::{BodyOp, SourceOp, Strings, ZoneOp};
-use sieve_reading::{Comparison, MatchType};
+use packed_strings::{BodyOp, SourceOp, Strings, ZoneOp};
+use sieve_script::{Comparison, MatchType};
 use sieve_variables::Part;
 
 /// The word of a match type that compares values, by its relation (RFC 5231, section 4.1).

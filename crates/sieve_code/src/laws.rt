@@ -1,6 +1,6 @@
 //! Laws over the definitions. Each of these functions does nothing: its contract is the law.
 ghost use Rattle.std.specs.Prelude.{◌≡◌, length};
-ghost use Rattle.sieve_reading.specs.Script.{Commands};
+ghost use Rattle.sieve_script.specs.Script.{Commands};
 ghost use Rattle.sieve_code.specs.Choice.{AllGoForward, code_of};
 ghost use Rattle.sieve_code.specs.Walk.{IsWhole, code_walk, script_walk};
 

@@ -1,6 +1,6 @@
 //! The operations of code.
 
-use sieve_reading::{Ask, Leaf, Settings, Vacation, ValueSource};
+use sieve_script::{Ask, Leaf, Settings, Vacation, ValueSource};
 use std::mem::size_of;
 
 /// Where a test takes values from, with the places of what it names.

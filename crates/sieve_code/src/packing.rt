@@ -1,13 +1,13 @@
 //! What tests ask and what commands do, with their strings in pools.
 ghost use Rattle.std.specs.Prelude.{◌≡◌, IfOk};
-ghost use Rattle.sieve_reading.specs.Reading.{compares, fileinto_leaf};
-ghost use Rattle.sieve_reading.specs.view.Reading.{ask_as, date_zone_as, leaf_as, settings_as, source_as, transform_as, vacation_as};
+ghost use Rattle.sieve_script.specs.Reading.{compares, fileinto_leaf};
+ghost use Rattle.sieve_script.specs.view.Reading.{ask_as, date_zone_as, leaf_as, settings_as, source_as, transform_as, vacation_as};
 ghost use Rattle.sieve_code.specs.Pool.{Kept, ask_at, ask_in, body_in, leaf_at, leaf_in, settings_in, source_in, vacation_in, zone_in};
 ghost use Rattle.sieve_code.specs.view.Pools.{pool_as};
 
 use crate::op::{PackedAsk, PackedLeaf, PackedSettings, PackedSource, PackedVacation};
 use crate::pools::Pools;
-use sieve_reading::{
+use sieve_script::{
     Ask, BodyTransform, Comparison, DateZone, Leaf, ReadAsk, ReadLeaf, ReadVacation, Settings,
     ValueSource,
 };

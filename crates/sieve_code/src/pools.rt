@@ -1,14 +1,14 @@
 //! What operations of code say, by its place.
 ghost use Rattle.std.specs.Prelude.{◌≡◌, ◌^◌, ◌≤◌, true, IfOk, IfSome, OnErr, Some, slice_get};
 ghost use Rattle.std.specs.Option.{option_map};
-ghost use Rattle.sieve_operations.specs.Joined.{list_in};
-ghost use Rattle.sieve_reading.specs.Reading as reading;
+ghost use Rattle.packed_strings.specs.Joined.{list_in};
+ghost use Rattle.sieve_script.specs.Reading as reading;
 ghost use Rattle.sieve_code.specs.Pool.{Kept, Pool, ask_at, ask_in, given_list, given_string, leaf_at, leaf_in, no_pool, string_in};
 ghost use Rattle.sieve_code.specs.view.Pools.{pool_as};
 
 use crate::op::{PackedAsk, PackedLeaf};
-use sieve_operations::{JoinedStrings, NameLists, StringLists};
-use sieve_reading::{Ask, Leaf};
+use packed_strings::{JoinedStrings, NameLists, StringLists};
+use sieve_script::{Ask, Leaf};
 use sieve_variables::Parts;
 use std::alloc::{AllocError, Global};
 

@@ -1,13 +1,13 @@
 //! Code that is made from its end.
 ghost use Rattle.std.specs.Prelude.{◌≡◌, [], ◌∷◌, length, map, true, IfOk, OnOk};
-ghost use Rattle.sieve_reading.specs.view.Reading.{ask_as, leaf_as};
+ghost use Rattle.sieve_script.specs.view.Reading.{ask_as, leaf_as};
 ghost use Rattle.sieve_code.specs.Operation.{act_op, test_op};
 ghost use Rattle.sieve_code.specs.view.Op.{is_plain, op_in, plain_as};
 ghost use Rattle.sieve_code.specs.view.Pools.{pool_as};
 
 use crate::op::Op;
 use crate::pools::{Pools, place_of};
-use sieve_reading::{ReadAsk, ReadLeaf};
+use sieve_script::{ReadAsk, ReadLeaf};
 use std::alloc::{AllocError, Global};
 use std::collections::VecDeque;
 use std::marker::Model;

@@ -3,13 +3,13 @@ use Rattle.std.proofs.Common.{◌≡◌, ◌≤◌, suc, Bool, true, false, not,
 use Rattle.std.specs.Prelude.{⊤, if◌then◌else◌}
 use Rattle.std.specs.List.{AllByRecursion, list_any}
 use Rattle.std.specs.Option.{option_or}
-use Rattle.sieve_actions.specs.Delivery.{Arrival}
-use Rattle.sieve_actions.specs.State.{actions_in}
-use Rattle.sieve_actions.specs.declared.action.Action.{Action}
-use Rattle.sieve_actions.specs.declared.action.Action.TheVariants.{Store, Discard, Respond, Reject}
-use Rattle.sieve_actions.specs.declared.error.ErrorKind.{ErrorKind}
+use Rattle.sieve_delivery.specs.Delivery.{Arrival}
+use Rattle.sieve_delivery.specs.State.{actions_in}
+use Rattle.sieve_delivery.specs.declared.action.Action.{Action}
+use Rattle.sieve_delivery.specs.declared.action.Action.TheVariants.{Store, Discard, Respond, Reject}
+use Rattle.sieve_delivery.specs.declared.error.ErrorKind.{ErrorKind}
 use Rattle.script_names.specs.declared.name.ScriptName.{ScriptName}
-use Rattle.sieve_actions.specs.Act.{brought_by, conflict_among, conflict_of, goes_with_rejections, is_rejection, is_response, joined_with, same_action}
+use Rattle.sieve_delivery.specs.Act.{brought_by, conflict_among, conflict_of, goes_with_rejections, is_rejection, is_response, joined_with, same_action}
 use Rattle.sieve_run.specs.Library.{Lookup}
 use Rattle.sieve_run.specs.Run.{outcome_of}
 use Rattle.sieve_run.specs.Verdict.{actions_of}

@@ -6,28 +6,28 @@ use Rattle.std.specs.Prelude.{if◌then◌else◌}
 use Rattle.std.specs.List.{list_any}
 use Rattle.message_text.specs.Addresses.{addresses_of}
 use Rattle.sieve_limits.specs.Limits.{action_limit, include_depth, include_limit}
-use Rattle.sieve_reading.specs.Reading.{plain_settings, Leaf, keep_leaf, fileinto_leaf, redirect_leaf, discard_leaf, set_leaf, flag_leaf, include_leaf, vacation_leaf, reject_leaf}
-use Rattle.sieve_reading.specs.declared.reading.FlagChange.{FlagChange}
-use Rattle.sieve_reading.specs.Script.{Commands}
+use Rattle.sieve_script.specs.Reading.{plain_settings, Leaf, keep_leaf, fileinto_leaf, redirect_leaf, discard_leaf, set_leaf, flag_leaf, include_leaf, vacation_leaf, reject_leaf}
+use Rattle.sieve_script.specs.declared.reading.FlagChange.{FlagChange}
+use Rattle.sieve_script.specs.Script.{Commands}
 use Rattle.sieve_code.specs.Walk.{Walk, at_end, by_stop, by_return, cut_off, asked, acted, script_walk}
-use Rattle.sieve_actions.specs.Delivery.{Arrival, Delivery, inside}
+use Rattle.sieve_delivery.specs.Delivery.{Arrival, Delivery, inside}
 use Rattle.sieve_run.specs.Origin.{ComesOf}
 use Rattle.sieve_run.specs.Library.{Lookup, missing, invalid, present, found_at}
 use Rattle.sieve_run.specs.Verdict.{actions_of}
-use Rattle.sieve_matching.specs.Matching.{after_test, truth_of}
+use Rattle.sieve_conditions.specs.Matching.{after_test, truth_of}
 use Rattle.sieve_run.specs.Perform.{perform}
-use Rattle.sieve_actions.specs.Act.{deed_of, store_deed, Ending, goes_on, returned, stopped, failed, Performed, accepted, refused, unless, conflict_among, entry_at, same_action, joined_entry, joined_with, changes, ends_with, gives, performs, fails_at, filing_of, is_mailbox, may_be_from, may_be_used, only_address, redirects, response_of, held_flags, changed_flags, flags_named, state_after}
+use Rattle.sieve_delivery.specs.Act.{deed_of, store_deed, Ending, goes_on, returned, stopped, failed, Performed, accepted, refused, unless, conflict_among, entry_at, same_action, joined_entry, joined_with, changes, ends_with, gives, performs, fails_at, filing_of, is_mailbox, may_be_from, may_be_used, only_address, redirects, response_of, held_flags, changed_flags, flags_named, state_after}
 use Rattle.sieve_run.specs.Run.{entering, included, include_of, includes, is_running, is_script, is_there, looked_up, act_of, and_then, answer_of, begun, chosen, delivery_to, exec, resumed, run_of, running, verdict_at, verdict_of, outcome_of, with_found_script, with_lookup}
-use Rattle.sieve_actions.specs.State.{Entered, RunState, actions_in}
-use Rattle.sieve_actions.specs.declared.flow.Flow.{Flow}
-use Rattle.sieve_actions.specs.declared.flow.Flow.TheVariants as flow
+use Rattle.sieve_delivery.specs.State.{Entered, RunState, actions_in}
+use Rattle.sieve_delivery.specs.declared.flow.Flow.{Flow}
+use Rattle.sieve_delivery.specs.declared.flow.Flow.TheVariants as flow
 use Rattle.script_names.specs.declared.name.ScriptName.{ScriptName}
-use Rattle.sieve_actions.specs.declared.action.Deed.{Deed}
-use Rattle.sieve_actions.specs.declared.action.Action.{Action}
-use Rattle.sieve_actions.specs.declared.action.Action.TheVariants.{Redirect, Discard, Respond, Reject}
-use Rattle.sieve_actions.specs.declared.error.ErrorKind.{ErrorKind}
-use Rattle.sieve_actions.specs.declared.error.ErrorKind.TheVariants.{BadAddress, BadMailbox, TooManyActions, TooManyGlobals, IncludeCount}
-use Rattle.sieve_actions.specs.view.Flow.{ending_by}
+use Rattle.sieve_delivery.specs.declared.action.Deed.{Deed}
+use Rattle.sieve_delivery.specs.declared.action.Action.{Action}
+use Rattle.sieve_delivery.specs.declared.action.Action.TheVariants.{Redirect, Discard, Respond, Reject}
+use Rattle.sieve_delivery.specs.declared.error.ErrorKind.{ErrorKind}
+use Rattle.sieve_delivery.specs.declared.error.ErrorKind.TheVariants.{BadAddress, BadMailbox, TooManyActions, TooManyGlobals, IncludeCount}
+use Rattle.sieve_delivery.specs.view.Flow.{ending_by}
 use Rattle.sieve_run.specs.view.Step.{Acts, doing}
 use Rattle.sieve_variables.specs.Modifier.{modified}
 use Rattle.sieve_variables.specs.Part.{Part}

@@ -4,13 +4,13 @@ use Rattle.std.proofs.lemmas.Bool.Decides.{nat_tests}
 use Rattle.std.proofs.lemmas.List.{length_push}
 use Rattle.std.specs.Prelude.{if◌then◌else◌}
 use Rattle.sieve_limits.specs.Limits.{include_depth}
-use Rattle.sieve_reading.specs.Script.{Commands}
-use Rattle.sieve_actions.specs.Delivery.{Arrival, Delivery, inside}
+use Rattle.sieve_script.specs.Script.{Commands}
+use Rattle.sieve_delivery.specs.Delivery.{Arrival, Delivery, inside}
 use Rattle.sieve_run.specs.Depth.{IsDeepest, depth_left, entered_within, watched, watched_include, watched_run}
 use Rattle.sieve_run.specs.Library.{Lookup}
-use Rattle.sieve_actions.specs.Act.{Ending, goes_on, act_by, state_after}
+use Rattle.sieve_delivery.specs.Act.{Ending, goes_on, act_by, state_after}
 use Rattle.sieve_run.specs.Run.{answer_of, begun, delivery_to, exec, include_of, included, is_running, is_script, run_of, running}
-use Rattle.sieve_actions.specs.State.{RunState}
+use Rattle.sieve_delivery.specs.State.{RunState}
 use Rattle.script_names.specs.declared.name.ScriptName.{ScriptName}
 
 -- the main script has all depth left

@@ -5,12 +5,12 @@ use Rattle.std.specs.Cmp.{IsEquivalence}
 use Rattle.std.specs.Cmp.Lexicographic.{nat_list_eq_equiv}
 use Rattle.std.specs.List.{AllByRecursion, IsDistinct}
 use Rattle.std.specs.Prelude.{if◌then◌else◌}
-use Rattle.sieve_actions.specs.Delivery.{Arrival}
-use Rattle.sieve_actions.specs.State.{actions_in}
-use Rattle.sieve_actions.specs.declared.action.Action.{Action}
-use Rattle.sieve_actions.specs.declared.action.Action.TheVariants.{Store, Redirect, Discard, Respond, Reject}
+use Rattle.sieve_delivery.specs.Delivery.{Arrival}
+use Rattle.sieve_delivery.specs.State.{actions_in}
+use Rattle.sieve_delivery.specs.declared.action.Action.{Action}
+use Rattle.sieve_delivery.specs.declared.action.Action.TheVariants.{Store, Redirect, Discard, Respond, Reject}
 use Rattle.script_names.specs.declared.name.ScriptName.{ScriptName}
-use Rattle.sieve_actions.specs.Act.{brought_by, joined_with, same_action}
+use Rattle.sieve_delivery.specs.Act.{brought_by, joined_with, same_action}
 use Rattle.sieve_run.specs.Distinct.{AreDistinct}
 use Rattle.sieve_run.specs.Library.{Lookup}
 use Rattle.sieve_run.specs.Run.{outcome_of}

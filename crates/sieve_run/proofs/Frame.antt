@@ -8,21 +8,21 @@ use Rattle.match_text.specs.Flags.{flag_list}
 use Rattle.sieve_limits.specs.Limits.{include_depth, include_limit, name_limit}
 use Rattle.script_names.specs.declared.location.Location.{Location}
 use Rattle.script_names.specs.declared.location.Location.TheVariants.{Personal, Global}
-use Rattle.sieve_reading.specs.Reading.{plain_settings, Leaf, keep_leaf, fileinto_leaf, redirect_leaf, discard_leaf, set_leaf, flag_leaf, include_leaf, vacation_leaf, reject_leaf}
-use Rattle.sieve_reading.specs.declared.reading.FlagChange.{FlagChange}
-use Rattle.sieve_reading.specs.Script.{Condition, Commands, no_commands, stops, returns, acts, chooses, Branches, no_branches, else_branch, test_branch}
-use Rattle.sieve_actions.specs.Delivery.{Arrival, Delivery, inside}
+use Rattle.sieve_script.specs.Reading.{plain_settings, Leaf, keep_leaf, fileinto_leaf, redirect_leaf, discard_leaf, set_leaf, flag_leaf, include_leaf, vacation_leaf, reject_leaf}
+use Rattle.sieve_script.specs.declared.reading.FlagChange.{FlagChange}
+use Rattle.sieve_script.specs.Script.{Condition, Commands, no_commands, stops, returns, acts, chooses, Branches, no_branches, else_branch, test_branch}
+use Rattle.sieve_delivery.specs.Delivery.{Arrival, Delivery, inside}
 use Rattle.sieve_run.specs.Frame.{Agree, Texts, outcome_over}
 use Rattle.sieve_run.specs.Library.{Lookup, found_at, invalid, library_of, lookup_of, missing, present}
 use Rattle.script_names.specs.Name.{name_eq, location_eq}
-use Rattle.sieve_actions.specs.Act.{deed_of, store_deed, Ending, goes_on, returned, stopped, failed, changes, changed_flags, flags_named, held_flags, performs, fails_at, filing_of, is_mailbox, may_be_from, may_be_used, only_address, redirects, response_of, act_by, state_after}
+use Rattle.sieve_delivery.specs.Act.{deed_of, store_deed, Ending, goes_on, returned, stopped, failed, changes, changed_flags, flags_named, held_flags, performs, fails_at, filing_of, is_mailbox, may_be_from, may_be_used, only_address, redirects, response_of, act_by, state_after}
 use Rattle.sieve_run.specs.Run.{entering, included, include_of, includes, is_looked_up, is_running, is_script, is_there, looked_up, act_of, and_then, answer_of, begun, chosen, decide, delivery_to, exec, exec_branches, resumed, run_of, running, verdict_at, verdict_of, outcome_of, with_found_script, with_lookup}
-use Rattle.sieve_actions.specs.State.{RunState}
+use Rattle.sieve_delivery.specs.State.{RunState}
 use Rattle.script_names.specs.declared.name.ScriptName.{ScriptName}
-use Rattle.sieve_actions.specs.declared.action.Deed.{Deed}
-use Rattle.sieve_actions.specs.declared.action.Action.TheVariants.{Redirect, Discard, Respond, Reject}
-use Rattle.sieve_actions.specs.declared.error.ErrorKind.{ErrorKind}
-use Rattle.sieve_actions.specs.declared.error.ErrorKind.TheVariants.{BadAddress, BadMailbox, IncludeCount, TooManyGlobals}
+use Rattle.sieve_delivery.specs.declared.action.Deed.{Deed}
+use Rattle.sieve_delivery.specs.declared.action.Action.TheVariants.{Redirect, Discard, Respond, Reject}
+use Rattle.sieve_delivery.specs.declared.error.ErrorKind.{ErrorKind}
+use Rattle.sieve_delivery.specs.declared.error.ErrorKind.TheVariants.{BadAddress, BadMailbox, IncludeCount, TooManyGlobals}
 use Rattle.sieve_run.specs.view.Step.{Acts}
 use Rattle.sieve_variables.specs.Modifier.{modified}
 use Rattle.sieve_variables.specs.Part.{Part}

@@ -2,19 +2,19 @@
 use Rattle.std.proofs.Common.{◌≡◌, ℕ, zero, suc, Bool, true, false, ◌&&◌, Option, None, Some, List, ◌-◌, nat_lt, length, refl, sym, ap, ◌∙◌, arith}
 use Rattle.std.specs.Prelude.{if◌then◌else◌}
 use Rattle.sieve_limits.specs.Limits.{include_limit}
-use Rattle.sieve_reading.specs.Script.{Commands}
+use Rattle.sieve_script.specs.Script.{Commands}
 use Rattle.sieve_code.specs.Operation.{Operation}
 use Rattle.sieve_code.specs.Walk.{code_walk}
-use Rattle.sieve_actions.specs.Delivery.{Delivery, inside}
+use Rattle.sieve_delivery.specs.Delivery.{Delivery, inside}
 use Rattle.sieve_run.specs.Library.{Lookup, missing, invalid, present, HasCode, found_at}
-use Rattle.sieve_actions.specs.Act.{Ending, goes_on, fails_at}
+use Rattle.sieve_delivery.specs.Act.{Ending, goes_on, fails_at}
 use Rattle.sieve_run.specs.Run.{act_of, answer_of, entering, exec, include_of, included, includes, is_running, is_script, is_there, looked_up, resumed, resuming, with_lookup}
-use Rattle.sieve_actions.specs.State.{RunState}
-use Rattle.sieve_actions.specs.declared.flow.Flow.{Flow}
-use Rattle.sieve_actions.specs.declared.flow.Flow.TheVariants.{GoesOn, Returned, Stopped, Failed}
+use Rattle.sieve_delivery.specs.State.{RunState}
+use Rattle.sieve_delivery.specs.declared.flow.Flow.{Flow}
+use Rattle.sieve_delivery.specs.declared.flow.Flow.TheVariants.{GoesOn, Returned, Stopped, Failed}
 use Rattle.script_names.specs.declared.name.ScriptName.{ScriptName}
-use Rattle.sieve_actions.specs.declared.error.ErrorKind.TheVariants.{IncludeCount, IncludeDepth, RecursiveInclude}
-use Rattle.sieve_actions.specs.view.Flow.{ending_by}
+use Rattle.sieve_delivery.specs.declared.error.ErrorKind.TheVariants.{IncludeCount, IncludeDepth, RecursiveInclude}
+use Rattle.sieve_delivery.specs.view.Flow.{ending_by}
 use Rattle.sieve_run.specs.view.Include.{enters, looks_up, resumed_by}
 use Rattle.sieve_run.specs.view.Step.{doing}
 use Rattle.sieve_variables.specs.Value.{Values}

@@ -1,20 +1,20 @@
 -- Doing the leaves of a script's walk is what running the script is.
 use Rattle.std.proofs.Common.{◌≡◌, ℕ, Bool, true, false, not, List, ◌∷◌, length, refl, ap, sym, ◌∙◌}
-use Rattle.sieve_reading.specs.Reading.{Ask, Leaf}
-use Rattle.sieve_reading.specs.Script.{Condition, always, never, asks, negated, all_hold, any_holds, Conditions, no_conditions, one_condition, Commands, no_commands, stops, returns, acts, chooses, Branches, no_branches, else_branch, test_branch}
+use Rattle.sieve_script.specs.Reading.{Ask, Leaf}
+use Rattle.sieve_script.specs.Script.{Condition, always, never, asks, negated, all_hold, any_holds, Conditions, no_conditions, one_condition, Commands, no_commands, stops, returns, acts, chooses, Branches, no_branches, else_branch, test_branch}
 use Rattle.sieve_code.specs.Walk.{Walk, at_end, by_stop, by_return, cut_off, asked, acted, all_walk, any_walk, branches_walk, code_walk, condition_walk, gone, commands_walk, script_walk}
 use Rattle.sieve_code.specs.Operation.{Operation}
 use Rattle.sieve_limits.specs.Limits.{include_depth}
 use Rattle.sieve_code.specs.Compiles.{Compiles}
-use Rattle.sieve_actions.specs.Delivery.{Arrival, Delivery, inside}
+use Rattle.sieve_delivery.specs.Delivery.{Arrival, Delivery, inside}
 use Rattle.sieve_run.specs.Library.{HasCode, Lookup, missing, invalid, present}
 use Rattle.sieve_run.specs.Perform.{answers_after, answers_of, chosen_answers, do_gone, do_met, end_of, perform}
 use Rattle.script_names.specs.declared.name.ScriptName.{ScriptName}
 use Rattle.sieve_run.specs.view.Include.{enters}
 use Rattle.sieve_run.specs.view.Step.{doing}
-use Rattle.sieve_actions.specs.Act.{Ending, goes_on, returned, stopped, failed}
+use Rattle.sieve_delivery.specs.Act.{Ending, goes_on, returned, stopped, failed}
 use Rattle.sieve_run.specs.Run.{Answer, also, or_else, act_of, and_then, answer_of, begun, chosen, decide, decide_all, decide_any, delivery_to, entering, exec, exec_branches, resumed, running, verdict_at, verdict_of, with_found_script}
-use Rattle.sieve_actions.specs.State.{RunState}
+use Rattle.sieve_delivery.specs.State.{RunState}
 
 module _ (ask : Ask → RunState → Answer) (act : Leaf → ℕ → RunState → Ending) where
   -- TESTS

@@ -3,8 +3,8 @@ use Rattle.std.proofs.Common.{◌≡◌, ℕ, zero, suc, ◌<◌, ◌+◌, List,
 use Rattle.std.proofs.lemmas.Grind.{flat_map-append}
 use Rattle.std.proofs.lemmas.List.{take_more}
 use Rattle.devices.specs.Writers.{name_text}
-use Rattle.sieve_actions.specs.ErrorKind.{error_word}
-use Rattle.sieve_actions.specs.declared.error.RunError.{RunError}
+use Rattle.sieve_delivery.specs.ErrorKind.{error_word}
+use Rattle.sieve_delivery.specs.declared.error.RunError.{RunError}
 use Rattle.sieve_run.specs.Lines.{error_line, spaced_word, spaced_words}
 
 -- the line of an error, piece by piece

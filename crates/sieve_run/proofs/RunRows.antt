@@ -2,19 +2,19 @@
 -- say of actions.
 use Rattle.std.proofs.Common.{◌≡◌, true, false, List, [], ◌∷◌, length, nat_lt, if◌then◌else◌, None, Some, refl, ap, codes}
 use Rattle.std.specs.List.{IsDistinct}
-use Rattle.sieve_reading.specs.Script.{Commands, no_commands}
+use Rattle.sieve_script.specs.Script.{Commands, no_commands}
 use Rattle.sieve_variables.specs.Value.{begun_values, no_values}
 use Rattle.script_names.specs.declared.location.Location.TheVariants.{Personal}
 use Rattle.sieve_limits.specs.Limits.{name_limit}
 use Rattle.script_names.specs.Name.{name_eq}
-use Rattle.sieve_actions.specs.Act.{Ending, goes_on}
-use Rattle.sieve_actions.specs.Delivery.{Arrival, Delivery, inside}
-use Rattle.sieve_actions.specs.State.{RunState}
-use Rattle.sieve_actions.specs.declared.envelope.Envelope.{Envelope}
+use Rattle.sieve_delivery.specs.Act.{Ending, goes_on}
+use Rattle.sieve_delivery.specs.Delivery.{Arrival, Delivery, inside}
+use Rattle.sieve_delivery.specs.State.{RunState}
+use Rattle.sieve_delivery.specs.declared.envelope.Envelope.{Envelope}
 use Rattle.sieve_profile.specs.Profile.{empty_profile}
-use Rattle.sieve_actions.specs.declared.action.Action.TheVariants.{Store, Discard}
-use Rattle.sieve_actions.specs.declared.action.Filing.{Filing}
-use Rattle.sieve_actions.specs.declared.error.ErrorKind.TheVariants.{MissingScript}
+use Rattle.sieve_delivery.specs.declared.action.Action.TheVariants.{Store, Discard}
+use Rattle.sieve_delivery.specs.declared.action.Filing.{Filing}
+use Rattle.sieve_delivery.specs.declared.error.ErrorKind.TheVariants.{MissingScript}
 use Rattle.script_names.specs.declared.name.ScriptName.{ScriptName}
 use Rattle.sieve_run.specs.Depth.{watched_include}
 use Rattle.sieve_run.specs.Distinct.{AreDistinct}

@@ -3,22 +3,22 @@ use Rattle.std.proofs.Common.{◌≡◌, ℕ, ◌+◌, ◌<◌, ◌≤◌, ◌-�
 use Rattle.std.proofs.lemmas.Option.{slice_get_past}
 use Rattle.std.proofs.lemmas.Result.{IfOk-at_ok, IfOk-weaker}
 use Rattle.std.specs.Prelude.{slice_get}
-use Rattle.sieve_reading.specs.Reading.{Ask, Leaf}
+use Rattle.sieve_script.specs.Reading.{Ask, Leaf}
 use Rattle.sieve_code.specs.Operation.{Operation, test_op, act_op, stop_op, return_op}
 use Rattle.sieve_code.specs.Walk as walk
 use Rattle.sieve_code.specs.Walk.{Walk, at_limit, code_walk, walk_from}
-use Rattle.sieve_actions.specs.Delivery.{Delivery}
-use Rattle.sieve_matching.specs.Matching.{after_test, truth_of}
+use Rattle.sieve_delivery.specs.Delivery.{Delivery}
+use Rattle.sieve_conditions.specs.Matching.{after_test, truth_of}
 use Rattle.sieve_run.specs.Perform.{perform}
-use Rattle.sieve_actions.specs.Act.{goes_on}
+use Rattle.sieve_delivery.specs.Act.{goes_on}
 use Rattle.sieve_run.specs.Run.{and_then, chosen}
-use Rattle.sieve_actions.specs.State.{RunState}
-use Rattle.sieve_actions.specs.declared.flow.Flow.{Flow}
-use Rattle.sieve_actions.specs.declared.flow.Flow.TheVariants as flow
-use Rattle.sieve_actions.specs.declared.flow.Flow.TheVariants.{GoesOn}
+use Rattle.sieve_delivery.specs.State.{RunState}
+use Rattle.sieve_delivery.specs.declared.flow.Flow.{Flow}
+use Rattle.sieve_delivery.specs.declared.flow.Flow.TheVariants as flow
+use Rattle.sieve_delivery.specs.declared.flow.Flow.TheVariants.{GoesOn}
 use Rattle.sieve_run.specs.declared.turn.Step.{Step}
 use Rattle.sieve_run.specs.declared.turn.Step.TheVariants.{Next, Ended}
-use Rattle.sieve_actions.specs.view.Flow.{ending_by}
+use Rattle.sieve_delivery.specs.view.Flow.{ending_by}
 use Rattle.sieve_run.specs.view.Step.{step_after, Acts, Follows, StepsTo, doing, doing_after}
 
 left_over : {n turn : ℕ} → n ≤ turn → n - turn ≡ 0

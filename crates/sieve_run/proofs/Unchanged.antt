@@ -1,15 +1,15 @@
 -- Laws of what tests and commands do to the state of a run.
 use Rattle.std.proofs.Common.{◌≡◌, ℕ, Bool, true, false, List, Option, None, Some, refl, ap, ◌∙◌}
 use Rattle.std.specs.Prelude.{if◌then◌else◌}
-use Rattle.sieve_reading.specs.Reading.{Ask, Leaf, compares, exists_ask, over_ask, under_ask, mailboxes_ask, duplicate_ask}
-use Rattle.sieve_reading.specs.declared.reading.MatchType.{MatchType}
-use Rattle.sieve_reading.specs.declared.reading.MatchType.TheVariants.{Is, Contains, Matches, Value, Count}
-use Rattle.sieve_reading.specs.Script.{Condition, always, never, asks, negated, all_hold, any_holds, Conditions, no_conditions, one_condition, Commands, stops, returns}
-use Rattle.sieve_actions.specs.Delivery.{Delivery}
-use Rattle.sieve_matching.specs.Matching.{after_test, match_found, sets_matched, values_after, with_found}
-use Rattle.sieve_actions.specs.Act.{Ending, returned, stopped}
+use Rattle.sieve_script.specs.Reading.{Ask, Leaf, compares, exists_ask, over_ask, under_ask, mailboxes_ask, duplicate_ask}
+use Rattle.sieve_script.specs.declared.reading.MatchType.{MatchType}
+use Rattle.sieve_script.specs.declared.reading.MatchType.TheVariants.{Is, Contains, Matches, Value, Count}
+use Rattle.sieve_script.specs.Script.{Condition, always, never, asks, negated, all_hold, any_holds, Conditions, no_conditions, one_condition, Commands, stops, returns}
+use Rattle.sieve_delivery.specs.Delivery.{Delivery}
+use Rattle.sieve_conditions.specs.Matching.{after_test, match_found, sets_matched, values_after, with_found}
+use Rattle.sieve_delivery.specs.Act.{Ending, returned, stopped}
 use Rattle.sieve_run.specs.Run.{SetsMatched, Answer, and_then, answer_of, also, or_else, decide, decide_all, decide_any, exec}
-use Rattle.sieve_actions.specs.State.{RunState}
+use Rattle.sieve_delivery.specs.State.{RunState}
 use Rattle.sieve_variables.specs.Value.{with_matched}
 
 -- a state after two matches in turn is the one before them but for what a match gave

@@ -1,12 +1,12 @@
 -- How deep scripts include one another, counted by those that include the running one (RFC 6609, section 3.1).
 use Rattle.std.specs.Prelude.{ℕ, zero, suc, ◌-◌, ◌≤◌, Bool, length, Option, None, Some, if◌then◌else◌, nat_lt}
 use Rattle.sieve_limits.specs.Limits.{include_depth}
-use Rattle.sieve_reading.specs.Script.{Commands}
-use Rattle.sieve_actions.specs.Delivery.{Arrival, Delivery, inside}
+use Rattle.sieve_script.specs.Script.{Commands}
+use Rattle.sieve_delivery.specs.Delivery.{Arrival, Delivery, inside}
 use Rattle.sieve_run.specs.Library.{Lookup}
-use Rattle.sieve_actions.specs.Act.{Ending, act_by}
+use Rattle.sieve_delivery.specs.Act.{Ending, act_by}
 use Rattle.sieve_run.specs.Run.{answer_of, begun, delivery_to, exec, include_of, running}
-use Rattle.sieve_actions.specs.State.{RunState}
+use Rattle.sieve_delivery.specs.State.{RunState}
 use Rattle.script_names.specs.declared.name.ScriptName.{ScriptName}
 
 -- how many scripts may still include one another below the running one: one less for each that includes it

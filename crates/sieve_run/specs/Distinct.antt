@@ -1,8 +1,8 @@
 -- Actions of which no two are one (RFC 5228, section 2.10.3).
 use Rattle.std.specs.Prelude.{List}
 use Rattle.std.specs.List.{IsDistinct}
-use Rattle.sieve_actions.specs.declared.action.Action.{Action}
-use Rattle.sieve_actions.specs.Act.{same_action}
+use Rattle.sieve_delivery.specs.declared.action.Action.{Action}
+use Rattle.sieve_delivery.specs.Act.{same_action}
 
 -- no action is one with an action after it
 abbrev pub AreDistinct : List Action → Type 0

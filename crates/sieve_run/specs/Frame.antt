@@ -1,7 +1,7 @@
 -- What a verdict depends on: of a library of a profile, the texts at the names that it looked up, and that there are none at those that were
 -- missing.
 use Rattle.std.specs.Prelude.{◌≡◌, ℕ, Bool, true, List, Option}
-use Rattle.sieve_actions.specs.Delivery.{Arrival}
+use Rattle.sieve_delivery.specs.Delivery.{Arrival}
 use Rattle.sieve_run.specs.Library.{library_of}
 use Rattle.sieve_run.specs.Run.{is_looked_up, outcome_of}
 use Rattle.sieve_run.specs.Verdict.{Verdict}

@@ -1,6 +1,6 @@
 -- What a library has at a name, by its profile and the text there.
 use Rattle.std.specs.Prelude.{ℕ, List, length, Option, None, Some, if◌then◌else◌, nat_lt}
-use Rattle.sieve_reading.specs.Script.{Commands}
+use Rattle.sieve_script.specs.Script.{Commands}
 use Rattle.sieve_limits.specs.Limits.{text_limit, name_limit}
 use Rattle.sieve_profile.specs.Profile.{Profile}
 use Rattle.sieve_check.specs.Judgement.{Judgement, judgement_of, sound, faulty}

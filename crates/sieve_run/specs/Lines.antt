@@ -5,14 +5,14 @@ use Rattle.std.specs.Str.Lines.{lines}
 use lib.Pointwise.{pointwise}
 use Rattle.devices.specs.Writers.{name_text, quoted}
 use Rattle.script_names.specs.declared.name.ScriptName.{ScriptName}
-use Rattle.sieve_actions.specs.ErrorKind.{error_word}
-use Rattle.sieve_actions.specs.declared.action.Action.{Action}
-use Rattle.sieve_actions.specs.declared.action.Action.TheVariants.{Store, Redirect, Discard, Respond, Reject}
-use Rattle.sieve_actions.specs.declared.action.Filing.{Filing}
-use Rattle.sieve_actions.specs.declared.action.Origin.{Origin}
-use Rattle.sieve_actions.specs.declared.error.RunError.{RunError}
-use Rattle.sieve_actions.specs.declared.response.Response.{Response}
-use Rattle.sieve_reading.specs.Reading.{rejection_word}
+use Rattle.sieve_delivery.specs.ErrorKind.{error_word}
+use Rattle.sieve_delivery.specs.declared.action.Action.{Action}
+use Rattle.sieve_delivery.specs.declared.action.Action.TheVariants.{Store, Redirect, Discard, Respond, Reject}
+use Rattle.sieve_delivery.specs.declared.action.Filing.{Filing}
+use Rattle.sieve_delivery.specs.declared.action.Origin.{Origin}
+use Rattle.sieve_delivery.specs.declared.error.RunError.{RunError}
+use Rattle.sieve_delivery.specs.declared.response.Response.{Response}
+use Rattle.sieve_script.specs.Reading.{rejection_word}
 use Rattle.sieve_run.specs.Verdict.{Verdict, actions_of}
 
 -- a text after a space, and texts so

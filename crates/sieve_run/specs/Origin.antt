@@ -1,9 +1,9 @@
 -- Which command entered an action.
 use Rattle.std.specs.Prelude.{◌≡◌, ◌⊎◌, ℕ, List, [], ◌∷◌, ◌++◌, map}
-use Rattle.sieve_actions.specs.Act.{entry_at, joined_entry}
-use Rattle.sieve_actions.specs.Delivery.{Delivery}
-use Rattle.sieve_actions.specs.State.{Entered}
-use Rattle.sieve_actions.specs.declared.action.Deed.{Deed}
+use Rattle.sieve_delivery.specs.Act.{entry_at, joined_entry}
+use Rattle.sieve_delivery.specs.Delivery.{Delivery}
+use Rattle.sieve_delivery.specs.State.{Entered}
+use Rattle.sieve_delivery.specs.declared.action.Deed.{Deed}
 
 -- What is there after a command at a line performed an action: what was there, if the action was refused; or that with the action joined to
 -- it; or that and then the action, which this command entered.

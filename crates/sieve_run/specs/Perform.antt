@@ -1,11 +1,11 @@
 -- What doing the leaves of a walk in turn gives, up to the first that ends the run.
 use Rattle.std.specs.Prelude.{ℕ, Bool, true, false, List, [], ◌∷◌}
-use Rattle.sieve_reading.specs.Reading.{Ask, Leaf}
+use Rattle.sieve_script.specs.Reading.{Ask, Leaf}
 use Rattle.sieve_code.specs.Walk.{Walk, at_end, by_stop, by_return, cut_off, asked, acted, Met, met_ask, met_leaf, End, ended, unanswered, unfinished, Gone, gone}
 use Rattle.sieve_code.specs.Walk as walk
-use Rattle.sieve_actions.specs.Act.{Ending, goes_on, returned, stopped, failed}
+use Rattle.sieve_delivery.specs.Act.{Ending, goes_on, returned, stopped, failed}
 use Rattle.sieve_run.specs.Run.{Answer, and_then, chosen}
-use Rattle.sieve_actions.specs.State.{RunState}
+use Rattle.sieve_delivery.specs.State.{RunState}
 
 -- `ask` says what tests ask, whose truth is the walk's next answer, and `act` what commands do that act; no walk of a script is
 -- cut off

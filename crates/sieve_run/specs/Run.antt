@@ -2,16 +2,16 @@
 use Rattle.std.specs.Prelude.{◌≡◌, ℕ, List, [], ◌∷◌, ◌++◌, zero, suc, length, Bool, true, false, not, ◌&&◌, ◌||◌, Option, None, Some, if◌then◌else◌, nat_lt}
 use Rattle.std.specs.List.{list_any}
 use Rattle.sieve_limits.specs.Limits.{include_depth, include_limit}
-use Rattle.sieve_reading.specs.Reading.{Ask, Leaf}
-use Rattle.sieve_reading.specs.Script.{Condition, always, never, asks, negated, all_hold, any_holds, Conditions, no_conditions, one_condition, Commands, no_commands, stops, returns, acts, chooses, Branches, no_branches, else_branch, test_branch}
+use Rattle.sieve_script.specs.Reading.{Ask, Leaf}
+use Rattle.sieve_script.specs.Script.{Condition, always, never, asks, negated, all_hold, any_holds, Conditions, no_conditions, one_condition, Commands, no_commands, stops, returns, acts, chooses, Branches, no_branches, else_branch, test_branch}
 use Rattle.script_names.specs.declared.name.ScriptName.{ScriptName}
-use Rattle.sieve_actions.specs.Act.{Ending, goes_on, returned, stopped, failed, fails_at, act_by}
-use Rattle.sieve_actions.specs.declared.error.ErrorKind.TheVariants.{MissingScript, InvalidScript, RecursiveInclude, IncludeDepth, IncludeCount}
-use Rattle.sieve_actions.specs.Delivery.{Arrival, Delivery, inside}
-use Rattle.sieve_matching.specs.Matching.{after_test, truth_of}
+use Rattle.sieve_delivery.specs.Act.{Ending, goes_on, returned, stopped, failed, fails_at, act_by}
+use Rattle.sieve_delivery.specs.declared.error.ErrorKind.TheVariants.{MissingScript, InvalidScript, RecursiveInclude, IncludeDepth, IncludeCount}
+use Rattle.sieve_delivery.specs.Delivery.{Arrival, Delivery, inside}
+use Rattle.sieve_conditions.specs.Matching.{after_test, truth_of}
 use Rattle.sieve_run.specs.Library.{Lookup, missing, invalid, present, found_at}
 use Rattle.script_names.specs.Name.{name_eq}
-use Rattle.sieve_actions.specs.State.{RunState}
+use Rattle.sieve_delivery.specs.State.{RunState}
 use Rattle.sieve_run.specs.Verdict.{Verdict}
 use Rattle.sieve_variables.specs.Value.{Values, begun_values, no_values, resumed_values, with_matched}
 

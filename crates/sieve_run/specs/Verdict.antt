@@ -1,9 +1,9 @@
 -- What a run answers.
 use Rattle.std.specs.Prelude.{ℕ, List, Bool, Option}
 use Rattle.script_names.specs.declared.name.ScriptName.{ScriptName}
-use Rattle.sieve_actions.specs.State.{Entered, actions_in}
-use Rattle.sieve_actions.specs.declared.action.Action.{Action}
-use Rattle.sieve_actions.specs.declared.error.RunError.{RunError}
+use Rattle.sieve_delivery.specs.State.{Entered, actions_in}
+use Rattle.sieve_delivery.specs.declared.action.Action.{Action}
+use Rattle.sieve_delivery.specs.declared.error.RunError.{RunError}
 
 -- the actions in order, each with the command that entered it first, the flags of the implicit keep where it stands, the error, and the names
 -- looked up, each present or missing

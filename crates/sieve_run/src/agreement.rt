@@ -3,8 +3,8 @@ ghost use Rattle.std.specs.Prelude.{◌≡◌, ℕ, List, ◌∷◌, ◌++◌, [
 ghost use lib.Pointwise.{pointwise};
 ghost use Rattle.std.specs.Option.{option_copied};
 ghost use Rattle.devices.specs.Writers.{Writes};
-ghost use Rattle.sieve_actions.specs.State.{actions_in};
-ghost use Rattle.sieve_actions.specs.view.Actions.{entries_as};
+ghost use Rattle.sieve_delivery.specs.State.{actions_in};
+ghost use Rattle.sieve_delivery.specs.view.Actions.{entries_as};
 ghost use Rattle.sieve_run.specs.Lines as spec;
 ghost use Rattle.sieve_run.specs.view.Left.{left_says};
 ghost use Rattle.sieve_run.specs.view.Wanted.{wanted_line};
@@ -14,7 +14,7 @@ use crate::lines::{write_action, write_error, write_implicit};
 use devices::{Sink, WriteFault};
 use match_text::FlagList;
 use message_text::next_line;
-use sieve_actions::{Action, Entry, RunError};
+use sieve_delivery::{Action, Entry, RunError};
 
 /// A line that a text is to have.
 #[derive(Clone, Copy)]

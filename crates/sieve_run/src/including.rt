@@ -2,15 +2,15 @@
 ghost use Rattle.std.specs.Prelude.{◌≡◌, ◌++◌, [], ◌∷◌, map, IfOk, OnOk};
 ghost use Rattle.sieve_run.specs.Library.{found_at, library_of};
 ghost use Rattle.sieve_run.specs.Run.{entering, is_running, is_script};
-ghost use Rattle.sieve_actions.specs.view.Delivery.{delivery_as};
-ghost use Rattle.sieve_actions.specs.view.State.{state_of};
+ghost use Rattle.sieve_delivery.specs.view.Delivery.{delivery_as};
+ghost use Rattle.sieve_delivery.specs.view.State.{state_of};
 ghost use Rattle.sieve_variables.specs.Value.{own_of};
 ghost use Rattle.sieve_run.specs.view.Found.{FoundAs};
 ghost use Rattle.sieve_run.specs.view.Include.{resumed_by, there_as};
 
 use crate::library::{Found, Library};
 use script_names::ScriptName;
-use sieve_actions::{Delivery, Flow, State};
+use sieve_delivery::{Delivery, Flow, State};
 use sieve_limits::MAX_NAME;
 use sieve_variables::Own;
 use std::alloc::{AllocError, Global};

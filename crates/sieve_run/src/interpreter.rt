@@ -7,9 +7,9 @@ ghost use Rattle.sieve_run.specs.Run.{act_of, begun, delivery_to, outcome_of, ve
 ghost use Rattle.sieve_code.specs.Walk.{code_walk};
 ghost use Rattle.sieve_code.specs.view.Code.{ops_of};
 ghost use Rattle.sieve_limits.specs.Limits.{action_limit, include_depth};
-ghost use Rattle.sieve_actions.specs.view.Delivery.{arrival_as};
-ghost use Rattle.sieve_actions.specs.view.Flow.{ending_by};
-ghost use Rattle.sieve_actions.specs.view.State.{state_of};
+ghost use Rattle.sieve_delivery.specs.view.Delivery.{arrival_as};
+ghost use Rattle.sieve_delivery.specs.view.Flow.{ending_by};
+ghost use Rattle.sieve_delivery.specs.view.State.{state_of};
 ghost use Rattle.sieve_run.specs.view.Step.{doing};
 
 use crate::including::find;
@@ -21,12 +21,12 @@ use indexmap::IndexMap;
 use match_text::FlagList;
 use message_text::Message;
 use script_names::ScriptName;
-use sieve_actions::{
+use sieve_delivery::{
     Actions, Addresses, Arrival, Delivery, Envelope, ErrorKind, Flow, RunError, State,
 };
 use sieve_code::Code;
 use sieve_limits::MAX_INCLUDE_DEPTH;
-use sieve_matching::FieldCache;
+use sieve_conditions::FieldCache;
 use sieve_variables::Values;
 use std::alloc::{AllocError, Global};
 

@@ -2,22 +2,22 @@
 
 ghost use Rattle.std.specs.Prelude.{◌≡◌, ◌≤◌, ◌++◌, ℕ, suc, Bool, true, not, List, Option, filter, length};
 ghost use Rattle.std.specs.List.{list_any};
-ghost use Rattle.sieve_reading.specs.Reading.{Ask, Leaf};
-ghost use Rattle.sieve_reading.specs.Script.{Commands, Condition, returns, stops};
+ghost use Rattle.sieve_script.specs.Reading.{Ask, Leaf};
+ghost use Rattle.sieve_script.specs.Script.{Commands, Condition, returns, stops};
 ghost use Rattle.sieve_code.specs.Walk.{gone, script_walk};
 ghost use Rattle.sieve_limits.specs.Limits.{action_limit, include_limit};
-ghost use Rattle.sieve_actions.specs.Delivery.{Arrival, Delivery};
+ghost use Rattle.sieve_delivery.specs.Delivery.{Arrival, Delivery};
 ghost use Rattle.sieve_run.specs.Depth.{IsDeepest, depth_left, entered_within, watched_run};
 ghost use Rattle.sieve_run.specs.Distinct.{AreDistinct};
 ghost use Rattle.sieve_run.specs.Frame.{Agree, Texts, outcome_over};
 ghost use Rattle.sieve_run.specs.Library.{Lookup};
 ghost use Rattle.sieve_run.specs.Origin.{ComesOf};
 ghost use Rattle.sieve_run.specs.Perform.{answers_of, do_gone, perform};
-ghost use Rattle.sieve_actions.specs.Act.{Ending, goes_with_rejections, is_rejection, is_response, performs, returned, state_after, stopped};
-ghost use Rattle.sieve_actions.specs.declared.action.Deed.{Deed};
+ghost use Rattle.sieve_delivery.specs.Act.{Ending, goes_with_rejections, is_rejection, is_response, performs, returned, state_after, stopped};
+ghost use Rattle.sieve_delivery.specs.declared.action.Deed.{Deed};
 ghost use Rattle.sieve_run.specs.Run as spec;
 ghost use Rattle.sieve_run.specs.Verdict.{actions_of};
-ghost use Rattle.sieve_actions.specs.State.{RunState};
+ghost use Rattle.sieve_delivery.specs.State.{RunState};
 ghost use Rattle.script_names.specs.declared.name.ScriptName as names;
 
 /// Commands after a `stop` change nothing, whatever they are, whatever tests ask and whatever commands that act do, be they after it in

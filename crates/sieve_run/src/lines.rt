@@ -8,7 +8,7 @@ use devices::{Piece, Sink, WriteFault, write_out, write_pieces};
 use match_text::FlagList;
 use octets::Octets;
 use script_names::ScriptName;
-use sieve_actions::{Action, Filing, Origin, RunError};
+use sieve_delivery::{Action, Filing, Origin, RunError};
 
 /// Writes a text after a space.
 pub(crate) fn write_spaced<W: Sink>(text: &[u8], writer: &mut W) -> Result<(), WriteFault>

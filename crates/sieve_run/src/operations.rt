@@ -1,19 +1,19 @@
 //! What a test of code finds.
 ghost use Rattle.std.specs.Prelude.{◌≡◌, IfOk};
-ghost use Rattle.sieve_actions.specs.view.Delivery.{delivery_as};
-ghost use Rattle.sieve_actions.specs.view.State.{state_of};
+ghost use Rattle.sieve_delivery.specs.view.Delivery.{delivery_as};
+ghost use Rattle.sieve_delivery.specs.view.State.{state_of};
 ghost use Rattle.sieve_code.specs.Pool.{ask_in};
 ghost use Rattle.sieve_code.specs.view.Code.{pool_of};
-ghost use Rattle.sieve_matching.specs.Matching.{after_test, truth_of};
+ghost use Rattle.sieve_conditions.specs.Matching.{after_test, truth_of};
 
-use sieve_actions::{Delivery, State};
+use sieve_delivery::{Delivery, State};
 use sieve_code::{Code, PackedAsk};
-use sieve_matching::{FieldCache, compare, exists, is_over, is_under, mailboxes_exist};
-use sieve_reading::Ask;
+use sieve_conditions::{FieldCache, compare, exists, is_over, is_under, mailboxes_exist};
+use sieve_script::Ask;
 use std::alloc::AllocError;
 
 /// Whether what a test asks holds. No message came before, so none is a duplicate.
-#[tactic(auto, unfolding(sieve_matching::specs::Matching::truth_of, sieve_matching::specs::Matching::values_after))]
+#[tactic(auto, unfolding(sieve_conditions::specs::Matching::truth_of, sieve_conditions::specs::Matching::values_after))]
 pub(crate) fn ask(
     delivery: &Delivery<'_>,
     code: &Code,

@@ -3,14 +3,14 @@ ghost use Rattle.std.specs.Prelude.{◌≡◌, ◌<◌, ◌≤◌, ◌↔◌, Is
 ghost use Rattle.sieve_limits.specs.Limits.{action_limit};
 ghost use Rattle.std.specs.Option.{option_copied};
 ghost use Rattle.std.specs.Str.Lines.{lines};
-ghost use Rattle.sieve_actions.specs.view.Actions.{entries_as};
+ghost use Rattle.sieve_delivery.specs.view.Actions.{entries_as};
 ghost use Rattle.sieve_run.specs.Lines.{agrees, verdict_lines};
 
 use crate::agreement::says;
 use indexmap::IndexMap;
 use match_text::FlagList;
 use script_names::ScriptName;
-use sieve_actions::{Entry, RunError};
+use sieve_delivery::{Entry, RunError};
 use std::marker::Model;
 
 /// The verdict on a message, and the scripts that it looked at. Only a run makes one.
@@ -24,7 +24,7 @@ pub struct Outcome {
 
 impl Model for Outcome {
     ghost use Rattle.std.specs.Prelude.{◌≤◌, length};
-    ghost use Rattle.sieve_actions.specs.view.Actions.{entries_as};
+    ghost use Rattle.sieve_delivery.specs.view.Actions.{entries_as};
     ghost use Rattle.sieve_limits.specs.Limits.{action_limit};
     ghost use Rattle.sieve_run.specs.Verdict.{Verdict};
 

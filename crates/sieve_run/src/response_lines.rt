@@ -1,13 +1,13 @@
 //! The lines of responses (RFC 5230) and rejections (RFC 5429).
 ghost use Rattle.devices.specs.Writers.{Writes};
 ghost use Rattle.std.specs.Prelude.{◌++◌};
-ghost use Rattle.sieve_reading.specs.Reading.{rejection_word};
+ghost use Rattle.sieve_script.specs.Reading.{rejection_word};
 ghost use Rattle.sieve_run.specs.Lines.{addresses_words, days_words, further_words, mime_word, response_line, sending_words, spaced_word, spaced_words, worded_texts};
 
 use crate::lines::{write_given, write_spaced, write_worded};
 use devices::{Piece, Sink, WriteFault, write_out, write_pieces};
-use sieve_actions::{Response, Texts};
-use sieve_reading::Rejection;
+use sieve_delivery::{Response, Texts};
+use sieve_script::Rejection;
 
 /// Writes for how many days a sender gets no other response, where that is said.
 fn write_days<W: Sink>(days: Option<u64>, writer: &mut W) -> Result<(), WriteFault>

@@ -5,12 +5,12 @@ ghost use Rattle.sieve_code.specs.Walk.{code_walk};
 ghost use Rattle.sieve_code.specs.view.Code.{op_of, ops_of, pool_of};
 ghost use Rattle.sieve_run.specs.Library.{library_of};
 ghost use Rattle.sieve_run.specs.Run.{act_of, included};
-ghost use Rattle.sieve_actions.specs.Delivery.{inside};
-ghost use Rattle.sieve_actions.specs.view.Delivery.{delivery_as};
-ghost use Rattle.sieve_actions.specs.view.Flow.{ending_by};
+ghost use Rattle.sieve_delivery.specs.Delivery.{inside};
+ghost use Rattle.sieve_delivery.specs.view.Delivery.{delivery_as};
+ghost use Rattle.sieve_delivery.specs.view.Flow.{ending_by};
 ghost use Rattle.sieve_run.specs.view.Step.{StepsTo, doing};
 ghost use Rattle.sieve_run.specs.view.Include.{enters, looks_up};
-ghost use Rattle.sieve_actions.specs.view.State.{state_of};
+ghost use Rattle.sieve_delivery.specs.view.State.{state_of};
 
 use crate::including::{
     begin_included, find, including_next, is_running, is_script, is_there, resumed,
@@ -21,14 +21,14 @@ use crate::operations::ask;
 use crate::turn::{Step, acted, proceed, tested};
 use octets::Octets;
 use script_names::{Location, ScriptName};
-use sieve_actions::{
+use sieve_delivery::{
     Delivery, ErrorKind, Flow, State, change, discard, fail, file_into, keep, redirect, reject,
     respond, set,
 };
 use sieve_code::{Code, Op, PackedLeaf};
 use sieve_limits::MAX_INCLUDES;
-use sieve_matching::FieldCache;
-use sieve_reading::Leaf;
+use sieve_conditions::FieldCache;
+use sieve_script::Leaf;
 use sieve_variables::Literal;
 use std::alloc::AllocError;
 

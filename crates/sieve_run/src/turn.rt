@@ -3,7 +3,7 @@ ghost use Rattle.std.specs.Prelude.{◌≡◌, IfOk};
 ghost use Rattle.sieve_run.specs.declared.turn.Step.TheVariants.{Next};
 ghost use Rattle.sieve_run.specs.view.Step.{Follows, step_after};
 
-use sieve_actions::Flow;
+use sieve_delivery::Flow;
 use std::alloc::AllocError;
 
 /// How an operation ended.

@@ -5,7 +5,7 @@ use crate::files::{octets_in, script_name};
 use crate::streams::Output;
 use devices::Counted;
 use sieve_limits::MAX_TEXT;
-use sievebench::{End, Location, Profile, ScriptName, SessionEnd, TestEnd, dump_text, status_of};
+use session_server::{End, Location, Profile, ScriptName, SessionEnd, TestEnd, dump_text, status_of};
 use std::alloc::{AllocError, Global};
 use std::io;
 use std::io::{ErrorKind, Write};

@@ -3,7 +3,7 @@
 use crate::files::{ReadFault, SCRIPT_END, octets_at};
 use crate::test_files::TestInput;
 use sieve_limits::MAX_TEXT;
-use sievebench::Location;
+use session_server::Location;
 use std::alloc::{AllocError, Global};
 use std::fs::Metadata;
 use std::io::{BufReader, ErrorKind, Read};

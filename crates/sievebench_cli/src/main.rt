@@ -12,7 +12,7 @@ mod test_run;
 use complaints::complain;
 use devices::Counted;
 use dump::run_dump;
-use sievebench::{
+use session_server::{
     Bench, CommandLine, End, Job, Meter, Profile, SessionEnd, UsageFault, command_of, session,
     status_of,
 };

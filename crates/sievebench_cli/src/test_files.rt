@@ -3,7 +3,7 @@
 use crate::files::{ReadFault, octets_at, script_name};
 use crate::folder::read_folder;
 use sieve_limits::{MAX_ADDRESS, MAX_MAILBOX, MAX_MAILBOXES, MAX_MESSAGE, MAX_NAME, MAX_TEXT};
-use sievebench::{
+use session_server::{
     Argument, Clock, Location, Octets, Profile, ScriptName, TestJob, TestScript, TestWords,
 };
 use std::alloc::{AllocError, Global};

@@ -5,7 +5,7 @@ use crate::files::ReadFault;
 use crate::streams::Output;
 use crate::test_files::{TestInput, read_test};
 use devices::Counted;
-use sievebench::{
+use session_server::{
     Clock, End, Meter, Profile, SessionEnd, TestEnd, TestJob, TestWords, status_of, test_bench,
 };
 use std::alloc::Global;

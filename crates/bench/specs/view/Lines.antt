@@ -2,9 +2,9 @@
 use Rattle.std.specs.Prelude.{ℕ, Bool, true, false, List, [], ◌++◌, Option, None, Some}
 use Rattle.std.specs.List.{flat_map}
 use Rattle.script_names.specs.declared.name.ScriptName.{ScriptName}
-use Rattle.sieve_actions.specs.declared.action.Action.{Action}
-use Rattle.sieve_actions.specs.declared.error.RunError.{RunError}
-use Rattle.sieve_actions.specs.State.{Entered}
+use Rattle.sieve_delivery.specs.declared.action.Action.{Action}
+use Rattle.sieve_delivery.specs.declared.error.RunError.{RunError}
+use Rattle.sieve_delivery.specs.State.{Entered}
 use Rattle.sieve_run.specs.Lines.{action_line, error_line, implicit_line, origin_line, lookup_line}
 use Rattle.sieve_run.specs.Verdict.{Verdict}
 use Rattle.bench.specs.Report.{indented}

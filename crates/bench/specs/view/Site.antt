@@ -5,7 +5,7 @@ use Rattle.std.specs.Map.{keys_of}
 use Rattle.std.specs.Option.{option_copied}
 use lib.Pointwise.{pointwise}
 use Rattle.script_names.specs.declared.name.ScriptName.{ScriptName}
-use Rattle.sieve_actions.specs.declared.envelope.Envelope.{Envelope}
+use Rattle.sieve_delivery.specs.declared.envelope.Envelope.{Envelope}
 use Rattle.script_names.specs.Name.{name_eq}
 use Rattle.bench.specs.Content.{text_at}
 use Rattle.bench.specs.Report.{Site, verdict_by}

@@ -1,7 +1,7 @@
 //! Sessions over readers that fail at some calls and work at every other.
 
 use super::{At, REPLIES, REPORT, SESSION, TURNS, check_report, holds, same};
-use sievebench::{Bench, Counted, Faults, Meter, SessionEnd, Source, session};
+use session_server::{Bench, Counted, Faults, Meter, SessionEnd, Source, session};
 use std::io;
 use std::io::{ErrorKind, Read};
 use std::process::Abort;

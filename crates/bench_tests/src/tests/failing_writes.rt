@@ -2,7 +2,7 @@
 
 use super::failing_reads::{Failures, LASTING, MAIN_REPORT, MESSAGE_REPORT, SCRIPT_REPORT};
 use super::{At, REPLIES, REPORT, SESSION, TURNS, check_report, holds, personal};
-use sievebench::{
+use session_server::{
     Bench, Counted, End, Faults, Meter, Profile, SessionEnd, TestEnd, dump_text, session,
 };
 use std::alloc::Global;

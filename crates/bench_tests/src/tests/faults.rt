@@ -3,7 +3,7 @@
 //! A refusal with fields has no number of its own: its variants are listed in the order of their numbers.
 
 use super::{holds, same};
-use sievebench::{EditFault, ReportFault, SessionEnd, TestEnd, UsageFault};
+use session_server::{EditFault, ReportFault, SessionEnd, TestEnd, UsageFault};
 use std::alloc::AllocError;
 use std::fmt::Display;
 use std::process::Abort;

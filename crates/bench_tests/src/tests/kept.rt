@@ -1,7 +1,7 @@
 //! Reports that run what edits have touched, and the verdicts that are kept.
 
 use super::{TURNS, holds, put_message, same};
-use sievebench::{
+use session_server::{
     Action, Bench, Counted, Entry, Extension, Meter, Octets, Profile, ReportFault, SessionEnd,
     session,
 };

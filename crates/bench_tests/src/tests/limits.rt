@@ -1,7 +1,7 @@
 //! Edits at the limits of names, texts and messages, and past them: sessions refuse what is past them before they ask for an edit.
 
 use super::{holds, many, personal};
-use sievebench::{Bench, EditFault};
+use session_server::{Bench, EditFault};
 use std::alloc::AllocError;
 use std::process::Abort;
 

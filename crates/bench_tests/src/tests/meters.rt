@@ -1,7 +1,7 @@
 //! How many runs sessions make.
 
 use super::{TURNS, holds};
-use sievebench::{Bench, Counted, Meter, SessionEnd, session};
+use session_server::{Bench, Counted, Meter, SessionEnd, session};
 use std::alloc::AllocError;
 use std::process::Abort;
 

@@ -1,7 +1,7 @@
 //! Sessions over readers that give little, interrupt or never end.
 
 use super::{REPLIES, REPORT, SESSION, TURNS, holds, same};
-use sievebench::{Bench, Counted, Meter, SessionEnd, Source, session};
+use session_server::{Bench, Counted, Meter, SessionEnd, Source, session};
 use std::alloc::{AllocError, Global};
 use std::io;
 use std::io::{ErrorKind, Read};

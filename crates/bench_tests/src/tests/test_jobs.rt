@@ -1,7 +1,7 @@
 //! The test of a message by a job: what is written, how it ends, and how many runs it makes. `tools/checks` has the limits of its parts.
 
 use super::{holds, personal, same};
-use sievebench::{
+use session_server::{
     Counted, Faults, Meter, Octets, Profile, ScriptName, TestEnd, TestJob, TestScript, test_bench,
 };
 use std::alloc::{AllocError, Global};

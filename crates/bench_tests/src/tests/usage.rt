@@ -1,7 +1,7 @@
 //! The words of the command line, and the status of each end. What further words ask for stands in `examples/rows` and `tools/checks`.
 
 use super::holds;
-use sievebench::{End, SessionEnd, TestEnd, UsageFault, command_of, status_of};
+use session_server::{End, SessionEnd, TestEnd, UsageFault, command_of, status_of};
 use std::process::Abort;
 
 /// Compares the status of each end.

@@ -3,7 +3,7 @@
 use super::{holds, same};
 use sieve_check::{CheckFault, Checked, Rule, check};
 use sieve_profile::Profile;
-use sieve_reading::{
+use sieve_script::{
     Ask, Branch, Comparison, Condition, Leaf, MatchType, PartRef, Parts, Statement, ValueSource,
 };
 use sieve_syntax::{ParsedScript, parse};

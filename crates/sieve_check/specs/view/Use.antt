@@ -5,7 +5,7 @@ use Rattle.sieve_check.specs.Breach.{Breach, breaches_by, breaches_in, kind_brea
 use Rattle.sieve_table.specs.Rule.{all_rules}
 use Rattle.sieve_check.specs.Context.{Context}
 use Rattle.sieve_check.specs.Element.{row_elements}
-use Rattle.sieve_reading.specs.Shape.{known_shapes}
+use Rattle.sieve_script.specs.Shape.{known_shapes}
 use Rattle.sieve_table.specs.Table.{Row}
 
 -- the rules that it breaks itself, where `alone` says whether it continues an `if` that isn't there, and then those of its arguments

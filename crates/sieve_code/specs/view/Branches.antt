@@ -1,6 +1,6 @@
 -- What the compiler knows of the branches at the front of a tail.
 use Rattle.std.specs.Prelude.{ℕ, ◌-◌, Bool, true, false, if◌then◌else◌, ◌∷◌, length, drop}
-use Rattle.sieve_reading.specs.Script.{Branches, Commands, Condition, no_branches, else_branch, test_branch}
+use Rattle.sieve_script.specs.Script.{Branches, Commands, Condition, no_branches, else_branch, test_branch}
 use Rattle.sieve_code.specs.Choice.{Tail, commands_before, condition_before}
 use Rattle.sieve_code.specs.Operation.{jump_op, jump_if_op}
 

@@ -2,13 +2,13 @@
 use Rattle.std.specs.Prelude.{ℕ, Bool, true, false, List, length}
 use Rattle.sieve_code.specs.Operation.{Operation}
 use Rattle.sieve_code.specs.Walk.{code_walk}
-use Rattle.sieve_actions.specs.Delivery.{Delivery, inside}
+use Rattle.sieve_delivery.specs.Delivery.{Delivery, inside}
 use Rattle.sieve_run.specs.Library.{Lookup, found_at}
-use Rattle.sieve_actions.specs.Act.{Ending}
+use Rattle.sieve_delivery.specs.Act.{Ending}
 use Rattle.sieve_run.specs.Run.{act_of, answer_of, entering, exec, looked_up, resumed, with_found_script}
-use Rattle.sieve_actions.specs.State.{RunState}
-use Rattle.sieve_actions.specs.declared.flow.Flow.{Flow}
-use Rattle.sieve_actions.specs.declared.flow.Flow.TheVariants.{GoesOn, Returned, Stopped, Failed}
+use Rattle.sieve_delivery.specs.State.{RunState}
+use Rattle.sieve_delivery.specs.declared.flow.Flow.{Flow}
+use Rattle.sieve_delivery.specs.declared.flow.Flow.TheVariants.{GoesOn, Returned, Stopped, Failed}
 use Rattle.sieve_run.specs.declared.library.Found.{Found}
 use Rattle.sieve_run.specs.declared.library.Found.TheVariants.{Missing, Invalid, Present}
 use Rattle.script_names.specs.declared.name.ScriptName.{ScriptName}

@@ -1,19 +1,19 @@
 -- What is left to do after an operation.
 use Rattle.std.specs.Prelude.{◌≡◌, ◌+◌, ℕ, Bool, Some, Result, Ok}
-use Rattle.sieve_reading.specs.Reading.{Leaf}
+use Rattle.sieve_script.specs.Reading.{Leaf}
 use Rattle.sieve_code.specs.Operation.{Operation}
 use Rattle.sieve_code.specs.Walk as walk
 use Rattle.sieve_code.specs.Walk.{Walk}
-use Rattle.sieve_actions.specs.Delivery.{Delivery}
+use Rattle.sieve_delivery.specs.Delivery.{Delivery}
 use Rattle.sieve_run.specs.Perform.{perform}
-use Rattle.sieve_actions.specs.Act.{Ending}
+use Rattle.sieve_delivery.specs.Act.{Ending}
 use Rattle.sieve_run.specs.Run.{answer_of}
-use Rattle.sieve_actions.specs.State.{RunState}
-use Rattle.sieve_actions.specs.declared.flow.Flow.{Flow}
-use Rattle.sieve_actions.specs.declared.flow.Flow.TheVariants as flow
+use Rattle.sieve_delivery.specs.State.{RunState}
+use Rattle.sieve_delivery.specs.declared.flow.Flow.{Flow}
+use Rattle.sieve_delivery.specs.declared.flow.Flow.TheVariants as flow
 use Rattle.sieve_run.specs.declared.turn.Step.{Step}
 use Rattle.sieve_run.specs.declared.turn.Step.TheVariants.{Next, Ended}
-use Rattle.sieve_actions.specs.view.Flow.{ending_by}
+use Rattle.sieve_delivery.specs.view.Flow.{ending_by}
 use Rattle.script_names.specs.declared.name.ScriptName.{ScriptName}
 
 -- what commands do that act

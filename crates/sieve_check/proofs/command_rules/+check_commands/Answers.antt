@@ -9,8 +9,8 @@ use Rattle.sieve_check.specs.Context.{after_kind, after_nodes}
 use Rattle.sieve_check.specs.Element.{node_elements, nodes_elements}
 use Rattle.sieve_check.specs.Script.{chain_of}
 use Rattle.sieve_check.specs.view.Context.{at_spot}
-use Rattle.sieve_reading.specs.view.Reading.{command_reading_as}
-use Rattle.sieve_reading.specs.view.Script.{commands_as, condition_as, script_before}
+use Rattle.sieve_script.specs.view.Reading.{command_reading_as}
+use Rattle.sieve_script.specs.view.Script.{commands_as, condition_as, script_before}
 use Rattle.sieve_check.proofs.Walk.{block_ends, block_moves, block_reads, block_stops, commands_end, commands_go_on, commands_more, commands_move, commands_moved, commands_read, commands_stop, inner_nodes, none_inside, some_inside}
 use Rattle.sieve_check.proofs.command_rules.+check_commands.Goals as goal
 use Rattle.sieve_check.proofs.command_rules.+check_commands.Goals.{check_command-in-None, check_command-in-Some}

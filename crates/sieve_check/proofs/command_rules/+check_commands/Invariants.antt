@@ -6,7 +6,7 @@ use Rattle.sieve_check.specs.Context.{after_nodes}
 use Rattle.sieve_check.specs.Element.{nodes_elements}
 use Rattle.sieve_check.specs.Script.{chain_of}
 use Rattle.sieve_check.specs.view.Context.{at_spot}
-use Rattle.sieve_reading.specs.view.Script.{script_before}
+use Rattle.sieve_script.specs.view.Script.{script_before}
 use Rattle.sieve_check.proofs.command_rules.+check_commands.Given as goal
 
 -- The breaches of the commands that are left are all that there are, and the context after these

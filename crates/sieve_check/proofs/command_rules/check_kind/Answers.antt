@@ -1,7 +1,7 @@
 use Rattle.std.proofs.Common.{◌≡◌, ◌∙◌, IfOk, ap, map, refl, subst, sym}
 use Rattle.sieve_syntax.specs.view.Tree.{argument_of}
 use Rattle.sieve_table.specs.Table.{command_row}
-use Rattle.sieve_reading.specs.Shape.{known_labels}
+use Rattle.sieve_script.specs.Shape.{known_labels}
 use Rattle.sieve_check.specs.view.Context.{context_as}
 use Rattle.sieve_table.specs.view.Row.{row_as}
 use Rattle.sieve_check.proofs.Heads.{kind_placed}

@@ -2,7 +2,7 @@ use Rattle.std.proofs.Common.{◌≡◌, ◌++◌, drop, map}
 use Rattle.sieve_syntax.specs.view.Tree.{argument_of}
 use Rattle.sieve_check.specs.Cut.{cut_labelled}
 use Rattle.sieve_check.specs.view.Context.{context_as}
-use Rattle.sieve_reading.specs.view.CutArgument.{cut_as}
+use Rattle.sieve_script.specs.view.CutArgument.{cut_as}
 use Rattle.sieve_check.proofs.cutting.cut_arguments.Given as goal
 
 -- the arguments so far, and then those that are left, by the labels that are left, are all of them cut

@@ -3,7 +3,7 @@ use Rattle.sieve_syntax.specs.Tree.{Argument}
 use Rattle.sieve_syntax.specs.declared.tree.Argument as arguments
 use Rattle.sieve_syntax.specs.view.Tree.{argument_of}
 use Rattle.sieve_check.specs.Said.{said_argument, said_arguments}
-use Rattle.sieve_reading.specs.declared.label.Label.{Label}
+use Rattle.sieve_script.specs.declared.label.Label.{Label}
 use Rattle.sieve_table.specs.view.Required.{required_as}
 use Rattle.sieve_check.proofs.InPlace.{left_after, whole_end, whole_more}
 use Rattle.sieve_check.proofs.said.say_arguments.Goals as goal

@@ -8,9 +8,9 @@ use Rattle.sieve_check.specs.CheckFault.{IsFirst}
 use Rattle.sieve_check.specs.Element.{test_list_elements, tests_elements}
 use Rattle.sieve_check.specs.Script.{conditions}
 use Rattle.sieve_check.specs.view.Context.{context_as}
-use Rattle.sieve_reading.specs.Script.{no_conditions, one_condition}
-use Rattle.sieve_reading.specs.view.Reading.{test_reading_as}
-use Rattle.sieve_reading.specs.view.Script.{condition_as, conditions_before}
+use Rattle.sieve_script.specs.Script.{no_conditions, one_condition}
+use Rattle.sieve_script.specs.view.Reading.{test_reading_as}
+use Rattle.sieve_script.specs.view.Script.{condition_as, conditions_before}
 use Rattle.sieve_check.proofs.Searches.{none_in}
 use Rattle.sieve_check.proofs.Walk.{list_ends, list_goes_on, list_more, list_none, list_read, list_stops, none_read, one_read, test_reads}
 use Rattle.sieve_syntax.proofs.Views.{none_seen}

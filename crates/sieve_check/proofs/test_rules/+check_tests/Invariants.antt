@@ -5,7 +5,7 @@ use Rattle.sieve_check.specs.Breach.{breaches_in}
 use Rattle.sieve_check.specs.Element.{test_list_elements}
 use Rattle.sieve_check.specs.Script.{conditions}
 use Rattle.sieve_check.specs.view.Context.{context_as}
-use Rattle.sieve_reading.specs.view.Script.{conditions_before}
+use Rattle.sieve_script.specs.view.Script.{conditions_before}
 use Rattle.sieve_check.proofs.test_rules.+check_tests.Given as goal
 
 -- the breaches of the tests that are left are all that there are; and the conditions that are read,

@@ -1,6 +1,6 @@
 use Rattle.std.proofs.Common.{◌≡◌, [], ◌∷◌, length, rules, refl, ap, sym, ◌∙◌}
-use Rattle.sieve_reading.specs.Script.{else_branch, no_branches, no_commands}
-use Rattle.sieve_reading.specs.view.Script.{branch_as, branches_as, commands_as, condition_as, else_as, statement_as}
+use Rattle.sieve_script.specs.Script.{else_branch, no_branches, no_commands}
+use Rattle.sieve_script.specs.view.Script.{branch_as, branches_as, commands_as, condition_as, else_as, statement_as}
 use Rattle.sieve_code.specs.Choice.{branches_before, commands_before, condition_before}
 use Rattle.sieve_code.specs.Operation.{jump_if_op}
 use Rattle.sieve_code.proofs.Putting.{branch_follows, branch_put, commands_none, commands_with, else_before, no_items, none_before, on_ok_along, put_act, put_choice, put_return, put_stop, statement_more}

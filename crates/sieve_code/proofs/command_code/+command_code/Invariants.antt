@@ -1,6 +1,6 @@
 use Rattle.std.proofs.Common.{◌≡◌, List, length}
-use Rattle.sieve_reading.specs.Script.{Branches}
-use Rattle.sieve_reading.specs.view.Script.{branches_as, commands_as}
+use Rattle.sieve_script.specs.Script.{Branches}
+use Rattle.sieve_script.specs.view.Script.{branches_as, commands_as}
 use Rattle.sieve_code.specs.Choice.{branches_before}
 use Rattle.sieve_code.specs.Operation.{Operation}
 use Rattle.sieve_code.specs.view.Branches.{has_branch}

@@ -1,6 +1,6 @@
 use Rattle.std.proofs.Common.{length, sym, ap, ◌∙◌, subst}
 use Rattle.sieve_check.specs.view.Checked.{commands_of}
-use Rattle.sieve_reading.specs.view.Script.{commands_as}
+use Rattle.sieve_script.specs.view.Script.{commands_as}
 use Rattle.sieve_code.specs.Choice.{AllGoForward, commands_before, tail_of}
 use Rattle.sieve_code.specs.Walk.{code_walk, gone}
 use Rattle.sieve_code.proofs.Law.{code_forward, code_walks}

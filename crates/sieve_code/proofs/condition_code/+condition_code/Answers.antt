@@ -1,6 +1,6 @@
 use Rattle.std.proofs.Common.{◌≡◌, ◌≤◌, ◌<◌, if◌then◌else◌, [], ◌∷◌, length, rules, refl, ap, sym, ◌∙◌}
-use Rattle.sieve_reading.specs.Script.{no_conditions, one_condition}
-use Rattle.sieve_reading.specs.view.Script.{condition_as}
+use Rattle.sieve_script.specs.Script.{no_conditions, one_condition}
+use Rattle.sieve_script.specs.view.Script.{condition_as}
 use Rattle.sieve_code.specs.Choice.{condition_before, list_before}
 use Rattle.sieve_code.specs.Operation.{jump_if_op}
 use Rattle.sieve_code.proofs.Putting.{condition_put, conditions_with, joined_empty, joined_some, list_none, no_items, on_ok_along, put_all, put_always, put_any, put_asks, put_never, put_not}

@@ -1,4 +1,4 @@
-use Rattle.sieve_reading.specs.view.Script.{conditions_as}
+use Rattle.sieve_script.specs.view.Script.{conditions_as}
 use Rattle.sieve_code.proofs.Putting.{ConditionsPut}
 use Rattle.sieve_code.proofs.condition_code.+condition_code.Given as goal
 

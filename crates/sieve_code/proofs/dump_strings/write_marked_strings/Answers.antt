@@ -4,7 +4,7 @@ use Rattle.std.specs.List.{flat_map}
 use Rattle.std.proofs.lemmas.List.{append-nil, drop_all}
 use Rattle.devices.specs.Writers.{Wrote, WroteFront}
 use Rattle.devices.proofs.Writing.{writes_failed, wrote_both, wrote_front_of, wrote_nothing, wrote_then_front}
-use Rattle.sieve_operations.proofs.Joining.{drop_at}
+use Rattle.packed_strings.proofs.Joining.{drop_at}
 use Rattle.sieve_variables.specs.Part.{Part}
 use Rattle.sieve_code.specs.view.Marked.{marked_string}
 use Rattle.sieve_code.proofs.dump_strings.write_marked_strings.Goals as goal

@@ -1,6 +1,6 @@
 use Rattle.std.proofs.Common.{◌≡◌, ◌++◌, ℕ, List, drop, map}
-use Rattle.sieve_actions.specs.State.{actions_in}
-use Rattle.sieve_actions.specs.view.Actions.{entries_as}
+use Rattle.sieve_delivery.specs.State.{actions_in}
+use Rattle.sieve_delivery.specs.view.Actions.{entries_as}
 use Rattle.sieve_run.specs.Lines.{action_line, says}
 use Rattle.sieve_run.proofs.agreement.after_actions.Given as goal
 

@@ -1,7 +1,7 @@
 use Rattle.std.proofs.Common.{◌≡◌, ◌++◌, [], ℕ, List, None, Some, map, rules, ap, append-nil, ◌∙◌}
 use Rattle.std.specs.Option.{option_copied}
-use Rattle.sieve_actions.specs.State.{actions_in}
-use Rattle.sieve_actions.specs.view.Actions.{entries_as}
+use Rattle.sieve_delivery.specs.State.{actions_in}
+use Rattle.sieve_delivery.specs.view.Actions.{entries_as}
 use Rattle.sieve_run.specs.Lines.{action_line, error_lines, implicit_lines, says}
 use Rattle.sieve_run.proofs.Left.{part_none, part_some}
 use Rattle.sieve_run.proofs.agreement.says.Goals as goal

@@ -4,10 +4,10 @@ use Rattle.sieve_code.specs.Walk.{code_walk}
 use Rattle.sieve_code.specs.view.Code.{ops_of}
 use Rattle.sieve_run.specs.Library.{Lookup, library_of}
 use Rattle.sieve_run.specs.Run.{act_of, delivery_to, verdict_of}
-use Rattle.sieve_actions.specs.State.{RunState}
-use Rattle.sieve_actions.specs.view.Delivery.{arrival_as}
+use Rattle.sieve_delivery.specs.State.{RunState}
+use Rattle.sieve_delivery.specs.view.Delivery.{arrival_as}
 use Rattle.script_names.specs.declared.name.ScriptName.{ScriptName}
-use Rattle.sieve_actions.specs.view.State.{state_of}
+use Rattle.sieve_delivery.specs.view.State.{state_of}
 use Rattle.sieve_run.specs.view.Step.{doing}
 use Rattle.sieve_run.proofs.Bounds.{run_bounded}
 use Rattle.sieve_run.proofs.interpreter.run_main.Goals as goal

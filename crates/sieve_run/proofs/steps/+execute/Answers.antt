@@ -8,16 +8,16 @@ use Rattle.sieve_code.specs.view.Code.{op_of, ops_of, pool_of}
 use Rattle.sieve_limits.specs.Limits.{include_limit}
 use Rattle.sieve_run.specs.Library.{Lookup, found_at, library_of}
 use Rattle.sieve_run.specs.Run.{act_of, included, is_script}
-use Rattle.sieve_actions.specs.declared.flow.Flow.{Flow}
-use Rattle.sieve_actions.specs.declared.flow.Flow.TheVariants.{Failed}
+use Rattle.sieve_delivery.specs.declared.flow.Flow.{Flow}
+use Rattle.sieve_delivery.specs.declared.flow.Flow.TheVariants.{Failed}
 use Rattle.script_names.specs.declared.name.ScriptName.{ScriptName}
-use Rattle.sieve_actions.specs.declared.error.ErrorKind.TheVariants.{IncludeCount, IncludeDepth, RecursiveInclude}
-use Rattle.sieve_actions.specs.Delivery.{Delivery}
-use Rattle.sieve_actions.specs.view.Delivery.{delivery_as}
-use Rattle.sieve_actions.specs.view.Flow.{ending_by}
+use Rattle.sieve_delivery.specs.declared.error.ErrorKind.TheVariants.{IncludeCount, IncludeDepth, RecursiveInclude}
+use Rattle.sieve_delivery.specs.Delivery.{Delivery}
+use Rattle.sieve_delivery.specs.view.Delivery.{delivery_as}
+use Rattle.sieve_delivery.specs.view.Flow.{ending_by}
 use Rattle.sieve_run.specs.view.Found.{FoundAs}
 use Rattle.sieve_run.specs.view.Include.{looks_up, there_as}
-use Rattle.sieve_actions.specs.view.State.{state_of}
+use Rattle.sieve_delivery.specs.view.State.{state_of}
 use Rattle.sieve_run.specs.view.Step.{doing, doing_after}
 use Rattle.sieve_variables.specs.Value.{with_own}
 use Rattle.sieve_run.proofs.Includes.{enters_by, fails_deep, fails_many, fails_running, looks_included, looks_present, not_entered, not_once, skips_included}

@@ -3,8 +3,8 @@ use Rattle.sieve_code.specs.Walk.{code_walk, walk_from}
 use Rattle.sieve_code.specs.view.Code.{ops_of}
 use Rattle.sieve_run.specs.Library.{library_of}
 use Rattle.sieve_run.specs.Run.{act_of}
-use Rattle.sieve_actions.specs.view.Delivery.{delivery_as}
-use Rattle.sieve_actions.specs.view.State.{state_of}
+use Rattle.sieve_delivery.specs.view.Delivery.{delivery_as}
+use Rattle.sieve_delivery.specs.view.State.{state_of}
 use Rattle.sieve_run.specs.view.Step.{doing}
 use Rattle.sieve_run.proofs.steps.+execute.Given as goal
 

@@ -1,5 +1,5 @@
-use Rattle.sieve_operations.specs.Joined.{list_in}
-use Rattle.sieve_reading.specs.Reading.{content_transform}
+use Rattle.packed_strings.specs.Joined.{list_in}
+use Rattle.sieve_script.specs.Reading.{content_transform}
 use Rattle.sieve_code.specs.Pool.{Pool}
 use Rattle.sieve_code.proofs.Keeping.{kept_as, kept_still}
 use Rattle.sieve_code.proofs.pools.Pools.add_body.Goals as goal

@@ -1,5 +1,5 @@
 use Rattle.std.proofs.Common.{Some}
-use Rattle.sieve_operations.specs.Joined.{list_in}
+use Rattle.packed_strings.specs.Joined.{list_in}
 use Rattle.sieve_code.specs.Pool.{Pool}
 use Rattle.sieve_code.proofs.Keeping.{kept_as, kept_still}
 use Rattle.sieve_code.proofs.pools.Pools.add_given.Goals as goal

@@ -1,5 +1,5 @@
 use Rattle.std.proofs.lemmas.Result.{IfOk-weaker}
-use Rattle.sieve_reading.specs.view.Reading.{leaf_as}
+use Rattle.sieve_script.specs.view.Reading.{leaf_as}
 use Rattle.sieve_code.specs.view.Pools.{pool_as}
 use Rattle.sieve_code.proofs.pools.Pools.add_leaf.Goals as goal
 

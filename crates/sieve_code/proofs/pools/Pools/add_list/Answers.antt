@@ -1,6 +1,6 @@
 use Rattle.std.proofs.Common.{ap, length, subst, sym, ◌∙◌}
 use Rattle.std.proofs.lemmas.Result.{IfOk-weaker}
-use Rattle.sieve_operations.specs.Joined.{Lists, list_in, lists_plus}
+use Rattle.packed_strings.specs.Joined.{Lists, list_in, lists_plus}
 use Rattle.sieve_code.specs.Pool.{Kept}
 use Rattle.sieve_code.specs.view.Pools.{pool_as}
 use Rattle.sieve_code.proofs.Keeping.{list_kept, list_shared}

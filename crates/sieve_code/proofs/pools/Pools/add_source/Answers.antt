@@ -1,5 +1,5 @@
-use Rattle.sieve_reading.specs.Reading.{clock_values, date_values}
-use Rattle.sieve_reading.specs.view.Reading.{date_zone_as}
+use Rattle.sieve_script.specs.Reading.{clock_values, date_values}
+use Rattle.sieve_script.specs.view.Reading.{date_zone_as}
 use Rattle.sieve_code.specs.Pool.{Pool, string_in, zone_in}
 use Rattle.sieve_code.proofs.Keeping.{kept_then, kept_two}
 use Rattle.sieve_code.proofs.pools.Pools.add_source.Goals as goal

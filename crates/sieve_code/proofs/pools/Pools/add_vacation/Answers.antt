@@ -1,6 +1,6 @@
 use Rattle.std.proofs.Common.{ℕ}
 use Rattle.std.specs.Option.{option_map}
-use Rattle.sieve_reading.specs.declared.reading.Vacation.{Vacation}
+use Rattle.sieve_script.specs.declared.reading.Vacation.{Vacation}
 use Rattle.sieve_code.proofs.Keeping.{said_kept}
 use Rattle.sieve_code.proofs.pools.Pools.add_vacation.Goals as goal
 

@@ -1,4 +1,4 @@
-use Rattle.sieve_reading.specs.Reading.{named_zone}
+use Rattle.sieve_script.specs.Reading.{named_zone}
 use Rattle.sieve_code.specs.Pool.{Pool, string_in}
 use Rattle.sieve_code.proofs.Keeping.{kept_as, kept_still}
 use Rattle.sieve_code.proofs.pools.Pools.add_zone.Goals as goal

@@ -1,5 +1,5 @@
-use Rattle.sieve_operations.specs.Joined.{list_in}
-use Rattle.sieve_reading.specs.Reading.{exists_ask, mailboxes_ask}
+use Rattle.packed_strings.specs.Joined.{list_in}
+use Rattle.sieve_script.specs.Reading.{exists_ask, mailboxes_ask}
 use Rattle.sieve_code.specs.Pool.{Pool}
 use Rattle.sieve_code.proofs.Keeping.{kept_as, kept_still}
 use Rattle.sieve_code.proofs.pools.Pools.pack_ask.Goals as goal

@@ -1,6 +1,6 @@
-use Rattle.sieve_operations.specs.Joined.{list_in}
-use Rattle.sieve_reading.specs.Reading.{compares}
-use Rattle.sieve_reading.specs.view.Reading.{source_as}
+use Rattle.packed_strings.specs.Joined.{list_in}
+use Rattle.sieve_script.specs.Reading.{compares}
+use Rattle.sieve_script.specs.view.Reading.{source_as}
 use Rattle.sieve_code.specs.Pool.{Pool, source_in}
 use Rattle.sieve_code.proofs.Keeping.{kept_two}
 use Rattle.sieve_code.proofs.pools.Pools.pack_compares.Goals as goal

@@ -1,5 +1,5 @@
-use Rattle.sieve_reading.specs.Reading.{fileinto_leaf}
-use Rattle.sieve_reading.specs.view.Reading.{settings_as}
+use Rattle.sieve_script.specs.Reading.{fileinto_leaf}
+use Rattle.sieve_script.specs.view.Reading.{settings_as}
 use Rattle.sieve_code.specs.Pool.{Pool, settings_in, string_in}
 use Rattle.sieve_code.proofs.Keeping.{kept_two}
 use Rattle.sieve_code.proofs.pools.Pools.pack_fileinto.Goals as goal

@@ -1,8 +1,8 @@
 use Rattle.std.proofs.Common.{subst}
 use Rattle.std.specs.Option.{option_map}
-use Rattle.sieve_operations.specs.Joined.{list_in}
-use Rattle.sieve_reading.specs.Reading.{Vacation, flag_leaf, keep_leaf, redirect_leaf, reject_leaf, set_leaf, vacation_leaf}
-use Rattle.sieve_reading.specs.view.Reading.{vacation_as}
+use Rattle.packed_strings.specs.Joined.{list_in}
+use Rattle.sieve_script.specs.Reading.{Vacation, flag_leaf, keep_leaf, redirect_leaf, reject_leaf, set_leaf, vacation_leaf}
+use Rattle.sieve_script.specs.view.Reading.{vacation_as}
 use Rattle.sieve_code.specs.Pool.{Kept, Pool, given_list, string_in, vacation_in}
 use Rattle.sieve_code.specs.view.Pools.{pool_as}
 use Rattle.sieve_code.proofs.Keeping.{kept_as, kept_still}

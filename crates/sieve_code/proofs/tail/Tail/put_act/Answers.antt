@@ -1,5 +1,5 @@
 use Rattle.std.proofs.Common.{◌∷◌, List, ap, ◌∙◌}
-use Rattle.sieve_reading.specs.view.Reading.{leaf_as}
+use Rattle.sieve_script.specs.view.Reading.{leaf_as}
 use Rattle.sieve_code.specs.Operation.{Operation, act_op}
 use Rattle.sieve_code.specs.view.Pools.{pool_as}
 use Rattle.sieve_code.specs.Pool.{Pool, leaf_at}

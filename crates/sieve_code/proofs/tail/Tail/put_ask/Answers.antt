@@ -1,5 +1,5 @@
 use Rattle.std.proofs.Common.{◌∷◌, List, ap, ◌∙◌}
-use Rattle.sieve_reading.specs.view.Reading.{ask_as}
+use Rattle.sieve_script.specs.view.Reading.{ask_as}
 use Rattle.sieve_code.specs.Operation.{Operation, test_op}
 use Rattle.sieve_code.specs.view.Pools.{pool_as}
 use Rattle.sieve_code.specs.Pool.{Pool, ask_at}

@@ -1,9 +1,0 @@
-use Rattle.std.proofs.Common.{◌≡◌, drop}
-use Rattle.sieve_actions.specs.Act.{conflict_among}
-use Rattle.sieve_actions.specs.State.{actions_in}
-use Rattle.sieve_actions.specs.view.Actions.{entries_as}
-use Rattle.sieve_actions.proofs.conflicts.conflict_among.Given as goal
-
--- what stands in the way among the actions that are left is what does among all
-abbrev pub invariant-loop-there : goal.invariant-loop-there
-invariant-loop-there l = conflict_among l.performed (actions_in (entries_as (drop l.there-index l.entries))) ≡ conflict_among l.performed (actions_in (entries_as l.entries))

@@ -1,0 +1,241 @@
+//! How many values a test has that counts them (RFC 5231, section 4.2).
+ghost use Rattle.std.specs.Prelude.{◌≡◌, ◌<◌, ◌≤◌, ◌+◌, ◌^◌, length, false, filter, map, Some, slice_get, IfOk, OnErr};
+ghost use Rattle.std.proofs.Common.{rules};
+ghost use Rattle.std.specs.List.{flat_map};
+ghost use Rattle.std.specs.Option.{option_map};
+ghost use Rattle.match_text.specs.Flags.{flag_list};
+ghost use Rattle.message_text.specs.Fields.{Field, fields_of};
+ghost use Rattle.message_text.specs.declared.addressing.AddressPart.TheVariants.{All};
+ghost use Rattle.octets.specs.Octet.{is_filled};
+ghost use Rattle.sieve_script.specs.Reading.{envelope_values, field_values, flag_values};
+ghost use Rattle.sieve_delivery.specs.Delivery.{envelope_of};
+ghost use Rattle.sieve_conditions.specs.Matching.{counted_of, envelope_named, parts_of_envelope, values_in, values_of};
+ghost use Rattle.sieve_delivery.specs.view.Delivery.{arrival_as, delivery_as};
+ghost use Rattle.sieve_conditions.specs.view.FieldTests.{counted_after};
+ghost use Rattle.packed_strings.specs.view.Ops.{source_op_as};
+ghost use Rattle.sieve_delivery.specs.view.State.{state_of};
+ghost use Rattle.sieve_variables.specs.Value.{text_value};
+
+use crate::body_values::count_body;
+use crate::date_values::{count_clock, count_date};
+use crate::field_cache::FieldCache;
+use crate::field_walk::{FieldVisitor, visit_looked_at};
+use crate::path_values::{envelope_text, is_null_path};
+use match_text::flags_of;
+use message_text::AddressPart;
+use sieve_delivery::{Arrival, Delivery, State};
+use packed_strings::{FieldNames, SourceOp, Strings};
+use sieve_variables::Values;
+use std::alloc::{AllocError, Global};
+
+/// The sum of two numbers. One of more than 64 bits is answered as out of memory.
+pub(crate) fn plus(count: usize, more: usize) -> Result<usize, AllocError>
+    ensures ok { IfOk result (λ sum. sum ≡ count + more) }
+    ensures err { OnErr result (2 ^ 64 ≤ count + more) }
+{
+    match count.checked_add(more) {
+        Some(sum) => Ok(sum),
+        None => Err(AllocError),
+    }
+}
+
+/// How many values there are in the fields that were visited, or how many addresses, whatever part of them is looked at.
+#[derive(Clone, Copy)]
+struct Counter {
+    count: usize,
+}
+
+/// How many values field `i` counts for: its value, which isn't read, or the addresses in it.
+fn count_at(
+    alloc: Global,
+    fields: &mut FieldCache<'_>,
+    part: Option<AddressPart>,
+    i: usize,
+) -> Result<usize, AllocError>
+    requires { i < length (fields_of fields.old.message) }
+    ensures arrival { fields.new ≡ fields.old }
+    ensures count { IfOk result
+        (λ count. (field : Field) → slice_get (fields_of fields.old.message) i ≡ Some field
+        → count ≡ length (values_in fields.old.profile (option_map (λ one. All) part) field)) }
+{
+    let Some(_) = part else {
+        return Ok(1);
+    };
+    let listed = fields.take_addresses(alloc, i)?;
+    let count = listed.len();
+    fields.cache_addresses(i, listed)?;
+    Ok(count)
+}
+
+impl FieldVisitor for Counter {
+    const KEEPS_NAMES: bool = false;
+
+    ghost after = { counted_after };
+
+    ghost is_done = { λ counter. false };
+
+    ghost rests = { Prim.search rules };
+
+    fn is_done(&self) -> bool {
+        false
+    }
+
+    fn visit(
+        &mut self,
+        alloc: Global,
+        fields: &mut FieldCache<'_>,
+        part: Option<AddressPart>,
+        i: usize,
+    ) -> Result<(), AllocError> {
+        let more = count_at(alloc, fields, part, i)?;
+        self.count = plus(self.count, more)?;
+        Ok(())
+    }
+}
+
+/// How many values there are for a test of some fields, or how many addresses in them, whatever part of them it names.
+fn count_in_named(
+    delivery: &Delivery<'_>,
+    fields: &mut FieldCache<'_>,
+    state: &State,
+    part: Option<AddressPart>,
+    names: &FieldNames<'_>,
+) -> Result<usize, AllocError>
+    requires { fields.old ≡ (delivery_as delivery.now).arrival }
+    ensures arrival { fields.new ≡ fields.old }
+    ensures count { IfOk result (λ count. count ≡ length (counted_of (delivery_as delivery.now)
+        (state_of state.now) (field_values part names.now))) }
+{
+    let mut counter = Counter { count: 0 };
+    visit_looked_at(delivery, fields, state, part, names, &mut counter)?;
+    Ok(counter.count)
+}
+
+/// How many addresses there are in the envelope's part of this text: none in a null path, and one in each other text.
+fn addresses_in_path(text: &[u8]) -> usize
+    ensures { result ≡ length (filter is_filled (parts_of_envelope All (Some text.now))) }
+{
+    if is_null_path(text) { 0 } else { 1 }
+}
+
+/// How many addresses there are in the envelope's part of that name.
+fn addresses_by_path_name(arrival: &Arrival<'_>, name: &[u8]) -> usize
+    ensures { result ≡ length
+        (filter is_filled (envelope_named All (envelope_of (arrival_as arrival.now)) name.now)) }
+{
+    match envelope_text(arrival, name) {
+        Some(text) => addresses_in_path(text),
+        None => 0,
+    }
+}
+
+/// How many addresses there are in some parts of the envelope.
+fn addresses_by_path_names(
+    alloc: Global,
+    arrival: &Arrival<'_>,
+    values: &Values,
+    names: &Strings<'_>,
+) -> Result<usize, AllocError>
+    ensures { IfOk result (λ count. count ≡ length (filter is_filled (flat_map (envelope_named All
+        (envelope_of (arrival_as arrival.now))) (map (text_value values.now) names.now)))) }
+{
+    let mut buffer = Vec::new(alloc);
+    let mut count = 0usize;
+    for i in 0..names.len() {
+        let name = names.text_in(i, values, &mut buffer)?;
+        count = plus(count, addresses_by_path_name(arrival, name))?;
+    }
+    Ok(count)
+}
+
+/// How many addresses there are for a test of some parts of the envelope, whatever part of them it names.
+fn count_paths(
+    delivery: &Delivery<'_>,
+    state: &State,
+    names: &Strings<'_>,
+) -> Result<usize, AllocError>
+    ensures { IfOk result (λ count. count ≡ length (filter is_filled (values_of
+        (delivery_as delivery.now) (state_of state.now) (envelope_values All names.now)))) }
+{
+    addresses_by_path_names(delivery.alloc, delivery.arrival, &state.values, names)
+}
+
+/// How many strings there are that aren't empty.
+fn filled_strings(alloc: Global, values: &Values, texts: &Strings<'_>) -> Result<usize, AllocError>
+    ensures { IfOk result
+        (λ count. count ≡ length (filter is_filled (map (text_value values.now) texts.now))) }
+{
+    let mut buffer = Vec::new(alloc);
+    let mut count = 0usize;
+    for i in 0..texts.len() {
+        let text = texts.text_in(i, values, &mut buffer)?;
+        if !text.is_empty() {
+            count += 1;
+        }
+    }
+    Ok(count)
+}
+
+/// How many flags there are in a text, each once.
+fn flags_in_text(alloc: Global, text: &[u8]) -> Result<usize, AllocError>
+    ensures { IfOk result (λ count. count ≡ length (flag_list text.now)) }
+{
+    let flags = flags_of(alloc, text)?;
+    Ok(flags.len())
+}
+
+/// How many flags variables hold: those of each of them in turn.
+fn flags_in_variables(
+    alloc: Global,
+    values: &Values,
+    variables: &Strings<'_>,
+) -> Result<usize, AllocError>
+    ensures { IfOk result
+        (λ count. count ≡ length (flat_map flag_list (map (text_value values.now) variables.now))) }
+{
+    let mut buffer = Vec::new(alloc);
+    let mut count = 0usize;
+    for i in 0..variables.len() {
+        let text = variables.text_in(i, values, &mut buffer)?;
+        count = plus(count, flags_in_text(alloc, text)?)?;
+    }
+    Ok(count)
+}
+
+/// How many flags variables hold, or how many internal ones there are where none are named.
+fn count_flags(
+    delivery: &Delivery<'_>,
+    state: &State,
+    variables: &Option<Strings<'_>>,
+) -> Result<usize, AllocError>
+    ensures { IfOk result (λ count. count ≡ length
+        (values_of (delivery_as delivery.now) (state_of state.now) (flag_values variables.now))) }
+{
+    match variables {
+        Some(variables) => flags_in_variables(delivery.alloc, &state.values, variables),
+        None => Ok(state.actions.flags().len()),
+    }
+}
+
+/// How many values of a source count.
+pub(crate) fn count_in_source(
+    delivery: &Delivery<'_>,
+    fields: &mut FieldCache<'_>,
+    state: &State,
+    source: &SourceOp<'_>,
+) -> Result<usize, AllocError>
+    requires { fields.old ≡ (delivery_as delivery.now).arrival }
+    ensures arrival { fields.new ≡ fields.old }
+    ensures count { IfOk result (λ count. count ≡ length
+        (counted_of (delivery_as delivery.now) (state_of state.now) (source_op_as source.now))) }
+{
+    match source {
+        SourceOp::Fields { part, names } => count_in_named(delivery, fields, state, *part, names),
+        SourceOp::Envelope { names, .. } => count_paths(delivery, state, names),
+        SourceOp::String { texts } => { filled_strings(delivery.alloc, &state.values, texts) }
+        SourceOp::Flags { variables } => count_flags(delivery, state, variables),
+        SourceOp::Date { zone, field, part } => count_date(delivery, state, zone, *field, *part),
+        SourceOp::CurrentDate { zone, part } => count_clock(delivery, state, zone, *part),
+        SourceOp::Body { transform } => count_body(delivery, fields, state, transform),
+    }
+}

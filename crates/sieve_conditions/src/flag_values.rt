@@ -1,0 +1,236 @@
+//! What a test finds in flags (RFC 5232, section 4).
+ghost use Rattle.std.specs.Prelude.{◌≡◌, ◌∷◌, ◌++◌, ℕ, List, IfOk, Some};
+ghost use Rattle.std.specs.List.{list_any};
+ghost use Rattle.match_text.specs.Flags.{flag_keys, flag_list, has_key};
+ghost use Rattle.match_text.specs.Order.{are_equal};
+ghost use Rattle.sieve_script.specs.Reading.{flag_values};
+ghost use Rattle.sieve_conditions.specs.Matching.{first_some, values_of};
+ghost use Rattle.sieve_delivery.specs.view.Delivery.{delivery_as};
+ghost use Rattle.sieve_conditions.specs.view.FieldTests.{cut_key, found_with, key_texts};
+ghost use Rattle.sieve_conditions.specs.view.FlagTests.{best_of};
+ghost use Rattle.sieve_delivery.specs.view.State.{state_of};
+ghost use Rattle.octets.specs.view.Texts.{octets_of_each};
+
+use crate::matcher::{MatchValues, Matcher, plain_match};
+use match_text::{Collation, FlagList, flags_of, next_key};
+use sieve_delivery::{Delivery, State};
+use packed_strings::Strings;
+use sieve_script::MatchType;
+use std::alloc::{AllocError, Global};
+use std::borrow::CowSlice;
+
+/// Whether a piece of a key is among flags.
+fn has_piece(flags: &FlagList, collation: Collation, key: &[u8]) -> bool
+    ensures { result ≡ list_any (has_key (are_equal collation) flags.now) (flag_keys key.now) }
+{
+    if key.is_empty() {
+        return flags.has(collation, key);
+    }
+    let mut left = key;
+    while let Some((piece, after)) = next_key(left) {
+        if flags.has(collation, piece) {
+            return true;
+        }
+        left = after;
+    }
+    false
+}
+
+/// Whether a key, or a piece of it where keys are cut, is among flags.
+fn has_key_of(flags: &FlagList, matcher: &Matcher<'_>, key: &[u8]) -> bool
+    ensures { result ≡ list_any (has_key (are_equal matcher.now.comparison.collation) flags.now)
+        (cut_key matcher.now.are_cut key.now) }
+{
+    let collation = matcher.comparison.collation;
+    if matcher.are_cut {
+        has_piece(flags, collation, key)
+    } else {
+        flags.has(collation, key)
+    }
+}
+
+/// Whether some key is among flags.
+fn has_some(alloc: Global, flags: &FlagList, matcher: &Matcher<'_>) -> Result<bool, AllocError>
+    ensures { IfOk result (λ has. has ≡ list_any
+        (has_key (are_equal matcher.now.comparison.collation) flags.now) (key_texts matcher.now)) }
+{
+    let mut buffer = Vec::new(alloc);
+    for i in 0..matcher.keys.len() {
+        let key = matcher.keys.text_in(i, matcher.values, &mut buffer)?;
+        if has_key_of(flags, matcher, key) {
+            return Ok(true);
+        }
+    }
+    Ok(false)
+}
+
+/// What the flags give by the keys that were compared so far.
+#[derive(Drop)]
+struct Best {
+    // What the first flag gives that matched a key.
+    found: Option<MatchValues>,
+    // How many flags stand before it; all where none matched. Keys that come later count only for these.
+    before: usize,
+}
+
+/// What is best after one key more.
+fn better(
+    alloc: Global,
+    flags: &FlagList,
+    matcher: &Matcher<'_>,
+    key: &[u8],
+    so_far: Best,
+) -> Result<Best, AllocError>
+    ensures { IfOk result (λ next. (rest : List (List ℕ)) → best_of matcher.now.comparison flags.now
+        next rest ≡ best_of matcher.now.comparison flags.now so_far (key.now ∷ rest)) }
+{
+    for i in 0..so_far.before.min(flags.len()) {
+        if let Some(values) = matcher.match_of(alloc, flags.get(i), key)? {
+            return Ok(Best {
+                found: Some(values),
+                before: i,
+            });
+        }
+    }
+    Ok(so_far)
+}
+
+/// What is best after the pieces of one key more.
+fn better_by_pieces(
+    alloc: Global,
+    flags: &FlagList,
+    matcher: &Matcher<'_>,
+    key: &[u8],
+    so_far: Best,
+) -> Result<Best, AllocError>
+    ensures { IfOk result (λ next. (rest : List (List ℕ)) → best_of matcher.now.comparison flags.now
+        next rest ≡ best_of matcher.now.comparison flags.now so_far (flag_keys key.now ++ rest)) }
+{
+    if key.is_empty() {
+        return better(alloc, flags, matcher, key, so_far);
+    }
+    let mut best = so_far;
+    let mut left = key;
+    while let Some((piece, after)) = next_key(left) {
+        best = better(alloc, flags, matcher, piece, best)?;
+        left = after;
+    }
+    Ok(best)
+}
+
+/// What is best after one key more, or the pieces of it where keys are cut.
+fn better_by(
+    alloc: Global,
+    flags: &FlagList,
+    matcher: &Matcher<'_>,
+    key: &[u8],
+    so_far: Best,
+) -> Result<Best, AllocError>
+    ensures { IfOk result (λ next. (rest : List (List ℕ))
+        → best_of matcher.now.comparison flags.now next rest ≡ best_of matcher.now.comparison
+        flags.now so_far (cut_key matcher.now.are_cut key.now ++ rest)) }
+{
+    if matcher.are_cut {
+        better_by_pieces(alloc, flags, matcher, key, so_far)
+    } else {
+        better(alloc, flags, matcher, key, so_far)
+    }
+}
+
+/// What the first flag gives that matches some key. Each key is made once, and compared with the flags before the best so far.
+fn find_in_each(
+    alloc: Global,
+    flags: &FlagList,
+    matcher: &Matcher<'_>,
+) -> Result<Option<MatchValues>, AllocError>
+    ensures { IfOk result (λ found. found ≡ first_some (found_with matcher.now) flags.now) }
+{
+    let before = flags.len();
+    let mut best = Best {
+        found: None,
+        before,
+    };
+    let mut buffer = Vec::new(alloc);
+    for i in 0..matcher.keys.len() {
+        if best.before == 0 {
+            return Ok(best.found);
+        }
+        let key = matcher.keys.text_in(i, matcher.values, &mut buffer)?;
+        best = better_by(alloc, flags, matcher, key, best)?;
+    }
+    Ok(best.found)
+}
+
+/// What the first flag gives that matches some key. Under `:is` each key is looked for among the flags, and not each flag compared with each.
+fn find_in_flags(
+    alloc: Global,
+    flags: &FlagList,
+    matcher: &Matcher<'_>,
+) -> Result<Option<MatchValues>, AllocError>
+    ensures { IfOk result (λ found. found ≡ first_some (found_with matcher.now) flags.now) }
+{
+    match matcher.comparison.match_type {
+        MatchType::Is => Ok(plain_match(alloc, has_some(alloc, flags, matcher)?)),
+        _ => find_in_each(alloc, flags, matcher),
+    }
+}
+
+/// What the first flag of a text gives that matches some key.
+fn find_in_text(
+    alloc: Global,
+    text: &[u8],
+    matcher: &Matcher<'_>,
+) -> Result<Option<MatchValues>, AllocError>
+    ensures { IfOk result
+        (λ found. found ≡ first_some (found_with matcher.now) (flag_list text.now)) }
+{
+    let flags = flags_of(alloc, text)?;
+    find_in_flags(alloc, &flags, matcher)
+}
+
+/// What the first flag of some texts gives that matches some key.
+fn find_in_texts(
+    alloc: Global,
+    texts: &[CowSlice<'_, u8>],
+    matcher: &Matcher<'_>,
+) -> Result<Option<MatchValues>, AllocError>
+    ensures { IfOk result (λ found. found ≡ first_some
+        (λ text. first_some (found_with matcher.now) (flag_list text)) (octets_of_each texts.now)) }
+{
+    for text in texts {
+        if let Some(values) = find_in_text(alloc, text.as_slice(), matcher)? {
+            return Ok(Some(values));
+        }
+    }
+    Ok(None)
+}
+
+/// What the flags of variables give. The variables' values are read first.
+fn find_in_variables(
+    delivery: &Delivery<'_>,
+    state: &State,
+    variables: &Strings<'_>,
+    matcher: &Matcher<'_>,
+) -> Result<Option<MatchValues>, AllocError>
+    ensures { IfOk result (λ found. found ≡ first_some (found_with matcher.now) (values_of
+        (delivery_as delivery.now) (state_of state.now) (flag_values (Some variables.now)))) }
+{
+    let held = variables.expanded(delivery.alloc, &state.values)?;
+    find_in_texts(delivery.alloc, &held, matcher)
+}
+
+/// What the flags of variables give, or the internal ones where none are named.
+pub(crate) fn find_in_held(
+    delivery: &Delivery<'_>,
+    state: &State,
+    variables: &Option<Strings<'_>>,
+    matcher: &Matcher<'_>,
+) -> Result<Option<MatchValues>, AllocError>
+    ensures { IfOk result (λ found. found ≡ first_some (found_with matcher.now)
+        (values_of (delivery_as delivery.now) (state_of state.now) (flag_values variables.now))) }
+{
+    match variables {
+        Some(variables) => find_in_variables(delivery, state, variables, matcher),
+        None => find_in_flags(delivery.alloc, state.actions.flags(), matcher),
+    }
+}

@@ -1,0 +1,91 @@
+//! Actions (RFC 5228, section 2.10).
+ghost use Rattle.std.specs.Prelude.{◌≡◌};
+ghost use Rattle.sieve_delivery.specs.Act as spec;
+
+use crate::response::Response;
+use match_text::FlagList;
+use octets::Octets;
+use script_names::ScriptName;
+use sieve_script::Rejection;
+
+/// What is done with a message (RFC 5228, section 2.10).
+#[derive(Drop)]
+pub enum Action {
+    /// The message is stored into a mailbox (RFC 5228, sections 4.1 and 4.3), with flags (RFC 5232, section 5).
+    Store {
+        mailbox: Octets,
+        flags: FlagList,
+        filing: Filing,
+    },
+    /// The message is sent on to an address (RFC 5228, section 4.2).
+    Redirect {
+        address: Octets,
+    },
+    /// The message is discarded (RFC 5228, section 4.4).
+    Discard,
+    /// The sender is answered (RFC 5230).
+    Respond {
+        response: Response,
+    },
+    /// The message is rejected (RFC 5429).
+    Reject {
+        how: Rejection,
+        reason: Octets,
+    },
+}
+
+/// What a store asks for beside its mailbox.
+#[derive(Drop)]
+pub struct Filing {
+    /// Whether the mailbox is made where it isn't there (RFC 5490, section 3.2).
+    pub create: bool,
+    /// The use of the mailbox to store into where there is one of that use (RFC 8579, section 4).
+    pub special_use: Option<Octets>,
+}
+
+/// The command that entered an action.
+#[derive(Drop)]
+pub struct Origin {
+    /// The script that it stands in.
+    pub script: ScriptName,
+    /// The line on which it begins, from 1 on.
+    pub line: u64,
+}
+
+/// An action of a run, with what belongs to it.
+#[derive(Drop)]
+pub struct Entry {
+    /// The action.
+    pub action: Action,
+    /// The command that entered it first.
+    pub origin: Origin,
+    /// How many of the internal flags, from the first on, are known to be among the action's own. So a store that is joined again takes only
+    /// those that came since.
+    pub(crate) known: usize,
+}
+
+/// An action that a command performs, and what the command says of it.
+#[derive(Drop)]
+pub struct Deed {
+    pub action: Action,
+    /// Whether the action leaves the implicit keep as it is (RFC 3894, section 3; RFC 5230, section 4.7).
+    pub leaves_keep: bool,
+}
+
+/// Whether two actions are one.
+pub(crate) fn same_action(action: &Action, other: &Action) -> bool
+    ensures { result ≡ spec.same_action action.now other.now }
+{
+    match (action, other) {
+        (Action::Store { mailbox: a, .. }, Action::Store { mailbox: b, .. }) => {
+            a.as_slice() == b.as_slice()
+        }
+        (Action::Redirect { address: a }, Action::Redirect { address: b }) => {
+            a.as_slice() == b.as_slice()
+        }
+        (Action::Discard, Action::Discard) => true,
+        (Action::Respond { .. }, Action::Respond { .. }) => true,
+        (Action::Reject { .. }, Action::Reject { .. }) => true,
+        _ => false,
+    }
+}

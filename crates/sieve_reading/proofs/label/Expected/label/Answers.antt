@@ -1,5 +1,0 @@
-use Rattle.std.proofs.Common.{rules}
-use Rattle.sieve_reading.proofs.label.Expected.label.Goals as goal
-
-pub returns-in-Tag-None : goal.returns-in-Tag-None
-returns-in-Tag-None c = search rules

@@ -1,5 +1,0 @@
-use Rattle.std.proofs.Common.{rules}
-use Rattle.sieve_reading.proofs.shape.written_shape.Goals as goal
-
-pub returns-in-Number : goal.returns-in-Number
-returns-in-Number c = search rules

@@ -1,5 +1,0 @@
-use Rattle.sievebench.proofs.Endings.{cut_is_front}
-use Rattle.sievebench.proofs.laws.a_cut_session_is_the_front_of_one.Goals as goal
-
-pub returns : goal.returns
-returns c = cut_is_front
