@@ -7,11 +7,11 @@ use crate::telling::{Host, mark, personal, prepared, tell_outcome, tell_refused}
 use bench::{Bench, TestJob, TestScript, test_bench};
 use devices::Counted;
 use octets::Octets;
-use sieve_profile::Profile;
-use sieve_run::Meter;
 use session_server::{
     Argument, End, Job, SessionEnd, TestWords, UsageFault, command_of, session, status_of,
 };
+use sieve_profile::Profile;
+use sieve_run::Meter;
 use std::alloc::AllocError;
 use std::io;
 

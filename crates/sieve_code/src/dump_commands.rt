@@ -7,8 +7,8 @@ ghost use Rattle.packed_strings.specs.view.Ops.{settings_op_as};
 
 use crate::dump_strings::{name_of, scope_word, write_list, write_number, write_string};
 use devices::{Piece, Sink, WriteFault, write_out, write_pieces};
-use script_names::Location;
 use packed_strings::{SettingsOp, Strings};
+use script_names::Location;
 use sieve_script::FlagChange;
 use sieve_variables::{LetterCase, Modifiers, Part, Variable};
 

@@ -17,8 +17,8 @@ use crate::matcher::{MatchValues, Matcher, set_found};
 use crate::path_values::find_in_paths;
 use crate::string_values::find_in_strings;
 use itoa::Buffer;
-use sieve_delivery::{Delivery, State};
 use packed_strings::{FieldNames, SourceOp, Strings};
+use sieve_delivery::{Delivery, State};
 use sieve_script::{Comparison, MatchType};
 use std::alloc::AllocError;
 

@@ -23,8 +23,8 @@ use crate::field_walk::{FieldVisitor, visit_looked_at};
 use crate::path_values::{envelope_text, is_null_path};
 use match_text::flags_of;
 use message_text::AddressPart;
-use sieve_delivery::{Arrival, Delivery, State};
 use packed_strings::{FieldNames, SourceOp, Strings};
+use sieve_delivery::{Arrival, Delivery, State};
 use sieve_variables::Values;
 use std::alloc::{AllocError, Global};
 

@@ -18,8 +18,8 @@ use crate::field_cache::next_place;
 use crate::matcher::{MatchValues, Matcher};
 use date_text::{Clock, DatePart, Moment, Zone, date_in, shown, zone_named};
 use message_text::{FieldName, Message};
-use sieve_delivery::{Delivery, State};
 use packed_strings::ZoneOp;
+use sieve_delivery::{Delivery, State};
 use sieve_variables::{Part, Values};
 use std::alloc::{AllocError, Global};
 

@@ -15,8 +15,8 @@ use crate::field_cache::{FieldCache, next_place};
 use crate::field_walk::{FieldVisitor, visit_looked_at};
 use crate::matcher::{MatchValues, Matcher};
 use message_text::{Address, AddressPart, Message};
-use sieve_delivery::{Delivery, State};
 use packed_strings::FieldNames;
+use sieve_delivery::{Delivery, State};
 use sieve_variables::Values;
 use std::alloc::{AllocError, Global};
 

@@ -8,8 +8,8 @@ ghost use Rattle.sieve_variables.specs.Value.{text_value};
 
 use crate::field_cache::FieldCache;
 use message_text::{AddressPart, FieldName};
-use sieve_delivery::{Delivery, State};
 use packed_strings::FieldNames;
+use sieve_delivery::{Delivery, State};
 use sieve_table::is_address_field;
 use std::alloc::{AllocError, Global};
 

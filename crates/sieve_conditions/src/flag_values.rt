@@ -13,8 +13,8 @@ ghost use Rattle.octets.specs.view.Texts.{octets_of_each};
 
 use crate::matcher::{MatchValues, Matcher, plain_match};
 use match_text::{Collation, FlagList, flags_of, next_key};
-use sieve_delivery::{Delivery, State};
 use packed_strings::Strings;
+use sieve_delivery::{Delivery, State};
 use sieve_script::MatchType;
 use std::alloc::{AllocError, Global};
 use std::borrow::CowSlice;

@@ -10,8 +10,8 @@ ghost use Rattle.sieve_delivery.specs.view.State.{state_of};
 ghost use Rattle.sieve_variables.specs.Value.{text_value};
 
 use message_text::next_line;
-use sieve_delivery::{Delivery, Envelope, State};
 use packed_strings::Strings;
+use sieve_delivery::{Delivery, Envelope, State};
 use sieve_variables::Values;
 use std::alloc::{AllocError, Global};
 

@@ -18,8 +18,8 @@ use match_text::{
     contains, contains_in, equals, matches, next_key, stands,
 };
 use octets::Octets;
-use sieve_delivery::State;
 use packed_strings::Strings;
+use sieve_delivery::State;
 use sieve_script::{Comparison, MatchType, literal_in_parts};
 use sieve_variables::{Part, Values};
 use std::alloc::{AllocError, Global};

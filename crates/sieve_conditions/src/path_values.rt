@@ -13,8 +13,8 @@ ghost use Rattle.sieve_variables.specs.Value.{text_value};
 use crate::field_values::find_in_part;
 use crate::matcher::{MatchValues, Matcher};
 use message_text::{AddressPart, addresses};
-use sieve_delivery::{Addresses, Arrival, Delivery, Envelope, State};
 use packed_strings::Strings;
+use sieve_delivery::{Addresses, Arrival, Delivery, Envelope, State};
 use sieve_variables::Values;
 use std::alloc::{AllocError, Global};
 

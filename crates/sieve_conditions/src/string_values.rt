@@ -8,8 +8,8 @@ ghost use Rattle.sieve_delivery.specs.view.State.{state_of};
 ghost use Rattle.sieve_variables.specs.Value.{text_value};
 
 use crate::matcher::{MatchValues, Matcher};
-use sieve_delivery::{Delivery, State};
 use packed_strings::Strings;
+use sieve_delivery::{Delivery, State};
 use sieve_variables::Values;
 use std::alloc::{AllocError, Global};
 

@@ -25,8 +25,8 @@ use crate::state::State;
 use match_text::is_keyword;
 use message_text::{Address, AddressPart, addresses};
 use octets::Octets;
-use sieve_limits::MAX_MAILBOX;
 use packed_strings::{SettingsOp, Strings};
+use sieve_limits::MAX_MAILBOX;
 use sieve_variables::{Modifiers, Part, Values, Variable};
 use std::alloc::AllocError;
 

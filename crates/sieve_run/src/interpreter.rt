@@ -21,12 +21,12 @@ use indexmap::IndexMap;
 use match_text::FlagList;
 use message_text::Message;
 use script_names::ScriptName;
+use sieve_code::Code;
+use sieve_conditions::FieldCache;
 use sieve_delivery::{
     Actions, Addresses, Arrival, Delivery, Envelope, ErrorKind, Flow, RunError, State,
 };
-use sieve_code::Code;
 use sieve_limits::MAX_INCLUDE_DEPTH;
-use sieve_conditions::FieldCache;
 use sieve_variables::Values;
 use std::alloc::{AllocError, Global};
 

@@ -31,8 +31,8 @@ pub use outcome::Outcome;
 pub use script::Script;
 pub use script_names::{Location, ScriptName};
 pub use shelf::Shelf;
+pub use sieve_conditions::mailbox_count;
 pub use sieve_delivery::{
     Action, Addresses, Entry, Envelope, ErrorKind, Filing, Origin, Response, RunError, Texts,
 };
-pub use sieve_conditions::mailbox_count;
 pub use sieve_script::Rejection;

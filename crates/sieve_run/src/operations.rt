@@ -6,9 +6,9 @@ ghost use Rattle.sieve_code.specs.Pool.{ask_in};
 ghost use Rattle.sieve_code.specs.view.Code.{pool_of};
 ghost use Rattle.sieve_conditions.specs.Matching.{after_test, truth_of};
 
-use sieve_delivery::{Delivery, State};
 use sieve_code::{Code, PackedAsk};
 use sieve_conditions::{FieldCache, compare, exists, is_over, is_under, mailboxes_exist};
+use sieve_delivery::{Delivery, State};
 use sieve_script::Ask;
 use std::alloc::AllocError;
 

@@ -21,13 +21,13 @@ use crate::operations::ask;
 use crate::turn::{Step, acted, proceed, tested};
 use octets::Octets;
 use script_names::{Location, ScriptName};
+use sieve_code::{Code, Op, PackedLeaf};
+use sieve_conditions::FieldCache;
 use sieve_delivery::{
     Delivery, ErrorKind, Flow, State, change, discard, fail, file_into, keep, redirect, reject,
     respond, set,
 };
-use sieve_code::{Code, Op, PackedLeaf};
 use sieve_limits::MAX_INCLUDES;
-use sieve_conditions::FieldCache;
 use sieve_script::Leaf;
 use sieve_variables::Literal;
 use std::alloc::AllocError;

@@ -4,8 +4,10 @@ use crate::complaints::{complain, complain_of};
 use crate::files::{octets_in, script_name};
 use crate::streams::Output;
 use devices::Counted;
+use session_server::{
+    End, Location, Profile, ScriptName, SessionEnd, TestEnd, dump_text, status_of,
+};
 use sieve_limits::MAX_TEXT;
-use session_server::{End, Location, Profile, ScriptName, SessionEnd, TestEnd, dump_text, status_of};
 use std::alloc::{AllocError, Global};
 use std::io;
 use std::io::{ErrorKind, Write};

@@ -2,8 +2,8 @@
 
 use crate::files::{ReadFault, SCRIPT_END, octets_at};
 use crate::test_files::TestInput;
-use sieve_limits::MAX_TEXT;
 use session_server::Location;
+use sieve_limits::MAX_TEXT;
 use std::alloc::{AllocError, Global};
 use std::fs::Metadata;
 use std::io::{BufReader, ErrorKind, Read};
