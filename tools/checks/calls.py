@@ -236,7 +236,7 @@ UNREFUSED = {
     "write_quoted": Told(each(b'a "\\\0\xff')),
     "Values": Told(lines("true", '"its value"')),
     "Shelf": Told(lines("4 operations")),
-    "Outcome": Told(lines("0 0 true false true")),
+    "Verdict": Told(lines("0 0 true false true")),
     "set_main": edited(reported([("m", missing("other"))], main='personal "other"', errors=1, total=DIFFERS)),
     "set_envelope": edited(reported([("m", DISCARDED + ["expected"])], envelope='"a@b.example" "c@d.example" mailbox "INBOX"', total=AGREES)),
     "set_mailbox": edited(reported([("m", DISCARDED + ["expected"])], envelope='"" "" mailbox "Box"', total=AGREES)),

@@ -12,7 +12,7 @@ import sys
 from .runs import Run, lines
 
 TOP = pathlib.Path(__file__).resolve().parent.parent.parent
-VERSION = re.search(r"^## \[(\S+)\]", (TOP / "CHANGELOG.md").read_text(encoding="utf-8"), re.M)[1]
+VERSION = re.search(r"^## \[(\d\S*)\]", (TOP / "CHANGELOG.md").read_text(encoding="utf-8"), re.M)[1]
 NEXT = f"{VERSION[:-1]}{(int(VERSION[-1]) + 1) % 10}"
 COMMANDS = "crates/command_line/src/commands.rt"
 PARTS = ["CHANGELOG.md", "CONTRIBUTING.md", "README.md", "docs", "examples", "tools", COMMANDS]

@@ -68,6 +68,6 @@ class OneName(Reading):
 def of_libraries():
     """Reports and sessions count their runs with the meter that they are handed, and nothing evaluates but `run`: no library above it makes a
     meter, looks at an operation, or names what operations do, outside of contracts. And a session reads by `session_text` alone."""
-    yield Without("no library runs by itself", ["bench", "session_server", "session_text", "command_line"], {r"Meter::new": "one_call", r"\.op\(": "sieve_run", r"^(?!ghost ).*\bsieve_(?:operations|actions|matching)::": "sieve_run"})
+    yield Without("no library runs by itself", ["bench", "session_server", "session_text", "command_line"], {r"Meter::new": "one_call", r"\.op\(": "sieve_run", r"^(?!ghost ).*\b(?:packed_strings|sieve_delivery|sieve_conditions)::": "sieve_run"})
     yield Without("no library reads by itself", ["bench", "session_server", "command_line"], {r"\bread_some\(": "session_text"})
     yield OneName()

@@ -2,7 +2,7 @@
 use Rattle.std.proofs.Common.{◌≡◌, ℕ, ◌+◌, ◌<◌, ◌≤◌, List, [], ◌∷◌, ◌++◌, drop, length, get_or, sym, ap, ◌∙◌, refl, arith}
 use Rattle.std.proofs.lemmas.List.{drop_more, drop_all}
 use Rattle.std.proofs.lemmas.Option.{slice_get-get_or}
-use Rattle.sieve_code.specs.Dump.{line_at, line_of, line_text}
+use Rattle.sieve_dump.specs.Dump.{line_at, line_of, line_text}
 use Rattle.sieve_code.specs.Operation.{Operation}
 use Rattle.bench.specs.Dump.{lines_from}
 

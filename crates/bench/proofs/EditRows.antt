@@ -1,4 +1,4 @@
--- Worked rows of the edits that make a content anew, and of what the laws say of each content.
+-- Worked rows of the edits that make a content anew, and of the laws about each content.
 use Rattle.std.proofs.Common.{◌≡◌, [], ◌∷◌, None, Some, refl, codes}
 use Rattle.std.specs.List.{IsDistinct}
 use Rattle.std.specs.List.Sorted.{IsStrictlySortedBy}
@@ -7,7 +7,7 @@ use Rattle.script_names.specs.declared.location.Location.TheVariants.{Personal, 
 use Rattle.script_names.specs.declared.name.ScriptName.{ScriptName}
 use Rattle.sieve_profile.specs.Profile.{Profile}
 use Rattle.bench.specs.Content.{Content, put_script, put_message, set_for_all, set_for_one}
-use Rattle.bench.specs.Edits.{AreDistinct, AreOrdered, rebuild}
+use Rattle.bench.specs.Edits.{AreDistinctIds, AreOrdered, rebuild}
 use Rattle.bench.specs.declared.setting.MessageSetting.TheVariants as own
 use Rattle.bench.specs.declared.setting.Setting.TheVariants as common
 
@@ -20,8 +20,8 @@ b = record { location = Personal; name = codes "b" }
 abbrev shared : ScriptName
 shared = record { location = Global; name = codes "a" }
 
--- two scripts, two messages, of one of which a text is expected, and of which each has addresses of its own or none, a sender, a list of mailboxes,
--- a clock and a main script
+-- A content with two scripts, two messages, a sender, a list of mailboxes, a clock and a main
+-- script. A text is expected of one message. It has addresses of its own, and the other has none.
 abbrev held : Profile → Content
 held profile = record {
   profile = profile;
@@ -50,6 +50,6 @@ unfolding IsStrictlySortedBy
 twice_row order = let e = order.0.0 in absurd cc
 
 -- no id stands twice, next to itself or not
-ids_row : AreDistinct (codes "2" ∷ codes "1" ∷ codes "2" ∷ []) → ⊥
+ids_row : AreDistinctIds (codes "2" ∷ codes "1" ∷ codes "2" ∷ []) → ⊥
 unfolding IsDistinct
 ids_row distinct = let e = distinct.0.1.0 in absurd cc

@@ -1,4 +1,4 @@
--- What edits in turn make of a content, and what is known of the edits of a job.
+-- The content after edits in turn, and the facts of the edits of a job.
 use Rattle.octets.specs.Octet.{is_among}
 use Rattle.std.proofs.Common.{◌≡◌, ℕ, ◌+◌, ◌<◌, Bool, true, false, ◌||◌, if◌then◌else◌, List, [], ◌∷◌, length, drop, get_or, map, fold, Option, None, Some, Result, Ok, Err, IfOk, OnOk, refl, sym, ap, ◌∙◌, subst}
 use Rattle.std.proofs.lemmas.List.{drop_more}
@@ -24,7 +24,7 @@ pub refusal_stays : (refusal : EditFault) (edits : List Edit) → fold then_edit
 refusal_stays refusal [] = refl
 refusal_stays refusal (edit ∷ edits) = refusal_stays refusal edits
 
--- a fault for which one of some edits was refused is one for which one of these and further edits was refused
+-- a fault of some edits is also a fault of these and further edits
 pub still_refused : (fault : EditFault) (made : Result Content EditFault) (edits : List Edit) → Refused fault made → Refused fault (fold then_edit made edits)
 still_refused NoSuchScript made edits refused = refused
 still_refused NameTaken made edits refused = refused
@@ -35,7 +35,7 @@ still_refused NoMemory made edits refused = tt
 
 -- THE SCRIPTS
 
--- a put of a script is refused only for its size, for want of room or for memory
+-- a put of a script is refused only for its size, for too many scripts, or when out of memory
 pub put_refused_for : (too_large full : Bool) (content : Content) (fault : EditFault)
     → Refuses (unless (if too_large then Some TooLarge else if full then Some Full else None) content) (Err fault)
     → Refused fault (unless (if too_large then Some TooLarge else if full then Some Full else None) content)
@@ -50,7 +50,7 @@ puts_cut made scripts i script within is =
     ap (λ l. fold then_edit made (map put_of l)) (drop_more scripts i script within)
     ∙ ap (λ s. fold then_edit (then_edit made (put_of s)) (map put_of (drop (i + 1) scripts))) (sym is)
 
--- where the next script is put, those after it make of the new content what all are to make
+-- where the next script is put, those after it have the result that all are to have
 pub put_next : (old new : Content) (scripts : List TestScript) (i : ℕ) (script : TestScript) (all : Result Content EditFault) → i < length scripts → script ≡ get_or scripts i script
     → after_all old (map put_of (drop i scripts)) ≡ all → after old (put_of script) ≡ Ok new → after_all new (map put_of (drop (i + 1) scripts)) ≡ all
 put_next old new scripts i script all within is so_far put =
@@ -95,7 +95,7 @@ none_all_set : (made : Result Content EditFault) (settings : List Setting) → L
 none_all_set made [] none = none
 none_all_set made (setting ∷ settings) none = none_all_set (then_edit made (set_for_all setting)) settings (none_set made setting none)
 
--- the settings that an envelope is
+-- the settings of an envelope
 abbrev settings_of : Envelope → List Setting
 settings_of envelope =
     common.Addresses (record { from = envelope.from; to = envelope.to }) ∷ common.Mailbox envelope.mailbox

@@ -16,7 +16,7 @@ use Rattle.script_names.specs.declared.location.Location.TheVariants.{Personal, 
 use Rattle.script_names.specs.Name.{name_cmp, location_cmp}
 use Rattle.script_names.specs.declared.name.ScriptName.{ScriptName}
 use Rattle.bench.specs.Content.{Content, Edit, Sample, after, new_content, put_script, put_message, rename_script, remove_script, remove_message, unless, text_at, message_at, put_over, with_script, changed, with_renamed, set_for_all, set_for_one, sample_with}
-use Rattle.bench.specs.Edits.{IsInOrder, AreOrdered, AreDistinct, made_or_old, content_after}
+use Rattle.bench.specs.Edits.{IsInOrder, AreOrdered, AreDistinctIds, made_or_old, content_after}
 use Rattle.sieve_profile.specs.Profile.{Profile}
 use Rattle.bench.specs.declared.fault.EditFault.{EditFault}
 
@@ -178,12 +178,12 @@ module _ (id : List ℕ) (sample : Sample) where
       by true rest = (here, all.1)
       by false rest = (all.0, rest)
 
-  distinct_put : (es : List (List ℕ × Sample)) → AreDistinct (keys_of es) → AreDistinct (keys_of (put es))
+  distinct_put : (es : List (List ℕ × Sample)) → AreDistinctIds (keys_of es) → AreDistinctIds (keys_of (put es))
   unfolding IsDistinct
   distinct_put [] distinct = (tt, tt)
   distinct_put (e ∷ es) distinct = by (pointwise nat_eq id e.0) refl (distinct_put es distinct.1)
     where
-      by : (b : Bool) → pointwise nat_eq id e.0 ≡ b → AreDistinct (keys_of (put es)) → AreDistinct (keys_of (if b then (e.0, sample) ∷ es else e ∷ put es))
+      by : (b : Bool) → pointwise nat_eq id e.0 ≡ b → AreDistinctIds (keys_of (put es)) → AreDistinctIds (keys_of (if b then (e.0, sample) ∷ es else e ∷ put es))
       by true is rest = distinct
       by false is rest = (all_put (λ y. pointwise nat_eq e.0 y ≡ false) es distinct.0 (nat_list_eq_equiv.symm e.0 id ∙ is), rest)
 
@@ -222,7 +222,7 @@ module _ {X : Type 0} (id : List ℕ) (change : X → X) where
       by true rest = refl
       by false rest = ap suc rest
 
-  -- what holds of each, and still holds of one that is changed, holds of all then
+  -- a fact of each that stays with one that is changed is a fact of all then
   pub all_changed : (P : X → Type 0) (es : List (List ℕ × X)) → ((x : X) → P x → P (change x)) → AllByRecursion P (values_of es) → AllByRecursion P (values_of (changed id change es))
   all_changed P [] stays all = tt
   all_changed P (e ∷ es) stays all = by (pointwise nat_eq id e.0) (all_changed P es stays all.1)
@@ -231,12 +231,12 @@ module _ {X : Type 0} (id : List ℕ) (change : X → X) where
       by true rest = (stays e.1 all.0, all.1)
       by false rest = (all.0, rest)
 
-  pub distinct_changed : (es : List (List ℕ × X)) → AreDistinct (keys_of es) → AreDistinct (keys_of (changed id change es))
-  distinct_changed es distinct = subst AreDistinct (sym (keys_changed es)) distinct
+  pub distinct_changed : (es : List (List ℕ × X)) → AreDistinctIds (keys_of es) → AreDistinctIds (keys_of (changed id change es))
+  distinct_changed es distinct = subst AreDistinctIds (sym (keys_changed es)) distinct
 
 -- EDITS THAT ARE MADE
 
--- where an edit made a content, it has no refusal, and the content is the one that the edit was to make
+-- where an edit made a content, it has no refusal, and it made the content that it was to make
 pub accepted : (refusal : Option EditFault) (content new : Content) → unless refusal content ≡ Ok new → (refusal ≡ None) × (content ≡ new)
 accepted None content new made = (refl, cc)
 accepted (Some fault) content new made = absurd cc

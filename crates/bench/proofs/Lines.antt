@@ -16,8 +16,8 @@ use Rattle.sieve_delivery.specs.declared.error.RunError.{RunError}
 use Rattle.sieve_profile.specs.Profile.{Profile, has}
 use Rattle.sieve_profile.specs.declared.extension.Extension.{Extension}
 use Rattle.sieve_profile.specs.declared.extension.Extension.TheVariants.{Lines}
-use Rattle.sieve_run.specs.Lines.{action_line, error_line, error_lines, implicit_line, implicit_lines, origin_line, lookup_line, lookup_lines}
-use Rattle.sieve_run.specs.Verdict.{Verdict}
+use Rattle.sieve_verdict.specs.Lines.{action_line, error_line, error_lines, implicit_line, implicit_lines, origin_line, lookup_line, lookup_lines}
+use Rattle.sieve_verdict.specs.Verdict.{Verdict}
 use Rattle.bench.specs.Report.{addresses_line, indent, judgement_text, envelope_line, extension_text, extensions_line, indented, script_line, told_lines, total_line, traced_lines, verdict_text}
 use Rattle.bench.specs.view.Lines.{action_text, error_text, implicit_text, lookup_text, told_text, verdict_texts}
 
@@ -43,7 +43,7 @@ pub unexpected_pieces : (messages errors unexpected : ℕ)
 unfolding total_line
 unexpected_pieces messages errors unexpected = simp append_assoc
 
--- what a report says of a first fault, or of none
+-- the words of a report for a first fault, or for none
 abbrev fault_text : Option (ℕ × FaultKind) → List ℕ
 fault_text None = codes "ok"
 fault_text (Some (line, kind)) = codes "line " ++ decimal line ++ codes " " ++ fault_word kind
@@ -79,7 +79,8 @@ faulty_line profile name text kind_word fault line kind f is k =
     ap (λ (l : List ℕ). codes "script " ++ name_text name ++ codes " " ++ l ++ codes "\n") (judgement_is (judgement_of profile text) ∙ ap fault_text (sym f ∙ is))
     ∙ rw k (script_joined (name_text name) (fault_text (Some (line, kind))) ∙ ap (λ l. codes "script " ++ (name_text name ++ (codes " " ++ l))) (fault_joined (decimal line) (fault_word kind)))
 
--- where a profile has one of some extensions, their line has the names of those that it has; and there is none where it has none
+-- Where a profile has one of some extensions, their line has the names of those that it has. Where
+-- it has none, there is no such line.
 pub line_of_some : (profile : Profile) (xs : List Extension) → list_any (has profile) xs ≡ true
     → extensions_line (filter (has profile) xs) ≡ codes "with" ++ (flat_map extension_text (filter (has profile) xs) ++ codes "\n")
 unfolding extensions_line
@@ -102,7 +103,8 @@ line_of_none profile (x ∷ xs) none = by (has profile x) none (line_of_none pro
     by true here rest = absurd cc
     by false here rest = rest here
 
--- the names of those that a profile has are those of the first, where it has it, and those of the others
+-- the names of those extensions that a profile has are the first one's, if it has that, and the
+-- others'
 pub names_cut : (profile : Profile) (x : Extension) (xs : List Extension)
     → flat_map extension_text (filter (has profile) (x ∷ xs)) ≡ flat_map extension_text (filter (has profile) (x ∷ [])) ++ flat_map extension_text (filter (has profile) xs)
 names_cut profile x xs = by (has profile x)

@@ -110,7 +110,7 @@ pub text-copied : (to : ScriptName) (found : Option (List ℕ)) (other : ScriptN
 text-copied to None other scripts apart = refl
 text-copied to (Some text) other scripts apart = sym (text-with_script to text other scripts apart)
 
--- another name than the old one has after a copy what it has after a rename
+-- another name than the old one has the same text after a copy as after a rename
 pub text-renamed : (from : ScriptName) (found : Option (List ℕ)) (to other : ScriptName) (scripts : List (ScriptName × List ℕ)) → name_eq from other ≡ false
     → text_at (copied_to to found scripts) other ≡ text_at (with_renamed from found to scripts) other
 text-renamed from None to other scripts apart = refl

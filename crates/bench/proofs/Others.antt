@@ -3,7 +3,7 @@ use Rattle.std.proofs.Common.{◌≡◌, ℕ, List, [], ◌∷◌, Bool, true, f
 use Rattle.std.specs.Option.{option_map}
 use lib.Pointwise.{pointwise}
 use Rattle.bench.specs.Content.{Content, Sample, after, changed, message_at, set_for_one, one_refusal, sample_with}
-use Rattle.bench.specs.Stale.{verdict_of, verdict_on}
+use Rattle.bench.specs.Stale.{verdict_due, verdict_on}
 use Rattle.bench.specs.declared.setting.MessageSetting.{MessageSetting}
 use Rattle.bench.proofs.Kept.{accepted}
 use Rattle.bench.proofs.Names.{is_id, other_id}
@@ -20,7 +20,7 @@ others_stay id other change (m ∷ messages) apart = by (pointwise nat_eq id m.0
         ap (λ b. cond b (Some (change m.1)) (message_at messages other)) elsewhere ∙ sym (ap (λ b. cond b (Some m.1) (message_at messages other)) elsewhere)
     by false is rest = ap (cond (pointwise nat_eq other m.0) (Some m.1)) rest
 
-pub own_alone : (content : Content) (id other : List ℕ) (setting : MessageSetting) (new : Content) → after content (set_for_one id setting) ≡ Ok new → pointwise nat_eq id other ≡ false → verdict_of new other ≡ verdict_of content other
+pub own_alone : (content : Content) (id other : List ℕ) (setting : MessageSetting) (new : Content) → after content (set_for_one id setting) ≡ Ok new → pointwise nat_eq id other ≡ false → verdict_due new other ≡ verdict_due content other
 own_alone content id other setting new made apart =
-    ap (λ (c : Content). verdict_of c other) (sym (accepted (one_refusal content.messages id setting) _ new made).1)
+    ap (λ (c : Content). verdict_due c other) (sym (accepted (one_refusal content.messages id setting) _ new made).1)
     ∙ ap (option_map (verdict_on content)) (others_stay id other (sample_with setting) content.messages apart)

@@ -15,7 +15,7 @@ use Rattle.script_names.specs.Name.{name_cmp}
 use Rattle.script_names.specs.declared.name.ScriptName.{ScriptName}
 use Rattle.sieve_delivery.specs.declared.envelope.Addresses.{Addresses}
 use Rattle.bench.specs.Content.{Content, Edit, Sample, after, new_content, put_script, put_message, unless, text_at, message_at, put_over, with_script, with_message, changed, are_long, is_long, is_long_id, script_refusal, message_refusal, set_for_all, set_for_one, sample_with, is_large, is_large_for_one, main_with, envelope_with}
-use Rattle.bench.specs.Edits.{IsInOrder, IsWithinLimits, AreAddressesWithin, AreOrdered, AreDistinct, made_or_old, content_after, message_edits, rebuild, envelope_edits}
+use Rattle.bench.specs.Edits.{IsInOrder, IsWithinLimits, AreAddressesWithin, AreOrdered, AreDistinctIds, made_or_old, content_after, message_edits, rebuild, envelope_edits}
 use Rattle.bench.specs.Test.{after_all, then_edit}
 use Rattle.sieve_profile.specs.Profile.{Profile}
 use Rattle.bench.specs.declared.fault.EditFault.{EditFault}
@@ -113,7 +113,7 @@ scripts_again content done (script ∷ rest) order few names texts =
 -- MESSAGES IN THEIR ORDER
 
 -- the ids before a message are others than its id
-ids_before : (done : List (List ℕ × Sample)) (message : List ℕ × Sample) (rest : List (List ℕ × Sample)) → AreDistinct (keys_of (done ++ message ∷ rest)) → AllByRecursion (λ id. pointwise nat_eq id message.0 ≡ false) (keys_of done)
+ids_before : (done : List (List ℕ × Sample)) (message : List ℕ × Sample) (rest : List (List ℕ × Sample)) → AreDistinctIds (keys_of (done ++ message ∷ rest)) → AllByRecursion (λ id. pointwise nat_eq id message.0 ≡ false) (keys_of done)
 unfolding IsDistinct
 ids_before [] message rest distinct = tt
 ids_before (first ∷ done) message rest distinct = (at done distinct.0, ids_before done message rest distinct.1)
@@ -186,7 +186,7 @@ short_own None within = refl
 short_own (Some addresses) within = short_addresses addresses within
 
 -- putting messages in their order puts each after those before it
-messages_again : (content : Content) (done rest : List (List ℕ × Sample)) → AreDistinct (keys_of (done ++ rest)) → length (done ++ rest) ≤ message_count_limit
+messages_again : (content : Content) (done rest : List (List ℕ × Sample)) → AreDistinctIds (keys_of (done ++ rest)) → length (done ++ rest) ≤ message_count_limit
     → All (λ id. length id ≤ id_limit) (keys_of rest) → All (λ sample. length sample.octets ≤ message_limit) (values_of rest) → All (λ sample. IfSome sample.expected (λ text. length text ≤ expected_limit)) (values_of rest)
     → All (λ sample. IfSome sample.addresses AreAddressesWithin) (values_of rest)
     → after_all (record content { messages = done }) (flat_map message_edits rest) ≡ Ok (record content { messages = done ++ rest })
@@ -194,7 +194,7 @@ messages_again content done [] distinct few ids octets texts own_ones = ap (λ m
 messages_again content done (message ∷ rest) distinct few ids octets texts own_ones =
     fold-append then_edit (Ok (record content { messages = done })) (message_edits message) (flat_map message_edits rest)
     ∙ ap (λ made. fold then_edit made (flat_map message_edits rest)) first
-    ∙ messages_again content (done ++ message ∷ []) rest (subst (λ messages. AreDistinct (keys_of messages)) (sym again) distinct) (subst (λ messages. length messages ≤ message_count_limit) (sym again) few)
+    ∙ messages_again content (done ++ message ∷ []) rest (subst (λ messages. AreDistinctIds (keys_of messages)) (sym again) distinct) (subst (λ messages. length messages ≤ message_count_limit) (sym again) few)
     (All-tail (λ id. length id ≤ id_limit) message.0 (keys_of rest) ids) (All-tail (λ s. length s.octets ≤ message_limit) message.1 (values_of rest) octets)
     (All-tail (λ s. IfSome s.expected (λ text. length text ≤ expected_limit)) message.1 (values_of rest) texts) (All-tail (λ s. IfSome s.addresses AreAddressesWithin) message.1 (values_of rest) own_ones)
     ∙ ap (λ messages. Ok (record content { messages = messages })) again

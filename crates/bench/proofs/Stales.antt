@@ -1,4 +1,4 @@
--- Worked rows of which messages are stale after an edit, and after a report that memory was refused to.
+-- Worked rows of which messages are stale after an edit, and after a report that is out of memory.
 use Rattle.std.proofs.Common.{◌≡◌, ℕ, ◌<◌, true, false, List, [], ◌∷◌, length, length-append, None, Some, Result, Ok, Err, nat_lt, refl, ap, codes, arith}
 use Rattle.date_text.specs.Zone.{west}
 use Rattle.sieve_limits.specs.Limits.{text_limit}
@@ -7,7 +7,7 @@ use Rattle.sieve_check.specs.Judgement.{judgement_of, sound, faulty}
 use Rattle.sieve_script.specs.Reading.{keep_leaf}
 use Rattle.sieve_script.specs.Script.{acts, no_commands}
 use Rattle.sieve_check.specs.declared.judged.FaultKind.{FaultKind}
-use Rattle.sieve_run.specs.Run.{outcome_of, exec}
+use Rattle.sieve_run.specs.Run.{verdict_of, exec}
 use Rattle.script_names.specs.declared.name.ScriptName.{ScriptName}
 use Rattle.sieve_profile.specs.Profile.{Profile}
 use Rattle.bench.specs.Bench.{RefusedAmong}
@@ -70,25 +70,25 @@ module _ (profile : Profile) where
   missing = bench ((y, codes "keep;") ∷ [])
 
   put_missing_row : touched missing (put_script main (codes "keep;")) ≡ both
-  unfolding ids_where outcome_of
+  unfolding ids_where verdict_of
   put_missing_row = refl
 
   put_unread_row : touched missing (put_script x (codes "keep;")) ≡ []
-  unfolding ids_where outcome_of
+  unfolding ids_where verdict_of
   put_unread_row = refl
 
   -- a rename touches the messages whose runs looked its new name up in vain
   rename_to_missing_row : touched missing (rename_script y main) ≡ both
-  unfolding ids_where outcome_of
+  unfolding ids_where verdict_of
   rename_to_missing_row = refl
 
   rename_unread_row : touched missing (rename_script y x) ≡ []
-  unfolding ids_where outcome_of
+  unfolding ids_where verdict_of
   rename_unread_row = refl
 
   -- to remove a script that isn't there is refused, and touches no message
   remove_missing_row : touched missing (remove_script main) ≡ []
-  unfolding ids_where outcome_of
+  unfolding ids_where verdict_of
   remove_missing_row = refl
 
   -- THE MAIN SCRIPT IS THERE
@@ -103,20 +103,21 @@ module _ (profile : Profile) where
 
   -- a main script whose text is past the limit, has a fault, or is one keep, looks up no other
   long_row : (text : List ℕ) → nat_lt text_limit (length text) ≡ true → IsAlone text
-  unfolding outcome_of
+  unfolding verdict_of
   long_row text long sample = rw long refl
 
   faulty_row : (text : List ℕ) (line : ℕ) (kind : FaultKind) → nat_lt text_limit (length text) ≡ false → judgement_of profile text ≡ faulty line kind → IsAlone text
-  unfolding outcome_of
+  unfolding verdict_of
   faulty_row text line kind short judged sample = rw (short, judged) refl
 
   keep_row : (text : List ℕ) → nat_lt text_limit (length text) ≡ false → judgement_of profile text ≡ sound (acts (keep_leaf None) 1 no_commands) → IsAlone text
-  unfolding outcome_of exec
+  unfolding verdict_of exec
   keep_row text short judged sample = rw (short, judged) refl
 
   -- rows where the main script has a text that looks up no other script
   module _ (text : List ℕ) (alone : IsAlone text) where
-    -- a script that no run looks up touches no message where it is put, put anew, removed or renamed, and the main script touches all
+    -- A script that no run looks up touches no message where it is put, put anew, removed or
+    -- renamed. The main script touches all.
     put_row : touched (present text) (put_script x (codes "keep;")) ≡ []
     unfolding ids_where
     put_row = simp alone
@@ -149,7 +150,8 @@ module _ (profile : Profile) where
     unfolding ids_where
     rename_main_row = simp alone
 
-    -- a refused edit leaves the stale messages: a rename to a name that is taken, and the removal of a message that isn't there
+    -- A refused edit leaves the stale messages. Such are a rename to a name that is taken, and the
+    -- removal of a message that isn't there.
     refused_rename_row : marks (present text) (rename_script y main) first ≡ first
     unfolding ids_where
     refused_rename_row = refl
@@ -172,7 +174,8 @@ module _ (profile : Profile) where
     unfolding ids_where
     stays_row = refl
 
-    -- a message that was stale is stale no more where it is removed, and stays stale where another is removed
+    -- A message that was stale is stale no more where it is removed. It stays stale where another
+    -- is removed.
     remove_message_row : marks (present text) (remove_message (codes "m1")) first ≡ []
     unfolding ids_where
     remove_message_row = refl
@@ -203,7 +206,7 @@ module _ (profile : Profile) where
     unfolding ids_where
     clear_main_row = refl
 
-    -- an edit of what is expected touches no message, and leaves the stale messages
+    -- an edit of an expected text touches no message, and leaves the stale messages
     expected_row : touched (present text) (set_for_one (codes "m1") (own.Expected (Some (codes "discard\n")))) ≡ []
     unfolding ids_where
     expected_row = refl
@@ -221,7 +224,7 @@ module _ (profile : Profile) where
     unfolding ids_where
     mailboxes_row = refl
 
-    -- an edit of the clock touches all messages, also where it leaves no clock to a bench that had none
+    -- an edit of the clock touches all messages, also where there is none before and after
     clock_row : touched (present text) (set_for_all (common.Clock (Some (record { seconds = 0; zone = west 0 })))) ≡ both
     unfolding ids_where
     clock_row = refl
@@ -230,7 +233,8 @@ module _ (profile : Profile) where
     unfolding ids_where
     no_clock_row = refl
 
-    -- an edit of a message's own addresses touches that message alone, also where it had none and has none then
+    -- an edit of a message's own addresses touches that message alone, also where it has none
+    -- before and after
     own_row : touched (present text) (set_for_one (codes "m2") (own.Addresses (Some (record { from = codes "a@b.example"; to = [] })))) ≡ codes "m2" ∷ []
     unfolding ids_where
     own_row = refl
@@ -247,16 +251,16 @@ module _ (profile : Profile) where
     unfolding ids_where
     refused_own_row = refl
 
--- A REPORT THAT MEMORY WAS REFUSED TO
+-- A REPORT THAT IS OUT OF MEMORY
 
--- a report that memory is refused to can't leave nothing stale
+-- a report that is out of memory can't leave nothing stale
 left_row : (old : List (List ℕ)) (runs later : ℕ) → RefusedAmong old [] runs later → ⊥
 left_row old runs later refused = omega (arith, refused.more)
 
--- a report that memory is refused to can't make more messages stale
+-- a report that is out of memory can't make more messages stale
 more_row : (old new : List (List ℕ)) (runs later : ℕ) → length old < length new → RefusedAmong old new runs later → ⊥
 more_row old new runs later more refused = omega (arith, ap length refused.whole, length-append refused.done new)
 
--- memory is refused to no report where nothing was stale
+-- no report is out of memory where nothing was stale
 none_row : (new : List (List ℕ)) (runs later : ℕ) → RefusedAmong [] new runs later → ⊥
 none_row new runs later refused = omega (arith, ap length refused.whole, length-append refused.done new, refused.more)

@@ -1,4 +1,4 @@
--- What is done to the scripts of a bench is done to their texts, and all stay of one profile.
+-- Each edit of a bench's scripts is the same edit of their texts, and all stay of one profile.
 use Rattle.std.proofs.Common.{◌≡◌, ℕ, List, [], ◌∷◌, ◌++◌, length, Bool, true, false, ◌&&◌, Option, Some, None, is_some, cond, refl, sym, ap, ap₂, ◌∙◌}
 use Rattle.std.proofs.lemmas.List.{length-map}
 use Rattle.std.proofs.lemmas.Map.Made.{lookup-map_values}
@@ -38,7 +38,7 @@ is_some-texts test es = ap is_some (lookup-texts test es) ∙ by (lookup test es
     by None = refl
     by (Some script) = refl
 
--- what is found by one order of names is found by another that is equal to it
+-- a lookup by one order of names finds the same as by another that is equal to it
 pub found_alike : {V : Type 0} (order other : ScriptName → Ordering) (names : List (ScriptName × V)) → ((name : ScriptName) → order name ≡ other name)
     → lookup (tree.is_at order) names ≡ lookup (tree.is_at other) names
 found_alike order other [] same = refl
@@ -58,7 +58,7 @@ inserted_alike cmp other (e ∷ es) name value same = rw (same name e.0, inserte
 abbrev pub scripts_of : Profile → List (ScriptName × List ℕ) → ScriptsState
 scripts_of profile scripts = record { profile = profile; scripts = scripts }
 
--- a script is put where its text is, and all are of the profile that it is of
+-- a script is put where its text is, and all scripts are of its profile
 module _ (cmp : ScriptName → ScriptName → Ordering) (name : ScriptName) (script : ScriptState) where
   pub texts-insert : (es : List (ScriptName × ScriptState)) → texts_of (tree.insert_entry cmp es name script) ≡ tree.insert_entry cmp (texts_of es) name script.text
   unfolding texts_of
@@ -114,7 +114,7 @@ of-found profile test (e ∷ es) script all found = by (test e.0) found (of-foun
     by true is rest = let same : e.1 ≡ script = cc in ap (λ (s : ScriptState). s.profile) (let back : script ≡ e.1 = cc in back) ∙ all.0
     by false is rest = rest is
 
--- of scripts of a profile the text is found with it
+-- of the scripts of a profile, one is found with its text and the profile
 pub found-whole : (profile : Profile) (test : ScriptName → Bool) (es : List (ScriptName × ScriptState)) → AreOf profile es
     → lookup test es ≡ option_map (λ text. record { profile = profile; text = text }) (lookup test (texts_of es))
 unfolding AreOf texts_of
@@ -147,7 +147,7 @@ sound-texts profile [] all = refl
 sound-texts profile (e ∷ es) all =
     ap₂ (λ (p : Profile) (b : Bool). is_sound (judgement_of p e.1.text) && b) all.0 (sound-texts profile es all.1)
 
--- what a library of these scripts has at a name is what is made of the script that is there
+-- a library of these scripts has at a name the lookup of the script that is there
 abbrev pub lookup_by : Option ScriptState → Lookup
 lookup_by None = missing
 lookup_by (Some script) = lookup_of script.profile (Some script.text)

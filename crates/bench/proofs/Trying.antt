@@ -1,4 +1,4 @@
--- What an edit that is tried answers.
+-- The answer of an edit that is tried.
 use Rattle.std.proofs.Common.{◌≡◌, Bool, true, false, ◌||◌, if◌then◌else◌, List, ℕ, Option, None, Some, is_none, is_some, refl}
 use Rattle.script_names.specs.declared.name.ScriptName.{ScriptName}
 use Rattle.bench.specs.Content.{is_long, rename_refusal, text_at}

@@ -30,12 +30,13 @@ not_past limit n is = grind (arith, nat_tests)
 not_full : (limit n : ℕ) → nat_le limit n ≡ false → n < limit
 not_full limit n is = grind (arith, nat_tests)
 
--- a count that was within a limit is within it where it is what it was, or one more where there was room
+-- A count stays within its limit where it doesn't grow. It does too where it grows by one and there
+-- was room.
 counted : (limit old new : ℕ) (fresh : Bool) → (fresh ≡ true → nat_le limit old ≡ false) → new ≤ suc old → (fresh ≡ false → new ≡ old) → old ≤ limit → new ≤ limit
 counted limit old new true room more same within = let below : old < limit = not_full limit old (room refl) in omega arith
 counted limit old new false room more same within = let is : new ≡ old = same refl in omega arith
 
--- a put that isn't refused isn't past its limits of size, and has room where what is put is new
+-- A put that isn't refused isn't past its limits of size. Where it is new, there is room for it.
 put_passes : (long large fresh full : Bool) (fault other : EditFault) → (if long || large then Some fault else if fresh && full then Some other else None) ≡ None → (long ≡ false) × (large ≡ false) × (fresh ≡ true → full ≡ false)
 put_passes true large fresh full fault other is = absurd cc
 put_passes false true fresh full fault other is = absurd cc
@@ -122,7 +123,8 @@ IsTextWithin expected = IfSome expected (λ text. length text ≤ expected_limit
 abbrev AreOwnWithin : Option Addresses → Type 0
 AreOwnWithin addresses = IfSome addresses AreAddressesWithin
 
--- what a put makes of what was there passes a test that a new message passes, and that octets don't change
+-- A test that a new message passes, and that other octets don't change, is still passed after a
+-- put.
 put_within : (P : Sample → Type 0) (bytes : List ℕ) (found : Option Sample) → P (put_over bytes None) → ((sample : Sample) → P sample → P (record sample { octets = bytes })) → IfSome found P → P (put_over bytes found)
 put_within P bytes None fresh stays within = fresh
 put_within P bytes (Some sample) fresh stays within = stays sample within

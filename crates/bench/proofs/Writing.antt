@@ -1,17 +1,17 @@
--- How a text that is written in several steps comes about.
+-- How a text is written in several steps.
 use Rattle.std.proofs.Common.{◌≡◌, ℕ, List, [], ◌++◌, sym, ap, ◌∙◌, append_assoc, append-nil, refl, Option, Result, Ok, Err, IsErr, ◌<◌, ◌+◌, length, get_or, drop, subst}
 use Rattle.std.specs.List.{flat_map}
 use Rattle.std.proofs.lemmas.List.{drop_more}
 use Rattle.devices.proofs.Writing.{last_of_three, middle_failed, wrote_nothing, wrote_both, wrote_then_front, wrote_front_of, writes_failed}
 use Rattle.devices.specs.Writers.{Wrote, WroteFront, Writes}
 
--- Between two states of a device all of a text was written, but for what is left.
+-- Between two states of a device all of a text was written, but for the part that is left.
 pub record Writing {S : Type 0} (contents : S → Option (List ℕ)) (fault_count : S → ℕ) (old new : S) (left all : List ℕ) : Type 0 where
   pub done : List ℕ
   pub wrote : Wrote contents fault_count old new done
   pub whole : done ++ left ≡ all
 
--- the texts of the items from one on are the text of that one, and those of the items after it
+-- the texts of the items from one on are the text of that one, and those of the items after
 flat_map-drop : {X : Type 0} (f : X → List ℕ) (xs : List X) (i : ℕ) (x : X) → i < length xs → x ≡ get_or xs i x → flat_map f (drop i xs) ≡ f x ++ flat_map f (drop (i + 1) xs)
 flat_map-drop f xs i x within is = rw (drop_more xs i x within) (ap (λ y. f y ++ flat_map f (drop (i + 1) xs)) (sym is))
 
@@ -23,7 +23,7 @@ begins contents fault_count s all = record {
   whole = refl;
 }
 
--- where the next part of a text is written, what is after the part is left
+-- where the next part of a text is written, the text after the part is left
 pub goes_on : {S : Type 0} (contents : S → Option (List ℕ)) (fault_count : S → ℕ) (a b c : S) (part left all : List ℕ)
     → Writing contents fault_count a b (part ++ left) all → Wrote contents fault_count b c part → Writing contents fault_count a c left all
 goes_on contents fault_count a b c part left all so_far step = record {
@@ -32,7 +32,7 @@ goes_on contents fault_count a b c part left all so_far step = record {
   whole = append_assoc so_far.done part left ∙ so_far.whole;
 }
 
--- a text is written on, where what is left begins with a part that was written
+-- a text is written on, where the text that is left begins with a part that was written
 pub goes_on_from : {S : Type 0} (contents : S → Option (List ℕ)) (fault_count : S → ℕ) (a b c : S) (part rest left all : List ℕ)
     → Writing contents fault_count a b left all → left ≡ part ++ rest → Wrote contents fault_count b c part → Writing contents fault_count a c rest all
 goes_on_from contents fault_count a b c part rest left all so_far cut step = goes_on contents fault_count a b c part rest all (rw (← cut) so_far) step
@@ -57,7 +57,7 @@ pub stops : {S T E : Type 0} (contents : S → Option (List ℕ)) (fault_count :
 stops contents fault_count r is_err a b c part rest left all so_far cut step =
     writes_failed contents fault_count r a c all is_err (breaks_off contents fault_count a b c part rest all (rw (← cut) so_far) step)
 
--- where the last part of a text is written, or fails to be, the same is so of the whole text
+-- where the last part of a text is written, or fails to be, so is the whole text
 pub ends_last : {S T E : Type 0} (contents : S → Option (List ℕ)) (fault_count : S → ℕ) (r : Result T E) (a b c : S) (part all : List ℕ)
     → Writing contents fault_count a b part all → Writes contents fault_count r b c part → Writes contents fault_count r a c all
 ends_last contents fault_count (Ok x) a b c part all so_far step =
@@ -70,13 +70,14 @@ pub goes_on_at : {S X : Type 0} (contents : S → Option (List ℕ)) (fault_coun
 goes_on_at contents fault_count a b c f xs i x all within is so_far step =
     goes_on contents fault_count a b c (f x) (flat_map f (drop (i + 1) xs)) all (rw (← flat_map-drop f xs i x within is) so_far) step
 
--- where the next item's text is written in part and its error is passed on, a front of the whole text was written
+-- The next item's text is written in part, and its error is passed on. So a front of the whole text
+-- was written.
 pub stops_at : {S T E X : Type 0} (contents : S → Option (List ℕ)) (fault_count : S → ℕ) (r : Result T E) → IsErr r → (a b c : S) (f : X → List ℕ) (xs : List X) (i : ℕ) (x : X) (all : List ℕ)
     → i < length xs → x ≡ get_or xs i x → Writing contents fault_count a b (flat_map f (drop i xs)) all → WroteFront contents fault_count b c (f x) → Writes contents fault_count r a c all
 stops_at contents fault_count r is_err a b c f xs i x all within is so_far step =
     stops contents fault_count r is_err a b c (f x) (flat_map f (drop (i + 1) xs)) _ all so_far (flat_map-drop f xs i x within is) step
 
--- For `using(..)` on a function that writes what stands before a line, the line, and its end.
+-- For `using(..)` on a function that writes the blanks before a line, the line, and its end.
 pub ruleset lines = (last_of_three, middle_failed, writes_failed, wrote_front_of)
 
 pub ruleset writing = (begins, goes_on, goes_on_at, ends, ends_last, breaks_off, stops, stops_at)

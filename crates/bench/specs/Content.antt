@@ -1,4 +1,4 @@
--- What a bench holds, and what an edit makes of it.
+-- The content of a bench, and how edits change it.
 use Rattle.std.specs.Prelude.{◌≡◌, ⊤, ℕ, Bool, false, List, [], ◌∷◌, length, Option, None, Some, Result, Ok, Err, if◌then◌else◌, ◌||◌, ◌&&◌, is_none, is_some, nat_lt, nat_le, nat_eq, codes}
 use Rattle.std.specs.Map.{lookup, remove_entry}
 use Rattle.std.specs.BTreeMap as tree
@@ -17,15 +17,16 @@ use Rattle.bench.specs.declared.setting.MessageSetting.TheVariants as own
 use Rattle.bench.specs.declared.setting.Setting.{Setting}
 use Rattle.bench.specs.declared.setting.Setting.TheVariants as common
 
--- a message's octets, the text that its verdict is expected to have, where there is one, and the addresses that the message has of its own, where
--- it has some
+-- A message's octets, the text that its verdict is expected to have, and the message's own
+-- addresses. It may have no such text and no such addresses.
 pub record Sample : Type 0 where
   pub octets : List ℕ
   pub expected : Option (List ℕ)
   pub addresses : Option Addresses
 
--- what is known beyond what always is, the main script's name, the envelope, the scripts in printing order with their texts,
--- and the messages in order by their ids
+-- The extensions that are known beyond those that always are, the main script's name and the
+-- envelope. The scripts are in printing order with their texts, and the messages in order by their
+-- ids.
 pub record Content : Type 0 where
   pub profile : Profile
   pub main : Option ScriptName
@@ -33,11 +34,13 @@ pub record Content : Type 0 where
   pub scripts : List (ScriptName × List ℕ)
   pub messages : List (List ℕ × Sample)
 
--- what a new bench of a profile holds: mail is kept in the INBOX, there are no other mailboxes, and there is no clock
+-- The content of a new bench of a profile. Mail is kept in the INBOX. There are no other mailboxes
+-- and no clock.
 abbrev pub new_content : Profile → Content
 new_content profile = record { profile = profile; main = None; envelope = record { from = []; to = []; mailbox = codes "INBOX"; mailboxes = []; clock = None }; scripts = []; messages = [] }
 
--- An edit: of a script, of a message, of a setting that all messages are judged with, or of one that a message has beside its octets.
+-- An edit: of a script, of a message, or of a setting. A setting is one that all messages are
+-- judged with, or one that a message has beside its octets.
 pub data Edit : Type 0 where
   put_script : (name : ScriptName) (text : List ℕ) → Edit
   put_message : (id bytes : List ℕ) → Edit
@@ -55,12 +58,13 @@ text_at scripts name = lookup (tree.is_at (name_cmp name)) scripts
 abbrev pub message_at : List (List ℕ × Sample) → List ℕ → Option Sample
 message_at messages id = lookup (pointwise nat_eq id) messages
 
--- what a put of octets makes of the message that was there, if one was: of that one is expected what was, and its addresses stay
+-- The message after a put of octets over the one that was there, if one was. Its expected text and
+-- its addresses stay.
 abbrev pub put_over : List ℕ → Option Sample → Sample
 put_over bytes None = record { octets = bytes; expected = None; addresses = None }
 put_over bytes (Some sample) = record sample { octets = bytes }
 
--- the scripts with this text at the name: in the place of the one there, or where it belongs in the order
+-- the scripts with this text at the name: in the place of the one there, or by its order
 abbrev pub with_script : ScriptName → List ℕ → List (ScriptName × List ℕ) → List (ScriptName × List ℕ)
 with_script name text scripts = tree.insert_entry name_cmp scripts name text
 
@@ -68,7 +72,7 @@ with_script name text scripts = tree.insert_entry name_cmp scripts name text
 abbrev pub with_message : List ℕ → List ℕ → List (List ℕ × Sample) → List (List ℕ × Sample)
 with_message id bytes messages = ordered.insert_entry (pointwise nat_eq) messages id (put_over bytes (message_at messages id))
 
--- what is said by ids, with what is at the id changed; the others stay as they are
+-- the values by ids, with the value at the id changed; the others stay as they are
 abbrev pub changed : {X : Type 0} → List ℕ → (X → X) → List (List ℕ × X) → List (List ℕ × X)
 changed id change [] = []
 changed id change (m ∷ ms) = if pointwise nat_eq id m.0 then (m.0, change m.1) ∷ ms else m ∷ changed id change ms
@@ -95,7 +99,7 @@ with_renamed from (Some text) to scripts = without_script from (with_script to t
 abbrev pub is_long : List ℕ → Bool
 is_long name = nat_lt name_limit (length name)
 
--- whether a message's id has
+-- whether a message's id has too many octets
 abbrev pub is_long_id : List ℕ → Bool
 is_long_id id = nat_lt id_limit (length id)
 
@@ -113,7 +117,7 @@ message_refusal messages id bytes =
     else if is_none (message_at messages id) && nat_le message_count_limit (length messages) then Some Full
     else None
 
--- the name to rename must be there, and the new one must not; they may not be the same
+-- the name to rename must be there, and the new one must not; so they may not be the same
 abbrev pub rename_refusal : List (ScriptName × List ℕ) → ScriptName → ScriptName → Option EditFault
 rename_refusal scripts from to =
     if is_long from.name || is_long to.name then Some TooLarge
@@ -138,7 +142,8 @@ absent_refusal messages id =
 abbrev pub are_long : List ℕ → List ℕ → Bool
 are_long from to = nat_lt address_limit (length from) || nat_lt address_limit (length to)
 
--- whether a setting has too many octets: the name of the main script, an address, a mailbox or the text of the list of mailboxes
+-- whether a setting has too many octets: a main script's name, an address, a mailbox or the list of
+-- mailboxes
 abbrev pub is_large : Setting → Bool
 is_large (common.Main None) = false
 is_large (common.Main (Some name)) = is_long name.name
@@ -181,7 +186,7 @@ abbrev pub unless : Option EditFault → Content → Result Content EditFault
 unless None content = Ok content
 unless (Some fault) content = Err fault
 
--- what an edit makes of the content, or why it is refused
+-- the content after an edit, or why the edit is refused
 abbrev pub after : Content → Edit → Result Content EditFault
 after content (put_script name text) = unless (script_refusal content.scripts name text) (record content { scripts = with_script name text content.scripts })
 after content (put_message id bytes) = unless (message_refusal content.messages id bytes) (record content { messages = with_message id bytes content.messages })
@@ -191,19 +196,19 @@ after content (remove_message id) = unless (absent_refusal content.messages id) 
 after content (set_for_all setting) = unless (setting_refusal setting) (record content { main = main_with setting content.main; envelope = envelope_with setting content.envelope })
 after content (set_for_one id setting) = unless (one_refusal content.messages id setting) (record content { messages = changed id (sample_with setting) content.messages })
 
--- what was found of a refusal: there is none, or it is this one
-abbrev pub Finds : Option EditFault → Result Unit EditFault → Type 0
-Finds refusal (Ok done) = refusal ≡ None
-Finds refusal (Err fault) = refusal ≡ Some fault
+-- the refusal that was found: there is none, or it is this one
+abbrev pub FindsRefusal : Option EditFault → Result Unit EditFault → Type 0
+FindsRefusal refusal (Ok done) = refusal ≡ None
+FindsRefusal refusal (Err fault) = refusal ≡ Some fault
 
--- an edit that takes no memory answers as it must
+-- an edit that is never out of memory answers a refusal exactly where it has one
 abbrev pub Answers : Result Content EditFault → Result Unit EditFault → Type 0
 Answers (Ok content) (Ok done) = ⊤
 Answers (Ok content) (Err fault) = ⊥
 Answers (Err refusal) (Ok done) = ⊥
 Answers (Err refusal) (Err fault) = fault ≡ refusal
 
--- an edit answers a refusal exactly where it has one, and else may only be refused for memory
+-- an edit answers a refusal exactly where it has one, and else may only be out of memory
 abbrev pub Refuses : Result Content EditFault → Result Unit EditFault → Type 0
 Refuses (Ok content) (Ok done) = ⊤
 Refuses (Ok content) (Err fault) = fault ≡ NoMemory

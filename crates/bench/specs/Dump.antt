@@ -4,7 +4,7 @@ use Rattle.sieve_limits.specs.Limits.{name_limit, text_limit}
 use Rattle.sieve_check.specs.Judgement.{Judgement, judgement_of, sound, faulty}
 use Rattle.sieve_script.specs.Script.{Commands}
 use Rattle.sieve_code.specs.Choice.{code_of}
-use Rattle.sieve_code.specs.Dump.{line_text}
+use Rattle.sieve_dump.specs.Dump.{line_text}
 use Rattle.sieve_code.specs.Operation.{Operation}
 use Rattle.script_names.specs.declared.name.ScriptName.{ScriptName}
 use Rattle.sieve_profile.specs.Profile.{Profile}
@@ -35,7 +35,8 @@ abbrev pub dump_text_by : Profile → ScriptName → List ℕ → Judgement → 
 dump_text_by profile name text (sound program) = script_code program
 dump_text_by profile name text (faulty line kind) = script_line profile (name, text)
 
--- what is printed of a text under a profile and a name: its code, or its script's line of a report where it has a fault
+-- The printed text of a script under a profile and a name. It is the script's code, or its line of
+-- a report where it has a fault.
 abbrev pub dump_text_of : Profile → ScriptName → List ℕ → List ℕ
 dump_text_of profile name text = dump_text_by profile name text (judgement_of profile text)
 
@@ -44,8 +45,10 @@ abbrev pub dump_end_of : Judgement → TestEnd
 dump_end_of (sound program) = test.Clean
 dump_end_of (faulty line kind) = test.Faulty
 
--- What an end says, where `whole` says that a text was written, `front` that a front of it was, and `nothing` that nothing was: that this was so of the
--- text of the dump, and the end is the due one; that name or text is too large; or that the writer failed, or memory was refused. `Full` is no end of a dump.
+-- How a dump ends. `whole` and `front` say that all or a front of a text was written, and `nothing`
+-- that nothing was. `Clean` and `Faulty`: all of the dump's text was written, and this is the due
+-- end. `TooLarge`: the name or the text is too large, and nothing was written. `Write`: a front of
+-- the text was written. `NoMemory`: nothing was written. `Full` is no end of a dump.
 abbrev pub DumpEnds : TestEnd → Profile → ScriptName → List ℕ → (List ℕ → Type 0) → (List ℕ → Type 0) → Type 0 → Type 0
 DumpEnds test.Clean profile name text whole front nothing = (is_too_large name text ≡ false) × (dump_end_of (judgement_of profile text) ≡ test.Clean) × whole (dump_text_of profile name text)
 DumpEnds test.Faulty profile name text whole front nothing = (is_too_large name text ≡ false) × (dump_end_of (judgement_of profile text) ≡ test.Faulty) × whole (dump_text_of profile name text)

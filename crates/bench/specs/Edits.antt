@@ -1,4 +1,5 @@
--- What edits in turn make of a content, what holds of each content that they make of a new bench's, and which edits make a content anew.
+-- Edits in turn, and the facts of each content that they make of a new bench's. The edits that make
+-- a content anew.
 use Rattle.std.specs.Prelude.{ℕ, ◌≤◌, List, [], ◌∷◌, ◌++◌, length, map, IfSome, Result, Ok, Err, nat_eq}
 use Rattle.std.specs.List.{All, IsDistinct, flat_map}
 use Rattle.std.specs.List.Sorted.{IsStrictlySortedBy}
@@ -26,20 +27,20 @@ unfoldable pub content_after : Content → List Edit → Content
 content_after content [] = content
 content_after content (edit ∷ edits) = content_after (made_or_old content (after content edit)) edits
 
--- WHAT EVERY CONTENT HAS
+-- FACTS OF EVERY CONTENT
 
 -- each script's name is below the names after it
 abbrev pub AreOrdered : List (ScriptName × List ℕ) → Type 0
 AreOrdered scripts = IsStrictlySortedBy name_cmp (keys_of scripts)
 
 -- no id is the same as one after it
-abbrev pub AreDistinct : List (List ℕ) → Type 0
-AreDistinct ids = IsDistinct (pointwise nat_eq) ids
+abbrev pub AreDistinctIds : List (List ℕ) → Type 0
+AreDistinctIds ids = IsDistinct (pointwise nat_eq) ids
 
 -- the scripts are in the order of their names, and no two messages have one id
 pub record IsInOrder (content : Content) : Type 0 where
   pub scripts : AreOrdered content.scripts
-  pub ids : AreDistinct (keys_of content.messages)
+  pub ids : AreDistinctIds (keys_of content.messages)
 
 -- no address of the envelope is longer than it may be, nor the mailbox, nor the list of mailboxes
 pub record IsEnvelopeWithin (envelope : Envelope) : Type 0 where
@@ -53,14 +54,14 @@ pub record AreAddressesWithin (addresses : Addresses) : Type 0 where
   pub from : length addresses.from ≤ address_limit
   pub to : length addresses.to ≤ address_limit
 
--- there are no more scripts than there may be, and no name and no text is longer than it may be
+-- There are no more scripts than there may be. No name and no text is longer than it may be.
 pub record AreScriptsWithin (scripts : List (ScriptName × List ℕ)) : Type 0 where
   pub count : length scripts ≤ script_count_limit
   pub names : All (λ name. length name.name ≤ name_limit) (keys_of scripts)
   pub texts : All (λ text. length text ≤ text_limit) (values_of scripts)
 
--- there are no more messages than there may be, and no id, no message, no text that is expected of one and no address that one has of its own is
--- longer than it may be
+-- There are no more messages than there may be. No id, no message and no expected text is longer
+-- than it may be. Nor is an address that a message has of its own.
 pub record AreMessagesWithin (messages : List (List ℕ × Sample)) : Type 0 where
   pub count : length messages ≤ message_count_limit
   pub ids : All (λ id. length id ≤ id_limit) (keys_of messages)
@@ -77,7 +78,7 @@ pub record IsWithinLimits (content : Content) : Type 0 where
 
 -- EDITS THAT MAKE A CONTENT ANEW
 
--- a message is put, and then what is expected of it, and its own addresses
+-- a message is put, and then its expected text and its own addresses are set
 abbrev pub message_edits : List ℕ × Sample → List Edit
 message_edits message = put_message message.0 message.1.octets ∷ set_for_one message.0 (own.Expected message.1.expected) ∷ set_for_one message.0 (own.Addresses message.1.addresses) ∷ []
 
@@ -87,8 +88,9 @@ envelope_edits envelope =
     set_for_all (common.Addresses (record { from = envelope.from; to = envelope.to })) ∷ set_for_all (common.Mailbox envelope.mailbox)
     ∷ set_for_all (common.Mailboxes envelope.mailboxes) ∷ set_for_all (common.Clock envelope.clock) ∷ []
 
--- all that a content has, as edits of a new bench: the scripts in their order, the messages in theirs, the addresses, the mailbox, the list of
--- mailboxes, the clock and the main script
+-- All that a content has, as edits of a new bench. The edits put the scripts in their order and the
+-- messages in theirs. Then they set the addresses, the mailbox, the list of mailboxes, the clock
+-- and the main script.
 unfoldable pub rebuild : Content → List Edit
 rebuild content =
     map (λ script. put_script script.0 script.1) content.scripts

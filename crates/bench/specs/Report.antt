@@ -11,9 +11,9 @@ use Rattle.sieve_delivery.specs.State.{Entered}
 use Rattle.sieve_delivery.specs.declared.envelope.Addresses.{Addresses}
 use Rattle.sieve_delivery.specs.declared.envelope.Envelope.{Envelope}
 use Rattle.sieve_run.specs.Library.{library_of}
-use Rattle.sieve_run.specs.Lines.{action_line, agrees, error_lines, implicit_lines, origin_line, lookup_lines, verdict_lines}
-use Rattle.sieve_run.specs.Run.{outcome_of}
-use Rattle.sieve_run.specs.Verdict.{Verdict}
+use Rattle.sieve_verdict.specs.Lines.{action_line, agrees, error_lines, implicit_lines, origin_line, lookup_lines, verdict_lines}
+use Rattle.sieve_run.specs.Run.{verdict_of}
+use Rattle.sieve_verdict.specs.Verdict.{Verdict}
 use Rattle.sieve_profile.specs.Extension.{extension_name, extensions}
 use Rattle.sieve_profile.specs.Profile.{Profile, has}
 use Rattle.sieve_profile.specs.declared.extension.Extension.{Extension}
@@ -29,7 +29,7 @@ main_line (Some name) = codes "main " ++ name_text name ++ codes "\n"
 unfoldable pub envelope_line : Envelope → List ℕ
 envelope_line envelope = codes "envelope " ++ quoted envelope.from ++ codes " " ++ quoted envelope.to ++ codes " mailbox " ++ quoted envelope.mailbox ++ codes "\n"
 
--- what is said of a text: that it has no fault, or the line and the kind of its first one
+-- the judgement of a text: that it has no fault, or the line and the kind of its first one
 abbrev pub judgement_text : Judgement → List ℕ
 judgement_text (sound _) = codes "ok"
 judgement_text (faulty line kind) = codes "line " ++ decimal line ++ codes " " ++ fault_word kind
@@ -43,7 +43,7 @@ unfoldable pub extensions_line : List Extension → List ℕ
 extensions_line [] = []
 extensions_line (extension ∷ more) = codes "with" ++ flat_map extension_text (extension ∷ more) ++ codes "\n"
 
--- after the second line: the names of what a profile has, in their order
+-- after the second line: the names of the extensions of a profile, in their order
 abbrev pub profile_line : Profile → List ℕ
 profile_line profile = extensions_line (filter (has profile) extensions)
 
@@ -64,7 +64,7 @@ mailboxes_line profile mailboxes = if has profile Mailbox then codes "mailboxes 
 unfoldable pub script_line : Profile → ScriptName × List ℕ → List ℕ
 script_line profile (name, text) = codes "script " ++ name_text name ++ codes " " ++ judgement_text (judgement_of profile text) ++ codes "\n"
 
--- what stands before each line of a message but its first
+-- the blanks before each line of a message but its first
 unfoldable pub indent : List ℕ
 indent = codes "  "
 
@@ -76,12 +76,13 @@ indented line = indent ++ line ++ codes "\n"
 abbrev pub traced_lines : Entered → List (List ℕ)
 traced_lines entry = action_line entry.action ∷ origin_line entry.origin ∷ []
 
--- the lines of what becomes of a message, as they are expected, or told line by line where each action comes from
+-- the lines of a verdict as they are expected, or with the line of its origin after each action
 abbrev pub told_lines : (traced : Bool) → (mailbox : List ℕ) → Verdict → List (List ℕ)
 told_lines false mailbox verdict = verdict_lines mailbox verdict
 told_lines true mailbox verdict = flat_map traced_lines verdict.entries ++ (implicit_lines mailbox verdict.implicit ++ error_lines verdict.error)
 
--- the lines of a verdict, with `lines` also of where each action comes from, and of the names that were looked up
+-- the lines of a verdict, with `lines` also of where each action comes from, and of the looked-up
+-- names
 abbrev pub verdict_text : Profile → (mailbox : List ℕ) → Verdict → List ℕ
 verdict_text profile mailbox verdict = flat_map indented (told_lines (has profile Lines) mailbox verdict ++ lookup_lines verdict)
 
@@ -93,14 +94,14 @@ message_line id = codes "message " ++ quoted id ++ codes "\n"
 unfoldable pub addresses_line : Addresses → List ℕ
 addresses_line addresses = codes "envelope " ++ quoted addresses.from ++ codes " " ++ quoted addresses.to
 
--- the second line of a message that has some
+-- the second line of a message that has addresses of its own
 abbrev pub addresses_text : Option Addresses → List ℕ
 addresses_text None = []
 addresses_text (Some addresses) = indented (addresses_line addresses)
 
--- a message that is judged: its id, the addresses that it has of its own, where it has some, the verdict on it, and the text that is expected of it,
--- where there is one
-pub record Judged : Type 0 where
+-- A message that is judged: its id, its own addresses, the verdict on it, and the verdict's
+-- expected text. It may have no addresses of its own, and no text may be expected.
+pub record JudgedMessage : Type 0 where
   pub id : List ℕ
   pub addresses : Option Addresses
   pub verdict : Verdict
@@ -116,7 +117,7 @@ abbrev pub expectation_text : (mailbox : List ℕ) → Verdict → Option (List 
 expectation_text mailbox verdict None = []
 expectation_text mailbox verdict (Some text) = indented (expectation_line (agrees mailbox verdict text))
 
--- what all messages are judged with
+-- the values that all messages are judged with
 pub record Site : Type 0 where
   pub profile : Profile
   pub main : Option ScriptName
@@ -124,7 +125,7 @@ pub record Site : Type 0 where
   pub scripts : List (ScriptName × List ℕ)
 
 -- the lines of a message with its verdict
-abbrev pub message_lines : Site → Judged → List ℕ
+abbrev pub message_lines : Site → JudgedMessage → List ℕ
 message_lines site judged =
     message_line judged.id
     ++ (addresses_text judged.addresses
@@ -136,15 +137,15 @@ site_of content = record { profile = content.profile; main = content.main; envel
 -- the verdict on a message, by its octets and its own addresses
 abbrev pub verdict_by : Site → Sample → Verdict
 verdict_by site sample =
-    outcome_of (library_of site.profile (text_at site.scripts)) site.main
+    verdict_of (library_of site.profile (text_at site.scripts)) site.main
     (record { message = sample.octets; envelope = site.envelope; own = sample.addresses; profile = site.profile })
 
 -- each message, judged
-unfoldable pub verdicts : Site → List (List ℕ × Sample) → List Judged
+unfoldable pub verdicts : Site → List (List ℕ × Sample) → List JudgedMessage
 verdicts site messages = map (λ e. record { id = e.0; addresses = e.1.addresses; verdict = verdict_by site e.1; expected = e.1.expected }) messages
 
 -- how many verdicts have an error
-abbrev pub error_count : List Judged → ℕ
+abbrev pub error_count : List JudgedMessage → ℕ
 error_count judged = count_by (λ j. is_some j.verdict.error) judged
 
 -- whether a text is expected of a verdict, and it has another
@@ -153,15 +154,16 @@ is_unlike mailbox verdict None = false
 is_unlike mailbox verdict (Some text) = not (agrees mailbox verdict text)
 
 -- how many verdicts are not as expected, where a text is expected of some message
-unfoldable pub unexpected_count : (mailbox : List ℕ) → List Judged → Option ℕ
+unfoldable pub unexpected_count : (mailbox : List ℕ) → List JudgedMessage → Option ℕ
 unexpected_count mailbox judged = if list_any (λ j. is_some j.expected) judged then Some (count_by (λ j. is_unlike mailbox j.verdict j.expected) judged) else None
 
--- the last line: how many messages there are, how many of them have an error, and, if that is printed, how many are not as expected
+-- The last line: how many messages there are and how many have an error. It also has how many are
+-- not as expected, if that is printed.
 unfoldable pub total_line : ℕ → ℕ → Option ℕ → List ℕ
 total_line messages errors None = codes "total " ++ decimal messages ++ codes " messages " ++ decimal errors ++ codes " errors\n"
 total_line messages errors (Some unexpected) = codes "total " ++ decimal messages ++ codes " messages " ++ decimal errors ++ codes " errors " ++ decimal unexpected ++ codes " unexpected\n"
 
--- the lines that are there by what a profile has
+-- the lines that depend on a profile's extensions
 unfoldable pub profile_lines : Profile → Envelope → List ℕ
 profile_lines profile envelope = profile_line profile ++ (clock_line profile envelope.clock ++ mailboxes_line profile envelope.mailboxes)
 
@@ -173,7 +175,7 @@ site_lines site =
     ++ (profile_lines site.profile site.envelope ++ flat_map (script_line site.profile) site.scripts))
 
 -- the report with these verdicts
-unfoldable pub report_with : Site → List Judged → List ℕ
+unfoldable pub report_with : Site → List JudgedMessage → List ℕ
 report_with site judged =
     site_lines site
     ++ (flat_map (message_lines site) judged

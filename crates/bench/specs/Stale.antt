@@ -1,11 +1,12 @@
--- Which messages are stale: the next report runs these. An edit makes those stale whose verdict it may change.
+-- Which messages are stale: the next report runs these. An edit makes those stale whose verdict it
+-- may change.
 use Rattle.octets.specs.Octet.{is_among}
 use Rattle.std.specs.Prelude.{ℕ, Bool, true, false, ◌&&◌, ◌||◌, List, map, filter, nat_eq, Option}
 use Rattle.std.specs.Option.{option_map}
 use lib.Pointwise.{pointwise}
 use Rattle.script_names.specs.declared.name.ScriptName.{ScriptName}
 use Rattle.sieve_run.specs.Run.{is_looked_up}
-use Rattle.sieve_run.specs.Verdict.{Verdict}
+use Rattle.sieve_verdict.specs.Verdict.{Verdict}
 use Rattle.bench.specs.Content.{Content, Edit, Sample, message_at, put_script, put_message, rename_script, remove_script, remove_message, set_for_all, set_for_one}
 use Rattle.bench.specs.declared.setting.MessageSetting.{MessageSetting}
 use Rattle.bench.specs.declared.setting.MessageSetting.TheVariants as own
@@ -16,14 +17,14 @@ abbrev pub verdict_on : Content → Sample → Verdict
 verdict_on content sample = verdict_by (site_of content) sample
 
 -- the verdict on the message of an id, where it is there
-abbrev pub verdict_of : Content → List ℕ → Option Verdict
-verdict_of content id = option_map (verdict_on content) (message_at content.messages id)
+abbrev pub verdict_due : Content → List ℕ → Option Verdict
+verdict_due content id = option_map (verdict_on content) (message_at content.messages id)
 
 -- whether the run on a message looks a name up, present or missing
 abbrev pub looks_up : Content → ScriptName → Sample → Bool
 looks_up content name sample = is_looked_up name (verdict_on content sample).lookups
 
--- whether a run sees a setting of its message; what is expected of it is no part of the run
+-- whether a run sees a setting of its message; the expected text is no part of the run
 abbrev pub is_seen : MessageSetting → Bool
 is_seen (own.Expected expected) = false
 is_seen (own.Addresses addresses) = true
@@ -42,7 +43,7 @@ touches content (set_for_one id setting) message = is_seen setting && pointwise 
 unfoldable pub ids_where : (List ℕ × Sample → Bool) → List (List ℕ × Sample) → List (List ℕ)
 ids_where test messages = map (λ m. m.0) (filter test messages)
 
--- the stale messages after an edit that makes a content of another, told by their ids in the list's order: of those that are there then,
--- those that the edit touches and those that were stale
+-- The stale messages after an edit from an old to a new content, by their ids in the list's order.
+-- They are those of the new content that the edit touches or that were stale.
 abbrev pub stale_after : Content → Edit → List (List ℕ) → Content → List (List ℕ)
 stale_after old edit stale new = ids_where (λ message. touches old edit message || is_among message.0 stale) new.messages

@@ -1,4 +1,4 @@
--- The test of a message: the edits that a job makes of a new bench, and how the report of that bench ends.
+-- The test of a message: the edits that a job makes of a new bench, and how its report ends.
 use Rattle.std.specs.Prelude.{◌≡◌, ◌⊎◌, ℕ, Bool, true, false, ◌&&◌, ◌==◌, if◌then◌else◌, List, [], ◌∷◌, ◌++◌, map, fold, Some, Result, Ok, Err, IsOkAnd}
 use Rattle.std.specs.List.{list_all}
 use Rattle.sieve_check.specs.Judgement.{Judgement, judgement_of, sound, faulty}
@@ -6,7 +6,7 @@ use Rattle.sieve_delivery.specs.declared.envelope.Envelope.{Envelope}
 use Rattle.sieve_run.specs.Meter.{next_run}
 use Rattle.bench.specs.Content.{Content, Edit, after, new_content, put_script, put_message, set_for_all}
 use Rattle.bench.specs.Edits.{envelope_edits}
-use Rattle.bench.specs.Report.{Judged, Site, error_count, report_text, site_of, verdicts}
+use Rattle.bench.specs.Report.{JudgedMessage, Site, error_count, report_text, site_of, verdicts}
 use Rattle.bench.specs.declared.fault.EditFault.{EditFault}
 use Rattle.bench.specs.declared.fault.EditFault.TheVariants as edit
 use Rattle.bench.specs.declared.setting.Setting.TheVariants as common
@@ -29,16 +29,16 @@ envelope_of job = record { from = job.from; to = job.to; mailbox = job.mailbox; 
 abbrev pub edits_of : TestJob → List Edit
 edits_of job = envelope_edits (envelope_of job) ++ (map put_of job.scripts.items ++ set_for_all (common.Main (Some job.main)) ∷ put_message job.id job.message ∷ [])
 
--- what comes of one edit more, unless one before it was refused
+-- the result of one edit more, unless one before it was refused
 abbrev pub then_edit : Result Content EditFault → Edit → Result Content EditFault
 then_edit (Ok content) edit = after content edit
 then_edit (Err refusal) edit = Err refusal
 
--- what edits in turn make of a content, or the refusal of the first one that is refused
+-- the content after edits in turn, or the refusal of the first one that is refused
 abbrev pub after_all : Content → List Edit → Result Content EditFault
 after_all content edits = fold then_edit (Ok content) edits
 
--- what the edits of a job make of a new bench of its profile, or the first refusal
+-- the content after the edits of a job on a new bench of its profile, or the first refusal
 unfoldable pub made_by : TestJob → Result Content EditFault
 made_by job = after_all (new_content job.profile) (edits_of job)
 
@@ -49,8 +49,9 @@ abbrev pub is_sound : Judgement → Bool
 is_sound (sound tree) = true
 is_sound (faulty line kind) = false
 
--- whether a report with these verdicts has nothing to complain of: each script's line says `ok`, and no message has an error
-abbrev pub is_clean_with : Site → List Judged → Bool
+-- Whether a report with these verdicts has nothing to complain of. Each script's line says `ok`,
+-- and no message has an error.
+abbrev pub is_clean_with : Site → List JudgedMessage → Bool
 is_clean_with site judged = list_all (λ e. is_sound (judgement_of site.profile e.1)) site.scripts && (error_count judged == 0)
 
 -- whether the report of a content has nothing to complain of
@@ -61,8 +62,10 @@ is_clean content = is_clean_with (site_of content) (verdicts (site_of content) c
 abbrev pub test_end_of : Content → TestEnd
 test_end_of content = if is_clean content then test.Clean else test.Faulty
 
--- What an end says, where `whole` says that a text was written, `front` that a front of it was, and `nothing` that nothing was: that this was so of the
--- report of what the edits of the job make, and the end is the due one; that their first refusal is this one; or that the writer failed, or memory was refused.
+-- How a test ends. `whole` and `front` say that all or a front of a text was written, and `nothing`
+-- that nothing was. `Clean` and `Faulty`: the job's edits make a content, its whole report was
+-- written, and this end is due. `TooLarge` and `Full`: this is the first refusal of the edits, and
+-- nothing was written. `Write`: a front of the report was written. `NoMemory`: nothing was written.
 abbrev pub TestEnds : TestEnd → TestJob → (List ℕ → Type 0) → (List ℕ → Type 0) → Type 0 → Type 0
 TestEnds test.Clean job whole front nothing = IsOkAnd (made_by job) (λ content. (test_end_of content ≡ test.Clean) × whole (report_text content))
 TestEnds test.Faulty job whole front nothing = IsOkAnd (made_by job) (λ content. (test_end_of content ≡ test.Faulty) × whole (report_text content))
@@ -71,8 +74,8 @@ TestEnds test.Full job whole front nothing = (made_by job ≡ Err edit.Full) × 
 TestEnds test.Write job whole front nothing = IsOkAnd (made_by job) (λ content. front (report_text content))
 TestEnds test.NoMemory job whole front nothing = nothing
 
--- How many runs of a job were made by an end: one where a report was made, and none where an edit was refused. Memory may have been refused to an edit, or,
--- where none of the job's edits is to be refused, to the report, whose run is counted then.
+-- The number of runs of a job by its end: one for a report, and none for a refused edit. Out of
+-- memory, there was no run, or one where none of the job's edits has a refusal.
 abbrev pub TestRuns : TestEnd → TestJob → ℕ → ℕ → Type 0
 TestRuns test.Clean job old new = new ≡ next_run old
 TestRuns test.Faulty job old new = new ≡ next_run old

@@ -4,7 +4,7 @@ ghost use Rattle.std.specs.Prelude.{◌≡◌, ⊤, [], IfOk, OnOk, IfErr, lengt
 ghost use Rattle.std.specs.Map as map;
 ghost use Rattle.std.specs.Option.{option_copied};
 ghost use Rattle.bench.specs.Bench.{RefusedAmong, Tries, TriesInPlace, verdict_at};
-ghost use Rattle.bench.specs.Edits.{AreDistinct};
+ghost use Rattle.bench.specs.Edits.{AreDistinctIds};
 ghost use Rattle.bench.specs.Stale.{ids_where};
 ghost use Rattle.devices.specs.Writers.{Wrote, WroteFront};
 ghost use Rattle.sieve_profile.specs.Profile.{empty_profile};
@@ -33,13 +33,14 @@ use named_list::NamedList;
 use octets::Octets;
 use script_names::ScriptName;
 use sieve_profile::Profile;
-use sieve_run::{Envelope, Found, Meter, Outcome, find};
+use sieve_run::{Envelope, Found, Meter, Verdict, find};
 use std::alloc::{AllocError, Global};
 use std::marker::Model;
 
-/// Scripts beside sample messages, with the main script's name and the envelope, and the verdicts that reports found and no edit has
-/// touched since. A message without such a verdict is stale: the next report runs it. Contracts see what a bench holds as plain data, and
-/// which messages are stale.
+/// Scripts beside sample messages, with the main script's name and the envelope. It keeps the
+/// verdicts that reports found and that no edit has touched since. A message without such a verdict
+/// is stale: the next report runs it. Contracts see the bench's content as plain data, and which
+/// messages are stale.
 #[derive(Drop)]
 pub struct Bench {
     pub(crate) alloc: Global,
@@ -73,15 +74,15 @@ impl Bench {
         self.alloc
     }
 
-    /// The profile that the bench was made with. Takes no memory.
+    /// The profile that the bench was made with.
     pub fn profile(&self) -> Profile
         ensures { result ≡ self.now.content.profile }
     {
         self.scripts.profile()
     }
 
-    /// A bench of the empty profile with no scripts, no messages, no main script, an empty envelope, the mailbox `INBOX`, no other
-    /// mailboxes, and no clock.
+    /// A bench of the empty profile with no scripts, no messages, no main script and no clock. Its
+    /// envelope is empty, its mailbox is `INBOX`, and there are no other mailboxes.
     pub fn new(alloc: Global) -> Result<Bench, AllocError>
         ensures content { IfOk result (λ bench. bench.content ≡ new_content empty_profile) }
         ensures stale { IfOk result (λ bench. bench.stale ≡ []) }
@@ -89,9 +90,9 @@ impl Bench {
         Bench::with_profile(alloc, Profile::new())
     }
 
-    /// A bench of a profile with no scripts, no messages, no main script, an empty envelope, the mailbox `INBOX`, no other
-    /// mailboxes, and no clock. It keeps its profile.
-    #[tactic(auto, unfolding(crate::specs::view::Entry::messages_of))]
+    /// A bench of a profile with no scripts, no messages, no main script and no clock. Its envelope
+    /// is empty, its mailbox is `INBOX`, and there are no other mailboxes. It keeps its profile.
+    #[tactic(auto, unfolding(crate::specs::view::MessageEntry::messages_of))]
     pub fn with_profile(alloc: Global, profile: Profile) -> Result<Bench, AllocError>
         ensures content { IfOk result (λ bench. bench.content ≡ new_content profile) }
         ensures stale { IfOk result (λ bench. bench.stale ≡ []) }
@@ -123,9 +124,9 @@ impl Bench {
         Ok(())
     }
 
-    /// Puts a message's octets at an id: a new id goes last, nothing is expected of its verdict, and
-    /// it has no addresses of its own; a present one keeps its place, the text that is expected, and
-    /// its own addresses.
+    /// Puts a message's octets at an id. A new id goes last: nothing is expected of its verdict,
+    /// and it has no addresses of its own. A present one keeps its place, the text that is
+    /// expected, and its own addresses.
     #[tactic(auto, using(crate::proofs::Entries::entries))]
     pub fn put_message(&mut self, id: Octets, bytes: Octets) -> Result<(), EditFault>
         ensures { Tries (edit.put_message id bytes) result self.old self.new }
@@ -147,7 +148,7 @@ impl Bench {
         Ok(())
     }
 
-    /// Removes a script. Takes no memory.
+    /// Removes a script.
     pub fn remove_script(&mut self, name: &ScriptName) -> Result<(), EditFault>
         ensures { TriesInPlace (edit.remove_script name.now) result self.old self.new }
     {
@@ -157,8 +158,8 @@ impl Bench {
         Ok(())
     }
 
-    /// Removes a message, what is expected of it, and its own addresses. The others stay in their
-    /// order. Takes no memory.
+    /// Removes a message, the text that is expected of it, and its own addresses. The others stay
+    /// in their order.
     #[tactic(auto, using(crate::proofs::Entries::entries))]
     pub fn remove_message(&mut self, id: &[u8]) -> Result<(), EditFault>
         ensures { TriesInPlace (edit.remove_message id.now) result self.old self.new }
@@ -168,13 +169,14 @@ impl Bench {
         Ok(())
     }
 
-    /// The verdict on the message of an id, as a report found it; none exactly where there is no such message or it is stale. Takes no
-    /// memory.
-    pub fn verdict(&self, id: &Octets) -> Option<&Outcome>
+    /// The verdict on the message of an id, as a report found it. There is none exactly where there
+    /// is no such message or it is stale.
+    pub fn verdict(&self, id: &Octets) -> Option<&Verdict>
         ensures due { option_copied result ≡ verdict_at self.now id.now }
         // No two messages have one id.
-        ensures ids { AreDistinct (map.keys_of self.now.content.messages) }
-        // The stale messages are some of those that are there, in the list's order; so each is listed once.
+        ensures ids { AreDistinctIds (map.keys_of self.now.content.messages) }
+        // The stale messages are some of those that are there, in the list's order. So each is
+        // listed once.
         ensures listed { self.now.stale
             ≡ ids_where (λ message. is_among message.0 self.now.stale) self.now.content.messages }
     {
@@ -184,18 +186,21 @@ impl Bench {
         }
     }
 
-    /// Runs the main script on each stale message, in the list's order, and writes the report. A report that memory is refused for writes
-    /// nothing, and the verdicts that were made are kept; one whose writer fails has written a front of the report, and all verdicts are
-    /// kept. The scripts, the messages and the settings stay as they are. Takes no memory where no message is stale.
+    /// Runs the main script on each stale message, in the list's order, and writes the report. A
+    /// report that is out of memory writes nothing, and the verdicts that were made are kept. One
+    /// whose writer fails has written a front of the report, and all verdicts are kept. The
+    /// scripts, the messages and the settings stay as they are. It is never out of memory where no
+    /// message is stale.
     pub fn report<W: Sink>(&mut self, meter: &mut Meter, writer: &mut W) -> Result<(), ReportFault>
         ensures ok { OnOk result
             (Wrote W.contents W.fault_count writer.old writer.new (report_text self.old.content)) }
-        // Nothing is written where memory is refused, and a front of the report where the writer fails.
+        // Nothing is written when out of memory, and a front of the report where the writer fails.
         ensures err { IfErr result (λ fault. MatchReportFault fault (writer.new ≡ writer.old)
             (WroteFront W.contents W.fault_count writer.old writer.new
             (report_text self.old.content))) }
         ensures content { self.new.content ≡ self.old.content }
-        // Each stale message was run once, and none is stale; where memory was refused the first ones were run.
+        // Each stale message was run once, and none is stale. When out of memory, the first ones
+        // were run.
         ensures stale { OnOk result (self.new.stale ≡ []) }
         ensures runs { OnOk result (meter.new ≡ runs_after (length self.old.stale) meter.old) }
         ensures at_fault { IfErr result (λ fault. MatchReportFault fault
@@ -231,7 +236,8 @@ impl Bench {
         is_clean(&site, &self.messages)
     }
 
-    /// The code of a script, as an `include` of that name finds it: a name of more than 1,024 octets has none.
+    /// The code of a script, as an `include` (RFC 6609, section 3.2) of that name finds it. A name
+    /// of more than 1,024 octets has none.
     pub fn code(&self, name: &ScriptName) -> Found<'_>
         ensures { FoundAs result (found_at
             (library_of self.now.content.profile (text_at self.now.content.scripts)) name.now) }

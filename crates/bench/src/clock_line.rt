@@ -29,7 +29,7 @@ fn write_clock<W: Sink>(clock: &Option<Clock>, writer: &mut W) -> Result<(), Wri
     }
 }
 
-/// Writes what time it is, where a profile asks for it.
+/// Writes the line of the clock, where a profile has `date`.
 pub(crate) fn write_clock_line<W: Sink>(
     profile: Profile,
     clock: &Option<Clock>,

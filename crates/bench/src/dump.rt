@@ -12,18 +12,20 @@ use devices::{Sink, WriteFault};
 use octets::Octets;
 use script_names::ScriptName;
 use sieve_code::Code;
+use sieve_dump::write_operation;
 use sieve_limits::{MAX_NAME, MAX_TEXT};
 use sieve_profile::Profile;
 use sieve_run::{Found, Script};
 use std::alloc::{AllocError, Global};
 
-/// Writes the lines of code, one operation a line. Where the writer fails, a front of them is written.
+/// Writes the lines of code, one operation a line. Where the writer fails, a front of them is
+/// written.
 pub fn write_code<W: Sink>(code: &Code, writer: &mut W) -> Result<(), WriteFault>
     ensures { Writes W.contents W.fault_count result writer.old writer.new
         (code_text (ops_of code.now)) }
 {
     for i in 0..code.len() {
-        code.dump_line(i, writer)?;
+        write_operation(code, i, writer)?;
     }
     Ok(())
 }
@@ -63,10 +65,13 @@ fn script_of(alloc: Global, profile: Profile, text: &[u8]) -> Result<Script, All
     Script::new(alloc, profile, Octets::copied(alloc, text)?)
 }
 
-/// Writes the code of a script's text under a profile, one operation a line, or the script's line of a report where the text has a fault.
+/// Writes the code of a script's text under a profile, one operation a line. Where the text has a
+/// fault, it writes the script's line of a report.
 ///
-/// `Clean` says that the code was written, and `Faulty` that the line was. `TooLarge`: the text has more than 1,048,576 octets, or the name
-/// more than 1,024; nothing was written. `Write`: the writer failed, and a front was written. `NoMemory`: nothing was written. Never `Full`.
+/// `Clean` says that the code was written, and `Faulty` that the line was. `TooLarge`: the text has
+/// more than 1,048,576 octets, or the name more than 1,024; nothing was written. `Write`: the
+/// writer failed, and a front was written. `NoMemory`: nothing was written. `Full` is never
+/// answered.
 pub fn dump_text<W: Sink>(
     alloc: Global,
     profile: Profile,

@@ -11,54 +11,55 @@ use crate::setting::MessageSetting;
 use crate::site::Site;
 use octets::Octets;
 use script_names::ScriptName;
-use sieve_run::{Addresses, Message, Meter, Outcome, run};
+use sieve_run::{Addresses, Message, Meter, Verdict, run};
 use std::alloc::{AllocError, Global};
 use std::marker::Model;
 
-/// A message with the text that its verdict is expected to have, where there is one, with the addresses that it has of its own, where it has some,
-/// and with the verdict on it, unless it is stale.
+/// A message with the text that its verdict is expected to have, where there is one. It may have
+/// addresses of its own. It has the verdict on it, unless it is stale.
 #[derive(Drop)]
-pub(crate) struct Entry {
+pub(crate) struct MessageEntry {
     pub(crate) message: Message,
     pub(crate) expected: Option<Octets>,
     pub(crate) addresses: Option<Addresses>,
-    pub(crate) kept: Option<Outcome>,
+    pub(crate) kept: Option<Verdict>,
 }
 
-/// A message's entry where it lies: a list of entries holds a pointer to each, which is little to move.
+/// A message's entry in a place of its own. A list of entries holds a pointer to each, which is
+/// little to move.
 #[derive(Drop)]
 pub(crate) struct EntryBox {
-    entry: Box<Entry>,
+    entry: Box<MessageEntry>,
 }
 
 impl Model for EntryBox {
-    ghost use Rattle.bench.specs.declared.entry.Entry.{Entry};
+    ghost use Rattle.bench.specs.declared.entry.MessageEntry.{MessageEntry};
 
-    ghost Value = { Entry };
+    ghost Value = { MessageEntry };
 
     ghost view = { λ b. b.entry.value };
 }
 
 /// Whether a run looked a name up, present or missing.
-fn looked_up(outcome: &Outcome, name: &ScriptName) -> bool
-    ensures { result ≡ is_looked_up name.now outcome.now.lookups }
+fn looked_up(verdict: &Verdict, name: &ScriptName) -> bool
+    ensures { result ≡ is_looked_up name.now verdict.now.lookups }
 {
-    outcome.lookups().contains_key(name)
+    verdict.lookups().contains_key(name)
 }
 
 /// Whether a text is expected of a verdict, and it has another.
-fn is_unlike(outcome: &Outcome, mailbox: &[u8], expected: Option<&Octets>) -> bool
-    ensures { result ≡ is_unlike mailbox.now outcome.now (option_copied expected.entry) }
+fn is_unlike(verdict: &Verdict, mailbox: &[u8], expected: Option<&Octets>) -> bool
+    ensures { result ≡ is_unlike mailbox.now verdict.now (option_copied expected.entry) }
 {
     match expected {
-        Some(text) => !outcome.agrees(mailbox, text.as_slice()),
+        Some(text) => !verdict.agrees(mailbox, text.as_slice()),
         None => false,
     }
 }
 
 impl EntryBox {
-    /// An entry in a place of its own.
-    pub(crate) fn new(alloc: Global, entry: Entry) -> Result<EntryBox, AllocError>
+    /// Puts an entry in a place of its own.
+    pub(crate) fn new(alloc: Global, entry: MessageEntry) -> Result<EntryBox, AllocError>
         ensures { IfOk result (λ held. held ≡ entry) }
     {
         Ok(EntryBox {
@@ -67,7 +68,7 @@ impl EntryBox {
     }
 
     /// The verdict, where it is kept.
-    pub(crate) fn kept(&self) -> Option<&Outcome>
+    pub(crate) fn kept(&self) -> Option<&Verdict>
         ensures { option_copied result ≡ self.now.kept }
     {
         self.entry.kept.as_ref()
@@ -94,7 +95,8 @@ impl EntryBox {
         self.entry.kept = None;
     }
 
-    /// Takes another message's place, of which is expected what was, and which keeps its own addresses. It is stale.
+    /// Puts another message in the place of this one. It keeps the expected text and its own
+    /// addresses. It is stale.
     pub(crate) fn renew(&mut self, message: Message)
         ensures { self.new ≡ renewed message self.old }
     {
@@ -102,7 +104,7 @@ impl EntryBox {
         self.entry.kept = None;
     }
 
-    /// Takes a setting of the message. It is stale where a run sees that.
+    /// Takes a setting of the message. The message is stale where a run sees the setting.
     pub(crate) fn take(&mut self, setting: MessageSetting)
         ensures { self.new ≡ entry_with setting self.old }
     {
@@ -119,8 +121,8 @@ impl EntryBox {
     pub(crate) fn forget_reader(&mut self, name: &ScriptName)
         ensures { self.new ≡ unread name.now self.old }
     {
-        if let Some(outcome) = &self.entry.kept {
-            if looked_up(outcome, name) {
+        if let Some(verdict) = &self.entry.kept {
+            if looked_up(verdict, name) {
                 self.entry.kept = None;
             }
         }
@@ -140,7 +142,7 @@ impl EntryBox {
         ensures ran { OnErr result (meter.new ≡ next_run meter.old) }
     {
         if self.entry.kept.is_none() {
-            let outcome = run(
+            let verdict = run(
                 alloc,
                 site.scripts,
                 site.main,
@@ -149,7 +151,7 @@ impl EntryBox {
                 &self.entry.message,
                 meter,
             )?;
-            self.entry.kept = Some(outcome);
+            self.entry.kept = Some(verdict);
         }
         Ok(())
     }
@@ -159,7 +161,7 @@ impl EntryBox {
         ensures { result ≡ has_error self.now.kept }
     {
         match &self.entry.kept {
-            Some(outcome) => outcome.error().is_some(),
+            Some(verdict) => verdict.error().is_some(),
             None => false,
         }
     }
@@ -176,7 +178,7 @@ impl EntryBox {
         ensures { result ≡ disagrees mailbox.now self.now.expected self.now.kept }
     {
         match &self.entry.kept {
-            Some(outcome) => is_unlike(outcome, mailbox, self.entry.expected.as_ref()),
+            Some(verdict) => is_unlike(verdict, mailbox, self.entry.expected.as_ref()),
             None => false,
         }
     }

@@ -5,8 +5,8 @@ ghost use Rattle.bench.specs.declared.fault.EditFault.TheVariants as edit;
 use std::alloc::AllocError;
 use thiserror::Error;
 
-/// Why an edit was refused. A refused edit changes nothing. Where several hold, the first of `TooLarge`,
-/// `NoSuchScript`, `NameTaken`, `NoSuchMessage`, `Full`, `NoMemory` is answered.
+/// Why an edit was refused. A refused edit changes nothing. Where several hold, the first of
+/// `TooLarge`, `NoSuchScript`, `NameTaken`, `NoSuchMessage`, `Full`, `NoMemory` is answered.
 #[derive(Clone, Copy, Debug, PartialEq, Eq, Error)]
 pub enum EditFault {
     /// There is no script of that name.
@@ -21,11 +21,12 @@ pub enum EditFault {
     /// There are 4,096 scripts, or 65,536 messages, and this is one more.
     #[error("the bench is full")]
     Full = 4,
-    /// A text or a list of mailboxes of more than 1,048,576 octets, a message of more than 16,777,216, an expected text of
-    /// more than 65,536, a name, an id or an address of more than 1,024, or a mailbox of more than 255.
+    /// Too many octets: more than 1,048,576 in a text or a list of mailboxes. Or more than
+    /// 16,777,216 in a message, 65,536 in an expected text, or 255 in a mailbox. Or more than 1,024
+    /// in a name, an id or an address.
     #[error("too large")]
     TooLarge = 5,
-    /// Memory was refused.
+    /// Out of memory.
     #[error("out of memory")]
     NoMemory = 6,
 }
@@ -41,7 +42,7 @@ impl From<AllocError> for EditFault {
 /// Why a report wasn't written.
 #[derive(Clone, Copy, Debug, PartialEq, Eq, Error)]
 pub enum ReportFault {
-    /// Memory was refused, and nothing was written.
+    /// Out of memory; nothing was written.
     #[error("out of memory")]
     NoMemory = 1,
     /// The writer failed, and a front of the report was written.

@@ -1,5 +1,5 @@
-//! Sieve scripts (RFC 5228) beside sample messages: the edits of them, a report of what every message would suffer,
-//! and the code of a script as text.
+//! Sieve scripts (RFC 5228) beside sample messages. It edits them, reports the verdict on every
+//! message, and writes the code of a script as text.
 #![tactic(auto)]
 
 mod bench;
@@ -11,6 +11,7 @@ pub mod laws;
 mod marking;
 mod message;
 mod messages;
+mod profile_line;
 mod refusal;
 mod report;
 mod report_lines;

@@ -1,4 +1,4 @@
-//! Which messages are marked stale. A mark takes no memory: it is the want of a kept verdict.
+//! Which messages are marked stale. A message without a kept verdict is stale.
 ghost use Rattle.std.specs.Prelude.{◌≡◌, MatchOption, map, slice_get};
 ghost use Rattle.std.specs.Map.{values_of};
 ghost use Rattle.indexmap.specs.Layout.{set_value_at};
@@ -45,7 +45,7 @@ pub(crate) fn forget_all(messages: &mut NamedList<EntryBox>)
     }
 }
 
-/// Marks those stale whose runs looked the name up.
+/// Marks the messages stale whose runs looked the name up.
 pub(crate) fn forget_readers(messages: &mut NamedList<EntryBox>, name: &ScriptName)
     ensures forgotten { ForgetsReaders name.now messages.old.entries messages.new.entries }
     ensures unique { IsUnique messages.new }

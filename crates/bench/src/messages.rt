@@ -1,17 +1,17 @@
-//! What edits do to the messages of a bench.
+//! Edits of the messages of a bench.
 ghost use Rattle.std.specs.Prelude.{◌≡◌, OnOk, OnErr};
 ghost use Rattle.named_list.specs.Named.{IsUnique};
 ghost use Rattle.bench.specs.Content.{changed};
 ghost use Rattle.bench.specs.view.Entry.{entry_with, put_entry, renewed};
 
-use crate::entry::{Entry, EntryBox};
+use crate::entry::{EntryBox, MessageEntry};
 use crate::setting::MessageSetting;
 use named_list::NamedList;
 use octets::Octets;
 use sieve_run::Message;
 use std::alloc::{AllocError, Global};
 
-/// Puts a message in the place of the one of its id. Takes no memory.
+/// Puts a message in the place of the one of its id.
 fn renew(messages: &mut NamedList<EntryBox>, id: &[u8], message: Message)
     ensures entries { messages.new.entries ≡ changed id.now (renewed message) messages.old.entries }
     ensures unique { IsUnique messages.new }
@@ -21,8 +21,8 @@ fn renew(messages: &mut NamedList<EntryBox>, id: &[u8], message: Message)
     }
 }
 
-/// Puts a message at an id: in the place of the one there, which keeps what is expected of it and its own addresses, or last. An error changes
-/// nothing.
+/// Puts a message at an id: in the place of the one there, or last. The one there keeps the text
+/// that is expected of it and its own addresses. An error changes nothing.
 pub(crate) fn put(
     alloc: Global,
     messages: &mut NamedList<EntryBox>,
@@ -37,7 +37,7 @@ pub(crate) fn put(
         renew(messages, id.as_slice(), message);
         return Ok(());
     }
-    let entry = Entry {
+    let entry = MessageEntry {
         message,
         expected: None,
         addresses: None,
@@ -46,7 +46,7 @@ pub(crate) fn put(
     messages.insert(id, EntryBox::new(alloc, entry)?)
 }
 
-/// Gives the message of an id a setting. Takes no memory.
+/// Gives the message of an id a setting.
 pub(crate) fn give(messages: &mut NamedList<EntryBox>, id: &[u8], setting: MessageSetting)
     ensures entries { messages.new.entries
         ≡ changed id.now (entry_with setting) messages.old.entries }

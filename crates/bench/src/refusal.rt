@@ -1,4 +1,4 @@
-//! Why an edit is refused, apart from memory.
+//! Why an edit is refused, apart from running out of memory.
 ghost use Rattle.std.specs.Prelude.{◌≡◌};
 ghost use Rattle.bench.specs.Content as spec;
 ghost use Rattle.bench.specs.view.Entry.{messages_of};
@@ -21,13 +21,13 @@ pub(crate) fn is_long(name: &Octets) -> bool
     name.as_slice().len() > MAX_NAME
 }
 
-/// Why a script isn't put, apart from memory.
+/// Why a script isn't put, apart from running out of memory.
 pub(crate) fn refuse_script(
     scripts: &Scripts,
     name: &ScriptName,
     text: &[u8],
 ) -> Result<(), EditFault>
-    ensures { spec.Finds (spec.script_refusal scripts.now.scripts name.now text.now) result }
+    ensures { spec.FindsRefusal (spec.script_refusal scripts.now.scripts name.now text.now) result }
 {
     if is_long(&name.name) || text.len() > MAX_TEXT {
         return Err(EditFault::TooLarge);
@@ -38,14 +38,14 @@ pub(crate) fn refuse_script(
     Ok(())
 }
 
-/// Why a message isn't put, apart from memory.
+/// Why a message isn't put, apart from running out of memory.
 #[tactic(auto, using(crate::proofs::Entries::entries))]
 pub(crate) fn refuse_message(
     messages: &NamedList<EntryBox>,
     id: &Octets,
     bytes: &[u8],
 ) -> Result<(), EditFault>
-    ensures { spec.Finds
+    ensures { spec.FindsRefusal
         (spec.message_refusal (messages_of messages.now.entries) id.now bytes.now) result }
 {
     if id.as_slice().len() > MAX_ID || bytes.len() > MAX_MESSAGE {
@@ -60,7 +60,7 @@ pub(crate) fn refuse_message(
 /// Why a message isn't removed.
 #[tactic(auto, using(crate::proofs::Entries::entries))]
 pub(crate) fn refuse_absent(messages: &NamedList<EntryBox>, id: &[u8]) -> Result<(), EditFault>
-    ensures { spec.Finds (spec.absent_refusal (messages_of messages.now.entries) id.now) result }
+    ensures { spec.FindsRefusal (spec.absent_refusal (messages_of messages.now.entries) id.now) result }
 {
     if id.len() > MAX_ID {
         Err(EditFault::TooLarge)
@@ -71,13 +71,13 @@ pub(crate) fn refuse_absent(messages: &NamedList<EntryBox>, id: &[u8]) -> Result
     }
 }
 
-/// Why a script isn't renamed, apart from memory.
+/// Why a script isn't renamed, apart from running out of memory.
 pub(crate) fn refuse_rename(
     scripts: &Scripts,
     from: &ScriptName,
     to: &ScriptName,
 ) -> Result<(), EditFault>
-    ensures { spec.Finds (spec.rename_refusal scripts.now.scripts from.now to.now) result }
+    ensures { spec.FindsRefusal (spec.rename_refusal scripts.now.scripts from.now to.now) result }
 {
     if is_long(&from.name) || is_long(&to.name) {
         Err(EditFault::TooLarge)
@@ -92,7 +92,7 @@ pub(crate) fn refuse_rename(
 
 /// Why a script isn't removed.
 pub(crate) fn refuse_remove_script(scripts: &Scripts, name: &ScriptName) -> Result<(), EditFault>
-    ensures { spec.Finds (spec.remove_script_refusal scripts.now.scripts name.now) result }
+    ensures { spec.FindsRefusal (spec.remove_script_refusal scripts.now.scripts name.now) result }
 {
     if is_long(&name.name) {
         Err(EditFault::TooLarge)
@@ -112,7 +112,7 @@ pub(crate) fn are_long(from: &[u8], to: &[u8]) -> bool
 
 /// Why a setting isn't taken.
 pub(crate) fn refuse_setting(setting: &Setting) -> Result<(), EditFault>
-    ensures { spec.Finds (spec.setting_refusal setting.now) result }
+    ensures { spec.FindsRefusal (spec.setting_refusal setting.now) result }
 {
     if setting.is_large() {
         Err(EditFault::TooLarge)
@@ -128,7 +128,7 @@ pub(crate) fn refuse_for_one(
     id: &[u8],
     setting: &MessageSetting,
 ) -> Result<(), EditFault>
-    ensures { spec.Finds
+    ensures { spec.FindsRefusal
         (spec.one_refusal (messages_of messages.now.entries) id.now setting.now) result }
 {
     if id.len() > MAX_ID || setting.is_large() {

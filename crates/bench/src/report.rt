@@ -1,4 +1,4 @@
-//! What a report runs, and what it writes (docs/FORMATS.md).
+//! The runs and the lines of a report (docs/FORMATS.md).
 ghost use Rattle.std.specs.Prelude.{◌≡◌, [], ◌∷◌, OnOk, OnErr, count_by, is_some, length};
 ghost use Rattle.std.specs.List.{flat_map, list_any};
 ghost use Rattle.named_list.specs.Named.{IsUnique};
@@ -13,10 +13,11 @@ ghost use Rattle.bench.specs.view.Entry.{KeepsDue, disagrees, judged_of, message
 
 use crate::clock_line::write_clock_line;
 use crate::entry::EntryBox;
+use crate::profile_line::write_profile;
 use crate::report_lines::{
     write_addresses, write_envelope, write_error_line, write_expectation, write_implicit_line,
-    write_mailboxes, write_main, write_message, write_profile, write_read_line, write_script,
-    write_told_entry, write_total,
+    write_mailboxes, write_main, write_message, write_read_line, write_script, write_told_entry,
+    write_total,
 };
 use crate::scripts::Scripts;
 use crate::site::Site;
@@ -24,7 +25,7 @@ use devices::{Sink, WriteFault};
 use named_list::NamedList;
 use octets::Octets;
 use sieve_profile::Profile;
-use sieve_run::{Envelope, Meter, Outcome};
+use sieve_run::{Envelope, Meter, Verdict};
 use std::alloc::{AllocError, Global};
 
 /// Runs the main script on the stale messages, in their order.
@@ -57,13 +58,13 @@ pub(crate) fn run_stale(
 #[tactic(auto, using(crate::proofs::Writing::writing))]
 fn write_told_actions<W: Sink>(
     traced: bool,
-    outcome: &Outcome,
+    verdict: &Verdict,
     writer: &mut W,
 ) -> Result<(), WriteFault>
     ensures { Writes W.contents W.fault_count result writer.old writer.new
-        (flat_map (told_text traced) outcome.now.entries) }
+        (flat_map (told_text traced) verdict.now.entries) }
 {
-    let entries = outcome.entries();
+    let entries = verdict.entries();
     for entry in entries {
         write_told_entry(traced, entry, writer)?;
     }
@@ -72,11 +73,11 @@ fn write_told_actions<W: Sink>(
 
 /// Writes the lines of the looked-up names.
 #[tactic(auto, using(crate::proofs::Writing::writing))]
-fn write_lookups<W: Sink>(outcome: &Outcome, writer: &mut W) -> Result<(), WriteFault>
+fn write_lookups<W: Sink>(verdict: &Verdict, writer: &mut W) -> Result<(), WriteFault>
     ensures { Writes W.contents W.fault_count result writer.old writer.new
-        (flat_map lookup_text outcome.now.lookups) }
+        (flat_map lookup_text verdict.now.lookups) }
 {
-    let lookups = outcome.lookups();
+    let lookups = verdict.lookups();
     for (name, is_present) in lookups {
         write_read_line(name, *is_present, writer)?;
     }
@@ -99,16 +100,16 @@ fn write_scripts<W: Sink>(scripts: &Scripts, writer: &mut W) -> Result<(), Write
 fn write_verdict<W: Sink>(
     traced: bool,
     envelope: &Envelope,
-    outcome: &Outcome,
+    verdict: &Verdict,
     writer: &mut W,
 ) -> Result<(), WriteFault>
     ensures { Writes W.contents W.fault_count result writer.old writer.new
-        (verdict_texts traced envelope.now.mailbox outcome.now) }
+        (verdict_texts traced envelope.now.mailbox verdict.now) }
 {
-    write_told_actions(traced, outcome, writer)?;
-    write_implicit_line(envelope, outcome, writer)?;
-    write_error_line(outcome, writer)?;
-    write_lookups(outcome, writer)
+    write_told_actions(traced, verdict, writer)?;
+    write_implicit_line(envelope, verdict, writer)?;
+    write_error_line(verdict, writer)?;
+    write_lookups(verdict, writer)
 }
 
 /// Writes the lines of a message, where its verdict is kept.
@@ -122,31 +123,31 @@ fn write_entry<W: Sink>(
         (flat_map (message_lines (site_as site.now)) (judged_of ((id.now, entry.now) ∷ []))) }
 {
     match entry.kept() {
-        Some(outcome) => write_judged(site, id, entry, outcome, writer),
+        Some(verdict) => write_judged(site, id, entry, verdict, writer),
         None => Ok(()),
     }
 }
 
-/// Writes the lines of a message with the verdict on it, and whether that is as it is expected to be.
+/// Writes the lines of a message with the verdict on it, and whether the verdict is as expected.
 fn write_judged<W: Sink>(
     site: &Site<'_>,
     id: &Octets,
     entry: &EntryBox,
-    outcome: &Outcome,
+    verdict: &Verdict,
     writer: &mut W,
 ) -> Result<(), WriteFault>
     ensures { Writes W.contents W.fault_count result writer.old writer.new
         (message_lines (site_as site.now) (record {
           id = id.now;
           addresses = entry.now.addresses;
-          verdict = outcome.now;
+          verdict = verdict.now;
           expected = entry.now.expected;
         })) }
 {
     write_message(id, writer)?;
     write_addresses(entry.addresses(), writer)?;
-    write_verdict(site.is_traced(), site.envelope, outcome, writer)?;
-    write_expectation(site.envelope, outcome, entry.expected(), writer)
+    write_verdict(site.is_traced(), site.envelope, verdict, writer)?;
+    write_expectation(site.envelope, verdict, entry.expected(), writer)
 }
 
 /// Writes the lines of all messages whose verdicts are kept.
@@ -165,7 +166,7 @@ fn write_kept<W: Sink>(
     Ok(())
 }
 
-/// How many of the verdicts that are kept have an error.
+/// The number of kept verdicts that have an error.
 fn error_count(messages: &NamedList<EntryBox>) -> usize
     ensures { result ≡ error_count (judged_of messages.now.entries) }
 {
@@ -182,7 +183,7 @@ fn are_expecting(messages: &NamedList<EntryBox>) -> bool
     messages.iter().any(|(_, entry)| entry.is_expecting())
 }
 
-/// How many of the verdicts that are kept are not as they are expected to be.
+/// The number of kept verdicts that are not as they are expected to be.
 fn unlike_count(mailbox: &[u8], messages: &NamedList<EntryBox>) -> usize
     ensures { result
         ≡ count_by (λ e. disagrees mailbox.now e.1.expected e.1.kept) messages.now.entries }
@@ -193,7 +194,7 @@ fn unlike_count(mailbox: &[u8], messages: &NamedList<EntryBox>) -> usize
         .count()
 }
 
-/// How many verdicts are not as expected, where a text is expected of some.
+/// The number of verdicts that are not as expected, where a text is expected of some.
 fn unexpected_count(mailbox: &[u8], messages: &NamedList<EntryBox>) -> Option<u64>
     requires { stale_of messages.now.entries ≡ [] }
     ensures { result ≡ unexpected_count mailbox.now (judged_of messages.now.entries) }
@@ -212,7 +213,7 @@ pub(crate) fn is_clean(site: &Site<'_>, messages: &NamedList<EntryBox>) -> bool
     site.scripts.are_sound() && error_count(messages) == 0
 }
 
-/// Writes the lines that are there by what a profile has.
+/// Writes the lines that depend on a profile's extensions.
 fn write_profile_lines<W: Sink>(
     profile: Profile,
     envelope: &Envelope,

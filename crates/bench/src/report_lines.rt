@@ -1,22 +1,21 @@
 //! The lines of a report, one by one.
-ghost use Rattle.std.specs.Prelude.{◌≡◌, [], ◌∷◌, ◌++◌, codes, filter};
-ghost use Rattle.std.specs.List.{flat_map, list_any};
+ghost use Rattle.std.specs.Prelude.{◌++◌, codes};
 ghost use Rattle.std.specs.Option.{option_copied};
 ghost use Rattle.devices.specs.Writers.{Writes};
-ghost use Rattle.bench.specs.Report.{addresses_line, addresses_text, main_line, envelope_line, extension_text, mailboxes_line, profile_line, script_line, indent, indented, message_line, expectation_line, expectation_text, total_line};
+ghost use Rattle.bench.specs.Report.{addresses_line, addresses_text, main_line, envelope_line, mailboxes_line, script_line, indent, indented, message_line, expectation_line, expectation_text, total_line};
 ghost use Rattle.bench.specs.view.Lines.{action_text, error_text, implicit_text, lookup_text, told_text};
 ghost use Rattle.sieve_delivery.specs.view.Actions.{entered_of};
-ghost use Rattle.sieve_profile.specs.Extension.{extensions};
-ghost use Rattle.sieve_profile.specs.Profile.{has};
-ghost use Rattle.sieve_run.specs.Lines.{error_line, implicit_line, origin_line};
+ghost use Rattle.sieve_verdict.specs.Lines.{error_line, implicit_line, origin_line};
 
 use devices::{Piece, Sink, WriteFault, write_out, write_pieces};
 use octets::Octets;
 use script_names::ScriptName;
-use sieve_profile::{EXTENSIONS, Extension, Profile};
+use sieve_profile::{Extension, Profile};
 use sieve_run::{
-    Action, Addresses, Entry, Envelope, FlagList, Origin, Outcome, RunError, Script, mailbox_count,
-    write_action, write_error, write_implicit, write_lookup, write_origin,
+    Action, Addresses, Entry, Envelope, FlagList, Origin, RunError, Script, mailbox_count,
+};
+use sieve_verdict::{
+    Verdict, write_action, write_error, write_implicit, write_lookup, write_origin,
 };
 
 /// Writes the line of the main script.
@@ -56,67 +55,7 @@ pub(crate) fn write_envelope<W: Sink>(envelope: &Envelope, writer: &mut W) -> Re
     )
 }
 
-/// Whether a profile has one of these extensions.
-fn has_any(profile: Profile, extensions: &[Extension]) -> bool
-    ensures { result ≡ list_any (has profile) extensions.now }
-{
-    extensions.iter().any(|extension| profile.has(*extension))
-}
-
-/// Writes the name of an extension that a profile has.
-fn write_extension<W: Sink>(
-    profile: Profile,
-    extension: Extension,
-    writer: &mut W,
-) -> Result<(), WriteFault>
-    ensures { Writes W.contents W.fault_count result writer.old writer.new
-        (flat_map extension_text (filter (has profile) (extension ∷ []))) }
-{
-    if profile.has(extension) {
-        write_pieces(&[Piece::Raw(b" "), Piece::Raw(extension.name())], writer)
-    } else {
-        write_out(b"", writer)
-    }
-}
-
-/// Writes the names of those of these extensions that a profile has.
-#[tactic(auto, using(crate::proofs::Writing::writing))]
-fn write_extensions<W: Sink>(
-    profile: Profile,
-    extensions: &[Extension],
-    writer: &mut W,
-) -> Result<(), WriteFault>
-    ensures { Writes W.contents W.fault_count result writer.old writer.new
-        (flat_map extension_text (filter (has profile) extensions.now)) }
-{
-    for extension in extensions {
-        write_extension(profile, *extension, writer)?;
-    }
-    Ok(())
-}
-
-/// Writes the line of a profile's names.
-fn write_names<W: Sink>(profile: Profile, writer: &mut W) -> Result<(), WriteFault>
-    ensures { Writes W.contents W.fault_count result writer.old writer.new (codes "with"
-        ++ (flat_map extension_text (filter (has profile) extensions) ++ codes "\n")) }
-{
-    write_out(b"with", writer)?;
-    write_extensions(profile, &EXTENSIONS, writer)?;
-    write_out(b"\n", writer)
-}
-
-/// Writes the line of a profile's names, where it has any.
-pub(crate) fn write_profile<W: Sink>(profile: Profile, writer: &mut W) -> Result<(), WriteFault>
-    ensures { Writes W.contents W.fault_count result writer.old writer.new (profile_line profile) }
-{
-    if has_any(profile, &EXTENSIONS) {
-        write_names(profile, writer)
-    } else {
-        write_out(b"", writer)
-    }
-}
-
-/// Writes how many names the list of mailboxes has, where a profile asks for it.
+/// Writes how many names the list of mailboxes has, where a profile has `mailbox`.
 pub(crate) fn write_mailboxes<W: Sink>(
     profile: Profile,
     mailboxes: &[u8],
@@ -218,7 +157,7 @@ pub(crate) fn write_addresses<W: Sink>(
     }
 }
 
-/// Writes what stands before each line of a message but its first.
+/// Writes the blanks before each line of a message but its first.
 #[tactic(auto, unfolding(crate::specs::Report::indent))]
 fn write_indent<W: Sink>(writer: &mut W) -> Result<(), WriteFault>
     ensures { Writes W.contents W.fault_count result writer.old writer.new indent }
@@ -280,16 +219,16 @@ fn write_kept_line<W: Sink>(
     write_out(b"\n", writer)
 }
 
-/// Writes the line of the implicit keep, where it stands.
+/// Writes the line of the implicit keep, where there is one.
 pub(crate) fn write_implicit_line<W: Sink>(
     envelope: &Envelope,
-    outcome: &Outcome,
+    verdict: &Verdict,
     writer: &mut W,
 ) -> Result<(), WriteFault>
     ensures { Writes W.contents W.fault_count result writer.old writer.new
-        (implicit_text envelope.now.mailbox outcome.now.implicit) }
+        (implicit_text envelope.now.mailbox verdict.now.implicit) }
 {
-    match outcome.implicit() {
+    match verdict.implicit() {
         Some(flags) => write_kept_line(envelope.mailbox.as_slice(), flags, writer),
         None => write_out(b"", writer),
     }
@@ -307,11 +246,11 @@ fn write_failed_line<W: Sink>(error: &RunError, writer: &mut W) -> Result<(), Wr
 }
 
 /// Writes the line of the error, where there is one.
-pub(crate) fn write_error_line<W: Sink>(outcome: &Outcome, writer: &mut W) -> Result<(), WriteFault>
+pub(crate) fn write_error_line<W: Sink>(verdict: &Verdict, writer: &mut W) -> Result<(), WriteFault>
     ensures { Writes W.contents W.fault_count result writer.old writer.new
-        (error_text outcome.now.error) }
+        (error_text verdict.now.error) }
 {
-    match outcome.error() {
+    match verdict.error() {
         Some(error) => write_failed_line(error, writer),
         None => write_out(b"", writer),
     }
@@ -348,17 +287,17 @@ fn write_agreement<W: Sink>(agrees: bool, writer: &mut W) -> Result<(), WriteFau
 /// Writes whether a verdict is as it is expected to be, where a text is expected.
 pub(crate) fn write_expectation<W: Sink>(
     envelope: &Envelope,
-    outcome: &Outcome,
+    verdict: &Verdict,
     expected: Option<&Octets>,
     writer: &mut W,
 ) -> Result<(), WriteFault>
     ensures { Writes W.contents W.fault_count result writer.old writer.new
-        (expectation_text envelope.now.mailbox outcome.now (option_copied expected.entry)) }
+        (expectation_text envelope.now.mailbox verdict.now (option_copied expected.entry)) }
 {
     match expected {
         Some(text) => {
             write_agreement(
-                outcome.agrees(envelope.mailbox.as_slice(), text.as_slice()),
+                verdict.agrees(envelope.mailbox.as_slice(), text.as_slice()),
                 writer,
             )
         }
@@ -366,7 +305,8 @@ pub(crate) fn write_expectation<W: Sink>(
     }
 }
 
-/// Writes the last line: how many messages there are, how many of them have an error, and, if that is printed, how many are not as expected.
+/// Writes the last line: how many messages there are and how many have an error. It also has how
+/// many are not as expected, if that is printed.
 pub(crate) fn write_total<W: Sink>(
     messages: u64,
     errors: u64,

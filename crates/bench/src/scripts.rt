@@ -19,7 +19,8 @@ use std::alloc::{AllocError, Global};
 use std::collections::BTreeMap;
 use std::marker::Model;
 
-/// The scripts of a bench, in the order of their names, all of one profile. Contracts see the profile and the names, each with its text.
+/// The scripts of a bench, in the order of their names, all of one profile. Contracts see the
+/// profile and the names, each with its text.
 #[derive(Drop)]
 pub(crate) struct Scripts {
     profile: Profile,
@@ -57,7 +58,7 @@ impl Scripts {
     ghost use Rattle.bench.specs.view.Scripts.{AreOf, script_at, texts_of};
     ghost use Rattle.bench.specs.view.Site.{ForgetsReaders};
 
-    /// No scripts, of a profile. Takes no memory.
+    /// No scripts, of a profile.
     pub(crate) fn new(alloc: Global, profile: Profile) -> Scripts
         ensures { result ≡ record { profile = profile; scripts = [] } }
     {
@@ -67,14 +68,14 @@ impl Scripts {
         }
     }
 
-    /// The profile of all.
+    /// The profile of all scripts.
     pub(crate) fn profile(&self) -> Profile
         ensures { result ≡ self.now.profile }
     {
         self.profile
     }
 
-    /// How many there are.
+    /// The number of scripts.
     pub(crate) fn len(&self) -> usize
         ensures { result ≡ length self.now.scripts }
     {
@@ -104,7 +105,7 @@ impl Scripts {
         are_all_sound(&self.by_name)
     }
 
-    /// Keeps a script of the profile at a name, in place of the one there, and marks the messages stale
+    /// Keeps a script of the profile at a name, in place of the one there. Marks the messages stale
     /// whose runs looked the name up. An error changes nothing.
     fn keep(
         &mut self,
@@ -136,7 +137,7 @@ impl Scripts {
         }
     }
 
-    /// Puts a text at a name, in place of the one there, and marks the messages stale whose runs looked
+    /// Puts a text at a name, in place of the one there. Marks the messages stale whose runs looked
     /// the name up. An error changes nothing.
     pub(crate) fn put(
         &mut self,
@@ -157,8 +158,8 @@ impl Scripts {
         self.keep(messages, name, script)
     }
 
-    /// Puts the text at one name at another, marks the messages stale whose runs looked the other up,
-    /// and then removes the first. An error changes nothing.
+    /// Puts the text at one name at another, and then removes the first name. Marks the messages
+    /// stale whose runs looked the other up. An error changes nothing.
     pub(crate) fn rename(
         &mut self,
         alloc: Global,

@@ -1,4 +1,5 @@
-//! What all messages of a bench are judged with, and what one message has beside its octets.
+//! The settings that all messages of a bench are judged with, and those that one message has beside
+//! its octets.
 ghost use Rattle.std.specs.Prelude.{◌≡◌};
 ghost use Rattle.bench.specs.Content.{envelope_with, is_large, is_large_for_one, main_with};
 
@@ -18,11 +19,13 @@ pub enum Setting {
     Addresses(Addresses),
     /// The mailbox that mail is kept in.
     Mailbox(Octets),
-    /// The list of mailboxes that `mailboxexists` asks (RFC 5490, section 3.1): a text of 1,048,576 octets at most, with a name a line, whose
-    /// lines are those of an expected text. An empty line names none.
+    /// The list of mailboxes that `mailboxexists` asks (RFC 5490, section 3.1). It is a text of
+    /// 1,048,576 octets at most, with a name on each line; an empty line names none. It is cut into
+    /// lines as an expected text is.
     Mailboxes(Octets),
-    /// The clock, or none: the time that `currentdate` asks for, and the zone in which dates are shown where a test names none (RFC 5260,
-    /// sections 4.1 and 5). Without one no `currentdate` finds a date.
+    /// The clock, or none (RFC 5260, sections 4.1 and 5). It is the time that `currentdate` asks
+    /// for, and the zone of dates in tests that name none. Without a clock no `currentdate` finds a
+    /// date.
     Clock(Option<Clock>),
 }
 
@@ -31,12 +34,13 @@ pub enum Setting {
 pub enum MessageSetting {
     /// The text that is expected of its verdict, or none. No run sees it.
     Expected(Option<Octets>),
-    /// Addresses of its own, each of 1,024 octets at most, by which it is judged in place of the bench's, or none.
+    /// Addresses of its own, each of 1,024 octets at most, or none. It is judged by these in place
+    /// of the bench's.
     Addresses(Option<Addresses>),
 }
 
 impl Setting {
-    /// Whether it is past its limit.
+    /// Whether the setting is past its limit.
     pub(crate) fn is_large(&self) -> bool
         ensures { result ≡ is_large self.now }
     {
@@ -52,7 +56,7 @@ impl Setting {
         }
     }
 
-    /// Puts it in the place of the one before.
+    /// Puts the setting in the place of the one before.
     pub(crate) fn apply(self, main: &mut Option<ScriptName>, envelope: &mut Envelope)
         ensures main { main.new ≡ main_with self main.old }
         ensures envelope { envelope.new ≡ envelope_with self envelope.old }
@@ -71,7 +75,7 @@ impl Setting {
 }
 
 impl MessageSetting {
-    /// Whether it is past its limit.
+    /// Whether the setting is past its limit.
     pub(crate) fn is_large(&self) -> bool
         ensures { result ≡ is_large_for_one self.now }
     {

@@ -1,4 +1,4 @@
-//! What all messages of a bench are judged with.
+//! The values that all messages of a bench are judged with.
 ghost use Rattle.std.specs.Prelude.{◌≡◌};
 ghost use Rattle.sieve_profile.specs.Profile.{has};
 ghost use Rattle.sieve_profile.specs.declared.extension.Extension.TheVariants.{Lines};
@@ -9,7 +9,7 @@ use script_names::ScriptName;
 use sieve_profile::Extension;
 use sieve_run::Envelope;
 
-/// What all messages of a bench are judged with. The scripts have the profile.
+/// The values that all messages of a bench are judged with. The scripts have the profile.
 #[derive(Drop)]
 pub(crate) struct Site<'a> {
     pub(crate) main: Option<&'a ScriptName>,

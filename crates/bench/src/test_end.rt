@@ -6,7 +6,8 @@ pub enum TestEnd {
     Clean = 0,
     /// A script has a fault, or a message an error.
     Faulty = 1,
-    /// A text, a name, a message, its id, an address, a mailbox or the list of mailboxes is past its limit.
+    /// A text, a name, a message, its id or an address is past its limit. Or a mailbox or the list
+    /// of mailboxes is.
     TooLarge = 2,
     /// There are more scripts than a bench holds.
     Full = 3,

@@ -1,4 +1,4 @@
-//! What the test of a message is given.
+//! The input of a message's test.
 use date_text::Clock;
 use octets::Octets;
 use script_names::ScriptName;
@@ -13,10 +13,10 @@ pub struct TestScript {
     pub text: Octets,
 }
 
-/// What is tested: a message, the scripts that are run on it, and the envelope.
+/// The input of a test: a message, the scripts that are run on it, and the envelope.
 #[derive(Drop)]
 pub struct TestJob {
-    /// What is known beyond what always is.
+    /// The extensions that are known beyond those that always are.
     pub profile: Profile,
     /// The sender's address, of at most 1,024 octets; empty where there is none.
     pub from: Octets,
@@ -24,11 +24,13 @@ pub struct TestJob {
     pub to: Octets,
     /// The mailbox that `keep` stores into, of at most 255 octets.
     pub mailbox: Octets,
-    /// The list of mailboxes that `mailboxexists` asks, a name a line, of at most 1,048,576 octets.
+    /// The list of mailboxes that `mailboxexists` asks (RFC 5490, section 3.1), with a name on each
+    /// line. It has 1,048,576 octets at most.
     pub mailboxes: Octets,
-    /// What time it is, where that is known.
+    /// The time and its zone, where they are known.
     pub clock: Option<Clock>,
-    /// The scripts in the order in which they are put, 4,096 names at most. A later one takes the place of one of its name.
+    /// The scripts in the order in which they are put, 4,096 names at most. A later one takes the
+    /// place of one of its name.
     pub scripts: Vec<TestScript>,
     /// The script that is run, which need not be among the others.
     pub main: ScriptName,

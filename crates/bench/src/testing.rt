@@ -20,7 +20,8 @@ use octets::Octets;
 use sieve_run::{Addresses, Meter};
 use std::alloc::Global;
 
-/// Makes the settings of a job: the addresses, then the mailbox, then the list of mailboxes, then the clock.
+/// Makes the settings of a job: the addresses, then the mailbox, then the list of mailboxes, then
+/// the clock.
 fn set_delivery(bench: &mut Bench, job: &TestJob) -> Result<(), EditFault>
     ensures ok { OnOk result (after_all bench.old.content (envelope_edits (envelope_of job.now))
         ≡ Ok bench.new.content) }
@@ -134,13 +135,16 @@ fn report_end<W: Sink>(bench: &mut Bench, meter: &mut Meter, writer: &mut W) -> 
     }
 }
 
-/// Makes the edits of a job on a new bench of its profile, in the order envelope, mailbox, list of mailboxes, clock,
-/// scripts, main script, message, and writes the report of that bench.
+/// Makes the edits of a job on a new bench of its profile, and writes the report of that bench. The
+/// edits are in the order envelope, mailbox, list of mailboxes, clock, scripts, main script,
+/// message.
 ///
-/// `Clean` says that the report was written, that no script has a fault, and that the message has no error; `Faulty` that it was written and one of them has.
-/// `TooLarge` and `Full` are the refusal of the first edit that is refused; nothing was written. `Write`: the writer failed, and a front of the report was
-/// written. `NoMemory`: memory was refused to the bench, an edit or the report; nothing was written. The meter counts one run for a report, also for one
-/// that memory was refused to.
+/// `Clean` says that the report was written, that no script has a fault, and that the message has
+/// no error. `Faulty` says that it was written and that a script has a fault or the message an
+/// error. `TooLarge` and `Full` are the refusal of the first edit that is refused; nothing was
+/// written. `Write`: the writer failed, and a front of the report was written. `NoMemory`: the
+/// bench, an edit or the report was out of memory; nothing was written. The meter counts one run
+/// for a report, also for one that was out of memory.
 pub fn test_bench<W: Sink>(
     alloc: Global,
     job: &TestJob,

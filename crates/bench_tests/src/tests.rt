@@ -1,7 +1,8 @@
-//! The bench's public calls: what they answer with ample memory, at their limits, and over devices that fail.
+//! The bench's public calls: their answers with ample memory, at their limits, and over devices
+//! that fail.
 //!
-//! What octets alone tell, as sessions with their replies and scripts with their verdicts, stands in `examples/rows` and is made in
-//! `tools/checks`.
+//! Tests that need only octets are in `examples/rows`, and `tools/checks` runs them. They are
+//! sessions with their replies, and scripts with their verdicts.
 
 mod failing_reads;
 mod failing_writes;
@@ -25,7 +26,7 @@ const TURNS: u64 = 1_000_000;
 const SESSION: &[u8] =
     b"script personal main 9\ndiscard;\nmessage m1 0\nmain personal main\nreport\n";
 
-/// What the session writes: 159 octets.
+/// The octets that the session writes: 159 octets.
 const REPLIES: &[u8] =
     b"ok\nok\nok\nmain personal \"main\"\nenvelope \"\" \"\" mailbox \"INBOX\"\nscript personal \"main\" ok\nmessage \"m1\"\n  discard\n  read personal \"main\"\ntotal 1 messages 0 errors\n";
 
@@ -33,7 +34,7 @@ const REPLIES: &[u8] =
 const REPORT: &[u8] =
     b"main none\nenvelope \"\" \"\" mailbox \"INBOX\"\ntotal 0 messages 0 errors\n";
 
-/// What is compared, and two numbers that tell its row from others.
+/// The name of a comparison, and two numbers that tell its row from others.
 type At<'a> = (&'a str, u64, u64);
 
 /// Asserts what must hold of a row.
@@ -41,12 +42,12 @@ fn holds(rt: &impl Abort, (what, first, second): At<'_>, condition: bool) {
     assert!(rt; condition, "{what} at {first}, {second}");
 }
 
-/// Compares what came of a row with what is wanted.
+/// Compares the result of a row with the wanted one.
 fn same(rt: &impl Abort, (what, first, second): At<'_>, got: &[u8], wanted: &[u8]) {
     assert_eq!(rt; got, wanted, "{what} at {first}, {second}");
 }
 
-/// Reports, and compares the text.
+/// Makes a report, and compares its text.
 fn check_report(
     rt: &(impl AllocGlobal + Abort),
     bench: &mut Bench,

@@ -1,5 +1,6 @@
-//! Tests of what the libraries of scripts offer that the program doesn't print: checked scripts, numbers of refusals, and runs over a
-//! shelf. They stand in a crate of their own, so that no library is proved twice for the sake of its tests.
+//! Tests of results of the script libraries that the program doesn't print. They are checked
+//! scripts, numbers of refusals, and runs over a shelf. The tests are in a crate of their own, so
+//! that no library is proved again for them.
 #![tactic(auto)]
 
 #[cfg(test)]

@@ -1,6 +1,7 @@
-//! Rows for public calls of the libraries of scripts. What is expected was written by hand from the standards.
+//! Rows for public calls of the libraries of scripts. The expected results were written by hand
+//! from the standards.
 //!
-//! What scripts and mails alone tell stands in `examples/rows` and is made in `tools/checks`.
+//! Tests that need only scripts and mails are in `examples/rows`, and `tools/checks` runs them.
 
 mod caller;
 mod faults;
@@ -9,7 +10,7 @@ mod runs;
 
 use std::process::Abort;
 
-/// Compares what came of a row with what is wanted.
+/// Compares the result of a row with the wanted one.
 fn same(rt: &impl Abort, row: &str, got: &[u8], wanted: &[u8]) {
     assert_eq!(rt; got, wanted, "{row}");
 }

@@ -1,4 +1,4 @@
-//! A bench on which calls are made, and what they leave of it.
+//! The bench that calls are made on, and the state that they leave it in.
 
 use crate::telling::{Host, personal, prepared, tell_refused};
 use bench::{Bench, ReportFault};
@@ -10,7 +10,8 @@ use std::io;
 /// The id of its message.
 pub(crate) const ID: &[u8] = b"m";
 
-/// A bench with a main script, and a message of which that script's verdict is expected. It isn't made yet.
+/// A bench with a main script, and a message that expects that script's verdict. The verdict isn't
+/// made yet.
 pub(crate) fn bench_of(rt: &impl Host) -> io::Result<Bench> {
     let mut bench = Bench::new(rt.alloc())?;
     fill(rt, &mut bench)?;
@@ -36,13 +37,13 @@ pub(crate) fn make_verdicts(bench: &mut Bench, meter: &mut Meter) -> io::Result<
     prepared(bench.report(meter, &mut Counted::new(io::sink())))
 }
 
-/// Prints the report, what it answers, and how many runs there were.
+/// Prints the report, its answer, and the number of runs.
 pub(crate) fn tell_report(rt: &impl Print, bench: &mut Bench, meter: &mut Meter) -> io::Result<()> {
     let answer = bench.report(meter, &mut Counted::new(io::writer(rt)));
     tell_reported(rt, answer, meter)
 }
 
-/// Prints what a report answered, and how many runs there were.
+/// Prints the answer of a report, and the number of runs.
 pub(crate) fn tell_reported(
     rt: &impl Print,
     answer: Result<(), ReportFault>,

@@ -1,4 +1,4 @@
-//! Dates and clocks: what a part of one shows in a zone.
+//! Dates and clocks: a part of one, as it is shown in a zone.
 
 use crate::telling::{Host, mark, tell, tell_refused};
 use date_text::{DatePart, Moment, Zone, clock_named, date_in, shown, zone_named};
@@ -25,7 +25,7 @@ pub(crate) fn call(rt: &impl Host, word: &str, given: [&[u8]; 3]) -> io::Result<
     }
 }
 
-/// Prints a part of the date of a field's value, as a zone or its own shows it, or `none`.
+/// Prints a part of the date of a field's value, in a zone or in its own, or `none`.
 pub(crate) fn show_date(rt: &impl Host, [value, zone, part]: [&[u8]; 3]) -> io::Result<()> {
     match date_in(value) {
         Some(moment) if zone == b"own".as_slice() => show(rt, &moment, Some(moment.zone), part),
@@ -34,7 +34,7 @@ pub(crate) fn show_date(rt: &impl Host, [value, zone, part]: [&[u8]; 3]) -> io::
     }
 }
 
-/// Prints a part of what a clock shows in its zone, or `none`.
+/// Prints a part of the moment that a clock shows, in its zone, or `none`.
 pub(crate) fn show_clock(rt: &impl Host, [digits, zone, part]: [&[u8]; 3]) -> io::Result<()> {
     match clock_named(digits, zone) {
         Some(clock) => show(rt, &clock.moment(), zone_named(zone), part),
@@ -42,7 +42,7 @@ pub(crate) fn show_clock(rt: &impl Host, [digits, zone, part]: [&[u8]; 3]) -> io
     }
 }
 
-/// Prints a part of a moment in a zone, where there is one and the word names a part.
+/// Prints a part of a moment in a zone. Prints `none` if there is no such zone, part or date.
 fn show(rt: &impl Host, moment: &Moment, zone: Option<Zone>, part: &[u8]) -> io::Result<()> {
     let (Some(zone), Some(part)) = (zone, DatePart::named(part)) else {
         return println!(rt; "none");

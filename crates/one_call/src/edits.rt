@@ -10,7 +10,7 @@ use sieve_run::Meter;
 use std::io;
 use std::io::ErrorKind;
 
-/// What an edit answered, unless memory was refused before it.
+/// The answer of an edit, unless memory was refused before it.
 type Edited = io::Result<Result<(), EditFault>>;
 
 const KEEPS: &[u8] =
@@ -24,13 +24,13 @@ const BOXES: &[u8] = b"Lists\n\nWork\n";
 
 const IMPLICIT: &[u8] = b"implicit \"INBOX\"\n";
 
-/// Makes the edit that a word names, on a bench of which no verdict is stale.
+/// Makes the edit that a word names, on a bench without a stale verdict.
 pub(crate) fn call(rt: &impl Host, word: &str) -> io::Result<()> {
     let mut bench = bench_of(rt)?;
     call_on(rt, word, &mut bench)
 }
 
-/// Prints the answer, the report after it, and how many runs there were.
+/// Prints the answer, the report after it, and the number of runs.
 fn call_on(rt: &impl Host, word: &str, bench: &mut Bench) -> io::Result<()> {
     let mut meter = Meter::new();
     make_verdicts(bench, &mut meter)?;
@@ -119,7 +119,7 @@ fn set_addresses(rt: &impl Host, word: &str, bench: &mut Bench) -> Edited {
     Ok(answer)
 }
 
-/// Sets the mailbox, the list of mailboxes, or what is expected of the message.
+/// Sets the mailbox, the list of mailboxes, or the expected text of the message.
 fn set_text(rt: &impl Host, word: &str, bench: &mut Bench, text: &[u8]) -> Edited {
     let text = Octets::copied(rt.alloc(), text)?;
     mark(rt);
@@ -140,7 +140,7 @@ fn remove_script(rt: &impl Host, bench: &mut Bench) -> Edited {
     Ok(answer)
 }
 
-/// Takes back what needs no words.
+/// Makes an edit that removes something and needs no further words.
 fn clear(rt: &impl Host, word: &str, bench: &mut Bench) -> Result<(), EditFault> {
     mark(rt);
     let answer = match word {

@@ -1,4 +1,4 @@
-//! What a mail is made of: its entities, and what their contents stand for.
+//! The parts of a mail: its entities, and the texts of their contents.
 
 use crate::telling::{Host, mark, tell_octets, tell_refused, tell_value};
 use mime_text::{Entity, Given, TransferEncoding, WantedType, body_of, entities_of};
@@ -6,7 +6,7 @@ use sieve_profile::{Extension, Profile};
 use std::borrow::CowSlice;
 use std::io;
 
-/// A prologue, a text, a mail that is held, which has a text in base64, and an epilogue.
+/// A prologue, a text, a held mail that has a text in base64, and an epilogue.
 pub(crate) const MAIL: &[u8] =
     b"Content-Type: multipart/mixed; boundary=\"b c\"\r\n\r\nbefore\r\n--b c\r\nContent-Type: text/plain; charset=KOI8-R\r\n\r\n\xc1\r\n--b c\r\nContent-Type: message/rfc822\r\n\r\nSubject: held\r\nContent-Transfer-Encoding: base64\r\n\r\naGVsZA==\r\n--b c--\r\nafter";
 
@@ -16,7 +16,7 @@ const TEXT: usize = 1;
 /// Quoted-printable with a soft line end.
 const QUOTED: &[u8] = b"caf=C3=A9 =\r\nat ten";
 
-/// What the entities of the mail give, as it is written.
+/// Prints the octets that the entities of the mail give, as they are written.
 pub(crate) fn read(rt: &impl Host) -> io::Result<()> {
     mark(rt);
     let answer = entities_of(rt.alloc(), MAIL);
@@ -42,7 +42,7 @@ fn tell_given(rt: &impl Print, entity: &Entity<'_>) -> io::Result<()> {
     }
 }
 
-/// The octets of a content.
+/// Prints the octets of a content.
 pub(crate) fn undo(rt: &impl Host) -> io::Result<()> {
     mark(rt);
     let octets = TransferEncoding::QuotedPrintable.octets_of(rt.alloc(), QUOTED);
@@ -50,7 +50,7 @@ pub(crate) fn undo(rt: &impl Host) -> io::Result<()> {
     tell_value(rt, octets)
 }
 
-/// The octets of the text in UTF-8.
+/// Prints the octets of the text in UTF-8.
 pub(crate) fn read_text(rt: &impl Host) -> io::Result<()> {
     let entities = entities_of(rt.alloc(), MAIL)?;
     let profile = Profile::new().with(Extension::Charsets);
@@ -63,7 +63,8 @@ pub(crate) fn read_text(rt: &impl Host) -> io::Result<()> {
     Ok(())
 }
 
-/// Whether there is a body, whether an entry names the text, and what the text gives.
+/// Prints whether there is a body, whether an entry names the text, and the octets that the text
+/// gives.
 pub(crate) fn ask(rt: &impl Host) -> io::Result<()> {
     let entities = entities_of(rt.alloc(), MAIL)?;
     if let Some(entity) = entities.get(TEXT) {

@@ -5,7 +5,7 @@ use match_text::{Collation, FlagList, flags_of, union, without};
 use std::alloc::AllocError;
 use std::io;
 
-/// Three flags, one of them twice, and what is none.
+/// Three flags, one of them twice, and a word that isn't taken as a flag.
 const FIRST: &[u8] = b"\\Seen a $Label A \\Recent";
 
 /// Four flags, two of them among the first three.
@@ -36,7 +36,7 @@ fn tell_flags(rt: &impl Print, flags: &FlagList) -> io::Result<()> {
     Ok(())
 }
 
-/// Joins two lists, or takes those of one from the other.
+/// Joins two lists, or removes the flags of one from the other.
 pub(crate) fn combine(rt: &impl Host, word: &str) -> io::Result<()> {
     let first = flags_of(rt.alloc(), FIRST)?;
     let second = flags_of(rt.alloc(), SECOND)?;
@@ -49,7 +49,7 @@ pub(crate) fn combine(rt: &impl Host, word: &str) -> io::Result<()> {
     tell_list(rt, answer)
 }
 
-/// After the answer stands the list: where memory was refused, some flags may have been added.
+/// The list is printed after the answer. If memory was refused, some flags may have been added.
 pub(crate) fn add(rt: &impl Host, others: &[u8]) -> io::Result<()> {
     let mut first = flags_of(rt.alloc(), FIRST)?;
     let second = flags_of(rt.alloc(), others)?;
@@ -60,7 +60,7 @@ pub(crate) fn add(rt: &impl Host, others: &[u8]) -> io::Result<()> {
     tell_flags(rt, &first)
 }
 
-/// After the answer stands the list: where memory was refused, some flags may have been added.
+/// The list is printed after the answer. If memory was refused, some flags may have been added.
 pub(crate) fn add_text(rt: &impl Host, text: &[u8]) -> io::Result<()> {
     let mut first = flags_of(rt.alloc(), FIRST)?;
     mark(rt);
@@ -70,7 +70,7 @@ pub(crate) fn add_text(rt: &impl Host, text: &[u8]) -> io::Result<()> {
     tell_flags(rt, &first)
 }
 
-/// Whether a flag is there, where one stood that is taken out, and the list after that.
+/// Prints whether a flag is there, and the place of one that is taken out. Then prints the list.
 pub(crate) fn ask(rt: &impl Host) -> io::Result<()> {
     let mut flags = flags_of(rt.alloc(), FIRST)?;
     mark(rt);

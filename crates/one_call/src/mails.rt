@@ -7,7 +7,8 @@ use sieve_profile::{Extension, Profile};
 use std::borrow::CowSlice;
 use std::io;
 
-/// Encoded words under both encodings on two lines, addresses on two lines, and a field of one line.
+/// Encoded words under both encodings on two lines, addresses on two lines, and a field of one
+/// line.
 pub(crate) const MAIL: &[u8] =
     b"From: Ann <ann@a.example>\r\nSubject: =?utf-8?q?caf=C3=A9_?=\r\n =?iso-8859-1?B?6Q==?= late\r\nTo: b@c.example,\r\n\td@e.example\r\nX-Plain: plain\r\n\r\nbody\r\n";
 
@@ -19,7 +20,7 @@ pub(crate) const WORD: &[u8] = b"=?us-ascii?Q?a_b?= c";
 
 pub(crate) const UNKNOWN: &[u8] = b"=?koi8-r?Q?a_b?= c";
 
-/// The places of three of the mail's fields.
+/// Places of fields of the mail.
 pub(crate) const SUBJECT: usize = 1;
 
 pub(crate) const TO: usize = 2;
@@ -30,7 +31,7 @@ pub(crate) const PLAIN: usize = 3;
 pub(crate) const ADDRESSES: &[u8] =
     b"Team: \"A. B\" <\"a b\"@b.example>, (note) c@d.example; <@r.example:e@f.example>";
 
-/// The names of the fields, or the octets that come back.
+/// Prints the names of the fields, or the octets that a refusal gives back.
 pub(crate) fn read(rt: &impl Host, octets: &[u8]) -> io::Result<()> {
     let octets = Vec::from_slice(rt.alloc(), octets)?;
     mark(rt);
@@ -87,7 +88,7 @@ fn tell_decoded(rt: &impl Host, mail: &Message, profile: Profile, place: usize) 
     Ok(())
 }
 
-/// The name of each field, its value, and that decoded without `charsets` and with it.
+/// Prints the name of each field, its value, and the value decoded without `charsets` and with it.
 pub(crate) fn read_fields(rt: &impl Host, octets: &[u8]) -> io::Result<()> {
     let octets = Vec::from_slice(rt.alloc(), octets)?;
     let mail = prepared(Message::new(rt.alloc(), octets))?;
@@ -100,7 +101,7 @@ pub(crate) fn read_fields(rt: &impl Host, octets: &[u8]) -> io::Result<()> {
     Ok(())
 }
 
-/// The size, the number of fields, and where a field of a name stands.
+/// Prints the size, the number of fields, and the place of a field of a name.
 pub(crate) fn ask(rt: &impl Host) -> io::Result<()> {
     let mail = mail_of(rt)?;
     let name = FieldName::new(b"x-plain");
@@ -147,7 +148,7 @@ fn tell_part(rt: &impl Print, part: Option<&[u8]>) -> io::Result<()> {
     }
 }
 
-/// The parts of the first address.
+/// Prints the parts of the first address.
 pub(crate) fn ask_address(rt: &impl Host) -> io::Result<()> {
     let found = addresses(rt.alloc(), ADDRESSES)?;
     if let Some(first) = found.first() {

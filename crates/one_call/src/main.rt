@@ -1,9 +1,12 @@
-//! Makes one call of the libraries, on an input that is fixed, and says what it answered and what it left.
+//! Makes one call of the libraries, on a fixed input, and prints its answer and the state that it
+//! left.
 //!
-//! The first word names the call: a function or a method, with what it is made on after a `/` where several words name it, or a type, for
-//! what is asked of it without taking memory. Without a word all of them are printed. `tools/check` refuses each request for memory in turn. After
-//! `date` a field's value, a zone, which may be its `own`, and a part may stand, after `clock` its seconds, its zone and a part, and after some
-//! words a text as pairs of hexadecimal digits, in place of the fixed input.
+//! The first word names the call: a function or a method. After a `/` it also names the input, if
+//! several words name that call. Or the word names a type, for calls on it that need no memory.
+//! Without a word all words are printed. `tools/check` refuses each request for memory in turn.
+//! After `date` a field's value, a zone, which may be its `own`, and a part may follow. After
+//! `clock` its seconds, its zone and a part may follow. After some words a text may follow, as
+//! pairs of hexadecimal digits. These take the place of the fixed input.
 #![tactic(auto)]
 
 mod benches;
@@ -34,7 +37,7 @@ fn main(rt: HostRuntime) -> ExitCode {
     }
 }
 
-/// Makes the call. Where memory is refused before it, says so.
+/// Makes the call. Prints a line if memory is refused before it.
 fn run(rt: &(impl Env + Host)) -> io::Result<()> {
     match call_named(rt) {
         Err(e) if e.kind() == ErrorKind::OutOfMemory => println!(rt; "prepare: no memory"),

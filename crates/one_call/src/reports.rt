@@ -1,9 +1,9 @@
-//! Benches, their reports and sessions, and what the program calls besides.
+//! Benches, their reports and sessions, and further calls of the program.
 
 use crate::benches::{ID, bench_of, make_verdicts, put_empty, tell_report, tell_reported};
 use crate::runs::tell_found;
 use crate::scripts::tell_end;
-use crate::telling::{Host, mark, personal, prepared, tell_outcome, tell_refused};
+use crate::telling::{Host, mark, personal, prepared, tell_verdict, tell_refused};
 use bench::{Bench, TestJob, TestScript, test_bench};
 use devices::Counted;
 use octets::Octets;
@@ -19,7 +19,7 @@ pub(crate) const TEST: &[&str] = &["sievebench", "test", "-fa", "-mBox", "main",
 
 pub(crate) const MISTAKE: &[&str] = &["sievebench", "frobnicate"];
 
-/// The reads that a session may make.
+/// The number of reads that a session may make.
 const TURNS: u64 = 10;
 
 pub(crate) fn make_bench(rt: &impl Host) -> io::Result<()> {
@@ -50,7 +50,7 @@ fn report_twice(rt: &impl Host, bench: &mut Bench) -> io::Result<()> {
     tell_report(rt, bench, &mut meter)
 }
 
-/// Reports, and says the answer.
+/// Makes a report, and prints the answer.
 fn report(rt: &impl Host, bench: &mut Bench, meter: &mut Meter) -> io::Result<()> {
     let mut writer = Counted::new(io::writer(rt));
     mark(rt);
@@ -59,7 +59,7 @@ fn report(rt: &impl Host, bench: &mut Bench, meter: &mut Meter) -> io::Result<()
     tell_reported(rt, answer, meter)
 }
 
-/// Reports where each verdict is kept.
+/// Makes a report of a bench whose verdicts are kept.
 pub(crate) fn report_kept(rt: &impl Host) -> io::Result<()> {
     let mut bench = bench_of(rt)?;
     let mut meter = Meter::new();
@@ -75,7 +75,7 @@ pub(crate) fn ask_verdict(rt: &impl Host) -> io::Result<()> {
     let answer = bench.verdict(&id);
     mark(rt);
     match answer {
-        Some(outcome) => tell_outcome(rt, outcome),
+        Some(verdict) => tell_verdict(rt, verdict),
         None => println!(rt; "none"),
     }
 }
@@ -121,7 +121,8 @@ fn job_of(rt: &impl Host) -> Result<TestJob, AllocError> {
     })
 }
 
-/// Serves a session of two edits. How it ended stands after its replies, and then what it left.
+/// Serves a session of two edits. Its end is printed after its replies, and then the state that it
+/// left.
 pub(crate) fn serve(rt: &impl Host) -> io::Result<()> {
     let mut bench = Bench::new(rt.alloc())?;
     serve_on(rt, &mut bench)
@@ -172,7 +173,7 @@ fn tell_test(rt: &impl Print, words: &TestWords) -> io::Result<()> {
     tell_argument(rt, &words.mailbox)
 }
 
-/// Prints the value of an option, where it is given.
+/// Prints the value of an option, or `none` if it isn't given.
 fn tell_argument(rt: &impl Print, value: &Option<Argument>) -> io::Result<()> {
     match value {
         Some(value) => println!(rt; "{}", value.as_str()),

@@ -1,10 +1,10 @@
 //! Runs of scripts on a mail, without a bench.
 
 use crate::entities;
-use crate::telling::{Host, mark, personal, prepared, tell_done, tell_outcome, tell_refused};
+use crate::telling::{Host, mark, personal, prepared, tell_done, tell_verdict, tell_refused};
 use sieve_profile::{Extension, Profile};
 use sieve_run::{
-    Envelope, Found, Library, Message, Meter, Octets, Outcome, ScriptName, Shelf, run,
+    Envelope, Found, Library, Message, Meter, Octets, ScriptName, Shelf, Verdict, run,
 };
 use std::alloc::AllocError;
 use std::io;
@@ -46,7 +46,8 @@ pub(crate) const FAILS: &[u8] = b"require \"include\"; discard; include \"lib\";
 
 pub(crate) const BAD: &[u8] = b"keep;\nredirect \"nobody\";";
 
-/// Puts a text in place of one with a fault. What is there stands after the answer.
+/// Puts a text in place of one with a fault. The script that is then there is printed after the
+/// answer.
 pub(crate) fn add(rt: &impl Host) -> io::Result<()> {
     let mut shelf = Shelf::new(rt.alloc(), Profile::new());
     let main = personal(rt, b"main")?;
@@ -58,7 +59,7 @@ pub(crate) fn add(rt: &impl Host) -> io::Result<()> {
     tell_found(rt, &shelf.find(&main))
 }
 
-/// Prints what a name has.
+/// Prints the result of looking up a name.
 pub(crate) fn tell_found(rt: &impl Print, found: &Found<'_>) -> io::Result<()> {
     match found {
         Found::Missing => println!(rt; "missing"),
@@ -106,7 +107,7 @@ fn envelope_of(rt: &impl Host) -> Result<Envelope, AllocError> {
     })
 }
 
-/// Prints the verdict, and how many runs there were.
+/// Prints the verdict, and the number of runs.
 fn tell_run(
     rt: &impl Host,
     shelf: &Shelf,
@@ -126,7 +127,7 @@ fn tell_run(
     );
     mark(rt);
     match made {
-        Ok(outcome) => tell_outcome(rt, &outcome)?,
+        Ok(verdict) => tell_verdict(rt, &verdict)?,
         Err(_) => tell_refused(rt)?,
     }
     println!(rt; "runs {}", meter.runs())
@@ -142,8 +143,8 @@ pub(crate) fn ask_shelf(rt: &impl Host) -> io::Result<()> {
     tell_found(rt, &answer)
 }
 
-/// The verdict where no script runs.
-fn outcome_of(rt: &impl Host) -> io::Result<Outcome> {
+/// The verdict of a run without a script.
+fn verdict_of(rt: &impl Host) -> io::Result<Verdict> {
     let envelope = envelope_of(rt)?;
     let mail = prepared(Message::new(rt.alloc(), Vec::new(rt.alloc())))?;
     let shelf = Shelf::new(rt.alloc(), Profile::new());
@@ -151,13 +152,14 @@ fn outcome_of(rt: &impl Host) -> io::Result<Outcome> {
     Ok(run(rt.alloc(), &shelf, None, &envelope, None, &mail, &mut meter)?)
 }
 
-/// How many actions and names there are, and whether the implicit keep stands, there is an error, and a text agrees.
-pub(crate) fn ask_outcome(rt: &impl Host) -> io::Result<()> {
-    let outcome = outcome_of(rt)?;
+/// Prints the numbers of actions and names. Also prints whether the implicit keep stands, whether
+/// there is an error, and whether a text agrees.
+pub(crate) fn ask_verdict(rt: &impl Host) -> io::Result<()> {
+    let verdict = verdict_of(rt)?;
     mark(rt);
-    let (actions, names) = (outcome.entries().len(), outcome.lookups().len());
-    let (keeps, fails) = (outcome.implicit().is_some(), outcome.error().is_some());
-    let agrees = outcome.agrees(b"Box", b"implicit \"Box\"\n");
+    let (actions, names) = (verdict.entries().len(), verdict.lookups().len());
+    let (keeps, fails) = (verdict.implicit().is_some(), verdict.error().is_some());
+    let agrees = verdict.agrees(b"Box", b"implicit \"Box\"\n");
     mark(rt);
     println!(rt; "{actions} {names} {keeps} {fails} {agrees}")
 }

@@ -71,7 +71,7 @@ pub(crate) fn read(rt: &impl Host, text: &[u8]) -> io::Result<()> {
     }
 }
 
-/// Prints each command, and each of its block.
+/// Prints each command, and each command of its block.
 fn tell_script(rt: &impl Print, script: &ParsedScript) -> io::Result<()> {
     for command in script.commands() {
         tell_command(rt, command)?;
@@ -84,7 +84,7 @@ fn tell_script(rt: &impl Print, script: &ParsedScript) -> io::Result<()> {
     Ok(())
 }
 
-/// Prints a command's line and name, and how many arguments and tests it has.
+/// Prints a command's line and name, and the numbers of its arguments and tests.
 fn tell_command(rt: &impl Print, command: &Command) -> io::Result<()> {
     let tests = match &command.tests {
         Tests::None => 0,
@@ -117,7 +117,7 @@ pub(crate) fn check_script(rt: &impl Host) -> io::Result<()> {
     }
 }
 
-/// How many statements the script of the text has, or its fault.
+/// Prints the number of statements of the text's script, or its fault.
 pub(crate) fn judge_text(rt: &impl Host, text: &[u8]) -> io::Result<()> {
     mark(rt);
     let answer = judge(rt.alloc(), Profile::new(), text);
@@ -186,7 +186,7 @@ fn code_of(rt: &impl Host) -> io::Result<Code> {
     Ok(compile(rt.alloc(), checked_of(rt)?)?)
 }
 
-/// The lines of all operations, which are written in the call, and how many there are.
+/// Prints the lines of all operations, which are written in the call, and the number of operations.
 pub(crate) fn ask_code(rt: &impl Host) -> io::Result<()> {
     let code = code_of(rt)?;
     mark(rt);

@@ -1,27 +1,28 @@
-//! What is printed of a call: marks on standard error around it, and on standard output what it answered and left. Printing takes no memory.
+//! Marks on standard error around a call. On standard output, the call's answer and the state that
+//! it left.
 
 ghost use Rattle.std.specs.Prelude.{◌≤◌, IfOk, length};
 
 use devices::{Counted, Piece, WriteFault, write_pieces};
 use script_names::{Location, ScriptName};
-use sieve_run::{Outcome, write_action, write_error, write_implicit, write_lookup};
+use sieve_verdict::{Verdict, write_action, write_error, write_implicit, write_lookup};
 use std::alloc::AllocError;
 use std::borrow::CowSlice;
 use std::io;
 use std::io::ErrorKind;
 
-/// What a call is made on.
+/// A runtime that calls are made on. It has an allocator, standard output and standard error.
 pub(crate) trait Host: AllocGlobal + Print + Eprint {}
 
 impl<R: AllocGlobal + Print + Eprint> Host for R {}
 
-/// A mark before a call or after it: what is asked for between two is the call's. It is one write, and nothing else is written to
-/// standard error.
+/// A mark before a call or after it. Memory that is asked for between two marks is the call's. A
+/// mark is one write, and nothing else is written to standard error.
 pub(crate) fn mark(rt: &impl Eprint) {
     let _ = rt.eprint("-\n");
 }
 
-/// What is made before a call. All of it is sound, so it is refused for memory alone.
+/// A value that is made before a call. All values are sound, so they are refused for memory alone.
 pub(crate) fn prepared<T, E: Drop>(made: Result<T, E>) -> io::Result<T> {
     match made {
         Ok(value) => Ok(value),
@@ -50,7 +51,7 @@ pub(crate) fn tell_done(rt: &impl Print, done: Result<(), AllocError>) -> io::Re
     }
 }
 
-/// How a write ended, where a failed one is a broken pipe.
+/// The result of a write. A failed write is a broken pipe.
 pub(crate) fn written(done: Result<(), WriteFault>) -> io::Result<()> {
     done.map_err(|_| io::Error::from(ErrorKind::BrokenPipe))
 }
@@ -83,18 +84,18 @@ pub(crate) fn tell_value(
 }
 
 /// Prints a verdict as a report does, but for the spaces before its lines.
-pub(crate) fn tell_outcome(rt: &impl Print, outcome: &Outcome) -> io::Result<()> {
+pub(crate) fn tell_verdict(rt: &impl Print, verdict: &Verdict) -> io::Result<()> {
     let mut writer = Counted::new(io::writer(rt));
-    for entry in outcome.entries() {
+    for entry in verdict.entries() {
         end_line(rt, write_action(&entry.action, &mut writer))?;
     }
-    if let Some(flags) = outcome.implicit() {
+    if let Some(flags) = verdict.implicit() {
         end_line(rt, write_implicit(b"INBOX", flags, &mut writer))?;
     }
-    if let Some(error) = outcome.error() {
+    if let Some(error) = verdict.error() {
         end_line(rt, write_error(error, &mut writer))?;
     }
-    for (name, is_present) in outcome.lookups() {
+    for (name, is_present) in verdict.lookups() {
         end_line(rt, write_lookup(name, *is_present, &mut writer))?;
     }
     Ok(())

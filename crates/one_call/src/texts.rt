@@ -17,11 +17,12 @@ const LONG_VALUE: &[u8] =
     b"Once more: the quick brown fox jumps over the lazy dog, and then over the lazy cat, \
     and when it has jumped over both of them it sleeps in the grass beside the two.";
 
-/// A part of both values in other letters, which is too long to be looked for in the second without copies.
+/// A part of both values in letters of the other case. It is too long to be looked for in the
+/// second without copies.
 pub(crate) const KEY: &[u8] =
     b"QUICK BROWN FOX JUMPS OVER THE LAZY DOG, AND THEN OVER THE LAZY CAT";
 
-/// The longest front of that which is short enough.
+/// The longest front of that key that is short enough.
 pub(crate) const SHORT_KEY: &[u8] =
     b"QUICK BROWN FOX JUMPS OVER THE LAZY DOG, AND THEN OVER THE LAZY ";
 
@@ -31,7 +32,7 @@ pub(crate) const SEQUENCES: &[u8] = b"${hex:c3 a9}, ${unicode:20ac} and ${hex:4"
 
 pub(crate) const NO_SEQUENCE: &[u8] = b"${hex:400}";
 
-/// Whether the value is the key, or contains it.
+/// Prints whether the value is the key, or contains it.
 pub(crate) fn compare(rt: &impl Host, word: &str) -> io::Result<()> {
     mark(rt);
     let answer = match word {
@@ -42,7 +43,7 @@ pub(crate) fn compare(rt: &impl Host, word: &str) -> io::Result<()> {
     println!(rt; "{answer}")
 }
 
-/// Whether a number is greater than another, and equal to it.
+/// Prints whether a number is greater than another, and whether it is equal to it.
 pub(crate) fn compare_numbers(rt: &impl Host) -> io::Result<()> {
     mark(rt);
     let relation = relation_named(b"GT").unwrap_or(Relation::Ne);
@@ -52,7 +53,7 @@ pub(crate) fn compare_numbers(rt: &impl Host) -> io::Result<()> {
     println!(rt; "{greater} {equal}")
 }
 
-/// A string with its encoded characters replaced.
+/// Prints a string with its encoded characters replaced.
 pub(crate) fn replace(rt: &impl Host, text: &[u8]) -> io::Result<()> {
     mark(rt);
     let answer = replaced(rt.alloc(), text);
@@ -101,7 +102,7 @@ pub(crate) fn match_pattern(rt: &impl Host) -> io::Result<()> {
     }
 }
 
-/// Prints what each wildcard took, the whole in front.
+/// Prints the whole value, and then the text that each wildcard took.
 fn tell_captures(rt: &impl Print, captures: &Captures<'_>) -> io::Result<()> {
     for k in 0..=captures.count() {
         tell_octets(rt, captures.get(k))?;

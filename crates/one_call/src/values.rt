@@ -1,4 +1,4 @@
-//! Variables: strings as their parts, and what these stand for.
+//! Variables: strings as their parts, and the octets that these stand for.
 
 use crate::telling::{Host, mark, tell, tell_done, tell_octets, tell_refused};
 use devices::Piece;
@@ -6,7 +6,7 @@ use octets::Octets;
 use sieve_variables::{Part, PartRef, Values, Variable, VariableRef, parts_of_text};
 use std::io;
 
-/// A name of more octets than lie in a variable itself.
+/// A name of more octets than a variable holds in itself.
 const NAME: &[u8] = b"A_Name_Of_More_Octets_Than_Sixteen";
 
 /// Octets, that variable, a shared one and a match variable.
@@ -42,7 +42,7 @@ fn tell_name(rt: &impl Print, place: &[u8], name: &[u8]) -> io::Result<()> {
     tell(rt, &[Piece::Raw(place), Piece::Raw(name)])
 }
 
-/// What the variable holds stands after the answer.
+/// The value of the variable is printed after the answer.
 pub(crate) fn set(rt: &impl Host) -> io::Result<()> {
     let mut values = Values::new(rt.alloc());
     let variable = Variable::named(rt.alloc(), NAME)?;
@@ -54,7 +54,7 @@ pub(crate) fn set(rt: &impl Host) -> io::Result<()> {
     tell_octets(rt, values.variable(&variable))
 }
 
-/// The values where the variable is set.
+/// The values after the variable is set.
 fn values_of(rt: &impl Host) -> io::Result<Values> {
     let mut values = Values::new(rt.alloc());
     let variable = Variable::named(rt.alloc(), NAME)?;
@@ -75,7 +75,7 @@ pub(crate) fn expand(rt: &impl Host) -> io::Result<()> {
     }
 }
 
-/// Puts what a string stands for into a buffer.
+/// Puts the octets that a string stands for into a buffer.
 pub(crate) fn join(rt: &impl Host) -> io::Result<()> {
     let values = values_of(rt)?;
     let string = parts_of_text(rt.alloc(), TEXT)?;
@@ -89,7 +89,7 @@ pub(crate) fn join(rt: &impl Host) -> io::Result<()> {
     }
 }
 
-/// Whether the variable can be set, and what it holds.
+/// Prints whether the variable can be set, and its value.
 pub(crate) fn ask(rt: &impl Host) -> io::Result<()> {
     let values = values_of(rt)?;
     let variable = Variable::named(rt.alloc(), NAME)?;

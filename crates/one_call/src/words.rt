@@ -13,7 +13,7 @@ const WORDS: &str =
     Message Message::value/unfolded Message::decoded/plain Address date clock \
     tokens parse parse/faulty check judge judge/faulty compile dump_text Checked Code write_quoted \
     parts_of_text Values::set Values::expanded_string Values::join Values \
-    Shelf::add run/tests run/body run/variables run/flags run/includes run/error Shelf Outcome \
+    Shelf::add run/tests run/body run/variables run/flags run/includes run/error Shelf Verdict \
     put_script put_script/new put_message put_message/new rename_script \
     set_main set_envelope set_mailbox set_mailboxes set_message_envelope set_expected \
     remove_script remove_message clear_main clear_expected clear_message_envelope set_clock clear_clock \
@@ -28,7 +28,7 @@ pub(crate) fn tell(rt: &impl Print) -> io::Result<()> {
     Ok(())
 }
 
-/// Makes the call that a word names, which is an edit of a bench where it is none of these.
+/// Makes the call that a word names. A word that isn't one of these names an edit of a bench.
 pub(crate) fn call(rt: &impl Host, word: &str) -> io::Result<()> {
     call_texts(rt, word)
         .or_else(|| call_scripts(rt, word))
@@ -104,7 +104,7 @@ fn call_scripts(rt: &impl Host, word: &str) -> Option<io::Result<()>> {
         "run/includes" => runs::run_texts(rt, runs::INCLUDES, runs::LIB),
         "run/error" => runs::run_texts(rt, runs::FAILS, runs::BAD),
         "Shelf" => runs::ask_shelf(rt),
-        "Outcome" => runs::ask_outcome(rt),
+        "Verdict" => runs::ask_verdict(rt),
         _ => return None,
     })
 }

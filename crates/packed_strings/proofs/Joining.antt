@@ -8,7 +8,7 @@ use Rattle.std.proofs.lemmas.Option.{slice_get-get_or}
 use Rattle.sieve_variables.specs.Part.{Part}
 use Rattle.packed_strings.specs.Joined.{Lists, EndAt, between, cut, start, lists_with, lists_plus, list_in}
 
--- where item `i` begins, where the first begins at a place
+-- the place where item `i` begins, if the first begins at a given place
 abbrev begin : ℕ → List ℕ → ℕ → ℕ
 begin from ends zero = from
 begin from ends (suc i) = get_or ends i 0
@@ -31,7 +31,7 @@ cut_at from [] xs (suc i) = nothing_after 0
 cut_at from (end ∷ ends) xs zero = refl
 cut_at from (end ∷ ends) xs (suc i) = ap (λ n. between n (get_or ends i 0) xs) (begin_after end ends i) ∙ cut_at end ends xs i
 
--- what lies between two ends is the list that is cut there
+-- the items between two ends are the list that is cut there
 pub item_at : {X : Type 0} (ends : List ℕ) (xs : List X) (i : ℕ) → between (start ends i) (get_or ends i 0) xs ≡ get_or (cut 0 ends xs) i []
 item_at ends xs i = ap (λ n. between n (get_or ends i 0) xs) (begin_is ends i) ∙ cut_at 0 ends xs i
 
@@ -39,7 +39,7 @@ pub cut_length : {X : Type 0} (from : ℕ) (ends : List ℕ) (xs : List X) → l
 cut_length from [] xs = refl
 cut_length from (end ∷ ends) xs = ap suc (cut_length end ends xs)
 
--- one list more, where the others end
+-- cutting with one list more, where the others end, gives that list last
 cut_more : {X : Type 0} (from : ℕ) (ends : List ℕ) (xs ys : List X) → EndAt from ends (length xs) → cut from (ends ++ length (xs ++ ys) ∷ []) (xs ++ ys) ≡ cut from ends xs ++ ys ∷ []
 cut_more from [] xs ys e = ap (λ l. l ∷ []) (ap (drop from) (take-length (xs ++ ys)) ∙ ap (λ n. drop n (xs ++ ys)) e ∙ drop-append_seam xs ys)
 cut_more from (end ∷ ends) xs ys e = ap (λ l. drop from l ∷ cut end (ends ++ length (xs ++ ys) ∷ []) (xs ++ ys)) (take-append-le end xs ys e.0) ∙ ap (λ l. between from end xs ∷ l) (cut_more end ends xs ys e.1)
@@ -62,7 +62,7 @@ last_end : (from : ℕ) (ends more : List ℕ) (n : ℕ) → EndAt from ends n �
 last_end from [] more n e = e
 last_end from (end ∷ ends) more n e = begin_after end (ends ++ more) (length ends) ∙ last_end end ends more n e.1
 
--- the last list is there, whatever lies after it
+-- the last list stays as it is, whatever follows it
 pub list_kept : (lists more : Lists) (texts : List (List Part)) → EndAt 0 lists.ends (length lists.strings) → list_in (lists_plus (lists_with lists texts) more) (length lists.ends) ≡ texts
 list_kept lists more texts e =
     let xs = lists.strings in let n = length (xs ++ texts) in
@@ -76,7 +76,7 @@ list_kept lists more texts e =
     ∙ ap (drop (length xs)) (take-append_seam (xs ++ texts) more.strings)
     ∙ drop-append_seam xs texts
 
--- an end that is there, with the items that it ends
+-- an end is at most the number of the items
 end_within : (from : ℕ) (ends : List ℕ) (n i : ℕ) → EndAt from ends n → i < length ends → get_or ends i 0 ≤ n
 end_within from [] n i e below = absurd (omega (arith, below))
 end_within from (end ∷ ends) n zero e below = e.0
@@ -91,7 +91,7 @@ start_front : (ends more : List ℕ) (i : ℕ) → i < length ends → start (en
 start_front ends more zero below = refl
 start_front ends more (suc i) below = get_front ends more i 0 (omega (arith, below))
 
--- a list that is there is there, whatever lies after the last
+-- a list stays as it is, whatever lies after the last
 pub list_stays : (lists more : Lists) (i : ℕ) → EndAt 0 lists.ends (length lists.strings) → i < length lists.ends → list_in (lists_plus lists more) i ≡ list_in lists i
 list_stays lists more i e below =
     let strings = lists.strings ++ more.strings in
@@ -99,7 +99,7 @@ list_stays lists more i e below =
     ∙ ap (λ b. between (start lists.ends i) b strings) (get_front lists.ends more.ends i 0 below)
     ∙ ap (drop (start lists.ends i)) (take-append-le (get_or lists.ends i 0) lists.strings more.strings (end_within 0 lists.ends (length lists.strings) i e below))
 
--- what lies between two places, of what is made of each
+-- a function applied to each item gives the same between two places as applied to the items there
 pub between_map : {X Y : Type 0} (f : X → Y) (from to : ℕ) (xs : List X) → between from to (map f xs) ≡ map f (between from to xs)
 between_map f from to xs = ap (drop from) (take-map f to xs) ∙ drop-map f from (take to xs)
 
@@ -114,7 +114,7 @@ there [] i x at = cc
 there (y ∷ ys) zero x at = let e : y ≡ x = cc in ap (λ y. y ∷ ys) e
 there (y ∷ ys) (suc i) x at = there ys i x at
 
--- an item stands before those after it
+-- from a place on, a list is the item there and then the items after it
 pub drop_at : {X : Type 0} (xs : List X) (i : ℕ) (x : X) → slice_get xs i ≡ Some x → drop i xs ≡ x ∷ drop (i + 1) xs
 drop_at xs i x at = there xs i x at ∙ ap (λ n. x ∷ drop n xs) (sym (add-one i))
 
@@ -122,7 +122,7 @@ drop_at xs i x at = there xs i x at ∙ ap (λ n. x ∷ drop n xs) (sym (add-one
 pub same_from : {X : Type 0} (xs ys : List X) (i : ℕ) (x y : X) → slice_get xs i ≡ Some x → slice_get ys i ≡ Some y → x ≡ y → drop (i + 1) xs ≡ drop (i + 1) ys → drop i xs ≡ drop i ys
 same_from xs ys i x y one other is after = drop_at xs i x one ∙ ap (λ z. z ∷ drop (i + 1) xs) is ∙ ap (λ zs. y ∷ zs) after ∙ sym (drop_at ys i y other)
 
--- an element after a function
+-- the item at a place, after a function is applied to each item
 pub get_map : {X Y : Type 0} (f : X → Y) (xs : List X) (i : ℕ) (x : X) → slice_get xs i ≡ Some x → slice_get (map f xs) i ≡ Some (f x)
 get_map f [] i x at = cc
 get_map f (y ∷ ys) zero x at = ap (option_map f) at

@@ -1,4 +1,4 @@
--- Lists that lie one after another, and what lies where among them.
+-- Lists that lie one after another, and their places.
 use Rattle.std.specs.Prelude.{◌≡◌, ◌≤◌, ℕ, zero, suc, List, [], ◌∷◌, ◌++◌, length, take, drop, slice_index_or}
 use Rattle.sieve_variables.specs.Part.{Part}
 
@@ -6,17 +6,20 @@ use Rattle.sieve_variables.specs.Part.{Part}
 abbrev pub between : {X : Type 0} → ℕ → ℕ → List X → List X
 between from to xs = drop from (take to xs)
 
--- items cut into lists: the first from a place on, each up to its end, and the next from there on
+-- Items cut into lists. The first goes from a place up to its end. The next goes from there up to
+-- its own end.
 abbrev pub cut : {X : Type 0} → ℕ → List ℕ → List X → List (List X)
 cut from [] xs = []
 cut from (end ∷ ends) xs = between from end xs ∷ cut end ends xs
 
--- each end is at most a count, and the last is it, or where there is none the place before them; ends need not ascend
+-- Each end is at most a count. The last end is the count, or if there are no ends, the place before
+-- them is. Ends need not ascend.
 abbrev pub EndAt : ℕ → List ℕ → ℕ → Type 0
 EndAt from [] count = from ≡ count
 EndAt from (end ∷ ends) count = (end ≤ count) × EndAt end ends count
 
--- where item `i` begins: the first at the front, and each other where the one before it ends
+-- the place where item `i` begins: the first at the front, and each other where the one before it
+-- ends
 abbrev pub start : List ℕ → ℕ → ℕ
 start ends zero = 0
 start ends (suc i) = slice_index_or ends i 0
@@ -37,6 +40,6 @@ lists_with lists list = record { strings = lists.strings ++ list; ends = lists.e
 abbrev pub lists_plus : Lists → Lists → Lists
 lists_plus lists others = record { strings = lists.strings ++ others.strings; ends = lists.ends ++ others.ends }
 
--- list `i`, which is empty where there are no more
+-- list `i`, or an empty list if there is none
 abbrev pub list_in : Lists → ℕ → List (List Part)
 list_in lists i = between (start lists.ends i) (slice_index_or lists.ends i 0) lists.strings

@@ -1,3 +1,3 @@
--- What the program's types stand for in contracts. Joined says how lists of strings are kept.
+-- The meaning of the program's types in contracts. Joined says how lists of strings are kept.
 pub mod FieldNames
-pub mod Ops
+pub mod Refs

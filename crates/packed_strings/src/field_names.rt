@@ -12,7 +12,8 @@ use sieve_variables::{Part, Parts, Values};
 use std::alloc::{AllocError, Global};
 use std::marker::Model;
 
-/// Lists of names of fields, with a hash for each name. The hash of a name that is one literal is made once, and no run makes it again.
+/// Lists of names of fields, with a hash for each name. The hash of a name that is one literal is
+/// computed once, and no run computes it again.
 #[derive(Drop)]
 pub struct NameLists {
     lists: StringLists,
@@ -31,7 +32,7 @@ impl Model for NameLists {
     ghost invariant = { λ n. n.hashes.items ≡ map kept_hash n.lists.strings };
 }
 
-/// What is kept for a name: its hash, where it is one literal.
+/// The number that is kept for a name: its hash if the name is one literal, or else 0.
 fn kept_hash(parts: &[Part]) -> u32
     ensures { result ≡ kept_hash parts.now }
 {
@@ -41,7 +42,7 @@ fn kept_hash(parts: &[Part]) -> u32
     }
 }
 
-/// Puts what is kept for each name after what is kept for others, and the list of names after other lists.
+/// Adds the kept number of each name after other numbers, and the list of names after other lists.
 fn put_after(
     lists: &mut StringLists,
     hashes: &mut Vec<u32>,
@@ -60,7 +61,7 @@ fn put_after(
 }
 
 impl NameLists {
-    /// No lists. Takes no memory.
+    /// Makes a value that holds no lists.
     pub fn new(alloc: Global) -> NameLists
         ensures { result ≡ no_lists }
     {
@@ -70,14 +71,14 @@ impl NameLists {
         }
     }
 
-    /// How many lists there are. Takes no memory.
+    /// The number of lists.
     pub fn len(&self) -> usize
         ensures { result ≡ length self.now.ends }
     {
         self.lists.len()
     }
 
-    /// The place of the last list, where it has the same strings as these. Takes no memory.
+    /// The place of the last list if it has the same strings as `texts`, or none.
     pub fn last_same(&self, texts: &[Parts]) -> Option<usize>
         ensures { IfSome result (λ place. (more : Lists)
             → list_in (lists_plus self.now more) place ≡ texts.now) }
@@ -85,7 +86,7 @@ impl NameLists {
         self.lists.last_same(texts)
     }
 
-    /// Adds a list. An error is out of memory.
+    /// Adds a list. An error is out of memory, or more than 4,294,967,295 strings or parts in all.
     pub fn push(&mut self, texts: Vec<Parts>) -> Result<(), AllocError>
         ensures new { OnOk result (self.new ≡ lists_with self.old texts.items) }
         ensures kept { OnOk result ((more : Lists)
@@ -101,7 +102,7 @@ impl NameLists {
         }
     }
 
-    /// Gives back the room that there is for more.
+    /// Gives back the memory that is kept for more lists.
     pub fn shrink_to_fit(&mut self)
         ensures { self.new ≡ self.old }
     {
@@ -109,7 +110,7 @@ impl NameLists {
         self.hashes.shrink_to_fit();
     }
 
-    /// List `i`, which is empty where there are no more lists. Takes no memory.
+    /// List `i`, or an empty list if there is none.
     pub fn list(&self, i: usize) -> FieldNames<'_>
         ensures { result ≡ list_in self.now i }
     {
@@ -140,7 +141,7 @@ impl<'a> Model for FieldNames<'a> {
     ghost invariant = { λ n. n.hashes.now ≡ map kept_hash n.strings };
 }
 
-/// The name that a string stands for, whose kept hash is given.
+/// The name that a string stands for. Its kept hash is given.
 fn prepared_in<'a>(
     parts: &'a [Part],
     hash: u32,
@@ -158,22 +159,23 @@ fn prepared_in<'a>(
 }
 
 impl<'a> FieldNames<'a> {
-    /// The names as strings, each by its parts. Takes no memory.
+    /// The names as strings, each by its parts.
     pub fn strings(&self) -> &Strings<'a>
         ensures { result.now ≡ self.now }
     {
         &self.strings
     }
 
-    /// How many there are. Takes no memory.
+    /// The number of names.
     pub fn len(&self) -> usize
         ensures { result ≡ length self.now }
     {
         self.strings.len()
     }
 
-    /// What name `i` stands for, for one name after another. One of one part, or of none, takes no memory; one of several is put into the
-    /// buffer, in place of what it holds, which takes memory where it has too little room. Fails where memory is refused.
+    /// The name that string `i` stands for, for one name after another. A name of one part, or of
+    /// none, is borrowed. One of several parts is put into the buffer, in place of what the buffer
+    /// held. This takes memory if the buffer has too little room. An error is out of memory.
     pub fn name_in<'b>(
         &self,
         i: usize,

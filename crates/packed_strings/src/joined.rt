@@ -7,7 +7,8 @@ use sieve_variables::{Part, PartRef, Parts, VariableRef};
 use std::alloc::{AllocError, Global};
 use std::marker::Model;
 
-/// The number of items as the place where they end. More than 4,294,967,295 are answered as out of memory.
+/// The number of items, as the place where they end. An error is more than 4,294,967,295 items. It
+/// is answered as out of memory.
 pub(crate) fn end_of(len: usize) -> Result<u32, AllocError>
     ensures ok { IfOk result (λ end. end ≡ len) }
     ensures err { OnErr result (2 ^ 32 ≤ len) }
@@ -18,7 +19,8 @@ pub(crate) fn end_of(len: usize) -> Result<u32, AllocError>
     }
 }
 
-/// Where item `i` begins: the first at the front, and each other where the one before it ends.
+/// The place where item `i` begins. The first begins at the front, and each other where the one
+/// before it ends.
 fn start(ends: &[u32], i: usize) -> usize
     ensures { result ≡ start ends.now i }
 {
@@ -31,7 +33,7 @@ fn start(ends: &[u32], i: usize) -> usize
     }
 }
 
-/// Where item `i` begins and ends; it ends at the front where there is none.
+/// The places where item `i` begins and ends. If there is no such item, the end is the front.
 pub(crate) fn bounds(ends: &[u32], i: usize) -> (usize, usize)
     ensures { (result.0 ≡ start ends.now i) × (result.1 ≡ slice_index_or ends.now i 0) }
 {
@@ -41,7 +43,7 @@ pub(crate) fn bounds(ends: &[u32], i: usize) -> (usize, usize)
     }
 }
 
-/// The items from one place on up to another.
+/// The items from place `from` up to place `to`.
 pub(crate) fn between<T>(items: &[T], from: usize, to: usize) -> &[T]
     ensures { result.now ≡ between from to items.now }
 {
@@ -49,7 +51,7 @@ pub(crate) fn between<T>(items: &[T], from: usize, to: usize) -> &[T]
     &front[from.min(front.len())..]
 }
 
-/// Whether two variables have the same name and are whose they are.
+/// Whether two variables have the same name and are both local or both global.
 fn are_one_variable(one: VariableRef<'_>, other: VariableRef<'_>) -> bool
     ensures { result ≡ true → variable_ref_as one.entry ≡ variable_ref_as other.entry }
 {
@@ -89,7 +91,7 @@ pub(crate) fn are_same(one: &[Part], other: &[Part]) -> bool
     true
 }
 
-/// Puts the parts of a string after those of others, and where they end after the ends of these.
+/// Adds the parts of a string after others, and the end of the string after the other ends.
 fn put_after(parts: &mut Vec<Part>, ends: &mut Vec<u32>, string: Parts) -> Result<(), AllocError>
     ensures { OnOk result ((parts.new.items ≡ parts.old.items ++ string)
         × (ends.new.items ≡ ends.old.items ++ length (parts.old.items ++ string) ∷ [])) }
@@ -99,7 +101,8 @@ fn put_after(parts: &mut Vec<Part>, ends: &mut Vec<u32>, string: Parts) -> Resul
     Ok(())
 }
 
-/// Strings one after another: their parts, and where each string ends among them. Contracts see the parts of each.
+/// Strings one after another: their parts, and where each string ends among them. Contracts see the
+/// parts of each.
 #[derive(Drop)]
 pub struct JoinedStrings {
     parts: Vec<Part>,
@@ -119,7 +122,7 @@ impl Model for JoinedStrings {
 }
 
 impl JoinedStrings {
-    /// No strings. Takes no memory.
+    /// Makes a value that holds no strings.
     pub fn new(alloc: Global) -> JoinedStrings
         ensures { result ≡ [] }
     {
@@ -129,7 +132,7 @@ impl JoinedStrings {
         }
     }
 
-    /// How many strings there are. Takes no memory.
+    /// The number of strings.
     #[tactic(auto, using(crate::proofs::Joining::cut_length))]
     pub fn len(&self) -> usize
         ensures { result ≡ length self.now }
@@ -137,7 +140,7 @@ impl JoinedStrings {
         self.ends.len()
     }
 
-    /// The place of the last string, where it is the same as this one. Takes no memory.
+    /// The place of the last string if it is the same as `string`, or none.
     pub fn last_same(&self, string: &[Part]) -> Option<usize>
         ensures { IfSome result (λ place. slice_get self.now place ≡ Some string.now) }
     {
@@ -149,7 +152,7 @@ impl JoinedStrings {
         }
     }
 
-    /// Adds a string. An error is out of memory.
+    /// Adds a string. An error is out of memory, or more than 4,294,967,295 parts in all.
     pub fn push(&mut self, string: Parts) -> Result<(), AllocError>
         ensures { OnOk result (self.new ≡ self.old ++ string ∷ []) }
     {
@@ -163,7 +166,7 @@ impl JoinedStrings {
         }
     }
 
-    /// Leaves no strings.
+    /// Removes all strings.
     pub(crate) fn clear(&mut self)
         ensures { self.new ≡ [] }
     {
@@ -171,7 +174,7 @@ impl JoinedStrings {
         self.parts.clear();
     }
 
-    /// Gives back the room that there is for more.
+    /// Gives back the memory that is kept for more strings.
     pub fn shrink_to_fit(&mut self)
         ensures { self.new ≡ self.old }
     {
@@ -179,7 +182,7 @@ impl JoinedStrings {
         self.ends.shrink_to_fit();
     }
 
-    /// The parts of string `i`, or none where there are no more strings. Takes no memory.
+    /// The parts of string `i`, or no parts if there is no such string.
     pub fn get(&self, i: usize) -> &[Part]
         ensures { result.now ≡ slice_index_or self.now i [] }
     {
@@ -187,7 +190,7 @@ impl JoinedStrings {
         between(&self.parts, from, to)
     }
 
-    /// The parts of string `i` of those that lie between two places. Takes no memory.
+    /// The parts of string `i` of those that lie between two places.
     pub(crate) fn get_between(&self, from: usize, to: usize, i: usize) -> &[Part]
         requires { i < length (between from to self.now) }
         ensures { slice_get (between from to self.now) i ≡ Some result.now }

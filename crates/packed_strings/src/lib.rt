@@ -1,12 +1,13 @@
-//! What the operations of compiled code say: packed strings and names of fields, where a test takes its values from, and the settings of a command.
+//! Parts of the operations of compiled code: packed strings, names of fields, sources of values,
+//! and settings of commands.
 #![tactic(auto)]
 
 mod field_names;
 mod joined;
-mod ops;
+mod refs;
 mod strings;
 
 pub use field_names::{FieldNames, NameLists};
 pub use joined::JoinedStrings;
-pub use ops::{BodyOp, SettingsOp, SourceOp, VacationOp, ZoneOp};
+pub use refs::{BodyRef, SettingsRef, SourceRef, VacationRef, ZoneRef};
 pub use strings::{StringLists, Strings};

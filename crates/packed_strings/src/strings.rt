@@ -10,7 +10,7 @@ use std::alloc::{AllocError, Global};
 use std::borrow::CowSlice;
 use std::marker::Model;
 
-/// Puts strings after others, and where they end after the ends of these.
+/// Adds the strings of a list after others, and the end of the list after the other ends.
 fn put_after(
     strings: &mut JoinedStrings,
     ends: &mut Vec<u32>,
@@ -60,7 +60,7 @@ impl Model for StringLists {
 }
 
 impl StringLists {
-    /// No lists. Takes no memory.
+    /// Makes a value that holds no lists.
     pub fn new(alloc: Global) -> StringLists
         ensures { result ≡ no_lists }
     {
@@ -70,14 +70,14 @@ impl StringLists {
         }
     }
 
-    /// How many lists there are. Takes no memory.
+    /// The number of lists.
     pub fn len(&self) -> usize
         ensures { result ≡ length self.now.ends }
     {
         self.ends.len()
     }
 
-    /// The place of the last list, where it has the same strings as these. Takes no memory.
+    /// The place of the last list if it has the same strings as `texts`, or none.
     pub fn last_same(&self, texts: &[Parts]) -> Option<usize>
         ensures { IfSome result (λ place. (more : Lists)
             → list_in (lists_plus self.now more) place ≡ texts.now) }
@@ -90,7 +90,7 @@ impl StringLists {
         }
     }
 
-    /// Adds a list. An error is out of memory.
+    /// Adds a list. An error is out of memory, or more than 4,294,967,295 strings or parts in all.
     pub fn push(&mut self, texts: Vec<Parts>) -> Result<(), AllocError>
         ensures new { OnOk result (self.new ≡ lists_with self.old texts.items) }
         ensures kept { OnOk result ((more : Lists)
@@ -106,7 +106,7 @@ impl StringLists {
         }
     }
 
-    /// Leaves no lists.
+    /// Removes all lists.
     pub(crate) fn clear(&mut self)
         ensures { self.new ≡ no_lists }
     {
@@ -114,7 +114,7 @@ impl StringLists {
         self.strings.clear();
     }
 
-    /// Gives back the room that there is for more.
+    /// Gives back the memory that is kept for more lists.
     pub fn shrink_to_fit(&mut self)
         ensures { self.new ≡ self.old }
     {
@@ -130,7 +130,7 @@ impl StringLists {
         bounds(&self.ends, i)
     }
 
-    /// The strings from one place on up to another.
+    /// The strings from place `from` up to place `to`.
     pub(crate) fn between(&self, from: usize, to: usize) -> Strings<'_>
         ensures { result ≡ between from to self.now.strings }
     {
@@ -138,7 +138,7 @@ impl StringLists {
         Strings { strings, from, to }
     }
 
-    /// List `i`, which is empty where there are no more lists. Takes no memory.
+    /// List `i`, or an empty list if there is none.
     pub fn list(&self, i: usize) -> Strings<'_>
         ensures { result ≡ list_in self.now i }
     {
@@ -166,14 +166,14 @@ impl<'a> Model for Strings<'a> {
 }
 
 impl<'a> Strings<'a> {
-    /// How many strings there are. Takes no memory.
+    /// The number of strings.
     pub fn len(&self) -> usize
         ensures { result ≡ length self.now }
     {
         self.to.min(self.strings.len()).saturating_sub(self.from)
     }
 
-    /// The parts of string `i`. Takes no memory.
+    /// The parts of string `i`.
     pub fn get(&self, i: usize) -> &'a [Part]
         requires { i < length self.now }
         ensures { slice_get self.now i ≡ Some result.now }
@@ -181,8 +181,10 @@ impl<'a> Strings<'a> {
         self.strings.get_between(self.from, self.to, i)
     }
 
-    /// The octets that string `i` stands for, for one string after another: before what those after it stand for. Those of one part are borrowed, and take no memory, as those
-    /// of no part; those of several are put into the buffer, in place of what it holds, which takes memory where it has too little room. Fails where memory is refused.
+    /// The octets that string `i` stands for. The contract puts them before the octets of the
+    /// strings after it. So a caller can go over the strings in order. A string of one part, or of
+    /// none, is borrowed. One of several parts is put into the buffer, in place of what the buffer
+    /// held. This takes memory if the buffer has too little room. An error is out of memory.
     pub fn text_in<'b>(
         &self,
         i: usize,
@@ -198,7 +200,7 @@ impl<'a> Strings<'a> {
         values.expanded_in(self.get(i), buffer)
     }
 
-    /// The octets that each string stands for. Fails where memory is refused.
+    /// The octets that each string stands for, in order. An error is out of memory.
     pub fn expanded<'b>(
         &self,
         alloc: Global,

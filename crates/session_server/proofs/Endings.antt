@@ -1,4 +1,5 @@
--- Each session comes to an end, and what is written of a session that breaks off is a front of a session's text.
+-- Each session comes to an end. The text of a session that breaks off is a front of a session's
+-- text.
 use Rattle.octets.specs.Octet.{octet_of}
 use Rattle.std.proofs.Common.{◌≡◌, ℕ, ◌<◌, ◌≤◌, zero, suc, List, [], ◌∷◌, ◌++◌, length, take, drop, length-drop, append_assoc, append-nil, sym, ap, ◌∙◌, refl, arith, inl, inr, Bool, true, false, eqb, cond, nat_lt, codes, Option, None, Some, Result, Ok, Err}
 use Rattle.std.specs.Option.{option_map}
@@ -9,15 +10,15 @@ use Rattle.sieve_run.specs.Meter.{runs_after}
 use Rattle.bench.specs.Content.{Content, Edit, after}
 use Rattle.bench.specs.Report.{report_text}
 use Rattle.bench.specs.Stale.{stale_after}
-use Rattle.session_server.specs.Session.{Demand, asks_question, asks_put, asks_edit, asks_report, answer_to, demand_at, BrokenSession, CutSession, Ends, IsFront, Replies, Request, Served, SessionText, Step, Steps, none_yet, one_more, over, unreadable, truncated, asks, edits, reports, profile_of, refusal_line, request_at, request_by, request_of, request_so_far, takes_memory, with_octets}
+use Rattle.session_server.specs.Session.{Demand, asks_question, asks_put, asks_edit, asks_report, answer_to, demand_at, BrokenSession, CutSession, Ends, IsFront, Replies, Request, Served, SessionText, SessionStep, Steps, none_yet, one_more, over, unreadable, truncated, asks, edits, reports, profile_of, refusal_line, request_at, request_by, request_of, request_so_far, takes_memory, with_octets}
 use Rattle.bench.specs.declared.fault.EditFault.{EditFault}
 use Rattle.session_server.proofs.Requests.{asked_with_more}
 use Rattle.session_server.specs.declared.status.SessionEnd.{SessionEnd}
 use Rattle.session_server.specs.declared.status.SessionEnd.TheVariants as ends
 
--- WHAT FOLLOWS A COMMAND IS SHORTER
+-- THE REST AFTER A COMMAND IS SHORTER
 
--- fewer than n octets are left after what is asked for
+-- fewer than n octets are left after a request
 abbrev LeavesFewer : ℕ → Request → Type 0
 LeavesFewer n over = Unit {0}
 LeavesFewer n unreadable = Unit {0}
@@ -96,7 +97,7 @@ ComesToEnd old stream = (text : List ℕ) × (end : SessionEnd) × (new : Served
 ends_here : (old : Served) (stream reply : List ℕ) (end : SessionEnd) → Ends (request_of (profile_of old) stream) end reply → ComesToEnd old stream
 ends_here old stream reply end is = (reply, end, old, record { replies = []; last = reply; rest = stream; steps = none_yet; ends = is; whole = refl })
 
-goes_on : (old mid : Served) (stream reply left : List ℕ) → Step old (request_of (profile_of old) stream) reply mid left → ComesToEnd mid left → ComesToEnd old stream
+goes_on : (old mid : Served) (stream reply left : List ℕ) → SessionStep old (request_of (profile_of old) stream) reply mid left → ComesToEnd mid left → ComesToEnd old stream
 goes_on old mid stream reply left step ended =
     let session = ended.3 in (
       reply ++ ended.0,
@@ -132,11 +133,11 @@ comes_to_end (suc n) old (b ∷ bs) few = by_request n old (b ∷ bs) (request_o
 joined : (r f b y x t : List ℕ) → f ++ b ≡ y → (r ++ f) ++ (b ++ (x ++ t)) ≡ ((r ++ y) ++ x) ++ t
 joined r f b y x t is = rw (← is) (simp append_assoc)
 
--- what is written of a session whose last reply is cut is a front of a session's text
+-- the text of a session whose last reply is cut is a front of a session's text
 pub cut_is_front : (old new : Served) (stream text : List ℕ) → CutSession old stream text new → IsFront old stream text
 cut_is_front old new stream text cut = elim cut.answered [ inl on ↦ later on.0 on.1 (comes_to_end (length on.0) new on.0 (omega arith)) | inr last ↦ here last.0 last.1 ]
   where
-    later : (left : List ℕ) → Step cut.mid (request_of (profile_of cut.mid) cut.rest) cut.reply new left → ComesToEnd new left → IsFront old stream text
+    later : (left : List ℕ) → SessionStep cut.mid (request_of (profile_of cut.mid) cut.rest) cut.reply new left → ComesToEnd new left → IsFront old stream text
     later left step ended =
         let session = ended.3 in (
           cut.back ++ (session.replies ++ session.last),
@@ -169,7 +170,7 @@ cut_is_front old new stream text cut = elim cut.answered [ inl on ↦ later on.0
 
 -- WHERE NO MORE COULD BE READ
 
--- the commands that were whole in the octets that were read are the first of a stream that begins with these octets
+-- the commands that are whole in the octets read are the first of a stream that begins with these
 steps_with_more : (old : Served) (read more text : List ℕ) (new : Served) (rest : List ℕ) → Steps request_so_far old read text new rest → Steps request_of old (read ++ more) text new (rest ++ more)
 steps_with_more old read more text new rest none_yet = none_yet
 steps_with_more old read more text new rest (one_more replies reply mid last before left steps step) =
@@ -178,7 +179,7 @@ steps_with_more old read more text new rest (one_more replies reply mid last bef
 pub broken_with_more : (old new : Served) (read text more : List ℕ) (session : BrokenSession old read text new) → Steps request_of old (read ++ more) text new (session.rest ++ more)
 broken_with_more old new read text more session = steps_with_more old read more text new session.rest session.steps
 
--- what is written of a session of which no more could be read is a front of a session's text
+-- the text of a session of which no more could be read is a front of a session's text
 pub broken_is_front : (old new : Served) (read text more : List ℕ) → BrokenSession old read text new → IsFront old (read ++ more) text
 broken_is_front old new read text more broken = later (comes_to_end (length (broken.rest ++ more)) new (broken.rest ++ more) (omega arith))
   where

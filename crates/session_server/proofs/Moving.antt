@@ -1,4 +1,4 @@
--- What edits and reports make of a bench and of the runs.
+-- How edits and reports change a bench and the runs.
 use Rattle.std.proofs.Common.{◌≡◌, ℕ, inl, inr, [], length, Option, Result, Ok, Err, OnOk, IfErr, refl, sym, subst}
 use Rattle.sieve_run.specs.Meter.{runs_after}
 use Rattle.bench.specs.Bench.{BenchState, RefusedAmong}
@@ -21,7 +21,7 @@ pub edit_moves : (edit : Edit) (outcome : Result Unit EditFault) (old new : Benc
 edit_moves edit (Ok done) old new runs made = moved (served old runs) (served new runs) unmoved (inl (edit, new.content, made.0.0, (refl, made.0.1, refl)))
 edit_moves edit (Err fault) old new runs made = same_moves old new runs made.1
 
--- what is done before a task is given is an edit, or nothing
+-- before a task is given, an edit is made, or nothing is
 pub tasks_move : (task : Task) (ask : Option Demand) (old new : BenchState) (runs : ℕ) → Tasks task ask old new → Moved (served old runs) (served new runs)
 tasks_move (tasks.Made outcome) ask old new runs is =
     let made = tried ask outcome old new is in

@@ -1,4 +1,4 @@
--- What the lines of a session's input ask for.
+-- The requests of the lines of a session's input.
 use Rattle.octets.specs.Octet.{octet_of}
 use Rattle.std.proofs.Common.{◌≡◌, ℕ, ◌<◌, ◌≤◌, ◌⊎◌, inl, inr, List, [], ◌∷◌, ◌++◌, length, take, drop, sym, ap, ◌∙◌, refl, arith, subst, append_assoc, take-append-drop, Option, None, Some, Bool, true, false, eqb, nat_lt, cond, codes, IfSome, length-append, length-take, ◌+◌}
 use Rattle.std.proofs.lemmas.Bool.{cases_lt}
@@ -11,7 +11,7 @@ use Rattle.sieve_limits.specs.Limits.{line_limit}
 use Rattle.sieve_profile.specs.Profile.{Profile}
 use Rattle.bench.specs.Content.{Edit}
 use Rattle.session_text.specs.view.Line.{IsCutOff, IsEnded, IsLine, IsWithin}
-use Rattle.session_server.specs.Session.{Demand, asks_question, asks_put, asks_edit, asks_report, demand_at, Request, Served, Step, profile_of, request_after, request_of, request_at, request_by, request_so_far, with_octets, edits, truncated, unreadable}
+use Rattle.session_server.specs.Session.{Demand, asks_question, asks_put, asks_edit, asks_report, demand_at, Request, Served, SessionStep, profile_of, request_after, request_of, request_at, request_by, request_so_far, with_octets, edits, truncated, unreadable}
 use Rattle.session_text.specs.SessionLine.{cut_line, ended_line, first_line, put_before, is_long_so_far, line_from, line_so_far, without_cr}
 use Rattle.session_server.specs.view.Task.{IsFollowedBy}
 use Rattle.session_server.specs.view.Progress.{AsksAlone, BreakFrom, CutFrom, StepFrom, EndFrom, MayBeRefused, ServesFrom}
@@ -20,7 +20,7 @@ use Rattle.session_text.specs.declared.line.Line.TheVariants.{Over, Whole, TooLo
 use Rattle.session_server.specs.declared.status.SessionEnd.{SessionEnd}
 use Rattle.session_server.specs.declared.status.SessionEnd.TheVariants as ends
 
--- memory may be refused to a demand that is forgotten
+-- a demand that is forgotten may be out of memory
 pub forgotten : (ask : Option Demand) (count : ℕ) → IsFollowedBy count ask → MayBeRefused count (request_by ask)
 forgotten None count is = absurd is
 forgotten (Some (asks_question question)) count is = rw is.0 (question_refused question is.1)
@@ -28,16 +28,16 @@ forgotten (Some (asks_put n edit)) count is = rw is.0 (put_refused count edit is
 forgotten (Some (asks_edit edit)) count is = absurd is
 forgotten (Some asks_report) count is = absurd is
 
--- a line that asks for nothing that there is ends the session
+-- a line that is no command ends the session
 pub unreadable_ends : (unused : Option (List ℕ)) → EndsAt (request_by None) unused ends.Syntax (codes "no syntax\n")
 unreadable_ends None = tt
 unreadable_ends (Some xs) = (refl, refl)
 
--- WHAT FOLLOWS A COMMAND DOESN'T MATTER TO IT
+-- THE OCTETS AFTER A COMMAND DON'T MATTER TO IT
 
--- the octets before what is left ask for a command, whatever follows them
+-- the octets before the rest ask for a command, whatever follows them
 abbrev Alone : (List ℕ → Request) → Served → List ℕ → List ℕ → Served → List ℕ → Type 0
-Alone request old unused reply new left = (used : List ℕ) × (unused ≡ used ++ left) × ((more : List ℕ) → Step old (request (used ++ more)) reply new more)
+Alone request old unused reply new left = (used : List ℕ) × (unused ≡ used ++ left) × ((more : List ℕ) → SessionStep old (request (used ++ more)) reply new more)
 
 put_of : (octets more : List ℕ) (edit : List ℕ → Edit) → with_octets (length octets) (octets ++ more) edit ≡ edits (edit octets) more
 put_of octets more edit =
@@ -45,7 +45,7 @@ put_of octets more edit =
     let some : nat_lt (length (octets ++ more)) (length octets) ≡ false = grind (arith, nat_tests, size) in
     rw some (rw (take-append_seam octets more) (rw (drop-append_seam octets more) refl))
 
-put_alone : (count : ℕ) (edit : List ℕ → Edit) (old new : Served) (xs ys reply : List ℕ) → Step old (with_octets count xs edit) reply new ys → Alone (λ rest. with_octets count rest edit) old xs reply new ys
+put_alone : (count : ℕ) (edit : List ℕ → Edit) (old new : Served) (xs ys reply : List ℕ) → SessionStep old (with_octets count xs edit) reply new ys → Alone (λ rest. with_octets count rest edit) old xs reply new ys
 put_alone count edit old new xs ys reply step = by_room (cases_lt (length xs) count)
   where
     by_room : (length xs < count) ⊎ (count ≤ length xs) → Alone (λ rest. with_octets count rest edit) old xs reply new ys
@@ -54,13 +54,13 @@ put_alone count edit old new xs ys reply step = by_room (cases_lt (length xs) co
         let size : length (take count xs) ≡ count = omega (arith, length-take count xs, within) in
         let there : xs ≡ take count xs ++ drop count xs = sym (take-append-drop count xs) in
         let some : nat_lt (length xs) count ≡ false = grind (arith, nat_tests, within) in
-        let step' : Step old (edits (edit (take count xs)) (drop count xs)) reply new ys = rw some at step in (
+        let step' : SessionStep old (edits (edit (take count xs)) (drop count xs)) reply new ys = rw some at step in (
           take count xs,
           there ∙ ap (λ l. take count xs ++ l) (sym step'.1),
-          λ more. subst (λ n. Step old (with_octets n (take count xs ++ more) edit) reply new more) size (rw (put_of (take count xs) more edit) (step'.0, refl)),
+          λ more. subst (λ n. SessionStep old (with_octets n (take count xs ++ more) edit) reply new more) size (rw (put_of (take count xs) more edit) (step'.0, refl)),
         )
 
-step_alone : (ask : Option Demand) (old new : Served) (xs ys reply : List ℕ) → Step old (request_by ask xs) reply new ys → Alone (request_by ask) old xs reply new ys
+step_alone : (ask : Option Demand) (old new : Served) (xs ys reply : List ℕ) → SessionStep old (request_by ask xs) reply new ys → Alone (request_by ask) old xs reply new ys
 step_alone None old new xs ys reply step = absurd step
 step_alone (Some (asks_question question)) old new xs ys reply step = ([], sym step.2, λ more. (step.0, step.1, refl))
 step_alone (Some (asks_put count edit)) old new xs ys reply step = put_alone count edit old new xs ys reply step
@@ -69,7 +69,7 @@ step_alone (Some asks_report) old new xs ys reply step = ([], sym step.1, λ mor
 
 -- THE NEXT LINE
 
--- a stream whose first line is within the limit asks for what this line asks for
+-- a stream whose first line is within the limit has the request of that line
 whole_request : (profile : Profile) (stream front rest : List ℕ) → 0 < length stream → first_line stream ≡ (front, rest) → length front ≤ line_limit → request_of profile stream ≡ request_by (demand_at profile front) rest
 unfolding request_of
 whole_request profile [] front rest some is small = absurd (omega arith)
@@ -77,7 +77,7 @@ whole_request profile (b ∷ bs) front rest some is small =
     let within : nat_lt line_limit (length front) ≡ false = grind (arith, nat_tests) in
     ap (request_at profile) is ∙ ap (λ (v : Bool). cond v unreadable (request_by (demand_at profile front) rest)) within
 
--- a stream whose first line is past the limit says nothing that there is
+-- a stream whose first line is past the limit is unreadable
 long_request : (profile : Profile) (stream : List ℕ) → 0 < length stream → line_limit < length (first_line stream).0 → request_of profile stream ≡ unreadable
 unfolding request_of
 long_request profile [] some long = absurd (omega arith)
@@ -100,14 +100,15 @@ long_end profile (Some xs) (Some ys) pending same long some =
     let size : length (pending ++ ys) ≡ length pending + length ys = length-append pending ys in
     rw (← same) (rw (long_request profile (pending ++ ys) (omega arith) long) (refl, refl))
 
--- what is read of a line of which no more can be read
+-- a line of which no more can be read breaks the session off
 pub cut_line_break : (old : Served) (unused rest written : Option (List ℕ)) (pending : List ℕ) → Keeps unused (prepend_known pending rest) → IsCutOff pending → BreakFrom (request_so_far (profile_of old)) old unused written old rest written
 unfolding request_so_far line_so_far
 cut_line_break old None rest written pending same cut = tt
 cut_line_break old (Some xs) None written pending same cut = absurd same
 cut_line_break old (Some xs) (Some ys) written pending same cut = (pending, sym same, rw cut.0 (rw cut.1 refl), Appends-nil written, refl)
 
--- the octets begin with the line `front`, and ask for what this line asks for with the octets after it
+-- the octets begin with the line `front`, and ask for what this line asks for with the octets after
+-- it
 abbrev pub Begins : Profile → List ℕ → Option Demand → Option (List ℕ) → Option (List ℕ) → Type 0
 Begins profile front ask None after = Unit {0}
 Begins profile front ask (Some xs) None = ⊥
@@ -167,9 +168,10 @@ cut_served front ask old new None after before after' begins cut = tt
 cut_served front ask old new (Some xs) None before after' begins cut = absurd begins
 cut_served front ask old new (Some xs) (Some ys) before after' begins cut = (cut.0, cut.1, cut.2, cut.3, rw begins.1 cut.4, cut.5)
 
--- OCTETS WITH OTHERS BEHIND THEM
+-- OCTETS WITH OTHERS AFTER THEM
 
--- where the first octets have a line that has ended, all of them have that line, and what follows is after it
+-- Where the first octets have a line that has ended, all of them have that line. The octets that
+-- follow are after it.
 abbrev KeepsCut : List ℕ → Option (List ℕ × List ℕ) → Option (List ℕ × List ℕ) → Type 0
 KeepsCut more None all = Unit {0}
 KeepsCut more (Some cut) all = all ≡ Some (cut.0, cut.1 ++ more)
@@ -184,28 +186,28 @@ cut_kept (b ∷ bs) more = by_octet (eqb b (octet_of "\n")) (cut_line bs) (cut_l
     by_octet false None all kept = tt
     by_octet false (Some cut) all kept = ap (option_map (put_before b)) kept
 
--- what a line asks for with octets after it, it asks for with more octets after these
-line_and_more : (profile : Profile) (old new : Served) (front rest more reply left : List ℕ) → Step old (request_at profile (front, rest)) reply new left
-    → Step old (request_at profile (front, rest ++ more)) reply new (left ++ more)
+-- a line with octets after it has the same request with more octets after these
+line_and_more : (profile : Profile) (old new : Served) (front rest more reply left : List ℕ) → SessionStep old (request_at profile (front, rest)) reply new left
+    → SessionStep old (request_at profile (front, rest ++ more)) reply new (left ++ more)
 line_and_more profile old new front rest more reply left = by_limit (nat_lt line_limit (length front))
   where
-    by_limit : (long : Bool) → Step old (cond long unreadable (request_by (demand_at profile front) rest)) reply new left → Step old (cond long unreadable (request_by (demand_at profile front) (rest ++ more))) reply new (left ++ more)
+    by_limit : (long : Bool) → SessionStep old (cond long unreadable (request_by (demand_at profile front) rest)) reply new left → SessionStep old (cond long unreadable (request_by (demand_at profile front) (rest ++ more))) reply new (left ++ more)
     by_limit true step = step
     by_limit false step =
         let own : Alone (request_by (demand_at profile front)) old rest reply new left = step_alone (demand_at profile front) old new rest left reply step in
         let cut : own.0 ++ (left ++ more) ≡ rest ++ more = sym (append_assoc own.0 left more) ∙ ap (λ l. l ++ more) (sym own.1) in
-        subst (λ l. Step old (request_by (demand_at profile front) l) reply new (left ++ more)) cut (own.2 (left ++ more))
+        subst (λ l. SessionStep old (request_by (demand_at profile front) l) reply new (left ++ more)) cut (own.2 (left ++ more))
 
--- a stream that begins with the octets that were read asks for what these ask for
-pub asked_with_more : (profile : Profile) (old new : Served) (read more reply left : List ℕ) → Step old (request_so_far profile read) reply new left → Step old (request_of profile (read ++ more)) reply new (left ++ more)
+-- a stream that begins with the octets read has the request of these
+pub asked_with_more : (profile : Profile) (old new : Served) (read more reply left : List ℕ) → SessionStep old (request_so_far profile read) reply new left → SessionStep old (request_of profile (read ++ more)) reply new (left ++ more)
 unfolding request_of request_so_far first_line line_so_far
 asked_with_more profile old new [] more reply left step = absurd step
 asked_with_more profile old new (b ∷ bs) more reply left step = by_cut (cut_line (b ∷ bs)) (cut_line ((b ∷ bs) ++ more)) (cut_kept (b ∷ bs) more) step
   where
-    by_length : (long : Bool) → Step old (cond long unreadable truncated) reply new left → ⊥
+    by_length : (long : Bool) → SessionStep old (cond long unreadable truncated) reply new left → ⊥
     by_length true step = step
     by_length false step = step
 
-    by_cut : (first all : Option (List ℕ × List ℕ)) → KeepsCut more first all → Step old (request_after profile (b ∷ bs) (option_map ended_line first)) reply new left → Step old (request_at profile (line_from ((b ∷ bs) ++ more) all)) reply new (left ++ more)
+    by_cut : (first all : Option (List ℕ × List ℕ)) → KeepsCut more first all → SessionStep old (request_after profile (b ∷ bs) (option_map ended_line first)) reply new left → SessionStep old (request_at profile (line_from ((b ∷ bs) ++ more) all)) reply new (left ++ more)
     by_cut None all kept step = absurd (by_length (is_long_so_far (b ∷ bs)) step)
     by_cut (Some cut) all kept step = rw kept (line_and_more profile old new (without_cr cut.0) cut.1 more reply left step)

@@ -9,11 +9,11 @@ use Rattle.devices.specs.Writers.{Wrote, WroteFront}
 use Rattle.bench.specs.Bench.{BenchState}
 use Rattle.bench.specs.Content.{Content, Edit, after, unless, is_long, is_long_id, text_at, message_at, with_script, with_message, changed, sample_with}
 use Rattle.session_text.specs.view.Payload.{BreaksOff, Takes, FallsShort}
-use Rattle.session_server.specs.Session.{answer_to, asks, Ends, MatchFault, MatchSessionEnd, question_takes_memory, Reported, ReportRefused, Request, Served, served, Step, takes_memory, with_octets, edits, reports, truncated, Replies, refusal_line}
+use Rattle.session_server.specs.Session.{answer_to, asks, Ends, MatchFault, MatchSessionEnd, question_takes_memory, Reported, ReportRefused, Request, Served, served, SessionStep, takes_memory, with_octets, edits, reports, truncated, Replies, refusal_line}
 use Rattle.bench.specs.Report.{report_text}
 use Rattle.bench.specs.Stale.{stale_after}
 use Rattle.session_server.specs.view.Task.{edit_of, limit_of}
-use Rattle.session_server.specs.view.Progress.{BreakFrom, Continues, CutFrom, EndsBy, Follows, GoesFrom, MatchProgress, MayBeRefused, StepFrom, EndFrom, Attempts, reply_line}
+use Rattle.session_server.specs.view.Progress.{BreakFrom, Continues, CutFrom, EndsBy, ProgressFollows, GoesFrom, MatchProgress, MayBeRefused, StepFrom, EndFrom, Attempts, reply_line}
 use Rattle.session_server.specs.declared.server.Progress.{Progress}
 use Rattle.session_server.proofs.Moving.{edit_moves, report_moves, stays}
 use Rattle.session_server.specs.declared.server.Progress.TheVariants as ways
@@ -26,13 +26,13 @@ use Rattle.session_server.specs.declared.task.Subject.TheVariants as subjects
 use Rattle.session_server.specs.declared.status.SessionEnd.{SessionEnd}
 use Rattle.session_server.specs.declared.status.SessionEnd.TheVariants as ends
 
--- WHAT IS ASKED FOR, AND WHAT IS WRITTEN
+-- REQUESTS AND REPLIES
 
 -- the unused octets ask for a command, this is its reply, and so much is left
 abbrev pub RepliesTo : (List ℕ → Request) → Served → Option (List ℕ) → List ℕ → Served → Option (List ℕ) → Type 0
 RepliesTo request old None reply new left = Unit {0}
 RepliesTo request old (Some unused) reply new None = ⊥
-RepliesTo request old (Some unused) reply new (Some left) = Step old (request unused) reply new left
+RepliesTo request old (Some unused) reply new (Some left) = SessionStep old (request unused) reply new left
 
 -- the unused octets end the session, and this is its last reply
 abbrev pub EndsAt : (List ℕ → Request) → Option (List ℕ) → SessionEnd → List ℕ → Type 0
@@ -68,23 +68,24 @@ pub answered : {T : Type 0} (contents : T → Option (List ℕ)) (fault_count : 
 answered contents fault_count w w' request ways.Continues old new unused left rest reply said asked = step_written request old new unused left (contents w) (contents w') reply asked said.text_appended
 answered contents fault_count w w' request (ways.Ends end) old new unused left rest reply said asked = rw said.0 (step_cut contents fault_count w w' request old new unused left reply asked said.1)
 
--- the session ends as it is due where its last reply was written, or the writer failed; P and R are of ways that it doesn't go
+-- The session ends as it is due where its last reply was written, or the writer failed. P and R are
+-- facts of ways that it doesn't go.
 pub ended : {T : Type 0} (contents : T → Option (List ℕ)) (fault_count : T → ℕ) (w w' : T) (request : List ℕ → Request) (wanted : SessionEnd) (way : Progress) (old : Served) (unused : Option (List ℕ)) (reply : List ℕ) (P R : Type 0)
     → ((Q S : Type 0) → Q → MatchSessionEnd wanted Q R S ⊥) → EndsBy wanted way (Wrote contents fault_count w w' reply) (WroteFront contents fault_count w w' reply) → EndsAt request unused wanted reply
-    → Follows way P (λ end. EndFrom request end old unused (contents w) old (contents w')) R (CutFrom request old unused (contents w) old (contents w'))
+    → ProgressFollows way P (λ end. EndFrom request end old unused (contents w) old (contents w')) R (CutFrom request old unused (contents w) old (contents w'))
 ended contents fault_count w w' request wanted ways.Continues old unused reply P R due said asked = absurd said
 ended contents fault_count w w' request wanted (ways.Ends end) old unused reply P R due (inl both) asked =
     rw both.0 (due _ _ (end_written request wanted old unused (contents w) (contents w') reply asked both.1.text_appended))
 ended contents fault_count w w' request wanted (ways.Ends end) old unused reply P R due (inr failed) asked = rw failed.0 (end_cut contents fault_count w w' request wanted old unused reply asked failed.1)
 
--- what a reply says of the writer's faults
+-- the writer's faults at a reply
 pub answer_faults : {T : Type 0} (contents : T → Option (List ℕ)) (fault_count : T → ℕ) (w w' : T) (way : Progress) (reply : List ℕ) (P R : Type 0)
     → Continues way (Wrote contents fault_count w w' reply) (WroteFront contents fault_count w w' reply)
     → MatchProgress way (fault_count w ≤ fault_count w') P (HasRisen (fault_count w) (fault_count w')) R
 answer_faults contents fault_count w w' ways.Continues reply P R said = said.faults_kept
 answer_faults contents fault_count w w' (ways.Ends end) reply P R said = rw said.0 said.1.fault_counted
 
--- what a last reply says of the writer's faults
+-- the writer's faults at a last reply
 pub end_faults : {T : Type 0} (contents : T → Option (List ℕ)) (fault_count : T → ℕ) (w w' : T) (wanted : SessionEnd) (way : Progress) (reply : List ℕ) (P Q R : Type 0)
     → MatchFault wanted P (HasRisen (fault_count w) (fault_count w')) R → EndsBy wanted way (Wrote contents fault_count w w' reply) (WroteFront contents fault_count w w' reply)
     → MatchProgress way Q P (HasRisen (fault_count w) (fault_count w')) R
@@ -93,7 +94,7 @@ end_faults contents fault_count w w' wanted (ways.Ends end) reply P Q R none (in
 end_faults contents fault_count w w' wanted (ways.Ends end) reply P Q R none (inr failed) = rw failed.0 failed.1.fault_counted
 
 -- the fact of a way gives another, where the fact of each way does
-pub follows_by : (way : Progress) (P P' R R' S S' : Type 0) (Q Q' : SessionEnd → Type 0) → (P → P') → ((end : SessionEnd) → Q end → Q' end) → (R → R') → (S → S') → Follows way P Q R S → Follows way P' Q' R' S'
+pub follows_by : (way : Progress) (P P' R R' S S' : Type 0) (Q Q' : SessionEnd → Type 0) → (P → P') → ((end : SessionEnd) → Q end → Q' end) → (R → R') → (S → S') → ProgressFollows way P Q R S → ProgressFollows way P' Q' R' S'
 follows_by ways.Continues P P' R R' S S' Q Q' p q r s h = p h
 follows_by (ways.Ends ends.Done) P P' R R' S S' Q Q' p q r s h = q ends.Done h
 follows_by (ways.Ends ends.Syntax) P P' R R' S S' Q Q' p q r s h = q ends.Syntax h
@@ -104,7 +105,7 @@ follows_by (ways.Ends ends.NoMemory) P P' R R' S S' Q Q' p q r s h = h
 follows_by (ways.Ends ends.TurnLimit) P P' R R' S S' Q Q' p q r s h = r h
 
 -- a fact N that is known where no more could be read holds beside R
-pub where_broken : (way : Progress) (P R S N A B G F : Type 0) (Q : SessionEnd → Type 0) → MatchProgress way G (N × A) F (N × B) → Follows way P Q R S → Follows way P Q (N × R) S
+pub where_broken : (way : Progress) (P R S N A B G F : Type 0) (Q : SessionEnd → Type 0) → MatchProgress way G (N × A) F (N × B) → ProgressFollows way P Q R S → ProgressFollows way P Q (N × R) S
 where_broken ways.Continues P R S N A B G F Q known h = h
 where_broken (ways.Ends ends.Done) P R S N A B G F Q known h = h
 where_broken (ways.Ends ends.Syntax) P R S N A B G F Q known h = h
@@ -122,7 +123,7 @@ replies_ok : (edit : Edit) (takes : Bool) (content : Content) (old new : BenchSt
 replies_ok edit takes content old new runs same stale =
     inl (refl, (sym same, stale ∙ ap (λ (c : Content). stale_after old.content edit old.stale c) (sym same), refl))
 
--- what an edit answers is what its definition allows
+-- an edit answers as its definition allows
 replies_of : (edit : Edit) (takes : Bool) (outcome : Result Unit EditFault) (meaning : Result Content EditFault) (old new : BenchState) (runs : ℕ) → OnOk outcome ((meaning ≡ Ok new.content) × (new.stale ≡ stale_after old.content edit old.stale new.content)) → OnErr outcome (new ≡ old) → IfErr outcome (λ fault. (meaning ≡ Err fault) ⊎ ((takes ≡ true) × (fault ≡ NoMemory)))
     → Replies edit takes meaning (served old runs) (reply_line outcome) (served new runs)
 replies_of edit takes (Ok done) (Ok content) old new runs ok err refused =
@@ -141,7 +142,7 @@ pub tried_replies : (edit : Edit) (outcome : Result Unit EditFault) (old new : B
     → Replies edit (takes_memory edit) (after old.content edit) (served old runs) (reply_line outcome) (served new runs)
 tried_replies edit outcome old new runs made = replies_of edit (takes_memory edit) outcome (after old.content edit) old new runs made.0 made.1 made.2
 
--- memory may be refused to an edit that takes some
+-- an edit that takes memory may be out of memory
 pub no_memory_replies : (edit : Edit) (takes : Bool) (meaning : Result Content EditFault) (old : Served) → takes ≡ true → Replies edit takes meaning old (refusal_line NoMemory) old
 no_memory_replies edit true (Ok content) old is = inr (refl, refl, refl)
 no_memory_replies edit true (Err fault) old is = (inr (refl, refl), refl)
@@ -176,7 +177,7 @@ too_large subjects.Mailboxes old octets more =
     let past : nat_lt mailboxes_limit (length octets) ≡ true = grind (arith, nat_tests) in
     ap (λ (b : Bool). unless (cond b (Some TooLarge) None) (record old { envelope = record old.envelope { mailboxes = octets } })) past
 
--- octets that weren't kept: too many of them, or memory was refused
+-- octets that weren't kept are too many, or the session is out of memory
 pub unkept_replies : (subject : Subject) (count : ℕ) (old : Served) (octets : List ℕ) → length octets ≡ count → Replies (edit_of subject octets) (takes_memory (edit_of subject octets)) (after old.bench.content (edit_of subject octets)) old (refusal_line (cond (nat_lt (limit_of subject) count) TooLarge NoMemory)) old
 unkept_replies subject count old octets size = by_flag (nat_lt (limit_of subject) count) refl
   where
@@ -218,20 +219,20 @@ breaks_off request count old None rest written cut broken = tt
 breaks_off request count old (Some xs) None written cut broken = absurd broken
 breaks_off request count old (Some xs) (Some ys) written cut broken = (broken.0, broken.1, cut broken.0 broken.2, Appends-nil written, refl)
 
--- the reply to a command to which memory is refused
+-- the reply to a command that is out of memory
 pub refused_replies : (count : ℕ) (request : List ℕ → Request) (old : Served) (unused left kept : Option (List ℕ)) → MayBeRefused count request → Takes count unused left kept → RepliesTo request old unused (refusal_line NoMemory) old left
 refused_replies count request old None left kept may taken = tt
 refused_replies count request old (Some xs) None kept may taken = absurd taken
 refused_replies count request old (Some xs) (Some ys) kept may taken = rw taken.1 (may.where_whole old xs taken.0)
 
--- memory may be refused to a put that takes some
+-- a put that takes memory may be out of memory
 pub put_refused : (count : ℕ) (edit : List ℕ → Edit) → ((octets : List ℕ) → takes_memory (edit octets) ≡ true) → MayBeRefused count (λ rest. with_octets count rest edit)
 put_refused count edit takes = record {
   where_whole = λ old rest within. rw (enough count rest edit within) (no_memory_replies _ _ (after old.bench.content (edit (take count rest))) old (takes (take count rest)), refl);
   where_short = short count edit;
 }
 
--- memory may be refused to a question that takes some
+-- a question that takes memory may be out of memory
 pub question_refused : (question : Question) → question_takes_memory question ≡ true → MayBeRefused 0 (λ rest. asks question rest)
 question_refused question takes = record {
   where_whole = λ old rest within. (inr (takes, refl), refl, refl);
@@ -250,7 +251,7 @@ pub report_replies : (old new : Served) (unused : Option (List ℕ)) → Reporte
 report_replies old new None made = tt
 report_replies old new (Some xs) made = (inl (refl, made), refl)
 
--- the reply that memory was refused to a report
+-- the reply to a report that is out of memory
 pub refused_report_replies : (old new : Served) (unused : Option (List ℕ)) → ReportRefused old new → RepliesTo (λ rest. reports rest) old unused (refusal_line NoMemory) new unused
 refused_report_replies old new None refused = tt
 refused_report_replies old new (Some xs) refused = (inr (refl, refused), refl)

@@ -103,7 +103,7 @@ made turns left calls calls' none counted = either counted.2
     either (inl all) = inl (omega (arith, all, none))
     either (inr many) = inr many
 
--- what the faults at the end say of the whole session
+-- the faults of the whole session, by those at its end
 pub faults_by : {S : Type 0} (remaining : S → Option (List ℕ)) (fault_count call_count : S → ℕ) (first last : Input) (r s t : S) (v w x : ℕ) (end : SessionEnd) → Reads remaining fault_count call_count first last r t → fault_count r ≤ fault_count s → v ≤ w
     → MatchFault end ((last.ended ≡ false) × HasRisen (fault_count s) (fault_count t)) (HasRisen w x) ((last.ended ≡ false) × (last.turns ≡ 0))
     → MatchFault end (HasRisen (fault_count r) (fault_count t)) (HasRisen v x) (ReadsAreMade first.turns (call_count r) (call_count t) × TurnsAreSpent first.turns (remaining r) (remaining t) (fault_count r) (fault_count t))

@@ -8,13 +8,13 @@ use Rattle.session_server.specs.Session.{Demand, asks_question, asks_put, asks_e
 use Rattle.session_server.specs.view.Progress.{Attempts}
 use Rattle.session_server.specs.view.Task.{IsTried}
 
--- what a call of the bench refuses, where memory may be refused to it
+-- the refusal of a call of the bench that may be out of memory
 pub by_call : (takes : Bool) (meaning : Result Content EditFault) (outcome : Result Unit EditFault) → takes ≡ true → Refuses meaning outcome → IfErr outcome (λ fault. (meaning ≡ Err fault) ⊎ ((takes ≡ true) × (fault ≡ NoMemory)))
 by_call takes meaning (Ok done) is refused = tt
 by_call takes (Ok content) (Err fault) is refused = inr (is, refused)
 by_call takes (Err refusal) (Err fault) is refused = inl (ap Err (sym refused))
 
--- what an edit answers that takes no memory
+-- the refusal of an edit that is never out of memory
 pub by_answer : (takes : Bool) (meaning : Result Content EditFault) (outcome : Result Unit EditFault) → Answers meaning outcome → IfErr outcome (λ fault. (meaning ≡ Err fault) ⊎ ((takes ≡ true) × (fault ≡ NoMemory)))
 by_answer takes meaning (Ok done) answers = tt
 by_answer takes (Ok content) (Err fault) answers = absurd answers
@@ -29,7 +29,7 @@ attempts_in_place edit outcome old new tries = (tries.0, tries.1, by_answer (tak
 
 pub ruleset trying = (attempts, attempts_in_place, by_call, by_answer)
 
--- the edit that was tried is what is asked for
+-- the edit that was tried is the demanded one
 pub tried : (ask : Option Demand) (outcome : Result Unit EditFault) (old new : BenchState) → IsTried ask outcome old new → (edit : Edit) × (request_by ask ≡ (λ rest. edits edit rest)) × Attempts edit outcome old new
 tried None outcome old new is = absurd is
 tried (Some (asks_question question)) outcome old new is = absurd is

@@ -1,4 +1,4 @@
--- A session: the replies to a stream of octets, and what the bench holds in the end.
+-- A session: the replies to a stream of octets, and the bench in the end.
 use Rattle.std.specs.Prelude.{◌≡◌, ⊤, ℕ, ◌+◌, ◌-◌, ◌^◌, ◌≤◌, Bool, true, false, ◌⊎◌, List, [], ◌∷◌, ◌++◌, length, take, drop, Option, None, Some, is_some, Result, Ok, Err, nat_lt, if◌then◌else◌, codes}
 use Rattle.std.specs.Io.KnownBytes.{Appends}
 use Rattle.std.specs.Option.{option_map}
@@ -24,8 +24,8 @@ use Rattle.session_server.specs.declared.status.SessionEnd.TheVariants as ends
 use Rattle.session_server.specs.declared.task.Question.{Question}
 use Rattle.session_server.specs.declared.task.Question.TheVariants.{Nothing, Code}
 
--- what a stream begins with: nothing; a line that says nothing that there is; octets that end too early; a question; an edit;
--- or a report; and what follows
+-- The request at the start of a stream, and the rest. There is none, or a line that is no command,
+-- or octets end too early. Or it is a question, an edit or a report.
 pub data Request : Type 0 where
   over : Request
   unreadable : Request
@@ -38,7 +38,8 @@ pub data Request : Type 0 where
 abbrev pub with_octets : ℕ → List ℕ → (List ℕ → Edit) → Request
 with_octets count rest edit = if nat_lt (length rest) count then truncated else edits (edit (take count rest)) (drop count rest)
 
--- what a command asks for, whatever follows its line: the answer to a question; to put so many octets, which follow it directly; another edit; a report
+-- The demand of a command, whatever follows its line. It is to answer a question, to put octets,
+-- another edit, or a report. The octets of a put follow the line directly.
 pub data Demand : Type 0 where
   asks_question : (question : Question) → Demand
   asks_put : (count : ℕ) (edit : List ℕ → Edit) → Demand
@@ -66,7 +67,7 @@ demand_of (no_message_envelope id) = asks_edit (set_for_one id (own.Addresses No
 demand_of (clock time) = asks_edit (set_for_all (common.Clock (Some time)))
 demand_of no_clock = asks_edit (set_for_all (common.Clock None))
 
--- what a line asks for with the octets after it; a line of no command says nothing that there is
+-- the request of a line with the octets after it; a line of no command is unreadable
 abbrev pub request_by : Option Demand → List ℕ → Request
 request_by None rest = unreadable
 request_by (Some (asks_question question)) rest = asks question rest
@@ -74,25 +75,27 @@ request_by (Some (asks_put count edit)) rest = with_octets count rest edit
 request_by (Some (asks_edit edit)) rest = edits edit rest
 request_by (Some asks_report) rest = reports rest
 
--- what a line asks for under a profile
+-- the demand of a line under a profile
 abbrev pub demand_at : Profile → List ℕ → Option Demand
 demand_at profile line = option_map demand_of (command_of_line profile line)
 
--- a line that is too long says nothing that there is
+-- a line that is too long is unreadable
 abbrev pub request_at : Profile → List ℕ × List ℕ → Request
 request_at profile (line, rest) = if nat_lt line_limit (length line) then unreadable else request_by (demand_at profile line) rest
 
--- what a stream asks for under a profile
+-- the request of a stream under a profile
 unfoldable pub request_of : Profile → List ℕ → Request
 request_of profile [] = over
 request_of profile (octet ∷ octets) = request_at profile (first_line (octet ∷ octets))
 
--- octets without the end of a line are no whole command, and may become one unless they are too long for a line already
+-- Octets without the end of a line are no whole command. They may become one, unless they are too
+-- long for a line already.
 abbrev pub request_after : Profile → List ℕ → Option (List ℕ × List ℕ) → Request
 request_after profile read None = if is_long_so_far read then unreadable else truncated
 request_after profile read (Some cut) = request_at profile cut
 
--- what the octets ask for that are read, while more may come: neither their end nor that of a line without an LF is known
+-- The request of the octets that are read, while more may come. Neither their end nor that of a
+-- line without an LF is known.
 unfoldable pub request_so_far : Profile → List ℕ → Request
 request_so_far profile read = request_after profile read (line_so_far read)
 
@@ -115,7 +118,7 @@ dump_reply missing = refusal_line NoSuchScript
 dump_reply invalid = codes "no invalid-script\n"
 dump_reply (present tree) = script_code tree ++ codes "ok\n"
 
--- the reply to a dump of a script of a bench, by its profile and as an `include` of that name finds it
+-- the reply to a dump of a bench's script, as an `include` finds it (RFC 6609, section 3.2)
 abbrev pub dump_of : Content → ScriptName → List ℕ
 dump_of content name = dump_reply (found_at (library_of content.profile (text_at content.scripts)) name)
 
@@ -124,12 +127,12 @@ abbrev pub answer_to : Content → Question → List ℕ
 answer_to content Nothing = []
 answer_to content (Code name) = dump_of content name
 
--- whether memory may be refused to a question
+-- whether a question may be out of memory
 abbrev pub question_takes_memory : Question → Bool
 question_takes_memory Nothing = false
 question_takes_memory (Code name) = true
 
--- whether memory may be refused to a setting that a session makes: its octets are copied, where it has some
+-- whether a setting of a session may be out of memory: its octets are copied, where it has some
 abbrev pub copies : Setting → Bool
 copies (common.Main name) = is_some name
 copies (common.Addresses addresses) = true
@@ -137,12 +140,12 @@ copies (common.Mailbox box) = true
 copies (common.Mailboxes text) = true
 copies (common.Clock time) = false
 
--- the same of a setting of one message
+-- whether a setting of one message may be out of memory
 abbrev pub copies_for_one : MessageSetting → Bool
 copies_for_one (own.Expected expected) = is_some expected
 copies_for_one (own.Addresses addresses) = is_some addresses
 
--- whether memory may be refused to an edit of a session
+-- whether an edit of a session may be out of memory
 abbrev pub takes_memory : Edit → Bool
 takes_memory (put_script name text) = true
 takes_memory (put_message id bytes) = true
@@ -168,7 +171,8 @@ profile_of served = served.bench.content.profile
 abbrev pub Made : Edit → Content → Served → Served → Type 0
 Made edit content old new = (new.bench.content ≡ content) × (new.bench.stale ≡ stale_after old.bench.content edit old.bench.stale content) × (new.runs ≡ old.runs)
 
--- the reply to an edit that makes this of the content or is refused, and what is after it; where it is refused nothing changes
+-- The reply to an edit that makes this content or is refused, and the bench after it. Where the
+-- edit is refused, nothing changes.
 abbrev pub Replies : Edit → Bool → Result Content EditFault → Served → List ℕ → Served → Type 0
 Replies edit takes (Ok content) old reply new = ((reply ≡ codes "ok\n") × Made edit content old new) ⊎ ((takes ≡ true) × (reply ≡ refusal_line NoMemory) × (new ≡ old))
 Replies edit takes (Err fault) old reply new = ((reply ≡ refusal_line fault) ⊎ ((takes ≡ true) × (reply ≡ refusal_line NoMemory))) × (new ≡ old)
@@ -177,33 +181,35 @@ Replies edit takes (Err fault) old reply new = ((reply ≡ refusal_line fault) �
 abbrev pub Reported : Served → Served → Type 0
 Reported old new = (new.bench.content ≡ old.bench.content) × (new.bench.stale ≡ []) × (new.runs ≡ runs_after (length old.bench.stale) old.runs)
 
--- memory is refused to a report: the first of the stale messages are run
+-- a report is out of memory: the first of the stale messages are run
 abbrev pub ReportRefused : Served → Served → Type 0
 ReportRefused old new = (new.bench.content ≡ old.bench.content) × RefusedAmong old.bench.stale new.bench.stale old.runs new.runs
 
--- an edit is made, a report is, or memory is refused to one
+-- an edit is made, or a report is made or is out of memory
 abbrev pub Moves : Served → Served → Type 0
 Moves old new = ((edit : Edit) × (content : Content) × (after old.bench.content edit ≡ Ok content) × Made edit content old new) ⊎ (Reported old new ⊎ ReportRefused old new)
 
--- Edits and reports in turn, and nothing else: what became of a bench and of the runs, also where no device says which octets it gave or took.
+-- Edits and reports in turn, and nothing else. So a bench and the runs change, also where no device
+-- says which octets it gave or took.
 pub data Moved (old : Served) : Served → Type 0 where
   unmoved : Moved old old
   moved : (mid new : Served) → Moved old mid → Moves mid new → Moved old new
 
--- One command: its reply, what is after it, and what is left of the stream.
-abbrev pub Step : Served → Request → List ℕ → Served → List ℕ → Type 0
-Step old over reply new left = ⊥
-Step old unreadable reply new left = ⊥
-Step old truncated reply new left = ⊥
-Step old (asks question rest) reply new left =
+-- One command: its reply, the bench after it, and the rest of the stream.
+abbrev pub SessionStep : Served → Request → List ℕ → Served → List ℕ → Type 0
+SessionStep old over reply new left = ⊥
+SessionStep old unreadable reply new left = ⊥
+SessionStep old truncated reply new left = ⊥
+SessionStep old (asks question rest) reply new left =
     ((reply ≡ answer_to old.bench.content question) ⊎ ((question_takes_memory question ≡ true) × (reply ≡ refusal_line NoMemory))) × (new ≡ old) × (left ≡ rest)
-Step old (edits edit rest) reply new left = Replies edit (takes_memory edit) (after old.bench.content edit) old reply new × (left ≡ rest)
-Step old (reports rest) reply new left = (((reply ≡ report_text old.bench.content) × Reported old new) ⊎ ((reply ≡ refusal_line NoMemory) × ReportRefused old new)) × (left ≡ rest)
+SessionStep old (edits edit rest) reply new left = Replies edit (takes_memory edit) (after old.bench.content edit) old reply new × (left ≡ rest)
+SessionStep old (reports rest) reply new left = (((reply ≡ report_text old.bench.content) × Reported old new) ⊎ ((reply ≡ refusal_line NoMemory) × ReportRefused old new)) × (left ≡ rest)
 
--- some commands in turn, each what the octets then ask for: their replies, what is after them, and the octets after them
+-- Some commands in turn, each the request of the octets that are left then. With their replies, the
+-- bench after them, and the rest of the octets.
 pub data Steps (request : Profile → List ℕ → Request) (old : Served) (stream : List ℕ) : List ℕ → Served → List ℕ → Type 0 where
   none_yet : Steps request old stream [] old stream
-  one_more : (replies reply : List ℕ) (mid new : Served) (rest left : List ℕ) → Steps request old stream replies mid rest → Step mid (request (profile_of mid) rest) reply new left → Steps request old stream (replies ++ reply) new left
+  one_more : (replies reply : List ℕ) (mid new : Served) (rest left : List ℕ) → Steps request old stream replies mid rest → SessionStep mid (request (profile_of mid) rest) reply new left → Steps request old stream (replies ++ reply) new left
 
 -- how a session ends at a stream, and its last reply
 abbrev pub Ends : Request → SessionEnd → List ℕ → Type 0
@@ -214,7 +220,7 @@ Ends (asks question rest) end reply = ⊥
 Ends (edits edit rest) end reply = ⊥
 Ends (reports rest) end reply = ⊥
 
--- the text of a session over a stream, its end, and the bench that its commands leave, with the runs that were made
+-- the text of a session over a stream, its end, and the bench and the runs that its commands leave
 pub record SessionText (old : Served) (stream : List ℕ) (text : List ℕ) (end : SessionEnd) (new : Served) : Type 0 where
   pub replies : List ℕ
   pub last : List ℕ
@@ -223,19 +229,19 @@ pub record SessionText (old : Served) (stream : List ℕ) (text : List ℕ) (end
   pub ends : Ends (request_of (profile_of new) rest) end last
   pub whole : text ≡ replies ++ last
 
--- the text of a session of which no more could be read: the replies to the commands that are whole in what was read, and the bench
--- that these leave
+-- A session of which no more could be read. Its text is the replies to the commands that are whole
+-- in the octets read. Its bench is the one that these commands leave.
 pub record BrokenSession (old : Served) (read : List ℕ) (text : List ℕ) (new : Served) : Type 0 where
   pub rest : List ℕ
   pub steps : Steps request_so_far old read text new rest
   pub breaks : NoneIsWhole (profile_of new) rest
 
--- the reply to what a stream asks for next, whether the session goes on or ends, and the bench after it
+-- The reply to the next request of a stream, and the bench after it. The session goes on or ends.
 abbrev pub Answered : Served → Request → List ℕ → Served → Type 0
-Answered old request reply new = ((left : List ℕ) × Step old request reply new left) ⊎ ((end : SessionEnd) × Ends request end reply × (new ≡ old))
+Answered old request reply new = ((left : List ℕ) × SessionStep old request reply new left) ⊎ ((end : SessionEnd) × Ends request end reply × (new ≡ old))
 
--- the text of a session of which no more could be written: the replies to some commands, and a front of the next reply; and the bench
--- that all these commands leave
+-- A session of which no more could be written. Its text is the replies to some commands and a front
+-- of the next reply. Its bench is the one that all these commands leave.
 pub record CutSession (old : Served) (stream : List ℕ) (text : List ℕ) (new : Served) : Type 0 where
   pub replies : List ℕ
   pub mid : Served
@@ -254,12 +260,14 @@ IsFront old stream text = (back : List ℕ) × (end : SessionEnd) × (new : Serv
 
 -- OVER DEVICES
 
--- The whole session is carried out, and its text written, where the reader says which octets it has.
+-- The whole session is carried out, and its text written, where the reader says which octets it
+-- has.
 abbrev pub SessionFrom : SessionEnd → Served → Option (List ℕ) → Option (List ℕ) → Served → Option (List ℕ) → Type 0
 SessionFrom end old None before new after = ⊤
 SessionFrom end old (Some stream) before new after = (text : List ℕ) × SessionText old stream text end new × Appends before after text
 
--- What was read is carried out, and its text written. What is left is what the reader still has.
+-- The commands in the octets that were read are carried out, and their replies are written. The
+-- reader has the other octets.
 abbrev pub BrokenSessionFrom : Served → Option (List ℕ) → Option (List ℕ) → Served → Option (List ℕ) → Option (List ℕ) → Type 0
 BrokenSessionFrom old None before new left after = ⊤
 BrokenSessionFrom old (Some stream) before new None after = ⊥
@@ -270,8 +278,8 @@ abbrev pub CutSessionFrom : Served → Option (List ℕ) → Option (List ℕ) �
 CutSessionFrom old None before new after = ⊤
 CutSessionFrom old (Some stream) before new after = (text : List ℕ) × CutSession old stream text new × Appends before after text
 
--- a fact for the ends that the octets ask for, one where no more could be read, one where no more could be written, and one for want
--- of memory at the start
+-- A fact for the ends that the octets ask for, and one where no more could be read. One where no
+-- more could be written, and one where the start was out of memory.
 abbrev pub MatchSessionEnd : SessionEnd → Type 0 → Type 0 → Type 0 → Type 0 → Type 0
 MatchSessionEnd ends.Done P Q R S = P
 MatchSessionEnd ends.Syntax P Q R S = P
@@ -288,14 +296,15 @@ MatchFault ends.Write P Q R = Q
 MatchFault ends.TurnLimit P Q R = R
 MatchFault other P Q R = ⊤
 
--- There are no more turns than octets that were read and faults that were counted of the reader, where it says what it has left. A
--- count that stands at the greatest u64 counts no more.
+-- There are no more turns than octets read and faults counted of the reader. This is so where the
+-- reader says which octets it has left. A count that stands at the greatest u64 counts no more.
 abbrev pub TurnsAreSpent : ℕ → Option (List ℕ) → Option (List ℕ) → ℕ → ℕ → Type 0
 TurnsAreSpent turns None left faults faults' = ⊤
 TurnsAreSpent turns (Some stream) None faults faults' = ⊥
 TurnsAreSpent turns (Some stream) (Some left) faults faults' = (turns ≤ (length stream - length left) + (faults' - faults)) ⊎ (2 ^ 64 - 1 ≤ faults')
 
--- All the reads were made that were allowed. A count that stands at the greatest u64 counts no more.
+-- All the reads were made that were allowed. A count that stands at the greatest u64 counts no
+-- more.
 abbrev pub ReadsAreMade : ℕ → ℕ → ℕ → Type 0
 ReadsAreMade turns calls calls' = (calls + turns ≤ calls') ⊎ (2 ^ 64 - 1 ≤ calls')
 

@@ -7,7 +7,8 @@ use Rattle.session_server.specs.declared.status.SessionEnd.TheVariants as sessio
 use Rattle.bench.specs.declared.test_end.TestEnd.{TestEnd}
 use Rattle.bench.specs.declared.test_end.TestEnd.TheVariants as test
 
--- 2: the session was ended by what it read; 3: a read or a write failed; 4: no memory
+-- 2: the session's octets ended it. 3: a read or a write failed, or too many reads were made. 4:
+-- out of memory.
 abbrev pub session_status : SessionEnd → ℕ
 session_status session.Done = 0
 session_status session.Syntax = 2
@@ -17,7 +18,8 @@ session_status session.Write = 3
 session_status session.NoMemory = 4
 session_status session.TurnLimit = 3
 
--- 1: a script has a fault, or a message an error; 2: too much was given; 3: a write failed; 4: no memory
+-- 1: a script has a fault, or a message an error. 2: too much was given. 3: a write failed. 4: out
+-- of memory.
 abbrev pub test_status : TestEnd → ℕ
 test_status test.Clean = 0
 test_status test.Faulty = 1

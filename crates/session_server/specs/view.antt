@@ -1,3 +1,3 @@
--- What the program's types stand for in contracts. The other files of specs/ restate the subject.
+-- The models of the program's types in contracts. The other files of specs/ restate the subject.
 pub mod Progress
 pub mod Task

@@ -5,16 +5,17 @@ ghost use Rattle.session_server.specs.Session.{BrokenSession, CutSession, IsFron
 
 use bench::laws::an_edit_keeps_the_profile;
 
-/// What a session has written of which no more could be written is a front of the text of a session: there is a reply to
-/// each command, and an end to each stream.
+/// A cut session is one of which no more could be written. Its text is a front of a session's text.
+/// There is a reply to each command, and an end to each stream.
 pub fn a_cut_session_is_the_front_of_one()
     ensures { (old new : Served) (stream text : List ℕ) → CutSession old stream text new
         → IsFront old stream text }
 {}
 
-/// A session of which no more could be read has carried out the first commands of a session over what was read and anything after it,
-/// with their replies and the bench that they leave, and such a session continues with what was left and what is after it. So what it has
-/// written is a front of the text of such a session.
+/// A broken session is one of which no more could be read. It has carried out the first commands of
+/// a session over its octets and any after them. It has their replies and the bench that they
+/// leave. Such a session continues with the octets that were left and those after them. So the text
+/// of a broken session is a front of the text of such a session.
 pub fn a_broken_session_is_the_front_of_one()
     ensures steps { (old new : Served) (read text more : List ℕ)
         (session : BrokenSession old read text new)

@@ -1,5 +1,5 @@
-//! A test bench for Sieve scripts (RFC 5228): scripts beside sample messages, a report of what every message would
-//! suffer, and sessions in which all this is asked for.
+//! A test bench for Sieve scripts (RFC 5228) beside sample messages. It reports the verdict on
+//! every message. Sessions ask for edits and reports.
 #![tactic(auto)]
 
 pub mod laws;
@@ -18,5 +18,5 @@ pub use octets::Octets;
 pub use script_names::{Location, ScriptName};
 pub use server::session;
 pub use sieve_profile::{EXTENSIONS, Extension, Profile};
-pub use sieve_run::{Action, Addresses, Entry, Meter, Origin, Outcome};
+pub use sieve_run::{Action, Addresses, Entry, Meter, Origin, Verdict};
 pub use status::{End, SessionEnd, status_of};

@@ -56,7 +56,7 @@ fn answer<W: Sink>(outcome: Result<(), EditFault>, writer: &mut W) -> Progress
     }
 }
 
-/// Writes the last reply where a line says nothing that there is.
+/// Writes the last reply where a line is no command.
 fn refuse_line<W: Sink>(writer: &mut W) -> Progress
     ensures { progress.EndsBy SessionEnd.Syntax result
         (Wrote W.contents W.fault_count writer.old writer.new (codes "no syntax\n"))
@@ -94,7 +94,7 @@ fn keep(bench: &mut Bench, subject: Subject, octets: Vec<u8>) -> Result<(), Edit
     }
 }
 
-/// Why octets that weren't kept aren't put: there are too many, or memory was refused.
+/// Why octets that weren't kept aren't put: there are too many, or the session is out of memory.
 fn unkept(count: u64, limit: u64) -> EditFault
     ensures { result ≡ (if nat_lt limit count then EditFault.TooLarge else EditFault.NoMemory) }
 {
@@ -192,7 +192,7 @@ fn serve_made<W: Sink>(outcome: Result<(), EditFault>, writer: &mut W) -> Progre
     answer(outcome, writer)
 }
 
-/// Reports, or replies that memory was refused.
+/// Writes a report, or the reply that it is out of memory.
 #[tactic(auto, using(crate::proofs::Serving::serving))]
 fn serve_report<W: Sink>(bench: &mut Bench, meter: &mut Meter, writer: &mut W) -> Progress
     ensures goes { (unused rest : Option (List ℕ)) → progress.GoesFrom (λ rest. spec.reports rest)
@@ -260,7 +260,7 @@ fn serve_question<W: Sink>(bench: &Bench, writer: &mut W, question: &Question) -
     }
 }
 
-/// Does what a line asks for.
+/// Carries out the task of a line.
 #[tactic(auto, using(crate::proofs::Serving::serving))]
 fn perform<R: Source, W: Sink>(
     bench: &mut Bench,
@@ -334,9 +334,9 @@ fn serve<R: Source, W: Sink>(
     }
 }
 
-/// Serves the commands of a reader until it ends, and writes a reply to each. What a session does depends on the
-/// reader's octets alone, and not on the pieces in which they come. At most `turns` reads are made. Where the line
-/// buffer is refused, nothing is read or written.
+/// Serves the commands of a reader until it ends, and writes a reply to each. A reply doesn't
+/// depend on the pieces in which the reader's octets come. At most `turns` reads are made. Out of
+/// memory for the line buffer, it reads and writes nothing.
 pub fn session<R: Source, W: Sink>(
     bench: &mut Bench,
     meter: &mut Meter,
@@ -344,11 +344,11 @@ pub fn session<R: Source, W: Sink>(
     writer: &mut W,
     turns: u64,
 ) -> SessionEnd
-    // At the ends that the octets ask for, what was written is the text of a session of the reader's octets with that
-    // end, and the bench holds what its commands leave. At `Read` and `TurnLimit` it is the replies to the commands that were
-    // whole in what was read, and at `Write` a front of the text, up to a reply that was cut; the bench holds what these
-    // commands leave. At each end the meter has counted the runs of these commands' reports. Where memory is refused at the start,
-    // nothing has changed.
+    // `Done`, `Syntax` and `Truncated`: the text of a session of the reader's octets with that end
+    // was written. `Read` and `TurnLimit`: the replies to the commands that were whole in the
+    // octets read were written. `Write`: a front of the text was written, up to a reply that was
+    // cut. The bench is the one that these commands leave. At each end the meter has counted the
+    // runs of these commands' reports. `NoMemory`: nothing has changed.
     ensures session { spec.MatchSessionEnd result (spec.SessionFrom result
         (spec.served bench.old meter.old) (R.remaining reader.old) (W.contents writer.old)
         (spec.served bench.new meter.new) (W.contents writer.new)) (spec.BrokenSessionFrom
@@ -358,11 +358,13 @@ pub fn session<R: Source, W: Sink>(
         (W.contents writer.old) (spec.served bench.new meter.new) (W.contents writer.new))
         ((bench.new ≡ bench.old) × (meter.new ≡ meter.old) × (reader.new ≡ reader.old)
         × (writer.new ≡ writer.old)) }
-    // Whatever the devices tell, what became of bench and meter are edits and reports in turn, and nothing else.
+    // Bench and meter change by edits and reports in turn, and by nothing else, whatever the
+    // devices say.
     ensures moves { spec.Moved (spec.served bench.old meter.old) (spec.served bench.new meter.new) }
     // At the end of the input none of the octets is unread.
     ensures end { spec.AtLastEnd result (IsAtEnd (R.remaining reader.new)) }
-    // A fault is reported only where the device counted one, and the end of the turns only where all were taken, no more than octets were given and faults counted.
+    // `Read` and `Write`: the device counted a fault. `TurnLimit`: all reads were made that were
+    // allowed. They are no more than the octets read and the faults counted.
     ensures faults { spec.MatchFault result (HasRisen (R.fault_count reader.old)
         (R.fault_count reader.new)) (HasRisen (W.fault_count writer.old) (W.fault_count writer.new))
         (spec.ReadsAreMade turns (R.call_count reader.old) (R.call_count reader.new)

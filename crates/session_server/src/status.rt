@@ -17,7 +17,7 @@ pub enum SessionEnd {
     Read = 3,
     /// A reply could not be written.
     Write = 4,
-    /// There was no memory for the line buffer. Nothing was read or written.
+    /// Out of memory for the line buffer. Nothing was read or written.
     NoMemory = 5,
     /// All the reads that were allowed were made, and the end of the input had not come.
     TurnLimit = 6,
@@ -30,9 +30,12 @@ pub enum End {
     Test(TestEnd),
 }
 
-/// The status of the process: 0 done, 1 a fault in a script or an error of a message, 2 a line that
-/// is no command, an input that is cut off, or too much, 3 a fault in reading or writing or too many
-/// reads, 4 no memory.
+/// The status of the process:
+/// - 0: done.
+/// - 1: a fault in a script, or an error of a message.
+/// - 2: a line that is no command, an input that is cut off, or too much.
+/// - 3: a fault in reading or writing, or too many reads.
+/// - 4: out of memory.
 pub fn status_of(end: End) -> u8
     ensures { result ≡ status end }
 {

@@ -1,4 +1,4 @@
-//! What the lines of a session ask for, with copies of their words.
+//! The tasks of a session's lines, with copies of their words.
 ghost use Rattle.std.specs.Prelude.{◌≡◌, Some, IfOk};
 ghost use Rattle.bench.specs.Bench.{BenchState};
 ghost use Rattle.session_text.specs.SessionLine as line;
@@ -13,7 +13,8 @@ use session_text::{SessionCommand, Word, command_of_line};
 use sieve_limits::{MAX_EXPECTED, MAX_ID, MAX_MAILBOXES, MAX_MESSAGE, MAX_TEXT};
 use std::alloc::{AllocError, Global};
 
-/// What octets are put at: a script's name or a message's id, the id of a message of which they are expected, or the list of mailboxes.
+/// The subject of a put: a script's name, a message's id, or the list of mailboxes. Or the id of a
+/// message of which the octets are expected.
 #[derive(Drop)]
 pub(crate) enum Subject {
     Script(ScriptName),
@@ -22,7 +23,7 @@ pub(crate) enum Subject {
     Mailboxes,
 }
 
-/// What a line asks of the bench. The answer changes nothing.
+/// A question of a line to the bench. The answer changes nothing.
 #[derive(Drop)]
 pub(crate) enum Question {
     /// A line of no words asks nothing, and its answer is empty.
@@ -31,7 +32,7 @@ pub(crate) enum Question {
     Code { name: ScriptName },
 }
 
-/// What a line asks for, with copies of its words.
+/// The task of a line, with copies of its words.
 #[derive(Drop)]
 pub(crate) enum Task {
     /// To answer a question.
@@ -41,7 +42,7 @@ pub(crate) enum Task {
     /// An edit that no octets follow is made already, or why it isn't.
     Made { outcome: Result<(), EditFault> },
     Report,
-    /// Memory was refused for the words of a command, which so many octets follow.
+    /// Out of memory for the words of a command, which so many octets follow.
     Forgotten { count: u64 },
     Unreadable,
 }
@@ -157,7 +158,7 @@ fn drop_script(bench: &mut Bench, location: Location, name: &Word<'_>) -> Result
     bench.remove_script(&name)
 }
 
-/// Removes a message. Takes no memory: an id that is too long for an array isn't one of the bench.
+/// Removes a message. An id that is too long for an array isn't one of the bench.
 #[tactic(auto, using(crate::proofs::Tried::trying))]
 fn drop_message(bench: &mut Bench, id: &Word<'_>) -> Result<(), EditFault>
     ensures { IsTried (Some (demand_of (line.drop_message id.now))) result bench.old bench.new }
@@ -168,7 +169,8 @@ fn drop_message(bench: &mut Bench, id: &Word<'_>) -> Result<(), EditFault>
     }
 }
 
-/// Expects no text of a message's verdict. Takes no memory: an id that is too long for an array isn't one of the bench.
+/// Expects no text of a message's verdict. An id that is too long for an array isn't one of the
+/// bench.
 #[tactic(auto, using(crate::proofs::Tried::trying))]
 fn clear_expected(bench: &mut Bench, id: &Word<'_>) -> Result<(), EditFault>
     ensures { IsTried (Some (demand_of (line.no_expect id.now))) result bench.old bench.new }
@@ -216,7 +218,8 @@ fn set_message_envelope(
     bench.set_message_envelope(id.as_slice(), from, to)
 }
 
-/// Takes a message's own addresses from it. Takes no memory: an id that is too long for an array isn't one of the bench.
+/// Takes a message's own addresses from it. An id that is too long for an array isn't one of the
+/// bench.
 #[tactic(auto, using(crate::proofs::Tried::trying))]
 fn clear_message_envelope(bench: &mut Bench, id: &Word<'_>) -> Result<(), EditFault>
     ensures { IsTried
@@ -246,7 +249,7 @@ fn clear_clock(bench: &mut Bench) -> Result<(), EditFault>
     Ok(())
 }
 
-/// What to do for a line. An edit that no octets follow is made at once.
+/// The task of a line. An edit that no octets follow is made at once.
 #[tactic(auto, using(crate::proofs::Tried::trying))]
 pub(crate) fn task_of(bench: &mut Bench, line: &[u8]) -> Task
     ensures { Tasks result (demand_at bench.old.content.profile line.now) bench.old bench.new }
@@ -295,7 +298,7 @@ pub(crate) fn task_of(bench: &mut Bench, line: &[u8]) -> Task
     Task::Made { outcome }
 }
 
-/// The most octets that may be put there.
+/// The most octets that may be put at a subject.
 pub(crate) fn limit_of(subject: &Subject) -> u64
     ensures { result ≡ limit_of subject.now }
 {

@@ -7,11 +7,11 @@ use Rattle.sieve_script.specs.Reading as reading
 use Rattle.sieve_script.specs.declared.reading.Vacation.{Vacation}
 use Rattle.sieve_variables.specs.Part.{Part}
 use Rattle.sieve_script.specs.declared.reading.Ask.TheVariants as asked
-use Rattle.sieve_code.specs.Pool.{Grows, Keeps, Kept, PackedAsk, PackedLeaf, Pool, ask_at, ask_in, given_list, given_string, leaf_at, leaf_in, leaf_of, no_pool, plus, vacation_in}
+use Rattle.sieve_code.specs.Pool.{PoolGrows, Keeps, Kept, PackedAsk, PackedLeaf, Pool, ask_at, ask_in, given_list, given_string, leaf_at, leaf_in, leaf_of, no_pool, plus, vacation_in}
 use Rattle.sieve_code.specs.Operation.{Operation}
-use Rattle.sieve_code.specs.view.Op.{is_plain, op_in, plain_as}
-use Rattle.sieve_code.specs.declared.op.Op.{Op}
-use Rattle.sieve_code.specs.declared.op.Op.TheVariants as op
+use Rattle.sieve_code.specs.view.Operation.{is_plain, op_in, plain_as}
+use Rattle.sieve_code.specs.declared.operation.PackedOperation.{PackedOperation}
+use Rattle.sieve_code.specs.declared.operation.PackedOperation.TheVariants as op
 
 lists_none : (lists : Lists) → lists_plus lists no_lists ≡ lists
 lists_none lists =
@@ -27,14 +27,14 @@ plus_none p =
     ∙ ap (λ (a : List PackedAsk). record p { asks = a; leaves = p.leaves ++ [] }) (append-nil p.asks)
     ∙ ap (λ (l : List PackedLeaf). record p { leaves = l }) (append-nil p.leaves)
 
-pub grows_self : (p : Pool) → Grows p p
+pub grows_self : (p : Pool) → PoolGrows p p
 grows_self p = λ more. (more, refl)
 
-pub grows_on : (p q r : Pool) → Grows p q → Grows q r → Grows p r
+pub grows_on : (p q r : Pool) → PoolGrows p q → PoolGrows q r → PoolGrows p r
 grows_on p q r first second = λ more. let two = second more in let one = first two.0 in (one.0, two.1 ∙ one.1)
 
 -- what is found is found when the pool has grown
-pub keeps_on : {X : Type 0} (p q : Pool) (find : Pool → X) (x : X) → Grows p q → Keeps p find x → Keeps q find x
+pub keeps_on : {X : Type 0} (p q : Pool) (find : Pool → X) (x : X) → PoolGrows p q → Keeps p find x → Keeps q find x
 keeps_on p q find x grows keeps = λ more. let r = grows more in ap find r.1 ∙ keeps r.0
 
 -- what stands in no pool is found in each
@@ -167,11 +167,11 @@ module _ (p q r s t u : Pool) (packed : Vacation ℕ ℕ) (reason : List Part) (
 -- OPERATIONS
 
 -- what operations are in a pool, they are in all with more after it
-abbrev pub Stays : Pool → List Op → Type 0
+abbrev pub Stays : Pool → List PackedOperation → Type 0
 Stays pool ops = Keeps pool (λ p. map (op_in p) ops) (map (op_in pool) ops)
 
 -- an operation that neither asks nor acts is the same in each pool
-pub plain_in : (pool : Pool) (o : Op) → is_plain o ≡ true → op_in pool o ≡ plain_as o
+pub plain_in : (pool : Pool) (o : PackedOperation) → is_plain o ≡ true → op_in pool o ≡ plain_as o
 plain_in pool op.True plain = refl
 plain_in pool op.False plain = refl
 plain_in pool op.Not plain = refl
@@ -183,22 +183,22 @@ plain_in pool op.Return plain = refl
 plain_in pool (op.Test place) plain = absurd (no_plain plain)
 plain_in pool (op.Act place line) plain = absurd (no_plain plain)
 
-module _ (pool : Pool) (ops ops' : List Op) (stays : Stays pool ops) where
+module _ (pool : Pool) (ops ops' : List PackedOperation) (stays : Stays pool ops) where
   pub stays_same : ops' ≡ ops → Stays pool ops'
-  stays_same is = subst (λ (o : List Op). Stays pool o) (sym is) stays
+  stays_same is = subst (λ (o : List PackedOperation). Stays pool o) (sym is) stays
 
-  pub stays_plain : (op : Op) → is_plain op ≡ true → ops' ≡ op ∷ ops → Stays pool ops'
-  stays_plain op plain is = subst (λ (o : List Op). Stays pool o) (sym is) (λ more. ap (λ o. o ∷ map (op_in (plus pool more)) ops) (plain_in (plus pool more) op plain ∙ sym (plain_in pool op plain)) ∙ ap (λ o. op_in pool op ∷ o) (stays more))
+  pub stays_plain : (op : PackedOperation) → is_plain op ≡ true → ops' ≡ op ∷ ops → Stays pool ops'
+  stays_plain op plain is = subst (λ (o : List PackedOperation). Stays pool o) (sym is) (λ more. ap (λ o. o ∷ map (op_in (plus pool more)) ops) (plain_in (plus pool more) op plain ∙ sym (plain_in pool op plain)) ∙ ap (λ o. op_in pool op ∷ o) (stays more))
 
 -- operations in a pool that has grown
-module _ (p q : Pool) (ops : List Op) (grows : Grows p q) (stays : Stays p ops) where
+module _ (p q : Pool) (ops : List PackedOperation) (grows : PoolGrows p q) (stays : Stays p ops) where
   pub ops_grown : map (op_in q) ops ≡ map (op_in p) ops
   ops_grown = let r = grows no_pool in ap (λ x. map (op_in x) ops) (sym (plus_none q) ∙ r.1) ∙ stays r.0
 
   pub stays_grown : Stays q ops
   stays_grown = λ more. let r = grows more in ap (λ x. map (op_in x) ops) r.1 ∙ stays r.0 ∙ sym ops_grown
 
-module _ (p q : Pool) (ops ops' : List Op) (op : Op) (o : Operation) (kept : Kept p q (λ r. op_in r op) o) (stays : Stays p ops) (is : ops' ≡ op ∷ ops) where
+module _ (p q : Pool) (ops ops' : List PackedOperation) (op : PackedOperation) (o : Operation) (kept : Kept p q (λ r. op_in r op) o) (stays : Stays p ops) (is : ops' ≡ op ∷ ops) where
   -- with an operation before them whose places are kept, operations are it and then what they were
   pub ops_more : map (op_in q) ops' ≡ o ∷ map (op_in p) ops
   ops_more =
@@ -207,6 +207,6 @@ module _ (p q : Pool) (ops ops' : List Op) (op : Op) (o : Operation) (kept : Kep
       ∙ ap (λ l. o ∷ l) (ops_grown p q ops kept.grows stays)
 
   pub stays_more : Stays q ops'
-  stays_more = subst (λ (l : List Op). Stays q l) (sym is) (λ more.
+  stays_more = subst (λ (l : List PackedOperation). Stays q l) (sym is) (λ more.
       ap (λ x. x ∷ map (op_in (plus q more)) ops) (kept.keeps more ∙ sym (kept.keeps no_pool) ∙ ap (λ x. op_in x op) (plus_none q))
       ∙ ap (λ l. op_in q op ∷ l) (stays_grown p q ops kept.grows stays more))

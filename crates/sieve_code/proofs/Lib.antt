@@ -6,5 +6,4 @@ pub mod Law
 pub mod Putting
 pub mod Placing
 pub mod Keeping
-pub mod Dumping
 pub mod Whole

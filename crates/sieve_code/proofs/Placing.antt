@@ -5,15 +5,15 @@ use Rattle.sieve_script.specs.Script.{Commands}
 use Rattle.sieve_code.specs.Choice.{Tail, code_of, placed, tail_of}
 use Rattle.sieve_code.specs.Operation.{targeting}
 use Rattle.sieve_code.specs.Pool.{Pool}
-use Rattle.sieve_code.specs.declared.op.Op.{Op}
-use Rattle.sieve_code.specs.view.Op.{op_in, ops_in, placed_in}
+use Rattle.sieve_code.specs.declared.operation.PackedOperation.{PackedOperation}
+use Rattle.sieve_code.specs.view.Operation.{op_in, ops_in, placed_in}
 
-places_seen : (count : ℕ) (pool : Pool) (ops : List Op) → map (placed_in count pool) ops ≡ map (targeting (λ left. count - left)) (map (op_in pool) ops)
+places_seen : (count : ℕ) (pool : Pool) (ops : List PackedOperation) → map (placed_in count pool) ops ≡ map (targeting (λ left. count - left)) (map (op_in pool) ops)
 places_seen count pool [] = refl
 places_seen count pool (op ∷ ops) = ap (λ xs. placed_in count pool op ∷ xs) (places_seen count pool ops)
 
 -- what the compiler makes of a script's tail is the script's code
-pub code_made : (script : Commands) (pool : Pool) (ops : List Op) (tail : Tail) → map (op_in pool) ops ≡ tail → tail ≡ tail_of script → ops_in pool ops ≡ code_of script
+pub code_made : (script : Commands) (pool : Pool) (ops : List PackedOperation) (tail : Tail) → map (op_in pool) ops ≡ tail → tail ≡ tail_of script → ops_in pool ops ≡ code_of script
 unfolding placed
 code_made script pool ops tail seen all =
     places_seen (length ops) pool ops

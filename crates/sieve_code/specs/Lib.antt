@@ -1,6 +1,5 @@
 pub mod Choice
 pub mod Compiles
-pub mod Dump
 pub mod Operation
 pub mod Pool
 pub mod Walk

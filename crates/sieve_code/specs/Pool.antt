@@ -92,8 +92,8 @@ abbrev pub leaf_at : Pool → ℕ → reading.Leaf
 leaf_at pool place = leaf_of pool (slice_get pool.leaves place)
 
 -- A pool with more after it, whatever stands after that.
-abbrev pub Grows : Pool → Pool → Type 0
-Grows old new = (more : Pool) → (rest : Pool) × (plus new more ≡ plus old rest)
+abbrev pub PoolGrows : Pool → Pool → Type 0
+PoolGrows old new = (more : Pool) → (rest : Pool) × (plus new more ≡ plus old rest)
 
 -- what is found in a pool and in all with more after it
 abbrev pub Keeps : {X : Type 0} → Pool → (Pool → X) → X → Type 0
@@ -101,5 +101,5 @@ Keeps pool find x = (more : Pool) → find (plus pool more) ≡ x
 
 -- a pool with more after it than before, where something is found
 pub record Kept {X : Type 0} (old new : Pool) (find : Pool → X) (x : X) : Type 0 where
-  pub grows : Grows old new
+  pub grows : PoolGrows old new
   pub keeps : Keeps new find x

@@ -101,17 +101,17 @@ pub data Met : Type 0 where
   met_leaf : (leaf : Leaf) (line : ℕ) → Met
 
 -- how a walk ends: at the end, by `stop`, by `return`, for lack of an answer, or with its operations used up
-pub data End : Type 0 where
-  ended : End
-  stopped : End
-  returned : End
-  unanswered : End
-  unfinished : End
+pub data WalkEnd : Type 0 where
+  ended : WalkEnd
+  stopped : WalkEnd
+  returned : WalkEnd
+  unanswered : WalkEnd
+  unfinished : WalkEnd
 
 -- a walk that was gone: what was met, in order, and how it ended
 pub record Gone : Type 0 where
   pub met : List Met
-  pub ending : End
+  pub ending : WalkEnd
 
 abbrev pub met_before : Met → Gone → Gone
 met_before m gone = record { met = m ∷ gone.met; ending = gone.ending }

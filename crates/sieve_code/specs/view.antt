@@ -2,6 +2,5 @@
 -- the subject.
 pub mod Branches
 pub mod Code
-pub mod Marked
-pub mod Op
+pub mod Operation
 pub mod Pools

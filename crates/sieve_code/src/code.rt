@@ -1,21 +1,19 @@
 //! Compiled code.
 ghost use Rattle.std.specs.Prelude.{◌≡◌, ◌<◌, length, Some, slice_get};
 ghost use Rattle.std.specs.Option.{option_copied};
-ghost use Rattle.devices.specs.Writers.{Writes};
 ghost use Rattle.packed_strings.specs.Joined.{list_in};
-ghost use Rattle.packed_strings.specs.view.Ops.{body_op_as, settings_op_as, source_op_as, vacation_op_as, zone_op_as};
+ghost use Rattle.packed_strings.specs.view.Refs.{body_ref_as, settings_ref_as, source_ref_as, vacation_ref_as, zone_ref_as};
 ghost use Rattle.sieve_code.specs.Choice.{AllGoForward};
 ghost use Rattle.sieve_code.specs.Compiles.{IsCode};
-ghost use Rattle.sieve_code.specs.Dump.{line_at};
 ghost use Rattle.sieve_code.specs.Pool.{ask_at, ask_in, body_in, given_list, given_string, leaf_at, leaf_of, settings_in, source_in, string_in, vacation_in, zone_in};
-ghost use Rattle.sieve_code.specs.view.Op.{ops_in};
+ghost use Rattle.sieve_code.specs.view.Operation.{ops_in};
 ghost use Rattle.sieve_code.specs.view.Pools.{pool_as};
 
-use crate::dump::write_line;
-use crate::op::{Op, PackedAsk, PackedLeaf, PackedSettings, PackedSource, PackedVacation};
+use crate::operation::{
+    PackedAsk, PackedLeaf, PackedOperation, PackedSettings, PackedSource, PackedVacation,
+};
 use crate::pools::Pools;
-use devices::{Sink, WriteFault};
-use packed_strings::{BodyOp, FieldNames, SettingsOp, SourceOp, Strings, VacationOp, ZoneOp};
+use packed_strings::{BodyRef, FieldNames, SettingsRef, SourceRef, Strings, VacationRef, ZoneRef};
 use sieve_script::{Ask, BodyTransform, DateZone};
 use sieve_variables::Part;
 
@@ -23,7 +21,7 @@ use sieve_variables::Part;
 /// to the end; and what it does is what the script does that it was compiled from.
 #[derive(Drop)]
 pub struct Code {
-    pub(crate) ops: Vec<Op>,
+    pub(crate) ops: Vec<PackedOperation>,
     pub(crate) pools: Pools,
     pub ghost forward: { AllGoForward (ops_in (pool_as pools) ops.items) },
     pub ghost compiled: { ∥ IsCode (ops_in (pool_as pools) ops.items) ∥₁ },
@@ -40,7 +38,7 @@ impl Code {
     }
 
     /// The operation at a place. Takes no memory.
-    pub fn op(&self, i: usize) -> Op
+    pub fn op(&self, i: usize) -> PackedOperation
         requires { i < length (ops_of self.now) }
         ensures { slice_get (ops_of self.now) i ≡ Some (op_of self.now result) }
     {
@@ -114,8 +112,8 @@ impl Code {
     }
 
     /// The zone in which a date is shown.
-    fn zone(&self, zone: DateZone<u32>) -> ZoneOp<'_>
-        ensures { zone_op_as result ≡ zone_in (pool_of self.now) zone }
+    fn zone(&self, zone: DateZone<u32>) -> ZoneRef<'_>
+        ensures { zone_ref_as result ≡ zone_in (pool_of self.now) zone }
     {
         match zone {
             DateZone::Local => DateZone::Local,
@@ -125,8 +123,8 @@ impl Code {
     }
 
     /// What is taken of a body.
-    fn body(&self, transform: BodyTransform<u32>) -> BodyOp<'_>
-        ensures { body_op_as result ≡ body_in (pool_of self.now) transform }
+    fn body(&self, transform: BodyTransform<u32>) -> BodyRef<'_>
+        ensures { body_ref_as result ≡ body_in (pool_of self.now) transform }
     {
         match transform {
             BodyTransform::Raw => BodyTransform::Raw,
@@ -138,44 +136,44 @@ impl Code {
     }
 
     /// Where a test takes values from. Takes no memory.
-    pub fn source(&self, source: PackedSource) -> SourceOp<'_>
-        ensures { source_op_as result ≡ source_in (pool_of self.now) source }
+    pub fn source(&self, source: PackedSource) -> SourceRef<'_>
+        ensures { source_ref_as result ≡ source_in (pool_of self.now) source }
     {
         match source {
-            PackedSource::Fields { part, names } => SourceOp::Fields {
+            PackedSource::Fields { part, names } => SourceRef::Fields {
                 part,
                 names: self.names(names),
             },
-            PackedSource::Envelope { part, names } => SourceOp::Envelope {
+            PackedSource::Envelope { part, names } => SourceRef::Envelope {
                 part,
                 names: self.list(names),
             },
-            PackedSource::String { texts } => SourceOp::String {
+            PackedSource::String { texts } => SourceRef::String {
                 texts: self.list(texts),
             },
-            PackedSource::Flags { variables } => SourceOp::Flags {
+            PackedSource::Flags { variables } => SourceRef::Flags {
                 variables: self.given_list(variables),
             },
-            PackedSource::Date { zone, field, part } => SourceOp::Date {
+            PackedSource::Date { zone, field, part } => SourceRef::Date {
                 zone: self.zone(zone),
                 field: self.string(field),
                 part: self.string(part),
             },
-            PackedSource::CurrentDate { zone, part } => SourceOp::CurrentDate {
+            PackedSource::CurrentDate { zone, part } => SourceRef::CurrentDate {
                 zone: self.zone(zone),
                 part: self.string(part),
             },
-            PackedSource::Body { transform } => SourceOp::Body {
+            PackedSource::Body { transform } => SourceRef::Body {
                 transform: self.body(transform),
             },
         }
     }
 
     /// What a `fileinto` says beside its mailbox. Takes no memory.
-    pub fn settings(&self, settings: PackedSettings) -> SettingsOp<'_>
-        ensures { settings_op_as result ≡ settings_in (pool_of self.now) settings }
+    pub fn settings(&self, settings: PackedSettings) -> SettingsRef<'_>
+        ensures { settings_ref_as result ≡ settings_in (pool_of self.now) settings }
     {
-        SettingsOp {
+        SettingsRef {
             flags: self.given_list(settings.flags),
             copy: settings.copy,
             create: settings.create,
@@ -184,10 +182,10 @@ impl Code {
     }
 
     /// What a `vacation` says. Takes no memory.
-    pub fn vacation(&self, vacation: PackedVacation) -> VacationOp<'_>
-        ensures { vacation_op_as result ≡ vacation_in (pool_of self.now) vacation }
+    pub fn vacation(&self, vacation: PackedVacation) -> VacationRef<'_>
+        ensures { vacation_ref_as result ≡ vacation_in (pool_of self.now) vacation }
     {
-        VacationOp {
+        VacationRef {
             reason: self.string(vacation.reason),
             days: vacation.days,
             subject: self.given_string(vacation.subject),
@@ -196,14 +194,5 @@ impl Code {
             mime: vacation.mime,
             handle: self.given_string(vacation.handle),
         }
-    }
-
-    /// Writes the line of the operation at a place: the place, `: `, the operation, LF. Takes no memory.
-    pub fn dump_line<W: Sink>(&self, i: usize, writer: &mut W) -> Result<(), WriteFault>
-        requires { i < length (ops_of self.now) }
-        ensures { Writes W.contents W.fault_count result writer.old writer.new
-            (line_at (ops_of self.now) i) }
-    {
-        write_line(i, self, self.op(i), writer)
     }
 }

@@ -7,7 +7,7 @@ ghost use Rattle.sieve_code.specs.Operation.{Operation, jump_op};
 ghost use Rattle.sieve_code.specs.view.Branches.{branch_before, has_branch};
 
 use crate::condition_code::put_condition;
-use crate::op::Op;
+use crate::operation::PackedOperation;
 use crate::tail::Tail;
 use sieve_script::{Branch, Statement};
 use std::alloc::AllocError;
@@ -17,7 +17,7 @@ fn put_past(follows: bool, after: u32, tail: &mut Tail) -> Result<(), AllocError
     ensures { OnOk result (tail.new ≡ (if follows then jump_op after ∷ tail.old else tail.old)) }
 {
     if follows {
-        tail.put(Op::Jump(after))
+        tail.put(PackedOperation::Jump(after))
     } else {
         Ok(())
     }
@@ -41,8 +41,8 @@ fn put_command(statement: Statement, tail: &mut Tail) -> Result<(), AllocError>
         (tail.new ≡ commands_before (statement_as statement no_commands) tail.old) }
 {
     match statement {
-        Statement::Stop => tail.put(Op::Stop),
-        Statement::Return => tail.put(Op::Return),
+        Statement::Stop => tail.put(PackedOperation::Stop),
+        Statement::Return => tail.put(PackedOperation::Return),
         Statement::Act { leaf, line } => tail.put_act(leaf, line),
         Statement::Choose {
             branches,
@@ -90,6 +90,6 @@ fn put_branch(branch: Branch, follows: bool, after: u32, tail: &mut Tail) -> Res
     let next = tail.target()?;
     put_past(follows, after, tail)?;
     put_commands(block, tail)?;
-    tail.put(Op::JumpIfFalse(next))?;
+    tail.put(PackedOperation::JumpIfFalse(next))?;
     put_condition(condition, tail)
 }

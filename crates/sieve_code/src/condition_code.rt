@@ -3,30 +3,34 @@ ghost use Rattle.std.specs.Prelude.{◌≡◌, ◌∷◌, if◌then◌else◌, t
 ghost use Rattle.sieve_script.specs.view.Script.{condition_as, conditions_as};
 ghost use Rattle.sieve_code.specs.Choice.{condition_before, joined_before};
 ghost use Rattle.sieve_code.specs.Operation.{jump_if_op, set_op};
-ghost use Rattle.sieve_code.specs.view.Op.{is_plain, plain_as};
+ghost use Rattle.sieve_code.specs.view.Operation.{is_plain, plain_as};
 
-use crate::op::Op;
+use crate::operation::PackedOperation;
 use crate::tail::Tail;
 use sieve_script::Condition;
 use std::alloc::AllocError;
 
 /// The operation that sets the register.
-fn constant(truth: bool) -> Op
+fn constant(truth: bool) -> PackedOperation
     ensures op { plain_as result ≡ set_op truth }
     ensures plain { is_plain result ≡ true }
 {
-    if truth { Op::True } else { Op::False }
+    if truth {
+        PackedOperation::True
+    } else {
+        PackedOperation::False
+    }
 }
 
 /// The operation that jumps where the register has that truth.
-fn jump_if(truth: bool, target: u32) -> Op
+fn jump_if(truth: bool, target: u32) -> PackedOperation
     ensures op { plain_as result ≡ jump_if_op truth target }
     ensures plain { is_plain result ≡ true }
 {
     if truth {
-        Op::JumpIfTrue(target)
+        PackedOperation::JumpIfTrue(target)
     } else {
-        Op::JumpIfFalse(target)
+        PackedOperation::JumpIfFalse(target)
     }
 }
 
@@ -48,11 +52,11 @@ pub(crate) fn put_condition(condition: Condition, tail: &mut Tail) -> Result<(),
     ensures { OnOk result (tail.new ≡ condition_before (condition_as condition) tail.old) }
 {
     match condition {
-        Condition::Always => tail.put(Op::True),
-        Condition::Never => tail.put(Op::False),
+        Condition::Always => tail.put(PackedOperation::True),
+        Condition::Never => tail.put(PackedOperation::False),
         Condition::Asks(ask) => tail.put_ask(ask),
         Condition::Not(inner) => {
-            tail.put(Op::Not)?;
+            tail.put(PackedOperation::Not)?;
             put_condition(Box::into_inner(inner), tail)
         }
         Condition::All(list) => put_joined(false, list, tail),

@@ -5,7 +5,7 @@ ghost use Rattle.sieve_script.specs.view.Reading.{ask_as, date_zone_as, leaf_as,
 ghost use Rattle.sieve_code.specs.Pool.{Kept, ask_at, ask_in, body_in, leaf_at, leaf_in, settings_in, source_in, vacation_in, zone_in};
 ghost use Rattle.sieve_code.specs.view.Pools.{pool_as};
 
-use crate::op::{PackedAsk, PackedLeaf, PackedSettings, PackedSource, PackedVacation};
+use crate::operation::{PackedAsk, PackedLeaf, PackedSettings, PackedSource, PackedVacation};
 use crate::pools::Pools;
 use sieve_script::{
     Ask, BodyTransform, Comparison, DateZone, Leaf, ReadAsk, ReadLeaf, ReadVacation, Settings,

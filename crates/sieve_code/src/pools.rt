@@ -6,7 +6,7 @@ ghost use Rattle.sieve_script.specs.Reading as reading;
 ghost use Rattle.sieve_code.specs.Pool.{Kept, Pool, ask_at, ask_in, given_list, given_string, leaf_at, leaf_in, no_pool, string_in};
 ghost use Rattle.sieve_code.specs.view.Pools.{pool_as};
 
-use crate::op::{PackedAsk, PackedLeaf};
+use crate::operation::{PackedAsk, PackedLeaf};
 use packed_strings::{JoinedStrings, NameLists, StringLists};
 use sieve_script::{Ask, Leaf};
 use sieve_variables::Parts;

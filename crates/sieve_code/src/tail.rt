@@ -2,10 +2,10 @@
 ghost use Rattle.std.specs.Prelude.{◌≡◌, [], ◌∷◌, length, map, true, IfOk, OnOk};
 ghost use Rattle.sieve_script.specs.view.Reading.{ask_as, leaf_as};
 ghost use Rattle.sieve_code.specs.Operation.{act_op, test_op};
-ghost use Rattle.sieve_code.specs.view.Op.{is_plain, op_in, plain_as};
+ghost use Rattle.sieve_code.specs.view.Operation.{is_plain, op_in, plain_as};
 ghost use Rattle.sieve_code.specs.view.Pools.{pool_as};
 
-use crate::op::Op;
+use crate::operation::PackedOperation;
 use crate::pools::{Pools, place_of};
 use sieve_script::{ReadAsk, ReadLeaf};
 use std::alloc::{AllocError, Global};
@@ -17,7 +17,7 @@ use std::marker::Model;
 #[derive(Drop)]
 pub(crate) struct Tail {
     alloc: Global,
-    ops: VecDeque<Op>,
+    ops: VecDeque<PackedOperation>,
     pools: Pools,
 }
 
@@ -25,7 +25,7 @@ impl Model for Tail {
     ghost use Rattle.std.specs.Prelude.{◌≡◌, List, map};
     ghost use Rattle.sieve_code.specs.Operation.{Operation};
     ghost use Rattle.sieve_code.specs.Pool.{Keeps};
-    ghost use Rattle.sieve_code.specs.view.Op.{op_in};
+    ghost use Rattle.sieve_code.specs.view.Operation.{op_in};
     ghost use Rattle.sieve_code.specs.view.Pools.{pool_as};
 
     ghost Value = { List Operation };
@@ -55,7 +55,7 @@ impl Tail {
     }
 
     /// Puts an operation in front that neither asks nor acts.
-    pub(crate) fn put(&mut self, op: Op) -> Result<(), AllocError>
+    pub(crate) fn put(&mut self, op: PackedOperation) -> Result<(), AllocError>
         requires { is_plain op ≡ true }
         ensures { OnOk result (self.new ≡ plain_as op ∷ self.old) }
     {
@@ -69,7 +69,7 @@ impl Tail {
     {
         match self.pools.add_ask(ask) {
             Ok(place) => {
-                self.ops.push_front(Op::Test(place))?;
+                self.ops.push_front(PackedOperation::Test(place))?;
                 Ok(())
             }
             Err(error) => {
@@ -85,7 +85,7 @@ impl Tail {
     {
         match self.pools.add_leaf(self.alloc, leaf) {
             Ok(leaf) => {
-                self.ops.push_front(Op::Act { leaf, line })?;
+                self.ops.push_front(PackedOperation::Act { leaf, line })?;
                 Ok(())
             }
             Err(error) => {
@@ -96,7 +96,7 @@ impl Tail {
     }
 
     /// The operations in order, and their pools, with room for no more.
-    pub(crate) fn into_parts(self) -> (Vec<Op>, Pools)
+    pub(crate) fn into_parts(self) -> (Vec<PackedOperation>, Pools)
         ensures { map (op_in (pool_as result.1)) result.0.items ≡ self }
     {
         let mut ops = self.ops.into_vec();

@@ -5,7 +5,8 @@ use Rattle.std.proofs.lemmas.Option.{unwrap_or-slice_get}
 use Rattle.std.specs.Prelude.{slice_get, unwrap_or}
 use Rattle.std.proofs.lemmas.List.{append_assoc}
 
--- where the item at a place is put after the items copied so far, they and the items after that place are all
+-- The item at a place is put after the items copied so far. Then they and the items after that
+-- place are all.
 pub one_further : {X : Type 0} (done all : List X) (k : ℕ) (x d : X) → done ++ drop k all ≡ all → k < length all → x ≡ unwrap_or (slice_get all k) d → (done ++ x ∷ []) ++ drop (k + 1) all ≡ all
 one_further done all k x d so below is =
     append_assoc done (x ∷ []) (drop (k + 1) all)

@@ -1,4 +1,4 @@
--- How many values there are, as they are counted one after another.
+-- The number of values, as they are counted one after another.
 use Rattle.std.proofs.Common.{◌≡◌, ℕ, suc, ◌+◌, ◌<◌, arith, Bool, true, false, List, [], ◌∷◌, filter, length, cond, Option, None, Some, refl, sym, ap, ◌∙◌}
 use Rattle.std.specs.Prelude.{if◌then◌else◌, option_to_list}
 use Rattle.std.specs.List.{All, filter_map, flat_map, fold}
@@ -23,7 +23,7 @@ all_parts : (addresses : List AddrSpec) → length (filter_map (part_of_address 
 all_parts [] = refl
 all_parts (address ∷ addresses) = ap suc (all_parts addresses)
 
--- a field of which parts of addresses are looked at counts for as many as it has
+-- a field of which parts of addresses are looked at counts for as many as it has addresses
 pub as_many : (profile : Profile) (part : AddressPart) (field : Field) → length (addresses_of field.value) ≡ length (values_in profile (option_map (λ one. parts.All) (Some part)) field)
 as_many profile part field = sym (all_parts (addresses_of field.value))
 
@@ -41,7 +41,7 @@ whole_looked_at : (part : Option AddressPart) (fields : List Field) (names : Lis
 whole_looked_at None fields names = refl
 whole_looked_at (Some one) fields names = refl
 
--- what has been counted at the end are the values of the fields that are looked at
+-- the values that have been counted at the end are those of the fields that are looked at
 pub all_counted : (profile : Profile) (part : Option AddressPart) (fields : List Field) (names : List (List ℕ)) → (fold (counted_after profile part) (record { count = 0 }) (fields_looked_at part fields names)).count
     ≡ length (flat_map (values_in profile (option_map (λ one. parts.All) part)) (fields_looked_at (option_map (λ one. parts.All) part) fields names))
 all_counted profile part fields names =

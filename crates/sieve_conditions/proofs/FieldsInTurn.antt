@@ -11,7 +11,7 @@ use Rattle.sieve_conditions.specs.view.FieldCache.{IsNextField}
 
 -- ELEMENTS AT THEIR PLACES
 
--- what holds of the element at a place holds where there is one
+-- if there is an element at a place, a statement that holds of it holds
 there : {X : Type 0} {P : Type 0} (xs : List X) (i : ℕ) → i < length xs → ((x : X) → slice_get xs i ≡ Some x → P) → P
 there [] i low so = absurd (omega arith)
 there (x ∷ xs) zero low so = so x refl
@@ -40,13 +40,13 @@ module _ {X : Type 0} (p : X → Bool) where
   past_failing (y ∷ ys) (suc i) zero ordered fail = absurd (omega arith)
   past_failing (y ∷ ys) (suc i) (suc j) ordered fail = past_failing ys i j (omega arith) (λ k low high. fail (suc k) (omega arith) (omega arith))
 
-  -- one that passes is followed by those after it that pass
+  -- an element that passes is followed by those after it that pass
   passes_at : (xs : List X) (i : ℕ) (x : X) → slice_get xs i ≡ Some x → slice_get (map p xs) i ≡ Some true → filter p (drop i xs) ≡ x ∷ filter p (drop (i + 1) xs)
   passes_at xs i x at is =
       let passes : p x ≡ true = (let same = sym (get_map p xs i x at) ∙ is in cc) in
       ap (filter p) (from_place xs i x at) ∙ ap (λ b. cond b (x ∷ filter p (drop (i + 1) xs)) (filter p (drop (i + 1) xs))) passes
 
-  -- where all that are left fail, none passes
+  -- if all that are left fail, none passes
   none_pass : (xs : List X) (start : ℕ) → ((k : ℕ) → start ≤ k → k < length xs → slice_get (map p xs) k ≡ Some false) → filter p (drop start xs) ≡ []
   none_pass [] zero fail = refl
   none_pass [] (suc start) fail = refl
@@ -79,11 +79,11 @@ module _ (message name : List ℕ) (start : ℕ) where
 -- FIELDS THAT A TEST LOOKS AT
 
 module _ (part : Option AddressPart) (fields : List Field) where
-  -- of one name that is looked at they are its fields
+  -- the fields looked at for one name that is looked at are those of the name
   pub looked_at : (name : List ℕ) → is_looked_at part name ≡ true → fields_looked_at part fields (name ∷ []) ≡ fields_named fields name
   looked_at name is = ap (λ b. flat_map (fields_named fields) (cond b (name ∷ []) [])) is ∙ append-nil (fields_named fields name)
 
-  -- they are those of the first name, and then those of the others
+  -- the fields looked at are those of the first name, and then those of the others
   first_name : (name : List ℕ) (names : List (List ℕ)) → fields_looked_at part fields (name ∷ names) ≡ fields_looked_at part fields (name ∷ []) ++ fields_looked_at part fields names
   first_name name names = by (is_looked_at part name)
     where
@@ -92,7 +92,8 @@ module _ (part : Option AddressPart) (fields : List Field) where
       by true = ap (λ l. l ++ fields_looked_at part fields names) (sym (append-nil (fields_named fields name)))
       by false = refl
 
-  -- those of the names from a place on are visited when those of the name that is there are, and then those of the names after it
+  -- Visiting the fields looked at for the names from a place on visits those of the name there
+  -- first. Then it visits those of the names after it.
   pub visited_on : {S : Type 0} (after : S → Field → S) (names : List (List ℕ)) (i : ℕ) (name : List ℕ) (visitor : S) → slice_get names i ≡ Some name
       → fold after (fold after visitor (fields_looked_at part fields (name ∷ []))) (fields_looked_at part fields (drop (i + 1) names)) ≡ fold after visitor (fields_looked_at part fields (drop i names))
   visited_on after names i name visitor at =
@@ -100,14 +101,14 @@ module _ (part : Option AddressPart) (fields : List Field) where
       ∙ ap (fold after visitor) (sym (first_name name (drop (i + 1) names)))
       ∙ ap (λ l. fold after visitor (fields_looked_at part fields l)) (sym (from_place names i name at))
 
--- what has seen enough stays as it is
+-- a visitor that has seen enough stays as it is
 pub stays : {S : Type 0} (after : S → Field → S) (visitor : S) → ((field : Field) → after visitor field ≡ visitor) → (fields : List Field) → fold after visitor fields ≡ visitor
 stays after visitor rests [] = refl
 stays after visitor rests (field ∷ fields) = ap (λ v. fold after v fields) (rests field) ∙ stays after visitor rests fields
 
 -- WHETHER FIELDS ARE THERE
 
--- whether all names from a place on pass is decided by the one that is there, or by those after it
+-- the one that is there, or those after it, decide whether all names from a place on pass
 module _ {X : Type 0} (has : X → Bool) (names : List X) (i : ℕ) (name : X) (b : Bool) (so : list_all has (drop i names) ≡ b) (at : slice_get names i ≡ Some name) where
   split : (has name && list_all has (drop (i + 1) names)) ≡ b
   split = sym (ap (list_all has) (from_place names i name at)) ∙ so

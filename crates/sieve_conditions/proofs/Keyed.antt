@@ -1,4 +1,4 @@
--- What keys give that come one after another, whole or in pieces.
+-- The match values that keys give in turn, whole or in pieces.
 use Rattle.std.proofs.Common.{◌≡◌, ℕ, zero, suc, ◌+◌, ◌<◌, ◌≤◌, min, arith, Bool, true, false, ◌||◌, ◌==◌, List, [], ◌∷◌, map, length, take, drop, Option, None, Some, refl, sym, ap, ◌∙◌, ⊎_elim, add-one}
 use Rattle.std.proofs.lemmas.Bool.{cases_lt, eqb-true, false≢true}
 use Rattle.std.proofs.lemmas.List.{drop_all, length-map, take_all}
@@ -15,7 +15,7 @@ use Rattle.sieve_conditions.proofs.Searching.{first_flat, first_map, first_same,
 first_of_pairs : (comparison : Comparison) (value : List ℕ) (keys : List (List ℕ)) → first_match comparison (pairs_with keys value) ≡ first_some (match_of comparison value) keys
 first_of_pairs comparison value keys = first_map (λ (pair : Pair). match_of comparison pair.value pair.key) (λ key. record { value = value; key = key }) keys
 
--- what the first key gives is what the first of the strings gives that stand for them
+-- the first key gives the match values that the first of the strings gives that stand for keys
 pub first_of_keys : {X : Type 0} (comparison : Comparison) (value : List ℕ) (g : List ℕ → List (List ℕ)) (h : X → List ℕ) (keys : List X)
     → first_match comparison (pairs_with (flat_map g (map h keys)) value) ≡ first_some (λ key. first_match comparison (pairs_with (g (h key)) value)) keys
 first_of_keys comparison value g h keys =
@@ -37,7 +37,7 @@ none_further f (x ∷ xs) (suc i) none at =
     let parts = none_parts (f x) (first_some f (take i xs)) none in
     ap (λ a. option_or a (first_some f (take (suc i) xs))) parts.0 ∙ none_further f xs i parts.1 at
 
--- where no flag so far gives something, nor the next one does, none up to it does
+-- if no flag so far gives something, nor the next one does, none up to it does
 pub none_so_far : {X Y : Type 0} (f : X → Option Y) (xs : List X) (i : ℕ) → first_some f (take i xs) ≡ None → slice_get (map f xs) i ≡ Some None → first_some f (take (i + 1) xs) ≡ None
 none_so_far f xs i none at = ap (λ n. first_some f (take n xs)) (add-one i) ∙ none_further f xs i none at
 
@@ -86,7 +86,7 @@ no_keys : (comparison : Comparison) (flags : List (List ℕ)) → flags_found co
 no_keys comparison [] = refl
 no_keys comparison (x ∷ xs) = no_keys comparison xs
 
--- where no keys are left, the best is what was found
+-- if no keys are left, the best is the match that was found
 pub best_at_end : (comparison : Comparison) (flags : List (List ℕ)) (best : Best) → best_of comparison flags best [] ≡ best.found
 best_at_end comparison flags best = ap (λ o. option_or o best.found) (no_keys comparison (take best.before flags))
 
@@ -98,7 +98,7 @@ unfolding flag_keys
 keys_of_empty [] is = refl
 keys_of_empty (b ∷ rest) is = let e = eqb-true (suc (length rest)) 0 is in absurd (omega (arith, e))
 
--- and another one for its pieces
+-- another key stands for its pieces
 pub keys_of_filled : (key : List ℕ) → (length key == 0) ≡ false → filled_pieces key ≡ flag_keys key
 unfolding flag_keys
 keys_of_filled [] is = absurd (false≢true (sym is))

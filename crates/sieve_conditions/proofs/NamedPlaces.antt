@@ -1,4 +1,4 @@
--- Where fields of a name stand.
+-- The places of the fields of a name.
 use Rattle.std.proofs.Common.{◌≡◌, ◌<◌, ◌≤◌, ◌+◌, ◌-◌, ◌^◌, ℕ, zero, suc, arith, true, false, List, [], ◌∷◌, length, map, Some, sym, ap, ◌∙◌}
 use Rattle.std.specs.List.{slice_get}
 use Rattle.match_text.specs.Comparator.{ascii_casemap, same}
@@ -48,7 +48,7 @@ named_so [] written name i is at = absurd cc
 named_so (x ∷ fields) written name zero is at = let e : x.name ≡ written = cc in ap (λ text. Some (same ascii_casemap text name)) e ∙ ap Some is
 named_so (x ∷ fields) written name (suc i) is at = named_so fields written name i is at
 
--- a field that is kept as the first of its name is the first of each name that is the same
+-- a field that is kept as the first of its name is the first of each equal name
 pub first_written : (message written name : List ℕ) (named : NamedPlace) → IsNamedPlace message named → slice_get (names_of message) named.first ≡ Some written → same ascii_casemap written name ≡ true → IsNextNamed (fields_of message) name 0 named.first
 first_written message written name named is at so =
     let there = named_so (fields_of message) written name named.first so at in

@@ -19,7 +19,7 @@ literal_value values (literal octets ∷ part ∷ parts) key is = absurd cc
 literal_value values (variable_part variable ∷ parts) key is = absurd cc
 literal_value values (match_part index ∷ parts) key is = absurd cc
 
--- a value is compared with nothing but the only key
+-- a value is compared with the only key alone
 pub only_key : (comparison : Comparison) (values : Values) (keys : List (List Part)) (parts : List Part) (key : List ℕ) → length keys ≡ 1 → slice_get keys 0 ≡ Some parts
     → Some key ≡ literal_in_parts parts → (value : List ℕ) → first_match comparison (pairs_with (flat_map (cut_key false) (map (text_value values) keys)) value) ≡ match_of comparison value key
 only_key comparison values [] parts key one at is value = absurd cc
@@ -32,6 +32,6 @@ then_same : {X Y : Type 0} (f g : X → Option Y) → ((x : X) → f x ≡ g x) 
 then_same f g same None = refl
 then_same f g same (Some x) = same x
 
--- what addresses give is the same where their parts give the same
+-- addresses give the same match values if their parts do
 pub parts_same : (f g : List ℕ → Option (List (List ℕ))) → ((text : List ℕ) → f text ≡ g text) → (part : AddressPart) (addresses : List AddrSpec) → first_some (part_found f part) addresses ≡ first_some (part_found g part) addresses
 parts_same f g same part addresses = first_same (part_found f part) (part_found g part) (λ address. then_same f g same (part_of_address part address)) addresses

@@ -1,4 +1,4 @@
--- What one value gives, in what all of them give.
+-- The match values of one value, among those of all values.
 use Rattle.std.proofs.Common.{◌≡◌, ℕ, zero, suc, ◌+◌, Bool, true, false, List, [], ◌∷◌, ◌++◌, map, drop, Option, None, Some, Result, refl, subst, sym, ap, ◌∙◌, add-one}
 use Rattle.std.specs.Prelude.{IfOk, option_to_list}
 use Rattle.std.specs.List.{cons_option, filter_map, flat_map, fold, slice_get}
@@ -19,11 +19,11 @@ use Rattle.sieve_conditions.specs.Matching.{compared_of, envelope_named, envelop
 use Rattle.sieve_conditions.specs.declared.field_values.Finder.{Finder}
 use Rattle.sieve_conditions.specs.view.FieldTests.{cut_key, cuts_keys, found_after, found_with, part_found, path_found, path_name_found}
 
--- what is made of an element in two steps
+-- an element to which two functions are applied
 pub made_twice : {W X Y : Type 0} (g : W → X) (h : X → Y) (ws : List W) (i : ℕ) (w : W) (y : Y) → slice_get ws i ≡ Some w → slice_get (map h (map g ws)) i ≡ Some y → y ≡ h (g w)
 made_twice g h ws i w y at is = let same = sym (get_map h (map g ws) i (g w) (get_map g ws i w at)) ∙ is in cc
 
--- an answer that found `x` found `y`, where `x` is `y`
+-- if `x` is `y`, an answer that found `x` found `y`
 pub answers_so : {A E : Type 0} (answer : Result A E) (x y : A) → x ≡ y → IfOk answer (λ found. found ≡ x) → IfOk answer (λ found. found ≡ y)
 answers_so answer x y same is = subst (λ b. IfOk answer (λ found. found ≡ b)) same is
 
@@ -33,7 +33,8 @@ pub or_in_turn : {Y : Type 0} (a b c : Option Y) → option_or (option_or a b) c
 or_in_turn None b c = refl
 or_in_turn (Some y) b c = refl
 
--- what the element at a place gives, or else those after it, is what the elements from that place on give
+-- The element at a place gives match values, or else those after it do. They are those of the
+-- elements from that place on.
 pub first_from : {X Y : Type 0} (f : X → Option Y) (xs : List X) (i : ℕ) (o : Option Y) → slice_get (map f xs) i ≡ Some o → option_or o (first_some f (drop (i + 1) xs)) ≡ first_some f (drop i xs)
 first_from {X = X} f xs i o at = ap (λ n. option_or o (first_some f (drop n xs))) (add-one i) ∙ by xs i at
   where
@@ -69,12 +70,12 @@ module _ (find : List ℕ → Option (List (List ℕ))) where
   one_part None octets = refl
   one_part (Some x) octets = refl
 
-  -- what parts of addresses give is what the addresses give
+  -- the parts of addresses give the match values that the addresses give
   pub first_part : (part : AddressPart) (addresses : List AddrSpec) → first_some find (filter_map (part_of_address part) addresses) ≡ first_some (part_found find part) addresses
   first_part part [] = refl
   first_part part (address ∷ addresses) = one_part (part_of_address part address) (filter_map (part_of_address part) addresses) ∙ ap (option_or (part_found find part address)) (first_part part addresses)
 
-  -- what one value gives that may be there
+  -- the match values of one value that may be there
   pub first_of_one : (o : Option (List ℕ)) → first_some find (option_to_list o) ≡ option_and_then find o
   first_of_one None = refl
   first_of_one (Some x) = or_none (find x)
@@ -88,7 +89,7 @@ module _ (find : List ℕ → Option (List (List ℕ))) where
       first_flat find (envelope_named part (envelope_of delivery.arrival)) (map (text_value state.values) names)
       ∙ first_same (λ name. first_some find (envelope_named part (envelope_of delivery.arrival) name)) (path_name_found find part (envelope_of delivery.arrival)) (λ name. first_of_path part (envelope_text (envelope_of delivery.arrival) name)) (map (text_value state.values) names)
 
--- what has been found after some fields is what their values give
+-- the match values found after some fields are those that their values give
 pub all_found : (profile : Profile) (part : Option AddressPart) (fields : List Field) (finder : Finder)
     → (fold (found_after profile part) finder fields).found ≡ option_or finder.found (first_some (found_with finder.matcher.now) (flat_map (values_in profile part) fields))
 all_found profile part [] finder = sym (or_none finder.found)
@@ -98,12 +99,12 @@ all_found profile part (field ∷ fields) finder =
     ∙ or_in_turn finder.found (first_some find (values_in profile part field)) (first_some find (flat_map (values_in profile part) fields))
     ∙ ap (option_or finder.found) (sym (first_append find (values_in profile part field) (flat_map (values_in profile part) fields)))
 
--- the flags in the texts of a flag test's variables give what the values of the test's source give
+-- the flags in the texts of a flag test's variables give the match values of the test's source
 module _ (find : List ℕ → Option (List (List ℕ))) (delivery : Delivery) (state : RunState) where
   pub held_values : (variables : List (List Part)) (held : List (List ℕ)) → held ≡ map (text_value state.values) variables → first_some (λ text. first_some find (flag_list text)) held ≡ first_some find (values_of delivery state (flag_values (Some variables)))
   held_values variables held is = ap (first_some (λ text. first_some find (flag_list text))) is ∙ sym (first_flat find flag_list (map (text_value state.values) variables))
 
--- what a test finds is the first match of its values with the octets of its keys
+-- a test finds the first match of its values with the octets of its keys
 module _ (comparison : Comparison) (delivery : Delivery) (state : RunState) where
   pub keyed_found : (source : ValueSource) (keys : List (List Part)) (keyed : List (List ℕ)) → keyed ≡ keys_of state source keys → first_some (λ value. first_match comparison (pairs_with keyed value)) (compared_of comparison.match_type delivery state source) ≡ match_found delivery state source comparison keys
   unfolding match_found
@@ -119,7 +120,8 @@ each_cut : (texts : List (List ℕ)) → flat_map (cut_key true) texts ≡ flag_
 unfolding flag_keys_of_texts
 each_cut texts = refl
 
--- the keys of a test are the pieces of their texts where its source cuts keys at spaces, and else the whole texts
+-- The keys of a test are the pieces of their texts if its source cuts keys at spaces. Otherwise
+-- they are the whole texts.
 pub cut_as_source : (source : ValueSource) (texts : List (List ℕ)) (cut : Bool) → cut ≡ cuts_keys source → flat_map (cut_key cut) texts ≡ keys_from source texts
 cut_as_source source texts cut is = ap (λ b. flat_map (cut_key b) texts) is ∙ by source
   where

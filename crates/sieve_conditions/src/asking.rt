@@ -1,10 +1,10 @@
-//! What tests ask of a delivery, and what they find (RFC 5228, sections 2.7 and 5).
+//! Questions of tests about a delivery, and the matches that they find (RFC 5228, 2.7 and 5).
 ghost use Rattle.std.specs.Prelude.{◌≡◌, IfOk, decimal, is_some, length, nat_lt};
 ghost use Rattle.sieve_script.specs.Reading.{compares, exists_ask};
 ghost use Rattle.sieve_conditions.specs.Matching.{after_test, compared_of, counted_of, first_some, match_found, sets_matched, truth_of, values_of, with_found_in};
 ghost use Rattle.sieve_delivery.specs.view.Delivery.{delivery_as};
 ghost use Rattle.sieve_conditions.specs.view.FieldTests.{cuts_keys, found_with};
-ghost use Rattle.packed_strings.specs.view.Ops.{source_op_as};
+ghost use Rattle.packed_strings.specs.view.Refs.{source_ref_as};
 ghost use Rattle.sieve_delivery.specs.view.State.{state_of};
 
 use crate::body_values::find_in_body;
@@ -17,57 +17,58 @@ use crate::matcher::{MatchValues, Matcher, set_found};
 use crate::path_values::find_in_paths;
 use crate::string_values::find_in_strings;
 use itoa::Buffer;
-use packed_strings::{FieldNames, SourceOp, Strings};
-use sieve_delivery::{Delivery, State};
+use packed_strings::{FieldNames, SourceRef, Strings};
+use sieve_delivery::{Delivery, RunState};
 use sieve_script::{Comparison, MatchType};
 use std::alloc::AllocError;
 
-/// What the first value of a source gives that matches some key.
+/// The match values of the first value of a source that matches some key.
 fn find_in_source(
     delivery: &Delivery<'_>,
     fields: &mut FieldCache<'_>,
-    state: &State,
-    source: &SourceOp<'_>,
+    state: &RunState,
+    source: &SourceRef<'_>,
     matcher: &Matcher<'_>,
 ) -> Result<Option<MatchValues>, AllocError>
     requires { fields.old ≡ (delivery_as delivery.now).arrival }
     ensures arrival { fields.new ≡ fields.old }
     ensures found { IfOk result (λ found. found ≡ first_some (found_with matcher.now)
-        (values_of (delivery_as delivery.now) (state_of state.now) (source_op_as source.now))) }
+        (values_of (delivery_as delivery.now) (state_of state.now) (source_ref_as source.now))) }
 {
     match source {
-        SourceOp::Fields { part, names } => {
+        SourceRef::Fields { part, names } => {
             find_in_named(delivery, fields, state, *part, names, matcher)
         }
-        SourceOp::Envelope { part, names } => {
+        SourceRef::Envelope { part, names } => {
             find_in_paths(delivery, state, *part, names, matcher)
         }
-        SourceOp::String { texts } => { find_in_strings(delivery, state, texts, matcher) }
-        SourceOp::Flags { variables } => find_in_held(delivery, state, variables, matcher),
-        SourceOp::Date { zone, field, part } => {
+        SourceRef::String { texts } => { find_in_strings(delivery, state, texts, matcher) }
+        SourceRef::Flags { variables } => find_in_held(delivery, state, variables, matcher),
+        SourceRef::Date { zone, field, part } => {
             find_in_date(delivery, state, zone, *field, *part, matcher)
         }
-        SourceOp::CurrentDate { zone, part } => {
+        SourceRef::CurrentDate { zone, part } => {
             find_in_clock(delivery, state, zone, *part, matcher)
         }
-        SourceOp::Body { transform } => {
+        SourceRef::Body { transform } => {
             find_in_body(delivery, fields, state, transform, matcher)
         }
     }
 }
 
-/// What the number of the values of a source gives, in decimal (RFC 5231, section 4.2): it is compared as a text, by the test's comparator.
+/// The match values of the number of a source's values, in decimal (RFC 5231, 4.2). It is compared
+/// as a text, by the test's comparator.
 fn find_by_count(
     delivery: &Delivery<'_>,
     fields: &mut FieldCache<'_>,
-    state: &State,
-    source: &SourceOp<'_>,
+    state: &RunState,
+    source: &SourceRef<'_>,
     matcher: &Matcher<'_>,
 ) -> Result<Option<MatchValues>, AllocError>
     requires { fields.old ≡ (delivery_as delivery.now).arrival }
     ensures arrival { fields.new ≡ fields.old }
     ensures found { IfOk result (λ found. found ≡ found_with matcher.now (decimal (length
-        (counted_of (delivery_as delivery.now) (state_of state.now) (source_op_as source.now))))) }
+        (counted_of (delivery_as delivery.now) (state_of state.now) (source_ref_as source.now))))) }
 {
     let count = count_in_source(delivery, fields, state, source)?;
     let mut buffer = Buffer::new();
@@ -75,19 +76,20 @@ fn find_by_count(
     matcher.first_match(delivery.alloc, digits.as_bytes())
 }
 
-/// What the first gives that matches some key: of the values of a source, or their number under `:count`.
+/// The match values of the first value of a source that matches some key. Under `:count` the number
+/// of the values is compared instead.
 fn find_keyed(
     delivery: &Delivery<'_>,
     fields: &mut FieldCache<'_>,
-    state: &State,
-    source: &SourceOp<'_>,
+    state: &RunState,
+    source: &SourceRef<'_>,
     matcher: &Matcher<'_>,
 ) -> Result<Option<MatchValues>, AllocError>
     requires { fields.old ≡ (delivery_as delivery.now).arrival }
     ensures arrival { fields.new ≡ fields.old }
     ensures found { IfOk result (λ found. found
         ≡ first_some (found_with matcher.now) (compared_of matcher.now.comparison.match_type
-        (delivery_as delivery.now) (state_of state.now) (source_op_as source.now))) }
+        (delivery_as delivery.now) (state_of state.now) (source_ref_as source.now))) }
 {
     match matcher.comparison.match_type {
         MatchType::Count(_) => find_by_count(delivery, fields, state, source, matcher),
@@ -97,29 +99,29 @@ fn find_keyed(
     }
 }
 
-/// Whether the keys of a test are cut at spaces (RFC 5232, section 4).
-fn cuts_keys(source: &SourceOp<'_>) -> bool
-    ensures { result ≡ cuts_keys (source_op_as source.now) }
+/// Whether the keys of a test are cut at spaces (RFC 5232, 4).
+fn cuts_keys(source: &SourceRef<'_>) -> bool
+    ensures { result ≡ cuts_keys (source_ref_as source.now) }
 {
     match source {
-        SourceOp::Flags { .. } => true,
+        SourceRef::Flags { .. } => true,
         _ => false,
     }
 }
 
-/// What a test finds that compares values with keys.
+/// The match values that a test finds by comparing values with keys.
 fn find_match(
     delivery: &Delivery<'_>,
     fields: &mut FieldCache<'_>,
-    state: &State,
-    source: &SourceOp<'_>,
+    state: &RunState,
+    source: &SourceRef<'_>,
     comparison: Comparison,
     keys: &Strings<'_>,
 ) -> Result<Option<MatchValues>, AllocError>
     requires { fields.old ≡ (delivery_as delivery.now).arrival }
     ensures arrival { fields.new ≡ fields.old }
     ensures found { IfOk result (λ found. found ≡ match_found (delivery_as delivery.now)
-        (state_of state.now) (source_op_as source.now) comparison keys.now) }
+        (state_of state.now) (source_ref_as source.now) comparison keys.now) }
 {
     let matcher = Matcher {
         comparison,
@@ -130,27 +132,28 @@ fn find_match(
     find_keyed(delivery, fields, state, source, &matcher)
 }
 
-/// Whether what a test finds sets match variables, which that of a body doesn't (RFC 5173, section 6).
-fn sets_matched(source: &SourceOp<'_>) -> bool
-    ensures { result ≡ sets_matched (source_op_as source.now) }
+/// Whether the match of a test sets match variables. That of a body doesn't (RFC 5173, 6).
+fn sets_matched(source: &SourceRef<'_>) -> bool
+    ensures { result ≡ sets_matched (source_ref_as source.now) }
 {
     match source {
-        SourceOp::Body { .. } => false,
+        SourceRef::Body { .. } => false,
         _ => true,
     }
 }
 
-/// Keeps what was found in a source, where that sets match variables. Answers whether something was found.
+/// Keeps the match that was found in a source, if it sets match variables. Returns whether there is
+/// a match.
 fn set_found_in(
-    source: &SourceOp<'_>,
+    source: &SourceRef<'_>,
     match_type: MatchType,
     found: Option<MatchValues>,
-    state: &mut State,
+    state: &mut RunState,
 ) -> bool
     ensures truth { result ≡ is_some found }
     ensures kept { state_of state.new ≡ record (state_of state.old) {
       values = with_found_in
-          (source_op_as source.now) match_type found (state_of state.old).values;
+          (source_ref_as source.now) match_type found (state_of state.old).values;
     } }
 {
     if sets_matched(source) {
@@ -160,36 +163,39 @@ fn set_found_in(
     }
 }
 
-/// Whether some value of a source matches some key (RFC 5228, sections 5.1, 5.4 and 5.7; RFC 5229, section 5; RFC 5232, section 4; RFC 5260, sections 4
-/// and 5; RFC 5173, section 4), or their number under `:count` (RFC 5231, section 4.2). Under `:matches` the first that does sets the match variables (RFC 5229, section 3.2), but for one of a body (RFC 5173, section 6). All strings stand for what they do when the test begins.
-/// What is made of the message is kept. Fails where memory is refused.
+/// Whether some value of a source matches some key. Under `:count` the number of the values is
+/// compared with the keys (RFC 5231, 4.2). Sources are fields and the envelope (RFC 5228, 5.1, 5.4
+/// and 5.7), and strings (RFC 5229, 5). They are also flags (RFC 5232, 4), dates (RFC 5260, 4 and
+/// 5) and the body (RFC 5173, 4). Under `:matches` the first match sets the match variables
+/// (RFC 5229, 3.2). That of a body doesn't (RFC 5173, 6). All strings stand for their values when
+/// the test begins. The results of reading the message are kept. Fails if memory is refused.
 #[tactic(auto, unfolding(crate::specs::Matching::truth_of, crate::specs::Matching::values_after))]
 pub fn compare(
     delivery: &Delivery<'_>,
-    source: &SourceOp<'_>,
+    source: &SourceRef<'_>,
     comparison: Comparison,
     keys: &Strings<'_>,
     fields: &mut FieldCache<'_>,
-    state: &mut State,
+    state: &mut RunState,
 ) -> Result<bool, AllocError>
     requires { fields.old ≡ (delivery_as delivery.now).arrival }
     ensures arrival { fields.new ≡ fields.old }
     ensures truth { IfOk result (λ truth. truth ≡ truth_of (delivery_as delivery.now)
-        (state_of state.old) (compares (source_op_as source.now) comparison keys.now)) }
+        (state_of state.old) (compares (source_ref_as source.now) comparison keys.now)) }
     ensures after { IfOk result
         (λ truth. state_of state.new ≡ after_test (delivery_as delivery.now)
-        (compares (source_op_as source.now) comparison keys.now) (state_of state.old)) }
+        (compares (source_ref_as source.now) comparison keys.now) (state_of state.old)) }
 {
     let found = find_match(delivery, fields, &*state, source, comparison, keys)?;
     Ok(set_found_in(source, comparison.match_type, found, state))
 }
 
-/// Whether all named fields are there (RFC 5228, section 5.5). Fails where memory is refused.
+/// Whether all named fields are there (RFC 5228, 5.5). Fails if memory is refused.
 #[tactic(auto, unfolding(crate::specs::Matching::truth_of))]
 pub fn exists(
     delivery: &Delivery<'_>,
     names: &FieldNames<'_>,
-    state: &State,
+    state: &RunState,
 ) -> Result<bool, AllocError>
     ensures { IfOk result (λ truth. truth
         ≡ truth_of (delivery_as delivery.now) (state_of state.now) (exists_ask names.now)) }
@@ -198,14 +204,14 @@ pub fn exists(
     has_fields(delivery.alloc, message, &state.values, names)
 }
 
-/// Whether the message has more octets than the limit (RFC 5228, section 5.9).
+/// Whether the message has more octets than the limit (RFC 5228, 5.9).
 pub fn is_over(delivery: &Delivery<'_>, limit: u64) -> bool
     ensures { result ≡ nat_lt limit (length (delivery_as delivery.now).arrival.message) }
 {
     delivery.arrival.message.size() as u64 > limit
 }
 
-/// Whether the message has fewer octets than the limit (RFC 5228, section 5.9).
+/// Whether the message has fewer octets than the limit (RFC 5228, 5.9).
 pub fn is_under(delivery: &Delivery<'_>, limit: u64) -> bool
     ensures { result ≡ nat_lt (length (delivery_as delivery.now).arrival.message) limit }
 {

@@ -1,4 +1,4 @@
-//! What a test finds in the body of a message (RFC 5173, sections 4 and 5).
+//! The body of a message as the source of a test (RFC 5173, 4 and 5).
 ghost use Rattle.std.specs.Prelude.{◌≡◌, [], ◌∷◌, IfOk, length, map, option_to_list};
 ghost use Rattle.std.specs.Option.{option_map};
 ghost use Rattle.mime_text.specs.Entities as entities;
@@ -12,21 +12,21 @@ ghost use Rattle.sieve_conditions.specs.Bodies as spec;
 ghost use Rattle.sieve_conditions.specs.Matching.{counted_of, first_some, values_of};
 ghost use Rattle.sieve_delivery.specs.view.Delivery.{delivery_as};
 ghost use Rattle.sieve_conditions.specs.view.FieldTests.{entity_found, found_with};
-ghost use Rattle.packed_strings.specs.view.Ops.{body_op_as};
+ghost use Rattle.packed_strings.specs.view.Refs.{body_ref_as};
 ghost use Rattle.sieve_delivery.specs.view.State.{state_of};
 
 use crate::counting::plus;
 use crate::field_cache::FieldCache;
 use crate::matcher::{MatchValues, Matcher};
 use mime_text::{Entity, Given, TransferEncoding, WantedType, body_of};
-use packed_strings::BodyOp;
-use sieve_delivery::{Delivery, State};
+use packed_strings::BodyRef;
+use sieve_delivery::{Delivery, RunState};
 use sieve_profile::Profile;
 use sieve_variables::Values;
 use std::alloc::{AllocError, Global};
 use std::borrow::CowSlice;
 
-/// One entry.
+/// A list of one entry.
 fn only<'e>(alloc: Global, entry: &'e [u8]) -> Result<Vec<CowSlice<'e, u8>>, AllocError>
     ensures { IfOk result (λ entries. octets_of_each entries.items ≡ entry.now ∷ []) }
 {
@@ -35,19 +35,19 @@ fn only<'e>(alloc: Global, entry: &'e [u8]) -> Result<Vec<CowSlice<'e, u8>>, All
     Ok(entries)
 }
 
-/// The entries that name which contents are looked at, where some are.
+/// The entries that name the contents that are looked at, or none under `:raw`.
 fn entries_of<'b>(
     alloc: Global,
     values: &'b Values,
-    transform: &BodyOp<'b>,
+    transform: &BodyRef<'b>,
 ) -> Result<Option<Vec<CowSlice<'b, u8>>>, AllocError>
     ensures { IfOk result (λ found. option_map (λ entries. octets_of_each entries.items) found
-        ≡ spec.entries_of values.now (body_op_as transform.now)) }
+        ≡ spec.entries_of values.now (body_ref_as transform.now)) }
 {
     match transform {
-        BodyOp::Raw => Ok(None),
-        BodyOp::Content { entries } => Ok(Some(entries.expanded(alloc, values)?)),
-        BodyOp::Text => Ok(Some(only(alloc, b"text")?)),
+        BodyRef::Raw => Ok(None),
+        BodyRef::Content { entries } => Ok(Some(entries.expanded(alloc, values)?)),
+        BodyRef::Text => Ok(Some(only(alloc, b"text")?)),
     }
 }
 
@@ -63,7 +63,7 @@ fn is_named_by(entity: &Entity<'_>, entries: &[CowSlice<'_, u8>]) -> bool
     false
 }
 
-/// What a prologue gives, or else an epilogue.
+/// The match values that a prologue gives, or else an epilogue.
 fn find_around(
     alloc: Global,
     prologue: &[u8],
@@ -82,7 +82,7 @@ fn find_around(
     }
 }
 
-/// What the decoded content of an entity gives.
+/// The match values that the decoded content of an entity gives.
 fn find_in_content(
     alloc: Global,
     profile: Profile,
@@ -99,7 +99,7 @@ fn find_in_content(
     matcher.first_match(alloc, text.as_slice())
 }
 
-/// What an entity gives.
+/// The match values that an entity gives.
 fn find_in_entity(
     alloc: Global,
     profile: Profile,
@@ -118,7 +118,7 @@ fn find_in_entity(
     }
 }
 
-/// What an entity gives, if one of these entries names it.
+/// The match values that an entity gives, if one of these entries names it.
 fn find_if_named(
     alloc: Global,
     profile: Profile,
@@ -136,7 +136,7 @@ fn find_if_named(
     }
 }
 
-/// What the first of these entities gives that is named and matches some key.
+/// The match values of the first of these entities that is named and matches some key.
 fn find_in_each(
     alloc: Global,
     profile: Profile,
@@ -155,7 +155,7 @@ fn find_in_each(
     Ok(None)
 }
 
-/// What the entities give that these entries name.
+/// The match values of the entities that these entries name.
 fn find_in_named(
     delivery: &Delivery<'_>,
     fields: &mut FieldCache<'_>,
@@ -175,7 +175,7 @@ fn find_in_named(
     Ok(found)
 }
 
-/// What all of the body gives.
+/// The match values that the whole body gives.
 fn find_in_all(
     delivery: &Delivery<'_>,
     matcher: &Matcher<'_>,
@@ -189,18 +189,18 @@ fn find_in_all(
     }
 }
 
-/// What a body gives.
+/// The match values that a body gives.
 pub(crate) fn find_in_body(
     delivery: &Delivery<'_>,
     fields: &mut FieldCache<'_>,
-    state: &State,
-    transform: &BodyOp<'_>,
+    state: &RunState,
+    transform: &BodyRef<'_>,
     matcher: &Matcher<'_>,
 ) -> Result<Option<MatchValues>, AllocError>
     requires { fields.old ≡ (delivery_as delivery.now).arrival }
     ensures arrival { fields.new ≡ fields.old }
     ensures found { IfOk result (λ found. found ≡ first_some (found_with matcher.now) (values_of
-        (delivery_as delivery.now) (state_of state.now) (body_values (body_op_as transform.now)))) }
+        (delivery_as delivery.now) (state_of state.now) (body_values (body_ref_as transform.now)))) }
 {
     match entries_of(delivery.alloc, &state.values, transform)? {
         Some(entries) => find_in_named(delivery, fields, &entries, matcher),
@@ -208,7 +208,7 @@ pub(crate) fn find_in_body(
     }
 }
 
-/// How many values an entity has.
+/// The number of values that an entity has.
 fn count_in_entity(entity: &Entity<'_>) -> usize
     ensures { (profile : profiles.Profile)
         → result ≡ length (texts_of profile (entity_as entity.now)) }
@@ -219,7 +219,7 @@ fn count_in_entity(entity: &Entity<'_>) -> usize
     }
 }
 
-/// How many values an entity has, if one of these entries names it.
+/// The number of values that an entity has, or 0 if none of these entries names it.
 fn count_if_named(entity: &Entity<'_>, entries: &[CowSlice<'_, u8>]) -> usize
     ensures { (profile : profiles.Profile) → result
         ≡ length (texts_if_named profile (octets_of_each entries.now) (entity_as entity.now)) }
@@ -231,7 +231,7 @@ fn count_if_named(entity: &Entity<'_>, entries: &[CowSlice<'_, u8>]) -> usize
     }
 }
 
-/// How many values these entities have that are named. Nothing is decoded.
+/// The number of values of those of these entities that are named. Nothing is decoded.
 fn count_in_each(entities: &[Entity<'_>], entries: &[CowSlice<'_, u8>]) -> Result<usize, AllocError>
     ensures { (profile : profiles.Profile) → IfOk result (λ count. count
         ≡ length (texts_named profile (octets_of_each entries.now) (map entity_as entities.now))) }
@@ -243,7 +243,7 @@ fn count_in_each(entities: &[Entity<'_>], entries: &[CowSlice<'_, u8>]) -> Resul
     Ok(count)
 }
 
-/// How many values the entities have that these entries name.
+/// The number of values of the entities that these entries name.
 fn count_in_named(
     alloc: Global,
     fields: &mut FieldCache<'_>,
@@ -259,7 +259,7 @@ fn count_in_named(
     Ok(count)
 }
 
-/// How many values all of the body is: one where it is there.
+/// The number of values of the whole body: one if there is a body.
 fn count_in_all(message: &[u8]) -> usize
     ensures { result ≡ length (option_to_list (entities.body_of message.now)) }
 {
@@ -269,17 +269,17 @@ fn count_in_all(message: &[u8]) -> usize
     }
 }
 
-/// How many values a `body` test has.
+/// The number of values that a `body` test has.
 pub(crate) fn count_body(
     delivery: &Delivery<'_>,
     fields: &mut FieldCache<'_>,
-    state: &State,
-    transform: &BodyOp<'_>,
+    state: &RunState,
+    transform: &BodyRef<'_>,
 ) -> Result<usize, AllocError>
     requires { fields.old ≡ (delivery_as delivery.now).arrival }
     ensures arrival { fields.new ≡ fields.old }
     ensures count { IfOk result (λ count. count ≡ length (counted_of (delivery_as delivery.now)
-        (state_of state.now) (body_values (body_op_as transform.now)))) }
+        (state_of state.now) (body_values (body_ref_as transform.now)))) }
 {
     match entries_of(delivery.alloc, &state.values, transform)? {
         Some(entries) => count_in_named(delivery.alloc, fields, &entries),

@@ -1,4 +1,4 @@
-//! How many values a test has that counts them (RFC 5231, section 4.2).
+//! The number of values of a test that counts them (RFC 5231, 4.2).
 ghost use Rattle.std.specs.Prelude.{◌≡◌, ◌<◌, ◌≤◌, ◌+◌, ◌^◌, length, false, filter, map, Some, slice_get, IfOk, OnErr};
 ghost use Rattle.std.proofs.Common.{rules};
 ghost use Rattle.std.specs.List.{flat_map};
@@ -12,7 +12,7 @@ ghost use Rattle.sieve_delivery.specs.Delivery.{envelope_of};
 ghost use Rattle.sieve_conditions.specs.Matching.{counted_of, envelope_named, parts_of_envelope, values_in, values_of};
 ghost use Rattle.sieve_delivery.specs.view.Delivery.{arrival_as, delivery_as};
 ghost use Rattle.sieve_conditions.specs.view.FieldTests.{counted_after};
-ghost use Rattle.packed_strings.specs.view.Ops.{source_op_as};
+ghost use Rattle.packed_strings.specs.view.Refs.{source_ref_as};
 ghost use Rattle.sieve_delivery.specs.view.State.{state_of};
 ghost use Rattle.sieve_variables.specs.Value.{text_value};
 
@@ -23,12 +23,12 @@ use crate::field_walk::{FieldVisitor, visit_looked_at};
 use crate::path_values::{envelope_text, is_null_path};
 use match_text::flags_of;
 use message_text::AddressPart;
-use packed_strings::{FieldNames, SourceOp, Strings};
-use sieve_delivery::{Arrival, Delivery, State};
+use packed_strings::{FieldNames, SourceRef, Strings};
+use sieve_delivery::{Arrival, Delivery, RunState};
 use sieve_variables::Values;
 use std::alloc::{AllocError, Global};
 
-/// The sum of two numbers. One of more than 64 bits is answered as out of memory.
+/// The sum of two numbers. An error is a sum of more than 64 bits. It is answered as out of memory.
 pub(crate) fn plus(count: usize, more: usize) -> Result<usize, AllocError>
     ensures ok { IfOk result (λ sum. sum ≡ count + more) }
     ensures err { OnErr result (2 ^ 64 ≤ count + more) }
@@ -39,13 +39,15 @@ pub(crate) fn plus(count: usize, more: usize) -> Result<usize, AllocError>
     }
 }
 
-/// How many values there are in the fields that were visited, or how many addresses, whatever part of them is looked at.
+/// The number of values in the fields that were visited, or of addresses in them. An address counts
+/// whatever part of it is looked at.
 #[derive(Clone, Copy)]
 struct Counter {
     count: usize,
 }
 
-/// How many values field `i` counts for: its value, which isn't read, or the addresses in it.
+/// The number that field `i` counts for. Its value, which isn't read, counts for one. If a part of
+/// addresses is looked at, each address in it counts.
 fn count_at(
     alloc: Global,
     fields: &mut FieldCache<'_>,
@@ -93,11 +95,12 @@ impl FieldVisitor for Counter {
     }
 }
 
-/// How many values there are for a test of some fields, or how many addresses in them, whatever part of them it names.
+/// The number of values for a test of some fields, or of addresses in them. An address counts
+/// whatever part of it the test names.
 fn count_in_named(
     delivery: &Delivery<'_>,
     fields: &mut FieldCache<'_>,
-    state: &State,
+    state: &RunState,
     part: Option<AddressPart>,
     names: &FieldNames<'_>,
 ) -> Result<usize, AllocError>
@@ -111,14 +114,15 @@ fn count_in_named(
     Ok(counter.count)
 }
 
-/// How many addresses there are in the envelope's part of this text: none in a null path, and one in each other text.
+/// The number of addresses in the envelope's part of this text. There is none in a null path, and
+/// one in each other text.
 fn addresses_in_path(text: &[u8]) -> usize
     ensures { result ≡ length (filter is_filled (parts_of_envelope All (Some text.now))) }
 {
     if is_null_path(text) { 0 } else { 1 }
 }
 
-/// How many addresses there are in the envelope's part of that name.
+/// The number of addresses in the envelope's part of that name.
 fn addresses_by_path_name(arrival: &Arrival<'_>, name: &[u8]) -> usize
     ensures { result ≡ length
         (filter is_filled (envelope_named All (envelope_of (arrival_as arrival.now)) name.now)) }
@@ -129,7 +133,7 @@ fn addresses_by_path_name(arrival: &Arrival<'_>, name: &[u8]) -> usize
     }
 }
 
-/// How many addresses there are in some parts of the envelope.
+/// The number of addresses in some parts of the envelope.
 fn addresses_by_path_names(
     alloc: Global,
     arrival: &Arrival<'_>,
@@ -148,10 +152,11 @@ fn addresses_by_path_names(
     Ok(count)
 }
 
-/// How many addresses there are for a test of some parts of the envelope, whatever part of them it names.
+/// The number of addresses for a test of some parts of the envelope. An address counts whatever
+/// part of it the test names.
 fn count_paths(
     delivery: &Delivery<'_>,
-    state: &State,
+    state: &RunState,
     names: &Strings<'_>,
 ) -> Result<usize, AllocError>
     ensures { IfOk result (λ count. count ≡ length (filter is_filled (values_of
@@ -160,7 +165,7 @@ fn count_paths(
     addresses_by_path_names(delivery.alloc, delivery.arrival, &state.values, names)
 }
 
-/// How many strings there are that aren't empty.
+/// The number of strings that aren't empty.
 fn filled_strings(alloc: Global, values: &Values, texts: &Strings<'_>) -> Result<usize, AllocError>
     ensures { IfOk result
         (λ count. count ≡ length (filter is_filled (map (text_value values.now) texts.now))) }
@@ -176,7 +181,7 @@ fn filled_strings(alloc: Global, values: &Values, texts: &Strings<'_>) -> Result
     Ok(count)
 }
 
-/// How many flags there are in a text, each once.
+/// The number of flags in a text, each once.
 fn flags_in_text(alloc: Global, text: &[u8]) -> Result<usize, AllocError>
     ensures { IfOk result (λ count. count ≡ length (flag_list text.now)) }
 {
@@ -184,7 +189,7 @@ fn flags_in_text(alloc: Global, text: &[u8]) -> Result<usize, AllocError>
     Ok(flags.len())
 }
 
-/// How many flags variables hold: those of each of them in turn.
+/// The number of flags that variables hold: those of each of them in turn.
 fn flags_in_variables(
     alloc: Global,
     values: &Values,
@@ -202,10 +207,10 @@ fn flags_in_variables(
     Ok(count)
 }
 
-/// How many flags variables hold, or how many internal ones there are where none are named.
+/// The number of flags that variables hold, or of internal flags if no variables are named.
 fn count_flags(
     delivery: &Delivery<'_>,
-    state: &State,
+    state: &RunState,
     variables: &Option<Strings<'_>>,
 ) -> Result<usize, AllocError>
     ensures { IfOk result (λ count. count ≡ length
@@ -217,25 +222,25 @@ fn count_flags(
     }
 }
 
-/// How many values of a source count.
+/// The number of values of a source that count.
 pub(crate) fn count_in_source(
     delivery: &Delivery<'_>,
     fields: &mut FieldCache<'_>,
-    state: &State,
-    source: &SourceOp<'_>,
+    state: &RunState,
+    source: &SourceRef<'_>,
 ) -> Result<usize, AllocError>
     requires { fields.old ≡ (delivery_as delivery.now).arrival }
     ensures arrival { fields.new ≡ fields.old }
     ensures count { IfOk result (λ count. count ≡ length
-        (counted_of (delivery_as delivery.now) (state_of state.now) (source_op_as source.now))) }
+        (counted_of (delivery_as delivery.now) (state_of state.now) (source_ref_as source.now))) }
 {
     match source {
-        SourceOp::Fields { part, names } => count_in_named(delivery, fields, state, *part, names),
-        SourceOp::Envelope { names, .. } => count_paths(delivery, state, names),
-        SourceOp::String { texts } => { filled_strings(delivery.alloc, &state.values, texts) }
-        SourceOp::Flags { variables } => count_flags(delivery, state, variables),
-        SourceOp::Date { zone, field, part } => count_date(delivery, state, zone, *field, *part),
-        SourceOp::CurrentDate { zone, part } => count_clock(delivery, state, zone, *part),
-        SourceOp::Body { transform } => count_body(delivery, fields, state, transform),
+        SourceRef::Fields { part, names } => count_in_named(delivery, fields, state, *part, names),
+        SourceRef::Envelope { names, .. } => count_paths(delivery, state, names),
+        SourceRef::String { texts } => { filled_strings(delivery.alloc, &state.values, texts) }
+        SourceRef::Flags { variables } => count_flags(delivery, state, variables),
+        SourceRef::Date { zone, field, part } => count_date(delivery, state, zone, *field, *part),
+        SourceRef::CurrentDate { zone, part } => count_clock(delivery, state, zone, *part),
+        SourceRef::Body { transform } => count_body(delivery, fields, state, transform),
     }
 }

@@ -1,4 +1,4 @@
-//! What a test finds in dates (RFC 5260, sections 4 and 5).
+//! Dates as the values of a test (RFC 5260, 4 and 5).
 ghost use Rattle.std.specs.Prelude.{◌≡◌, IfOk, length, option_to_list};
 ghost use Rattle.std.specs.Option.{option_map};
 ghost use Rattle.date_text.specs.Part.{part_named};
@@ -10,7 +10,7 @@ ghost use Rattle.sieve_conditions.specs.Dates as spec;
 ghost use Rattle.sieve_conditions.specs.Matching.{counted_of, date_named, first_some, values_of};
 ghost use Rattle.sieve_delivery.specs.view.Delivery.{delivery_as};
 ghost use Rattle.sieve_conditions.specs.view.FieldTests.{found_with};
-ghost use Rattle.packed_strings.specs.view.Ops.{zone_op_as};
+ghost use Rattle.packed_strings.specs.view.Refs.{zone_ref_as};
 ghost use Rattle.sieve_delivery.specs.view.State.{state_of};
 ghost use Rattle.sieve_variables.specs.Value.{text_value};
 
@@ -18,8 +18,8 @@ use crate::field_cache::next_place;
 use crate::matcher::{MatchValues, Matcher};
 use date_text::{Clock, DatePart, Moment, Zone, date_in, shown, zone_named};
 use message_text::{FieldName, Message};
-use packed_strings::ZoneOp;
-use sieve_delivery::{Delivery, State};
+use packed_strings::ZoneRef;
+use sieve_delivery::{Delivery, RunState};
 use sieve_variables::{Part, Values};
 use std::alloc::{AllocError, Global};
 
@@ -41,7 +41,7 @@ fn date_named(
     }
 }
 
-/// The local zone: that of the clock, or that of UTC where there is no clock.
+/// The local zone: that of the clock, or UTC if there is no clock.
 fn local_zone(clock: &Option<Clock>) -> Zone
     ensures { zone_as result ≡ spec.local_zone_of clock.now }
 {
@@ -66,15 +66,15 @@ fn zone_for(
     values: &Values,
     clock: &Option<Clock>,
     written: Zone,
-    zone: &ZoneOp<'_>,
+    zone: &ZoneRef<'_>,
 ) -> Result<Option<Zone>, AllocError>
     ensures { IfOk result (λ found. option_map zone_as found
-        ≡ spec.zone_for values.now clock.now (zone_as written) (zone_op_as zone.now)) }
+        ≡ spec.zone_for values.now clock.now (zone_as written) (zone_ref_as zone.now)) }
 {
     match zone {
-        ZoneOp::Local => Ok(Some(local_zone(clock))),
-        ZoneOp::Original => Ok(Some(written)),
-        ZoneOp::Named(zone) => named_zone(alloc, values, *zone),
+        ZoneRef::Local => Ok(Some(local_zone(clock))),
+        ZoneRef::Original => Ok(Some(written)),
+        ZoneRef::Named(zone) => named_zone(alloc, values, *zone),
     }
 }
 
@@ -91,12 +91,12 @@ fn part_of_moment(
     alloc: Global,
     values: &Values,
     clock: &Option<Clock>,
-    zone: &ZoneOp<'_>,
+    zone: &ZoneRef<'_>,
     part: &[Part],
     moment: &Moment,
 ) -> Result<Option<Vec<u8>>, AllocError>
     ensures { IfOk result (λ text. option_map (λ found. found.items) text ≡ spec.part_of_moment
-        values.now clock.now (zone_op_as zone.now) part.now (moment_as moment.now)) }
+        values.now clock.now (zone_ref_as zone.now) part.now (moment_as moment.now)) }
 {
     let Some(zone) = zone_for(alloc, values, clock, moment.zone, zone)? else {
         return Ok(None);
@@ -110,14 +110,14 @@ fn part_of_moment(
 /// The value of a `date` test.
 fn date_value(
     delivery: &Delivery<'_>,
-    state: &State,
-    zone: &ZoneOp<'_>,
+    state: &RunState,
+    zone: &ZoneRef<'_>,
     field: &[Part],
     part: &[Part],
 ) -> Result<Option<Vec<u8>>, AllocError>
     ensures { IfOk result (λ text. option_to_list (option_map (λ found. found.items) text)
         ≡ values_of (delivery_as delivery.now) (state_of state.now)
-        (date_values (zone_op_as zone.now) field.now part.now)) }
+        (date_values (zone_ref_as zone.now) field.now part.now)) }
 {
     let alloc = delivery.alloc;
     let mut buffer = Vec::new(alloc);
@@ -134,13 +134,13 @@ fn date_value(
 /// The value of a `currentdate` test.
 fn clock_value(
     delivery: &Delivery<'_>,
-    state: &State,
-    zone: &ZoneOp<'_>,
+    state: &RunState,
+    zone: &ZoneRef<'_>,
     part: &[Part],
 ) -> Result<Option<Vec<u8>>, AllocError>
     ensures { IfOk result (λ text. option_to_list (option_map (λ found. found.items) text)
         ≡ values_of (delivery_as delivery.now) (state_of state.now)
-        (clock_values (zone_op_as zone.now) part.now)) }
+        (clock_values (zone_ref_as zone.now) part.now)) }
 {
     let clock = &delivery.arrival.envelope.clock;
     match clock {
@@ -152,7 +152,7 @@ fn clock_value(
     }
 }
 
-/// What a value gives that is there and matches some key.
+/// The match values of a value that is there and matches some key.
 fn find_in_value(
     alloc: Global,
     value: Option<Vec<u8>>,
@@ -167,40 +167,40 @@ fn find_in_value(
     }
 }
 
-/// What that part of the date of a field gives.
+/// The match values that that part of the date of a field gives.
 pub(crate) fn find_in_date(
     delivery: &Delivery<'_>,
-    state: &State,
-    zone: &ZoneOp<'_>,
+    state: &RunState,
+    zone: &ZoneRef<'_>,
     field: &[Part],
     part: &[Part],
     matcher: &Matcher<'_>,
 ) -> Result<Option<MatchValues>, AllocError>
     ensures { IfOk result
         (λ found. found ≡ first_some (found_with matcher.now) (values_of (delivery_as delivery.now)
-        (state_of state.now) (date_values (zone_op_as zone.now) field.now part.now))) }
+        (state_of state.now) (date_values (zone_ref_as zone.now) field.now part.now))) }
 {
     let value = date_value(delivery, state, zone, field, part)?;
     find_in_value(delivery.alloc, value, matcher)
 }
 
-/// What that part of the current date gives.
+/// The match values that that part of the current date gives.
 pub(crate) fn find_in_clock(
     delivery: &Delivery<'_>,
-    state: &State,
-    zone: &ZoneOp<'_>,
+    state: &RunState,
+    zone: &ZoneRef<'_>,
     part: &[Part],
     matcher: &Matcher<'_>,
 ) -> Result<Option<MatchValues>, AllocError>
     ensures { IfOk result
         (λ found. found ≡ first_some (found_with matcher.now) (values_of (delivery_as delivery.now)
-        (state_of state.now) (clock_values (zone_op_as zone.now) part.now))) }
+        (state_of state.now) (clock_values (zone_ref_as zone.now) part.now))) }
 {
     let value = clock_value(delivery, state, zone, part)?;
     find_in_value(delivery.alloc, value, matcher)
 }
 
-/// How many values there are.
+/// The number of values: one or none.
 fn count_of(value: &Option<Vec<u8>>) -> usize
     ensures { result ≡ length (option_to_list (option_map (λ text. text.items) value.now)) }
 {
@@ -210,30 +210,30 @@ fn count_of(value: &Option<Vec<u8>>) -> usize
     }
 }
 
-/// How many values a `date` test has.
+/// The number of values that a `date` test has.
 pub(crate) fn count_date(
     delivery: &Delivery<'_>,
-    state: &State,
-    zone: &ZoneOp<'_>,
+    state: &RunState,
+    zone: &ZoneRef<'_>,
     field: &[Part],
     part: &[Part],
 ) -> Result<usize, AllocError>
     ensures { IfOk result (λ count. count ≡ length (counted_of (delivery_as delivery.now)
-        (state_of state.now) (date_values (zone_op_as zone.now) field.now part.now))) }
+        (state_of state.now) (date_values (zone_ref_as zone.now) field.now part.now))) }
 {
     let value = date_value(delivery, state, zone, field, part)?;
     Ok(count_of(&value))
 }
 
-/// How many values a `currentdate` test has.
+/// The number of values that a `currentdate` test has.
 pub(crate) fn count_clock(
     delivery: &Delivery<'_>,
-    state: &State,
-    zone: &ZoneOp<'_>,
+    state: &RunState,
+    zone: &ZoneRef<'_>,
     part: &[Part],
 ) -> Result<usize, AllocError>
     ensures { IfOk result (λ count. count ≡ length (counted_of (delivery_as delivery.now)
-        (state_of state.now) (clock_values (zone_op_as zone.now) part.now))) }
+        (state_of state.now) (clock_values (zone_ref_as zone.now) part.now))) }
 {
     let value = clock_value(delivery, state, zone, part)?;
     Ok(count_of(&value))

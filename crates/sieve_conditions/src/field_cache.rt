@@ -1,4 +1,4 @@
-//! What a run has read of a message: of its fields, and of what it is made of.
+//! The results that a run keeps of reading a message: its fields and its entities.
 ghost use Rattle.std.specs.Prelude.{◌≡◌, ◌<◌, ◌≤◌, ◌-◌, ◌^◌, ℕ, [], drop, length, map, slice_get, IfNone, IfOk, IfSome, OnOk, Some, false, true};
 ghost use Rattle.std.specs.Cow.{cow_slice_items};
 ghost use Rattle.message_text.specs.Fields.{IsNextNamed, decoded_values_of, fields_of, is_field_named};
@@ -16,18 +16,20 @@ use std::alloc::{AllocError, Global};
 use std::borrow::CowSlice;
 use std::marker::Model;
 
-/// How many names there are places for.
+/// The number of places for names.
 const NAMES: usize = 32;
 
-/// Where a field of some name stands: the first of that name, and a place after it such that no other field of the name stands between the two.
+/// The place of the first field of some name. Also a place after it such that no other field of the
+/// name is between the two.
 #[derive(Clone, Copy)]
 struct NamedPlace {
     first: usize,
     next: usize,
 }
 
-/// What a run has made of a message, so that none of its tests makes it again. Contracts see what is delivered. It has a place for each
-/// field up to the last that a test has looked at, and 32 for the first fields of names.
+/// The results that a run keeps of reading a message, for its later tests. Contracts see the
+/// `Arrival`. The cache has a place for each field up to the last that a test has looked at. It has
+/// 32 places for the first fields of names.
 #[derive(Drop)]
 pub struct FieldCache<'a> {
     arrival: &'a Arrival<'a>,
@@ -37,7 +39,8 @@ pub struct FieldCache<'a> {
     decoded: Vec<Option<CowSlice<'a, u8>>>,
     // The entities of the message, once a test has looked at them.
     entities: Option<Vec<Entity<'a>>>,
-    // Where fields of names stand that tests have looked for. Names that share a place take it from one another.
+    // The places of fields by the names that tests have looked for. Names with the same place here
+    // take it from one another.
     named: Vec<Option<NamedPlace>>,
 }
 
@@ -53,7 +56,7 @@ impl<'a> Model for FieldCache<'a> {
     ghost invariant = { λ f. let arrival = arrival_as f.arrival.now in AreListed arrival.message f.listed.items × (AreDecoded arrival.profile arrival.message f.decoded.items × (AreEntities arrival.message f.entities × AreNamed arrival.message f.named.items)) };
 }
 
-/// Takes what lies at a place, if anything does.
+/// Takes the item at a place, if there is one.
 fn take<T>(places: &mut Vec<Option<T>>, place: usize) -> Option<T>
     ensures was { IfSome result (λ thing. slice_get places.old.items place ≡ Some (Some thing)) }
     ensures no_more { HasNoMore places.old.items places.new.items }
@@ -65,7 +68,7 @@ fn take<T>(places: &mut Vec<Option<T>>, place: usize) -> Option<T>
     }
 }
 
-/// Puts empty places after others until there is that one.
+/// Adds empty places until that place is there.
 fn reach<T: Drop>(places: &mut Vec<Option<T>>, place: usize) -> Result<(), AllocError>
     ensures there { OnOk result (place < length places.new.items) }
     ensures no_more { HasNoMore places.old.items places.new.items }
@@ -79,7 +82,8 @@ fn reach<T: Drop>(places: &mut Vec<Option<T>>, place: usize) -> Result<(), Alloc
     Ok(())
 }
 
-/// The place of what is kept for a name. It is one for names that differ in the case of letters alone.
+/// The place of the entry for a name. Names that differ only in the case of letters have the same
+/// place.
 fn place_of(name: &[u8]) -> usize
     ensures { result < 32 }
 {
@@ -89,7 +93,7 @@ fn place_of(name: &[u8]) -> usize
     }
 }
 
-/// The place of the first field of that name at or after place `start`, or nothing where no further field has it.
+/// The place of the first field of that name at or after place `start`, or none.
 pub(crate) fn next_place(message: &Message, name: &FieldName<'_>, start: usize) -> Option<usize>
     ensures some { IfSome result (IsNextField message.now name.now start) }
     ensures none { IfNone result
@@ -99,7 +103,7 @@ pub(crate) fn next_place(message: &Message, name: &FieldName<'_>, start: usize) 
     message.next_named(name, start)
 }
 
-/// What is kept of the first field of a name.
+/// The entry that is kept for the first field of a name.
 fn named_place(message: &Message, name: &FieldName<'_>, first: usize) -> NamedPlace
     requires first { IsNextNamed (fields_of message.now) name.now 0 first }
     requires countable { first < 2 ^ 64 - 1 }
@@ -114,7 +118,7 @@ fn named_place(message: &Message, name: &FieldName<'_>, first: usize) -> NamedPl
     }
 }
 
-/// What is kept at a place, if anything is.
+/// The entry at a place, if one is kept.
 fn kept_at(places: &[Option<NamedPlace>], place: usize) -> Option<NamedPlace>
     ensures { IfSome result (λ named. slice_get places.now place ≡ Some (Some named)) }
 {
@@ -125,7 +129,7 @@ fn kept_at(places: &[Option<NamedPlace>], place: usize) -> Option<NamedPlace>
 }
 
 impl<'a> FieldCache<'a> {
-    /// Nothing is read yet. Takes no memory.
+    /// Makes a cache that has read nothing yet.
     pub fn new(alloc: Global, arrival: &'a Arrival<'a>) -> FieldCache<'a>
         ensures { result ≡ arrival_as arrival.now }
     {
@@ -138,7 +142,7 @@ impl<'a> FieldCache<'a> {
         }
     }
 
-    /// The place of the first field of that name, where it is kept.
+    /// The place of the first field of that name, if it is kept.
     fn kept_first(&self, name: &FieldName<'_>) -> Option<usize>
         ensures some { IfSome result (IsNextField self.now.message name.now 0) }
         ensures countable { IfSome result (λ i. i < 2 ^ 64 - 1) }
@@ -151,7 +155,7 @@ impl<'a> FieldCache<'a> {
         }
     }
 
-    /// Keeps where a field stands that is the first of its name.
+    /// Keeps the place of a field that is the first of its name.
     fn cache_place(&mut self, place: usize, kept: NamedPlace) -> Result<(), AllocError>
         requires { IsNamedPlace self.old.message kept }
         ensures { self.new ≡ self.old }
@@ -161,8 +165,9 @@ impl<'a> FieldCache<'a> {
         Ok(())
     }
 
-    /// The place of the first field of that name at or after place `start`, or nothing where no further field has it. The first field of
-    /// a name is found without a search where it is kept, and is kept from then on if `keeps` says so.
+    /// The place of the first field of that name at or after place `start`, or none. If the place
+    /// of the first field of a name is kept, it is found without a search. If it isn't and `keeps`
+    /// is set, it is kept from then on, unless memory is refused.
     pub(crate) fn next_named(
         &mut self,
         name: &FieldName<'_>,
@@ -184,13 +189,13 @@ impl<'a> FieldCache<'a> {
         }
         let i = next_place(message, name, 0)?;
         if keeps {
-            // Where memory is refused, nothing is kept.
+            // If memory is refused, nothing is kept.
             let _is_kept = self.cache_place(place_of(name.octets()), named_place(message, name, i));
         }
         Some(i)
     }
 
-    /// A place after field `i`, which has that name, such that no other field of the name stands between the two.
+    /// A place after field `i`, which has that name. No other field of the name is between the two.
     pub(crate) fn after_named(&self, name: &FieldName<'_>, i: usize) -> usize
         requires named { slice_get (map (is_field_named name.now) (fields_of self.now.message)) i
             ≡ Some true }
@@ -207,8 +212,8 @@ impl<'a> FieldCache<'a> {
         i + 1
     }
 
-    /// The addresses in the value of field `i`, which is read where they aren't kept. [`cache_addresses`](FieldCache::cache_addresses) takes
-    /// them back.
+    /// The addresses in the value of field `i`. The value is read if they aren't kept.
+    /// [`cache_addresses`](FieldCache::cache_addresses) takes them back.
     pub(crate) fn take_addresses(
         &mut self,
         alloc: Global,
@@ -240,7 +245,7 @@ impl<'a> FieldCache<'a> {
         Ok(())
     }
 
-    /// The value of field `i` with its encoded words replaced, where it is kept.
+    /// The value of field `i` with its encoded words replaced, if it is kept.
     pub(crate) fn kept_decoded(&self, i: usize) -> Option<&[u8]>
         ensures { IfSome result
             (λ value. slice_get (decoded_values_of self.now.profile self.now.message) i
@@ -253,7 +258,7 @@ impl<'a> FieldCache<'a> {
         }
     }
 
-    /// The value of field `i` with its encoded words replaced, which is made where it isn't kept.
+    /// The value of field `i` with its encoded words replaced. It is made if it isn't kept.
     /// [`cache_decoded`](FieldCache::cache_decoded) takes it back.
     pub(crate) fn take_decoded(
         &mut self,
@@ -292,7 +297,8 @@ impl<'a> FieldCache<'a> {
         Ok(())
     }
 
-    /// The entities of the message, which are found where they aren't kept. [`cache_entities`](FieldCache::cache_entities) takes them back.
+    /// The entities of the message. They are found if they aren't kept.
+    /// [`cache_entities`](FieldCache::cache_entities) takes them back.
     pub(crate) fn take_entities(&mut self, alloc: Global) -> Result<Vec<Entity<'a>>, AllocError>
         ensures arrival { self.new ≡ self.old }
         ensures entities { IfOk result

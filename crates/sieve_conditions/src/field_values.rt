@@ -1,4 +1,4 @@
-//! What a test finds in the fields of a message (RFC 5228, sections 5.1, 5.5 and 5.7).
+//! Fields of a message as the source of a test (RFC 5228, 5.1, 5.5 and 5.7).
 ghost use Rattle.std.specs.Prelude.{◌≡◌, ◌<◌, length, map, None, Some, is_some, slice_get, IfOk};
 ghost use Rattle.std.proofs.Common.{rules};
 ghost use Rattle.std.specs.List.{list_all};
@@ -16,7 +16,7 @@ use crate::field_walk::{FieldVisitor, visit_looked_at};
 use crate::matcher::{MatchValues, Matcher};
 use message_text::{Address, AddressPart, Message};
 use packed_strings::FieldNames;
-use sieve_delivery::{Delivery, State};
+use sieve_delivery::{Delivery, RunState};
 use sieve_variables::Values;
 use std::alloc::{AllocError, Global};
 
@@ -40,7 +40,7 @@ pub(crate) fn has_fields(
     Ok(true)
 }
 
-/// What a part gives that is there and matches a key.
+/// The match values of a part that is there and matches a key.
 fn find_key_in_part(
     alloc: Global,
     part: Option<&[u8]>,
@@ -57,7 +57,7 @@ fn find_key_in_part(
     }
 }
 
-/// What the first of these addresses gives whose part matches a key.
+/// The match values of the first of these addresses whose part matches a key.
 fn find_key_in_addresses(
     alloc: Global,
     part: AddressPart,
@@ -76,7 +76,7 @@ fn find_key_in_addresses(
     Ok(None)
 }
 
-/// What the first of these addresses gives whose part matches some key of some.
+/// The match values of the first of these addresses whose part matches some key.
 fn find_keys_in_addresses(
     alloc: Global,
     part: AddressPart,
@@ -94,7 +94,8 @@ fn find_keys_in_addresses(
     Ok(None)
 }
 
-/// What the first of these addresses gives whose part matches some key. A key that is the only one and one literal is looked up once.
+/// The match values of the first of these addresses whose part matches some key. An only key that
+/// is one literal is looked up once.
 fn find_in_addresses(
     alloc: Global,
     part: AddressPart,
@@ -113,7 +114,7 @@ fn find_in_addresses(
     }
 }
 
-/// What a part gives that is there and matches some key.
+/// The match values of a part that is there and matches some key.
 pub(crate) fn find_in_part(
     alloc: Global,
     part: Option<&[u8]>,
@@ -128,7 +129,8 @@ pub(crate) fn find_in_part(
     }
 }
 
-/// What the value of field `i` gives, with its encoded words replaced (RFC 5228, section 2.7.2).
+/// The match values that the value of field `i` gives, with its encoded words replaced (RFC 5228,
+/// 2.7.2).
 fn find_in_decoded(
     alloc: Global,
     fields: &mut FieldCache<'_>,
@@ -151,7 +153,7 @@ fn find_in_decoded(
     Ok(found)
 }
 
-/// What that part of the addresses in the value of field `i` gives.
+/// The match values that that part of the addresses in the value of field `i` gives.
 fn find_in_listed(
     alloc: Global,
     fields: &mut FieldCache<'_>,
@@ -206,11 +208,12 @@ impl<'m, 'v> FieldVisitor for Finder<'m, 'v> {
     }
 }
 
-/// What the values of some named fields give, or that part of the addresses in them.
+/// The match values that the values of some named fields give, or that part of the addresses in
+/// them.
 pub(crate) fn find_in_named(
     delivery: &Delivery<'_>,
     fields: &mut FieldCache<'_>,
-    state: &State,
+    state: &RunState,
     part: Option<AddressPart>,
     names: &FieldNames<'_>,
     matcher: &Matcher<'_>,

@@ -9,21 +9,22 @@ ghost use Rattle.sieve_variables.specs.Value.{text_value};
 use crate::field_cache::FieldCache;
 use message_text::{AddressPart, FieldName};
 use packed_strings::FieldNames;
-use sieve_delivery::{Delivery, State};
+use sieve_delivery::{Delivery, RunState};
 use sieve_table::is_address_field;
 use std::alloc::{AllocError, Global};
 
-/// What looks at fields one after another, until it has seen enough.
+/// A visitor of fields, one after another, until it has seen enough.
 pub(crate) trait FieldVisitor {
     ghost use Rattle.std.specs.Prelude.{◌≡◌, Bool, Option, true};
     ghost use Rattle.message_text.specs.Fields.{Field};
     ghost use Rattle.message_text.specs.declared.addressing.AddressPart as parts;
     ghost use Rattle.sieve_profile.specs.Profile.{Profile};
 
-    /// Whether the places of the fields that it looks at are kept. This takes memory, and spares later tests a search.
+    /// Whether the places of the fields that it visits are kept. Keeping takes memory, and spares
+    /// later tests a search.
     const KEEPS_NAMES: bool;
 
-    /// What it is after one more field.
+    /// The visitor after one more field.
     ghost after: { Profile → Option parts.AddressPart → Self → Field → Self };
 
     ghost is_done: { Self → Bool };
@@ -32,7 +33,8 @@ pub(crate) trait FieldVisitor {
     fn is_done(&self) -> bool
         ensures { result ≡ is_done self.now };
 
-    /// Looks at the value of field `i`, or at that part of the addresses in it. Fails where memory is refused.
+    /// Looks at the value of field `i`, or at that part of the addresses in it. Fails if memory is
+    /// refused.
     fn visit(
         &mut self,
         alloc: Global,
@@ -47,12 +49,13 @@ pub(crate) trait FieldVisitor {
             → slice_get (fields_of fields.old.message) i ≡ Some field
             → self.new ≡ after fields.old.profile part self.old field) };
 
-    /// What has seen enough stays as it is.
+    /// A visitor that has seen enough stays as it is.
     ghost rests: { (profile : Profile) (part : Option parts.AddressPart) (visitor : Self)
         (field : Field) → is_done visitor ≡ true → after profile part visitor field ≡ visitor };
 }
 
-/// Whether fields of that name are looked at: for a part of addresses, those that hold addresses.
+/// Whether fields of that name are looked at. For a part of addresses, only fields that hold
+/// addresses are.
 fn is_looked_at(part: Option<AddressPart>, name: &[u8]) -> bool
     ensures { result ≡ is_looked_at part name.now }
 {
@@ -62,7 +65,7 @@ fn is_looked_at(part: Option<AddressPart>, name: &[u8]) -> bool
     }
 }
 
-/// Visits the fields of a name, in order, where a test looks at them.
+/// Visits the fields of a name in order, if a test looks at them.
 fn visit_named<V: FieldVisitor>(
     alloc: Global,
     fields: &mut FieldCache<'_>,
@@ -88,11 +91,11 @@ fn visit_named<V: FieldVisitor>(
     Ok(())
 }
 
-/// Visits the fields that a test looks at, name by name. Fails where memory is refused.
+/// Visits the fields that a test looks at, name by name. Fails if memory is refused.
 pub(crate) fn visit_looked_at<V: FieldVisitor>(
     delivery: &Delivery<'_>,
     fields: &mut FieldCache<'_>,
-    state: &State,
+    state: &RunState,
     part: Option<AddressPart>,
     names: &FieldNames<'_>,
     visitor: &mut V,

@@ -1,4 +1,4 @@
-//! What a test finds in flags (RFC 5232, section 4).
+//! Flags as the values of a test (RFC 5232, 4).
 ghost use Rattle.std.specs.Prelude.{◌≡◌, ◌∷◌, ◌++◌, ℕ, List, IfOk, Some};
 ghost use Rattle.std.specs.List.{list_any};
 ghost use Rattle.match_text.specs.Flags.{flag_keys, flag_list, has_key};
@@ -14,7 +14,7 @@ ghost use Rattle.octets.specs.view.Texts.{octets_of_each};
 use crate::matcher::{MatchValues, Matcher, plain_match};
 use match_text::{Collation, FlagList, flags_of, next_key};
 use packed_strings::Strings;
-use sieve_delivery::{Delivery, State};
+use sieve_delivery::{Delivery, RunState};
 use sieve_script::MatchType;
 use std::alloc::{AllocError, Global};
 use std::borrow::CowSlice;
@@ -36,7 +36,7 @@ fn has_piece(flags: &FlagList, collation: Collation, key: &[u8]) -> bool
     false
 }
 
-/// Whether a key, or a piece of it where keys are cut, is among flags.
+/// Whether a key is among flags, or a piece of it if keys are cut.
 fn has_key_of(flags: &FlagList, matcher: &Matcher<'_>, key: &[u8]) -> bool
     ensures { result ≡ list_any (has_key (are_equal matcher.now.comparison.collation) flags.now)
         (cut_key matcher.now.are_cut key.now) }
@@ -64,16 +64,17 @@ fn has_some(alloc: Global, flags: &FlagList, matcher: &Matcher<'_>) -> Result<bo
     Ok(false)
 }
 
-/// What the flags give by the keys that were compared so far.
+/// The match values that the flags give by the keys that were compared so far.
 #[derive(Drop)]
 struct Best {
-    // What the first flag gives that matched a key.
+    // The match values of the first flag that matched a key.
     found: Option<MatchValues>,
-    // How many flags stand before it; all where none matched. Keys that come later count only for these.
+    // The number of flags before that flag, or of all flags if none matched. Later keys count only
+    // for these flags.
     before: usize,
 }
 
-/// What is best after one key more.
+/// The best after one more key.
 fn better(
     alloc: Global,
     flags: &FlagList,
@@ -95,7 +96,7 @@ fn better(
     Ok(so_far)
 }
 
-/// What is best after the pieces of one key more.
+/// The best after the pieces of one more key.
 fn better_by_pieces(
     alloc: Global,
     flags: &FlagList,
@@ -118,7 +119,7 @@ fn better_by_pieces(
     Ok(best)
 }
 
-/// What is best after one key more, or the pieces of it where keys are cut.
+/// The best after one more key, or after its pieces if keys are cut.
 fn better_by(
     alloc: Global,
     flags: &FlagList,
@@ -137,7 +138,8 @@ fn better_by(
     }
 }
 
-/// What the first flag gives that matches some key. Each key is made once, and compared with the flags before the best so far.
+/// The match values of the first flag that matches some key. Each key is put together once, and
+/// compared with the flags before the best so far.
 fn find_in_each(
     alloc: Global,
     flags: &FlagList,
@@ -161,7 +163,8 @@ fn find_in_each(
     Ok(best.found)
 }
 
-/// What the first flag gives that matches some key. Under `:is` each key is looked for among the flags, and not each flag compared with each.
+/// The match values of the first flag that matches some key. Under `:is` each key is looked up
+/// among the flags, instead of comparing each flag with each key.
 fn find_in_flags(
     alloc: Global,
     flags: &FlagList,
@@ -175,7 +178,7 @@ fn find_in_flags(
     }
 }
 
-/// What the first flag of a text gives that matches some key.
+/// The match values of the first flag of a text that matches some key.
 fn find_in_text(
     alloc: Global,
     text: &[u8],
@@ -188,7 +191,7 @@ fn find_in_text(
     find_in_flags(alloc, &flags, matcher)
 }
 
-/// What the first flag of some texts gives that matches some key.
+/// The match values of the first flag of some texts that matches some key.
 fn find_in_texts(
     alloc: Global,
     texts: &[CowSlice<'_, u8>],
@@ -205,10 +208,10 @@ fn find_in_texts(
     Ok(None)
 }
 
-/// What the flags of variables give. The variables' values are read first.
+/// The match values that the flags of variables give. The variables' values are read first.
 fn find_in_variables(
     delivery: &Delivery<'_>,
-    state: &State,
+    state: &RunState,
     variables: &Strings<'_>,
     matcher: &Matcher<'_>,
 ) -> Result<Option<MatchValues>, AllocError>
@@ -219,10 +222,11 @@ fn find_in_variables(
     find_in_texts(delivery.alloc, &held, matcher)
 }
 
-/// What the flags of variables give, or the internal ones where none are named.
+/// The match values that the flags of variables give, or the internal flags if no variables are
+/// named.
 pub(crate) fn find_in_held(
     delivery: &Delivery<'_>,
-    state: &State,
+    state: &RunState,
     variables: &Option<Strings<'_>>,
     matcher: &Matcher<'_>,
 ) -> Result<Option<MatchValues>, AllocError>

@@ -1,5 +1,6 @@
-//! What tests find in a delivery (RFC 5228, sections 2.7 and 5; RFC 5229, section 5; RFC 5232, section 4; RFC 5260, sections 4 and 5; RFC 5173, section 4; RFC 5490,
-//! section 3.1).
+//! The values that tests find in a delivery (RFC 5228, 2.7 and 5). Strings are in RFC 5229, 5,
+//! flags in RFC 5232, 4, dates in RFC 5260, 4 and 5. The body is in RFC 5173, 4, and mailboxes are
+//! in RFC 5490, 3.1.
 #![tactic(auto)]
 
 mod asking;

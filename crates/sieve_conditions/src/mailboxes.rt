@@ -1,4 +1,4 @@
-//! The mailboxes that there are (RFC 5490, section 3.1).
+//! The mailboxes that are there (RFC 5490, 3.1).
 ghost use Rattle.std.specs.Prelude.{◌≡◌, IfOk, map, nat_eq};
 ghost use Rattle.std.specs.List.{list_all, list_any};
 ghost use lib.Pointwise.{pointwise};
@@ -11,11 +11,11 @@ ghost use Rattle.sieve_variables.specs.Value.{text_value};
 
 use message_text::next_line;
 use packed_strings::Strings;
-use sieve_delivery::{Delivery, Envelope, State};
+use sieve_delivery::{Delivery, Envelope, RunState};
 use sieve_variables::Values;
 use std::alloc::{AllocError, Global};
 
-/// How many names of mailboxes there are in a text, one a line; an empty line is none. Takes no memory.
+/// The number of names of mailboxes in a text, one a line. An empty line is no name.
 pub fn mailbox_count(text: &[u8]) -> u64
     ensures { result ≡ mailbox_count text.now }
 {
@@ -30,7 +30,7 @@ pub fn mailbox_count(text: &[u8]) -> u64
     count
 }
 
-/// Whether a name is that of the INBOX, which is written in any case (RFC 3501, section 5.1).
+/// Whether a name is that of the INBOX, which is written in any case (RFC 3501, 5.1).
 fn is_inbox(name: &[u8]) -> bool
     ensures { result ≡ is_inbox name.now }
 {
@@ -80,12 +80,12 @@ fn has_mailboxes(
     Ok(true)
 }
 
-/// Whether all named mailboxes are there (RFC 5490, section 3.1). Fails where memory is refused.
+/// Whether all named mailboxes are there (RFC 5490, 3.1). Fails if memory is refused.
 #[tactic(auto, unfolding(crate::specs::Matching::truth_of))]
 pub fn mailboxes_exist(
     delivery: &Delivery<'_>,
     names: &Strings<'_>,
-    state: &State,
+    state: &RunState,
 ) -> Result<bool, AllocError>
     ensures { IfOk result (λ truth. truth
         ≡ truth_of (delivery_as delivery.now) (state_of state.now) (mailboxes_ask names.now)) }

@@ -1,4 +1,4 @@
-//! How a test compares a value with keys (RFC 5228, section 2.7.1).
+//! How a test compares a value with keys (RFC 5228, 2.7.1).
 ghost use Rattle.std.specs.Prelude.{◌≡◌, ◌<◌, ℕ, List, [], IfOk, IfSome, None, Some, false, is_some, length, map, slice_get, true, if◌then◌else◌};
 ghost use Rattle.match_text.specs.Comparator.{ascii_casemap, is_part};
 ghost use Rattle.match_text.specs.Flags.{flag_keys};
@@ -19,14 +19,14 @@ use match_text::{
 };
 use octets::Octets;
 use packed_strings::Strings;
-use sieve_delivery::State;
+use sieve_delivery::RunState;
 use sieve_script::{Comparison, MatchType, literal_in_parts};
 use sieve_variables::{Part, Values};
 use std::alloc::{AllocError, Global};
 use std::marker::Model;
 
-/// What a value that matches a key gives to `${0}`, `${1}` and so on (RFC 5229, section 3.2): under `:matches` the value and what each
-/// wildcard took, under the other match types nothing.
+/// The texts that a match gives to `${0}`, `${1}` and so on (RFC 5229, 3.2). Under `:matches` they
+/// are the value and the text that each wildcard took. Under the other match types there are none.
 #[derive(Drop)]
 pub(crate) struct MatchValues {
     texts: Vec<Octets>,
@@ -41,7 +41,7 @@ impl Model for MatchValues {
 }
 
 impl MatchValues {
-    /// No match values, where a match sets nothing.
+    /// No match values, for a match that sets nothing.
     fn none(alloc: Global) -> MatchValues
         ensures { result ≡ [] }
     {
@@ -50,7 +50,7 @@ impl MatchValues {
         }
     }
 
-    /// Copies of what the wildcards took.
+    /// Copies of the value and of the texts that the wildcards took.
     fn copied(alloc: Global, captures: &Captures<'_>) -> Result<MatchValues, AllocError>
         ensures { IfOk result (λ values. values ≡ captures.now) }
     {
@@ -63,11 +63,12 @@ impl MatchValues {
     }
 }
 
-/// Keeps what was found, where that sets match variables (RFC 5229, section 3.2). Answers whether something was found.
+/// Keeps the match values that were found, if they set match variables (RFC 5229, 3.2). Returns
+/// whether there is a match.
 pub(crate) fn set_found(
     match_type: MatchType,
     found: Option<MatchValues>,
-    state: &mut State,
+    state: &mut RunState,
 ) -> bool
     ensures truth { result ≡ is_some found }
     ensures kept { state_of state.new ≡ record
@@ -86,7 +87,7 @@ pub(crate) fn set_found(
     }
 }
 
-/// What a match gives that sets nothing, where there is one.
+/// A match that sets nothing, if there is one.
 pub(crate) fn plain_match(alloc: Global, is_match: bool) -> Option<MatchValues>
     ensures { result ≡ if is_match then Some [] else None }
 {
@@ -97,7 +98,7 @@ pub(crate) fn plain_match(alloc: Global, is_match: bool) -> Option<MatchValues>
     }
 }
 
-/// What a value gives that stands in a relation to a key (RFC 5231, section 4).
+/// A match that sets nothing, if the value stands in the relation to the key (RFC 5231, 4).
 fn related_match(
     alloc: Global,
     relation: Relation,
@@ -111,7 +112,7 @@ fn related_match(
     plain_match(alloc, stands(relation, collation, value, key))
 }
 
-/// What the wildcards of a pattern took, where the value matches it.
+/// The value and the texts that the wildcards of a pattern took, if the value matches it.
 fn wildcard_match<C: Comparator>(
     alloc: Global,
     value: &[u8],
@@ -125,18 +126,19 @@ fn wildcard_match<C: Comparator>(
     }
 }
 
-/// How a test compares a value with keys, and these: strings, each of which is made where it is compared.
+/// How a test compares a value with keys, and the keys. They are strings, and each is put together
+/// when it is compared.
 #[derive(Clone, Copy)]
 pub(crate) struct Matcher<'a> {
     pub(crate) comparison: Comparison,
     pub(crate) values: &'a Values,
     pub(crate) keys: &'a Strings<'a>,
-    /// Whether the keys are cut at spaces (RFC 5232, section 4).
+    /// Whether the keys are cut at spaces (RFC 5232, 4).
     pub(crate) are_cut: bool,
 }
 
-/// Whether a value of so many octets can match the key that a string gives. No more of its parts are looked at than the value has room for.
-/// Takes no memory.
+/// Whether a value of so many octets can match the key that a string gives. Parts of the string are
+/// looked at only until the value has no room for more.
 fn may_match(values: &Values, kind: KeyKind, size: usize, parts: &[Part]) -> bool
     ensures { result ≡ may_match kind size (text_value values.now parts.now) }
 {
@@ -151,7 +153,7 @@ fn may_match(values: &Values, kind: KeyKind, size: usize, parts: &[Part]) -> boo
 }
 
 impl Matcher<'_> {
-    /// What a value gives that matches a key.
+    /// The match values of a value that matches a key.
     pub(crate) fn match_of(
         &self,
         alloc: Global,
@@ -184,7 +186,7 @@ impl Matcher<'_> {
         }
     }
 
-    /// What a key is to a value that matches it, where that says how many octets the value has.
+    /// The kind of key, if it limits how many octets a matching value has.
     fn key_kind(&self) -> Option<KeyKind>
         ensures { IfSome result (λ kind. (value key : List ℕ) → may_match kind (length value) key
             ≡ false → match_of self.now.comparison value key ≡ None) }
@@ -201,7 +203,8 @@ impl Matcher<'_> {
         }
     }
 
-    /// Whether a value has to be compared with the key that a string gives. One of a single part costs nothing to make.
+    /// Whether a value has to be compared with the key that a string gives. A string of a single
+    /// part costs nothing to put together.
     fn can_match(&self, value: &[u8], parts: &[Part]) -> bool
         ensures { result ≡ false → match_of self.now.comparison value.now
             (text_value self.now.values.now parts.now) ≡ None }
@@ -215,7 +218,8 @@ impl Matcher<'_> {
         }
     }
 
-    /// Whether keys of several parts are looked for by [`SearchedValue::contains`]. They lie in a buffer, and so can be folded in place.
+    /// Whether keys of several parts are looked for by [`SearchedValue::contains`]. They lie in a
+    /// buffer, and so can be folded in place.
     fn is_search(&self) -> bool
         ensures { result ≡ true → (value key : List ℕ) → match_of self.now.comparison value key
             ≡ if is_part ascii_casemap value key then Some [] else None }
@@ -231,7 +235,8 @@ impl Matcher<'_> {
         }
     }
 
-    /// What a value gives that matches the key of string `i`, which isn't cut. It is made only where the value can match it.
+    /// The match values of a value that matches the key of string `i`, which isn't cut. The key is
+    /// put together only if the value can match it.
     fn match_whole(
         &self,
         alloc: Global,
@@ -256,7 +261,7 @@ impl Matcher<'_> {
         self.match_of(alloc, value.octets(), key)
     }
 
-    /// What a value gives that matches a piece of a key.
+    /// The match values of a value that matches a piece of a key.
     fn match_pieces(
         &self,
         alloc: Global,
@@ -279,7 +284,8 @@ impl Matcher<'_> {
         Ok(None)
     }
 
-    /// What a value gives that matches the key of string `i`, or a piece of it where keys are cut.
+    /// The match values of a value that matches the key of string `i`. If keys are cut, it matches
+    /// a piece of that key.
     fn match_at(
         &self,
         alloc: Global,
@@ -299,7 +305,7 @@ impl Matcher<'_> {
         self.match_pieces(alloc, value.octets(), key)
     }
 
-    /// The only key, where there is one that is one literal and isn't cut. Takes no memory.
+    /// The only key, if there is one that is one literal and isn't cut.
     pub(crate) fn only_literal(&self) -> Option<&[u8]>
         ensures { IfSome result (λ key. (value : List ℕ)
             → found_with self.now value ≡ match_of self.now.comparison value key.now) }
@@ -313,7 +319,7 @@ impl Matcher<'_> {
         }
     }
 
-    /// What a value gives by the first key of some that it matches.
+    /// The match values that a value gives by the first of several keys that it matches.
     fn first_of_keys(&self, alloc: Global, value: &[u8]) -> Result<Option<MatchValues>, AllocError>
         ensures { IfOk result (λ found. found ≡ found_with self.now value.now) }
     {
@@ -327,7 +333,7 @@ impl Matcher<'_> {
         Ok(None)
     }
 
-    /// What a value gives by the first key that it matches.
+    /// The match values that a value gives by the first key that it matches.
     pub(crate) fn first_match(
         &self,
         alloc: Global,

@@ -1,4 +1,4 @@
-//! What a test finds in an envelope (RFC 5228, section 5.4).
+//! An envelope as the source of a test (RFC 5228, 5.4).
 ghost use Rattle.std.specs.Prelude.{◌≡◌, None, map, IfOk};
 ghost use Rattle.std.specs.Option.{option_copied, option_map};
 ghost use Rattle.message_text.specs.Addresses.{is_null_path, part_of_address};
@@ -14,11 +14,11 @@ use crate::field_values::find_in_part;
 use crate::matcher::{MatchValues, Matcher};
 use message_text::{AddressPart, addresses};
 use packed_strings::Strings;
-use sieve_delivery::{Addresses, Arrival, Delivery, Envelope, State};
+use sieve_delivery::{Addresses, Arrival, Delivery, Envelope, RunState};
 use sieve_variables::Values;
 use std::alloc::{AllocError, Global};
 
-/// The sender: a message's own, where it has its own.
+/// The sender: the message's own if it has one, or else the envelope's.
 fn sender_of<'a>(own: Option<&'a Addresses>, envelope: &'a Envelope) -> &'a [u8]
     ensures { result.now ≡ sender_of (option_copied own.entry) envelope.now }
 {
@@ -28,7 +28,7 @@ fn sender_of<'a>(own: Option<&'a Addresses>, envelope: &'a Envelope) -> &'a [u8]
     }
 }
 
-/// The recipient: a message's own, where it has its own.
+/// The recipient: the message's own if it has one, or else the envelope's.
 fn recipient_of<'a>(own: Option<&'a Addresses>, envelope: &'a Envelope) -> &'a [u8]
     ensures { result.now ≡ recipient_of (option_copied own.entry) envelope.now }
 {
@@ -38,7 +38,7 @@ fn recipient_of<'a>(own: Option<&'a Addresses>, envelope: &'a Envelope) -> &'a [
     }
 }
 
-/// The address of the envelope's part of that name.
+/// The address of the envelope's part of that name, or none if there is no such part.
 pub(crate) fn envelope_text<'a>(arrival: &'a Arrival<'a>, name: &[u8]) -> Option<&'a [u8]>
     ensures { option_map (λ octets. octets.now) result
         ≡ envelope_text (envelope_of (arrival_as arrival.now)) name.now }
@@ -52,14 +52,14 @@ pub(crate) fn envelope_text<'a>(arrival: &'a Arrival<'a>, name: &[u8]) -> Option
     }
 }
 
-/// Whether there is no address, or the null path (RFC 5321, section 4.5.5).
+/// Whether there is no address, or the null path (RFC 5321, 4.5.5).
 pub(crate) fn is_null_path(text: &[u8]) -> bool
     ensures { result ≡ is_null_path text.now }
 {
     text.is_empty() || b"<>".as_slice() == text
 }
 
-/// What of a text that isn't one address is seen: all of it alone.
+/// That part of a text that isn't one address. Only all of it is there.
 fn seen_part(part: AddressPart, text: &[u8]) -> Option<&[u8]>
     ensures { option_map (λ octets. octets.now) result
         ≡ part_of_address part (record { all = text.now; local_part = None; domain = None }) }
@@ -70,7 +70,7 @@ fn seen_part(part: AddressPart, text: &[u8]) -> Option<&[u8]>
     }
 }
 
-/// What that part of an envelope's address gives.
+/// The match values that that part of an envelope's address gives.
 #[tactic(auto, unfolding(message_text::specs::Addresses::part_of_path))]
 fn find_in_path(
     alloc: Global,
@@ -90,7 +90,7 @@ fn find_in_path(
     }
 }
 
-/// What that part of the address gives in the envelope's part of that name.
+/// The match values that that part of the address gives in the envelope's part of that name.
 fn find_by_path_name(
     alloc: Global,
     arrival: &Arrival<'_>,
@@ -107,7 +107,7 @@ fn find_by_path_name(
     }
 }
 
-/// What the first named part of the envelope gives whose address matches.
+/// The match values of the first named part of the envelope whose address matches.
 fn find_by_path_names(
     alloc: Global,
     arrival: &Arrival<'_>,
@@ -129,10 +129,10 @@ fn find_by_path_names(
     Ok(None)
 }
 
-/// What that part of the addresses in some named parts of the envelope gives.
+/// The match values that that part of the addresses in some named parts of the envelope gives.
 pub(crate) fn find_in_paths(
     delivery: &Delivery<'_>,
-    state: &State,
+    state: &RunState,
     part: AddressPart,
     names: &Strings<'_>,
     matcher: &Matcher<'_>,

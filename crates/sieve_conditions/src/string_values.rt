@@ -1,4 +1,4 @@
-//! What a test finds in strings themselves (RFC 5229, section 5).
+//! Strings as the values of a test (RFC 5229, 5).
 ghost use Rattle.std.specs.Prelude.{◌≡◌, map, IfOk};
 ghost use Rattle.sieve_script.specs.Reading.{string_values};
 ghost use Rattle.sieve_conditions.specs.Matching.{first_some, values_of};
@@ -9,11 +9,11 @@ ghost use Rattle.sieve_variables.specs.Value.{text_value};
 
 use crate::matcher::{MatchValues, Matcher};
 use packed_strings::Strings;
-use sieve_delivery::{Delivery, State};
+use sieve_delivery::{Delivery, RunState};
 use sieve_variables::Values;
 use std::alloc::{AllocError, Global};
 
-/// What the first string gives that matches some key.
+/// The match values of the first string that matches some key.
 fn find_in_texts(
     alloc: Global,
     values: &Values,
@@ -33,10 +33,10 @@ fn find_in_texts(
     Ok(None)
 }
 
-/// What strings give.
+/// The match values that strings give.
 pub(crate) fn find_in_strings(
     delivery: &Delivery<'_>,
-    state: &State,
+    state: &RunState,
     texts: &Strings<'_>,
     matcher: &Matcher<'_>,
 ) -> Result<Option<MatchValues>, AllocError>

@@ -1,8 +1,9 @@
--- What stands in the way of a store.
+-- Conflicts with a store.
 use Rattle.std.proofs.Common.{◌≡◌, ℕ, Bool, true, false, None, Some, List, [], ◌∷◌, refl, sym, ap, ◌∙◌}
 use Rattle.std.specs.Prelude.{if◌then◌else◌}
 use Rattle.std.specs.List.{list_any}
-use Rattle.sieve_delivery.specs.Act.{conflict_among, is_rejection, refused, unless, with_entry, with_room}
+use Rattle.sieve_delivery.specs.Conflicts.{conflict_among, is_rejection}
+use Rattle.sieve_delivery.specs.Performing.{refused, unless, with_entry, with_room}
 use Rattle.sieve_delivery.specs.State.{Entered, actions_in}
 use Rattle.sieve_delivery.specs.declared.action.Action.{Action}
 use Rattle.sieve_delivery.specs.declared.action.Action.TheVariants.{Store, Redirect, Discard, Respond, Reject}
@@ -10,7 +11,7 @@ use Rattle.sieve_delivery.specs.declared.action.Filing.{Filing}
 use Rattle.sieve_delivery.specs.declared.action.Origin.{Origin}
 use Rattle.sieve_delivery.specs.declared.error.ErrorKind.TheVariants.{ConflictingActions}
 
--- a rejection alone stands in the way of a store
+-- a rejection alone conflicts with a store
 pub of_a_store : (mailbox : List ℕ) (flags : List (List ℕ)) (filing : Filing) (actions : List Action)
     → conflict_among (Store mailbox flags filing) actions ≡ (if list_any is_rejection actions then Some ConflictingActions else None)
 of_a_store mailbox flags filing [] = refl
@@ -20,7 +21,7 @@ of_a_store mailbox flags filing (Discard ∷ actions) = of_a_store mailbox flags
 of_a_store mailbox flags filing (Respond response ∷ actions) = of_a_store mailbox flags filing actions
 of_a_store mailbox flags filing (Reject how reason ∷ actions) = refl
 
--- a store is refused where a rejection is there, and else what becomes of it is a matter of room
+-- A store is refused if a rejection is there. Otherwise only room decides.
 module _ (mailbox : List ℕ) (flags : List (List ℕ)) (filing : Filing) (origin : Origin) (entries : List Entered) where
   abbrev stored : Entered
   stored = record { action = Store mailbox flags filing; origin = origin }

@@ -1,10 +1,10 @@
--- Names of mailboxes that are said by their front.
+-- Names of mailboxes that are decided by their front.
 use Rattle.std.proofs.Common.{◌≡◌, ℕ, ◌<◌, ◌≤◌, Bool, true, false, ◌&&◌, List, length, take, None, Some, refl, sym, ap, ◌∙◌, ⊎_elim, arith}
 use Rattle.std.specs.Prelude.{nat_le, nat_lt, if◌then◌else◌}
 use Rattle.std.specs.List.{list_all}
 use Rattle.std.proofs.lemmas.Bool.{cases_lt}
 use Rattle.std.proofs.lemmas.List.{length-take-le, take_all}
-use Rattle.sieve_delivery.specs.Act.{is_mailbox, is_no_control}
+use Rattle.sieve_delivery.specs.Storing.{is_mailbox, is_no_control}
 use Rattle.sieve_delivery.specs.view.Acting.{mailbox_named}
 use Rattle.sieve_variables.specs.Part.{Part}
 use Rattle.sieve_variables.specs.Value.{Values, text_value}
@@ -13,12 +13,13 @@ and_no : (a b : Bool) → (a && (false && b)) ≡ false
 and_no true b = refl
 and_no false b = refl
 
--- no mailbox has a name of more octets
+-- a name of more than 255 octets is no mailbox's
 too_long : (name : List ℕ) → 255 < length name → is_mailbox name ≡ false
 too_long name long = let no : nat_le (length name) 255 ≡ false = grind (arith, long) in
     ap (λ b. nat_lt 0 (length name) && (b && list_all is_no_control name)) no ∙ and_no (nat_lt 0 (length name)) (list_all is_no_control name)
 
--- a name that is as long as the front is no mailbox's, nor is what it is a front of
+-- A front of 256 octets is no mailbox's name, nor is the text that it is the front of. A shorter
+-- front is the whole text.
 front_told : (text : List ℕ) → is_mailbox (take 256 text) ≡ is_mailbox text
 front_told text = ⊎_elim
     (λ (less : length text < 256). ap is_mailbox (take_all 256 text (omega arith)))
@@ -35,12 +36,12 @@ module _ (values : Values) (mailbox : List Part) (name : List ℕ) (front : name
   tells : is_mailbox name ≡ is_mailbox (text_value values mailbox)
   tells = ap is_mailbox front ∙ front_told (text_value values mailbox)
 
-  -- where the front is a name, the string is that name
+  -- if the front is a name of a mailbox, the string is that name
   pub front_found : is_mailbox name ≡ true → Some name ≡ mailbox_named values mailbox
   front_found is =
       let whole = sym tells ∙ is in
       ap Some (front ∙ front_whole (text_value values mailbox) whole) ∙ sym (ap (λ b. if b then Some (text_value values mailbox) else None) whole)
 
-  -- where it isn't, the string is none
+  -- if it isn't, the string names none
   pub front_missed : is_mailbox name ≡ false → None ≡ mailbox_named values mailbox
   front_missed is = sym (ap (λ b. if b then Some (text_value values mailbox) else None) (sym tells ∙ is))

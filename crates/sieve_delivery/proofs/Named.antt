@@ -1,9 +1,12 @@
--- What commands do whose strings name something or nothing.
+-- Commands whose strings name a mailbox or an address, or none.
 use Rattle.std.proofs.Common.{◌≡◌, ℕ, Bool, true, false, ◌&&◌, List, Some, None, refl, sym, ap, ◌∙◌}
 use Rattle.std.specs.Prelude.{if◌then◌else◌}
 use Rattle.message_text.specs.Addresses.{addresses_of}
 use Rattle.sieve_delivery.specs.Delivery.{Delivery}
-use Rattle.sieve_delivery.specs.Act.{Ending, deed_of, fails_at, files_into, filing_of, is_mailbox, may_be_used, only_address, performs, redirects, sends, store_deed}
+use Rattle.sieve_delivery.specs.Ending.{Ending}
+use Rattle.sieve_delivery.specs.Performing.{deed_of, fails_at, performs}
+use Rattle.sieve_delivery.specs.Sending.{only_address, redirects, sends}
+use Rattle.sieve_delivery.specs.Storing.{files_into, filing_of, is_mailbox, may_be_used, store_deed}
 use Rattle.sieve_delivery.specs.State.{RunState}
 use Rattle.sieve_delivery.specs.declared.action.Action.TheVariants.{Redirect}
 use Rattle.sieve_delivery.specs.declared.error.ErrorKind.TheVariants.{BadAddress, BadMailbox}
@@ -13,7 +16,7 @@ use Rattle.sieve_variables.specs.Part.{Part}
 use Rattle.sieve_variables.specs.Value.{text_value}
 
 module _ (delivery : Delivery) (line : ℕ) (state : RunState) where
-  -- a store is performed where its mailbox and its use are named, and else the command fails
+  -- A store is performed if its mailbox and its use are named. Otherwise the command fails.
   module _ (mailbox : List Part) (settings : Settings) where
     abbrev name : List ℕ
     name = text_value state.values mailbox

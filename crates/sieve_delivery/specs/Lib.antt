@@ -1,5 +1,11 @@
 pub mod Act
+pub mod Conflicts
 pub mod Delivery
+pub mod Ending
 pub mod ErrorKind
+pub mod Joining
+pub mod Performing
+pub mod Sending
 pub mod State
+pub mod Storing
 pub mod view

@@ -17,14 +17,14 @@ actions_in entries = map (λ (entry : Entered). entry.action) entries
 pub record RunState : Type 0 where
   -- the actions in order, each with the command that entered it first
   pub entries : List Entered
-  -- whether an action that was performed cancelled the implicit keep, be it one that added no entry (RFC 5228, section 2.10.2; RFC
-  -- 3894, section 3; RFC 5230, section 4.7; RFC 5429, section 2.4)
+  -- Whether an action that was performed cancelled the implicit keep. It may be one that added no
+  -- entry. See RFC 5228, 2.10.2; RFC 3894, 3; RFC 5230, 4.7; RFC 5429, 2.4.
   pub cancelled : Bool
-  -- the names looked up so far, each present or missing
+  -- the names looked up so far, and whether each was there
   pub lookups : List (ScriptName × Bool)
-  -- the scripts that were entered, in turn, the main script first (RFC 6609, section 3.2)
+  -- the scripts that were entered, in order, the main script first (RFC 6609, 3.2)
   pub entered : List ScriptName
   -- the variables of the script that runs, and those that scripts share
   pub values : Values
-  -- the internal flags (RFC 5232, section 2)
+  -- the internal flags (RFC 5232, 2)
   pub flags : List (List ℕ)

@@ -1,6 +1,6 @@
--- What the program's types stand for in contracts. The other files of specs/ restate the subject.
+-- The meaning of the program's types in contracts. The other files of specs/ restate the subject.
 pub mod Acting
 pub mod Actions
 pub mod Delivery
-pub mod Flow
+pub mod Ending
 pub mod State

@@ -1,12 +1,15 @@
-//! What commands do that act (RFC 5228, section 4).
+//! Commands that act (RFC 5228, 4).
 ghost use Rattle.std.specs.Prelude.{◌≡◌, IfOk};
 ghost use Rattle.std.specs.List.{list_all};
 ghost use Rattle.std.specs.Option.{option_map};
 ghost use Rattle.message_text.specs.Addresses.{addresses_of};
-ghost use Rattle.sieve_delivery.specs.Act as spec;
+ghost use Rattle.sieve_delivery.specs.Act.{discards, gives, sets};
+ghost use Rattle.sieve_delivery.specs.Performing.{Performed, ends_with, performs};
+ghost use Rattle.sieve_delivery.specs.Sending.{only_address, sends, whole_address};
+ghost use Rattle.sieve_delivery.specs.Storing.{files_into, filing_of, is_mailbox, is_no_control, is_special_use, keeps, may_be_used, store_deed};
 ghost use Rattle.sieve_delivery.specs.view.Delivery.{delivery_as};
-ghost use Rattle.sieve_delivery.specs.view.Flow.{ending_by};
-ghost use Rattle.packed_strings.specs.view.Ops.{settings_op_as};
+ghost use Rattle.sieve_delivery.specs.view.Ending.{ending_by};
+ghost use Rattle.packed_strings.specs.view.Refs.{settings_ref_as};
 ghost use Rattle.sieve_delivery.specs.view.Acting.{mailbox_named};
 ghost use Rattle.sieve_delivery.specs.view.Actions.{performed_as};
 ghost use Rattle.sieve_delivery.specs.declared.action.Deed as deeds;
@@ -15,65 +18,65 @@ ghost use Rattle.sieve_variables.specs.Modifier.{modified};
 ghost use Rattle.sieve_variables.specs.Value.{text_value};
 
 use crate::action::{Action, Deed, Filing};
-use crate::actions::Added;
+use crate::actions::Performed;
 use crate::delivery::Delivery;
+use crate::ending::{Ending, fail};
 use crate::error::ErrorKind;
 use crate::flagging::flags_named;
-use crate::flow::{Flow, fail};
 use crate::response::given_text;
-use crate::state::State;
+use crate::state::RunState;
 use match_text::is_keyword;
 use message_text::{Address, AddressPart, addresses};
 use octets::Octets;
-use packed_strings::{SettingsOp, Strings};
+use packed_strings::{SettingsRef, Strings};
 use sieve_limits::MAX_MAILBOX;
 use sieve_variables::{Modifiers, Part, Values, Variable};
 use std::alloc::AllocError;
 
-/// Performs an action, which takes the place of the implicit keep (RFC 5228, section 2.10.2) unless it leaves it (RFC 3894, section 3; RFC
-/// 5230, section 4.7).
+/// Performs an action. It takes the place of the implicit keep (RFC 5228, 2.10.2). An action that
+/// leaves the keep doesn't (RFC 3894, 3; RFC 5230, 4.7).
 pub(crate) fn perform(
     delivery: &Delivery<'_>,
     deed: Deed,
     line: u64,
-    state: &mut State,
-) -> Result<Flow, AllocError>
-    ensures { IfOk result (λ flow. ending_by flow (state_of state.new)
-        ≡ spec.performs (delivery_as delivery.now) line deed (state_of state.old)) }
+    state: &mut RunState,
+) -> Result<Ending, AllocError>
+    ensures { IfOk result (λ ending. ending_by ending (state_of state.new)
+        ≡ performs (delivery_as delivery.now) line deed (state_of state.old)) }
 {
     let added = state.actions.add(delivery, line, deed.action)?;
     end_with(delivery, added, deed.leaves_keep, line, state)
 }
 
-/// Ends a command by what became of the action that it performed.
+/// Ends a command after the action that it performed was accepted or refused.
 fn end_with(
     delivery: &Delivery<'_>,
-    added: Added,
+    added: Performed,
     leaves_keep: bool,
     line: u64,
-    state: &mut State,
-) -> Result<Flow, AllocError>
-    ensures { (performed : spec.Performed) (deed : deeds.Deed)
+    state: &mut RunState,
+) -> Result<Ending, AllocError>
+    ensures { (performed : Performed) (deed : deeds.Deed)
         → performed_as added (state_of state.old).entries ≡ performed
-        → deed.leaves_keep ≡ leaves_keep → IfOk result (λ flow. ending_by flow (state_of state.new)
-        ≡ spec.ends_with (delivery_as delivery.now) line deed performed (state_of state.old)) }
+        → deed.leaves_keep ≡ leaves_keep → IfOk result (λ ending. ending_by ending (state_of state.new)
+        ≡ ends_with (delivery_as delivery.now) line deed performed (state_of state.old)) }
 {
     match added {
-        Added::Accepted => {}
-        Added::Refused(kind) => return fail(delivery, line, kind),
+        Performed::Accepted => {}
+        Performed::Refused(kind) => return fail(delivery, line, kind),
     }
     state.cancelled = !leaves_keep || state.cancelled;
-    Ok(Flow::GoesOn)
+    Ok(Ending::GoesOn)
 }
 
-/// What a command says of the mailbox that it stores into (RFC 5490, section 3.2; RFC 8579, section 4).
+/// The filing that a command asks for (RFC 5490, 3.2; RFC 8579, 4).
 fn filing_of(
     delivery: &Delivery<'_>,
     values: &Values,
-    settings: &SettingsOp<'_>,
+    settings: &SettingsRef<'_>,
 ) -> Result<Filing, AllocError>
     ensures { IfOk result
-        (λ filing. filing ≡ spec.filing_of values.now (settings_op_as settings.now)) }
+        (λ filing. filing ≡ filing_of values.now (settings_ref_as settings.now)) }
 {
     Ok(Filing {
         create: settings.create,
@@ -81,19 +84,20 @@ fn filing_of(
     })
 }
 
-/// Stores into a mailbox, with the flags that are named or else the internal ones (RFC 5232, section 5).
+/// Stores into a mailbox. The store has the flags that are named, or else the internal flags
+/// (RFC 5232, 5).
 fn store(
     delivery: &Delivery<'_>,
     mailbox: Octets,
     filing: Filing,
-    settings: &SettingsOp<'_>,
+    settings: &SettingsRef<'_>,
     line: u64,
-    state: &mut State,
-) -> Result<Flow, AllocError>
-    requires { filing ≡ spec.filing_of (state_of state.old).values (settings_op_as settings.now) }
-    ensures { IfOk result (λ flow. ending_by flow (state_of state.new)
-        ≡ spec.performs (delivery_as delivery.now) line (spec.store_deed
-        (state_of state.old) mailbox (settings_op_as settings.now)) (state_of state.old)) }
+    state: &mut RunState,
+) -> Result<Ending, AllocError>
+    requires { filing ≡ filing_of (state_of state.old).values (settings_ref_as settings.now) }
+    ensures { IfOk result (λ ending. ending_by ending (state_of state.new)
+        ≡ performs (delivery_as delivery.now) line (store_deed
+        (state_of state.old) mailbox (settings_ref_as settings.now)) (state_of state.old)) }
 {
     let leaves_keep = settings.copy;
     match &settings.flags {
@@ -121,20 +125,21 @@ fn store(
     }
 }
 
-/// Stores into the mailbox of the delivery (RFC 5228, section 4.3), with the flags that are named or else the internal ones (RFC 5232,
-/// section 5). Where the message was rejected before, that is an error of the script (RFC 5429, section 2.4), and so is one action too many
-/// (RFC 5228, section 2.10.4). Fails where memory is refused.
+/// Stores into the mailbox of the delivery (RFC 5228, 4.3). The store has the flags that are named,
+/// or else the internal flags (RFC 5232, 5). It is an error of the script if the message was
+/// rejected before (RFC 5429, 2.4). One action too many is an error of the script too (RFC 5228,
+/// 2.10.4). Fails if memory is refused.
 pub fn keep(
     delivery: &Delivery<'_>,
     flags: Option<Strings<'_>>,
     line: u64,
-    state: &mut State,
-) -> Result<Flow, AllocError>
-    ensures { IfOk result (λ flow. ending_by flow (state_of state.new)
-        ≡ spec.keeps (delivery_as delivery.now) flags.entry line (state_of state.old)) }
+    state: &mut RunState,
+) -> Result<Ending, AllocError>
+    ensures { IfOk result (λ ending. ending_by ending (state_of state.new)
+        ≡ keeps (delivery_as delivery.now) flags.entry line (state_of state.old)) }
 {
     let mailbox = Octets::copied(delivery.alloc, delivery.arrival.envelope.mailbox.as_slice())?;
-    let settings = SettingsOp {
+    let settings = SettingsRef {
         flags,
         copy: false,
         create: false,
@@ -147,10 +152,15 @@ pub fn keep(
     store(delivery, mailbox, filing, &settings, line, state)
 }
 
-/// Discards the message (RFC 5228, section 4.4). One action too many is an error of the script (section 2.10.4). Fails where memory is refused.
-pub fn discard(delivery: &Delivery<'_>, line: u64, state: &mut State) -> Result<Flow, AllocError>
-    ensures { IfOk result (λ flow. ending_by flow (state_of state.new)
-        ≡ spec.discards (delivery_as delivery.now) line (state_of state.old)) }
+/// Discards the message (RFC 5228, 4.4). One action too many is an error of the script (RFC 5228,
+/// 2.10.4). Fails if memory is refused.
+pub fn discard(
+    delivery: &Delivery<'_>,
+    line: u64,
+    state: &mut RunState,
+) -> Result<Ending, AllocError>
+    ensures { IfOk result (λ ending. ending_by ending (state_of state.new)
+        ≡ discards (delivery_as delivery.now) line (state_of state.old)) }
 {
     let action = Action::Discard;
     let leaves_keep = false;
@@ -165,28 +175,29 @@ pub fn discard(delivery: &Delivery<'_>, line: u64, state: &mut State) -> Result<
     )
 }
 
-/// Whether an octet is no control character of ASCII.
+/// Whether an octet is not a control character of ASCII.
 fn is_no_control(octet: u8) -> bool
-    ensures { result ≡ spec.is_no_control octet }
+    ensures { result ≡ is_no_control octet }
 {
     octet >= b' ' && octet != 127
 }
 
 /// Whether none of these octets is a control character of ASCII.
 fn has_no_control(name: &[u8]) -> bool
-    ensures { result ≡ list_all spec.is_no_control name.now }
+    ensures { result ≡ list_all is_no_control name.now }
 {
     name.iter().all(|octet| is_no_control(*octet))
 }
 
 /// Whether a mailbox may have this name.
 fn is_mailbox(name: &[u8]) -> bool
-    ensures { result ≡ spec.is_mailbox name.now }
+    ensures { result ≡ is_mailbox name.now }
 {
     !name.is_empty() && name.len() <= MAX_MAILBOX && has_no_control(name)
 }
 
-/// The mailbox that a string names, where it is one. Of a string that is longer than a name may be no more is put together than says so.
+/// The mailbox that a string names, or none if no mailbox may have that name. At most one octet
+/// more than the longest name is put together of the string.
 fn mailbox_named(
     delivery: &Delivery<'_>,
     values: &Values,
@@ -202,9 +213,9 @@ fn mailbox_named(
     }
 }
 
-/// Whether a text is the use of a mailbox (RFC 6154, section 6).
+/// Whether a text is the use of a mailbox (RFC 6154, 6).
 fn is_special_use(text: &[u8]) -> bool
-    ensures { result ≡ spec.is_special_use text.now }
+    ensures { result ≡ is_special_use text.now }
 {
     match text {
         [b'\\', keyword @ ..] => is_keyword(keyword),
@@ -212,9 +223,9 @@ fn is_special_use(text: &[u8]) -> bool
     }
 }
 
-/// Whether a mailbox may be sought by what a store asks for.
+/// Whether the use that a store asks for, if any, may be the use of a mailbox.
 fn may_be_used(filing: &Filing) -> bool
-    ensures { result ≡ spec.may_be_used filing.now.special_use }
+    ensures { result ≡ may_be_used filing.now.special_use }
 {
     match &filing.special_use {
         Some(used) => is_special_use(used.as_slice()),
@@ -222,20 +233,21 @@ fn may_be_used(filing: &Filing) -> bool
     }
 }
 
-/// Stores into the mailbox of that name (RFC 5228, section 4.1), with the flags that are named or else the internal ones (RFC 5232,
-/// section 5). Under `:copy` the implicit keep stays as it is (RFC 3894, section 3). A name that no mailbox may have is an error of the
-/// script, and so are a use that none may have (RFC 8579, section 4), a store where the message was rejected before (RFC 5429, section 2.4)
-/// and one action too many (RFC 5228, section 2.10.4). Fails where memory is refused.
+/// Stores into the mailbox of that name (RFC 5228, 4.1). The store has the flags that are named, or
+/// else the internal flags (RFC 5232, 5). Under `:copy` the implicit keep stays as it is (RFC 3894,
+/// 3). A name that no mailbox may have is an error of the script. So is a use that none may have
+/// (RFC 8579, 4). So is a store if the message was rejected before (RFC 5429, 2.4). So is one
+/// action too many (RFC 5228, 2.10.4). Fails if memory is refused.
 #[tactic(auto, using(crate::proofs::Named::filing))]
 pub fn file_into(
     delivery: &Delivery<'_>,
     mailbox: &[Part],
-    settings: &SettingsOp<'_>,
+    settings: &SettingsRef<'_>,
     line: u64,
-    state: &mut State,
-) -> Result<Flow, AllocError>
-    ensures { IfOk result (λ flow. ending_by flow (state_of state.new)
-        ≡ spec.files_into (delivery_as delivery.now) mailbox.now (settings_op_as settings.now) line
+    state: &mut RunState,
+) -> Result<Ending, AllocError>
+    ensures { IfOk result (λ ending. ending_by ending (state_of state.new)
+        ≡ files_into (delivery_as delivery.now) mailbox.now (settings_ref_as settings.now) line
         (state_of state.old)) }
 {
     let Some(mailbox) = mailbox_named(delivery, &state.values, mailbox)? else {
@@ -248,9 +260,9 @@ pub fn file_into(
     store(delivery, mailbox, filing, settings, line, state)
 }
 
-/// All of an address that has a local part and a domain.
+/// The whole address, if it has a local part and a domain.
 fn whole_address(address: &Address) -> Option<&[u8]>
-    ensures { option_map (λ octets. octets.now) result ≡ spec.whole_address address.now }
+    ensures { option_map (λ octets. octets.now) result ≡ whole_address address.now }
 {
     if address.part(AddressPart::Local).is_some() && address.part(AddressPart::Domain).is_some() {
         address.part(AddressPart::All)
@@ -259,9 +271,10 @@ fn whole_address(address: &Address) -> Option<&[u8]>
     }
 }
 
-/// The one address, where it has a local part and a domain.
+/// The only address of a list, if it has a local part and a domain. There is none if the list has
+/// no address or several.
 pub(crate) fn only_address(found: &[Address]) -> Option<&[u8]>
-    ensures { option_map (λ octets. octets.now) result ≡ spec.only_address found.now }
+    ensures { option_map (λ octets. octets.now) result ≡ only_address found.now }
 {
     match found {
         [one] => whole_address(one),
@@ -269,14 +282,14 @@ pub(crate) fn only_address(found: &[Address]) -> Option<&[u8]>
     }
 }
 
-/// The address that a string gives, where it gives one with a local part and a domain.
+/// The address that a string gives, if it gives exactly one, with a local part and a domain.
 fn address_named(
     delivery: &Delivery<'_>,
     values: &Values,
     address: &[Part],
 ) -> Result<Option<Octets>, AllocError>
     ensures { IfOk result
-        (λ octets. octets ≡ spec.only_address (addresses_of (text_value values.now address.now))) }
+        (λ octets. octets ≡ only_address (addresses_of (text_value values.now address.now))) }
 {
     let text = values.expanded_string(delivery.alloc, address)?;
     let found = addresses(delivery.alloc, text.as_slice())?;
@@ -286,9 +299,10 @@ fn address_named(
     }
 }
 
-/// Sends the message on to the address that a string gives (RFC 5228, section 4.2). Where it isn't exactly one, with a local part and a
-/// domain, that is an error of the script, and so are a redirect where the message was rejected before (RFC 5429, section 2.4) and one
-/// action too many (RFC 5228, section 2.10.4). Under `:copy` the implicit keep stays as it is (RFC 3894, section 3). Fails where memory is
+/// Sends the message on to the address that a string gives (RFC 5228, 4.2). A string that isn't
+/// exactly one address, with a local part and a domain, is an error of the script. So is a redirect
+/// if the message was rejected before (RFC 5429, 2.4). So is one action too many (RFC 5228,
+/// 2.10.4). Under `:copy` the implicit keep stays as it is (RFC 3894, 3). Fails if memory is
 /// refused.
 #[tactic(auto, using(crate::proofs::Named::sending))]
 pub fn redirect(
@@ -296,10 +310,10 @@ pub fn redirect(
     address: &[Part],
     copy: bool,
     line: u64,
-    state: &mut State,
-) -> Result<Flow, AllocError>
-    ensures { IfOk result (λ flow. ending_by flow (state_of state.new)
-        ≡ spec.sends (delivery_as delivery.now) address.now copy line (state_of state.old)) }
+    state: &mut RunState,
+) -> Result<Ending, AllocError>
+    ensures { IfOk result (λ ending. ending_by ending (state_of state.new)
+        ≡ sends (delivery_as delivery.now) address.now copy line (state_of state.old)) }
 {
     match address_named(delivery, &state.values, address)? {
         Some(address) => {
@@ -319,7 +333,7 @@ pub fn redirect(
     }
 }
 
-/// The value that a `set` gives (RFC 5229, section 4.1).
+/// The value that a `set` gives (RFC 5229, 4.1).
 fn value_of(
     delivery: &Delivery<'_>,
     values: &Values,
@@ -333,35 +347,36 @@ fn value_of(
     Ok(Octets::from_vec(octets))
 }
 
-/// Gives a variable a value, where there is room for it (RFC 5229, sections 4 and 6).
+/// Gives a variable a value if there is room for it (RFC 5229, 4 and 6). Otherwise the command
+/// fails.
 pub(crate) fn give(
     delivery: &Delivery<'_>,
     variable: &Variable,
     value: Octets,
     line: u64,
-    state: &mut State,
-) -> Result<Flow, AllocError>
-    ensures { IfOk result (λ flow. ending_by flow (state_of state.new)
-        ≡ spec.gives (delivery_as delivery.now) line variable.now value (state_of state.old)) }
+    state: &mut RunState,
+) -> Result<Ending, AllocError>
+    ensures { IfOk result (λ ending. ending_by ending (state_of state.new)
+        ≡ gives (delivery_as delivery.now) line variable.now value (state_of state.old)) }
 {
     if !state.values.has_room_for(variable) {
         return fail(delivery, line, ErrorKind::TooManyGlobals);
     }
     state.values.set(delivery.alloc, variable, value)?;
-    Ok(Flow::GoesOn)
+    Ok(Ending::GoesOn)
 }
 
-/// Gives a variable the value that a `set` says (RFC 5229, section 4); one shared variable too many is an error of the script. Fails where
-/// memory is refused.
+/// Gives a variable the value that a `set` says (RFC 5229, 4). One shared variable too many is an
+/// error of the script. Fails if memory is refused.
 pub fn set(
     delivery: &Delivery<'_>,
     variable: &Variable,
     modifiers: Modifiers,
     value: &[Part],
     line: u64,
-    state: &mut State,
-) -> Result<Flow, AllocError>
-    ensures { IfOk result (λ flow. ending_by flow (state_of state.new) ≡ spec.sets
+    state: &mut RunState,
+) -> Result<Ending, AllocError>
+    ensures { IfOk result (λ ending. ending_by ending (state_of state.new) ≡ sets
         (delivery_as delivery.now) variable.now modifiers value.now line (state_of state.old)) }
 {
     let octets = value_of(delivery, &state.values, modifiers, value)?;

@@ -1,10 +1,12 @@
-//! The actions of a run (RFC 5228, section 2.10), and the internal flags that its stores take (RFC 5232, section 5).
+//! The actions of a run (RFC 5228, 2.10), and the internal flags that its stores take (RFC 5232,
+//! 5).
 ghost use Rattle.std.specs.Prelude.{◌≡◌, ◌∷◌, IfOk, OnOk, false, map, []};
 ghost use Rattle.std.specs.List.{list_any};
-ghost use Rattle.sieve_delivery.specs.Act.{entry_at, joined_entry, same_action, with_entry, with_room};
+ghost use Rattle.sieve_delivery.specs.Joining.{joined_entry, same_action};
+ghost use Rattle.sieve_delivery.specs.Performing.{entry_at, with_entry, with_room};
 ghost use Rattle.sieve_delivery.specs.State.{actions_in};
 ghost use Rattle.sieve_delivery.specs.declared.action.Action.TheVariants.{Store};
-ghost use Rattle.sieve_delivery.specs.declared.actions.Added.TheVariants.{Refused};
+ghost use Rattle.sieve_delivery.specs.declared.actions.Performed.TheVariants.{Refused};
 ghost use Rattle.sieve_delivery.specs.declared.error.ErrorKind.{ErrorKind};
 ghost use Rattle.sieve_delivery.specs.view.Actions.{entries_as, performed_as};
 ghost use Rattle.sieve_delivery.specs.view.Delivery.{delivery_as};
@@ -25,10 +27,10 @@ use std::alloc::{AllocError, Global};
 use std::marker::Model;
 use std::mem;
 
-/// What became of an action that was performed.
+/// Whether an action that was performed is accepted.
 #[derive(Clone, Copy, PartialEq, Eq)]
-pub(crate) enum Added {
-    /// It was added to the others, or joined one that is there.
+pub(crate) enum Performed {
+    /// It was added to the others, or joined with one that is there.
     Accepted,
     /// It wasn't performed, for this error.
     Refused(ErrorKind),
@@ -52,7 +54,7 @@ impl Model for Actions {
 }
 
 impl Actions {
-    /// No actions, and no flags. Takes no memory.
+    /// Makes a value without actions and without flags.
     pub fn new(alloc: Global) -> Actions
         ensures { result ≡ record { entries = []; flags = [] } }
     {
@@ -62,14 +64,14 @@ impl Actions {
         }
     }
 
-    /// The internal flags. Takes no memory.
+    /// The internal flags.
     pub fn flags(&self) -> &FlagList
         ensures { result.now ≡ self.now.flags }
     {
         &self.flags
     }
 
-    /// The actions and the internal flags apart. Takes no memory.
+    /// The actions and the internal flags, each by itself.
     pub fn into_parts(self) -> (Vec<Entry>, FlagList)
         ensures entries { entries_as result.0.items ≡ self.entries }
         ensures flags { result.1 ≡ self.flags }
@@ -77,13 +79,14 @@ impl Actions {
         (self.entries, self.flags)
     }
 
-    /// Adds an action that the command at a line performs, or joins it with the one that is there already. Answers what became of it.
+    /// Adds an action that the command at a line performs, or joins it with the one that is there
+    /// already. Returns whether the action was accepted.
     pub(crate) fn add(
         &mut self,
         delivery: &Delivery<'_>,
         line: u64,
         action: Action,
-    ) -> Result<Added, AllocError>
+    ) -> Result<Performed, AllocError>
         ensures kept { IfOk result (λ added. (kind : ErrorKind) → added ≡ Refused kind
             → self.new.entries ≡ self.old.entries) }
         ensures value { IfOk result (λ added. performed_as added self.new.entries ≡ with_entry
@@ -91,22 +94,22 @@ impl Actions {
         ensures flags { OnOk result (self.new.flags ≡ self.old.flags) }
     {
         if let Some(kind) = conflict_among(&action, &self.entries) {
-            return Ok(Added::Refused(kind));
+            return Ok(Performed::Refused(kind));
         }
         if has_action(&action, &self.entries) {
             self.join(delivery.alloc, &action)?;
-            return Ok(Added::Accepted);
+            return Ok(Performed::Accepted);
         }
         self.push(delivery, line, action)
     }
 
-    /// Adds an action that isn't there, where there is room for it.
+    /// Adds an action that isn't there yet, if there is room for it.
     fn push(
         &mut self,
         delivery: &Delivery<'_>,
         line: u64,
         action: Action,
-    ) -> Result<Added, AllocError>
+    ) -> Result<Performed, AllocError>
         ensures kept { IfOk result (λ added. (kind : ErrorKind) → added ≡ Refused kind
             → self.new.entries ≡ self.old.entries) }
         ensures value { IfOk result
@@ -116,14 +119,14 @@ impl Actions {
         ensures flags { OnOk result (self.new.flags ≡ self.old.flags) }
     {
         if self.entries.len() >= MAX_ACTIONS {
-            return Ok(Added::Refused(ErrorKind::TooManyActions));
+            return Ok(Performed::Refused(ErrorKind::TooManyActions));
         }
         let entry = first_entry(delivery, line, action)?;
         push_entry(&mut self.entries, entry)?;
-        Ok(Added::Accepted)
+        Ok(Performed::Accepted)
     }
 
-    /// Joins each of the actions that are there with one that is performed.
+    /// Joins an action that is performed with each action that counts as one with it.
     fn join(&mut self, alloc: Global, action: &Action) -> Result<(), AllocError>
         ensures entries { OnOk result
             (self.new.entries ≡ map (joined_entry action.now) self.old.entries) }
@@ -134,14 +137,15 @@ impl Actions {
         Ok(())
     }
 
-    /// Stores into a mailbox with the internal flags, or joins them to the store that is there already. Answers what became of the store.
+    /// Stores into a mailbox with the internal flags, or joins them to the store that is there
+    /// already. Returns whether the store was accepted.
     pub(crate) fn store(
         &mut self,
         delivery: &Delivery<'_>,
         line: u64,
         mailbox: Octets,
         filing: Filing,
-    ) -> Result<Added, AllocError>
+    ) -> Result<Performed, AllocError>
         ensures kept { IfOk result (λ added. (kind : ErrorKind) → added ≡ Refused kind
             → self.new.entries ≡ self.old.entries) }
         ensures value { IfOk result
@@ -150,11 +154,11 @@ impl Actions {
         ensures flags { OnOk result (self.new.flags ≡ self.old.flags) }
     {
         if has_rejection(&self.entries) {
-            return Ok(Added::Refused(ErrorKind::ConflictingActions));
+            return Ok(Performed::Refused(ErrorKind::ConflictingActions));
         }
         if has_store(mailbox.as_slice(), &self.entries) {
             self.join_flags(delivery.alloc, mailbox.as_slice(), &filing)?;
-            return Ok(Added::Accepted);
+            return Ok(Performed::Accepted);
         }
         let flags = self.flags.copied(delivery.alloc)?;
         let action = Action::Store {
@@ -165,7 +169,7 @@ impl Actions {
         self.push(delivery, line, action)
     }
 
-    /// Joins the internal flags, and what a store asks for, to each of the stores into a mailbox.
+    /// Joins the internal flags and a filing to each of the stores into a mailbox.
     fn join_flags(
         &mut self,
         alloc: Global,
@@ -181,7 +185,7 @@ impl Actions {
         Ok(())
     }
 
-    /// Puts flags in the place of the internal ones (RFC 5232, section 3.1).
+    /// Replaces the internal flags (RFC 5232, 3.1).
     pub(crate) fn set_flags(&mut self, named: FlagList)
         ensures { self.new ≡ record self.old { flags = named } }
     {
@@ -189,7 +193,7 @@ impl Actions {
         self.flags = named;
     }
 
-    /// Adds the flags of a text to the internal ones (RFC 5232, section 3.2).
+    /// Adds the flags of a text to the internal flags (RFC 5232, 3.2).
     pub(crate) fn add_text(&mut self, alloc: Global, text: &[u8]) -> Result<(), AllocError>
         ensures { OnOk result
             (self.new ≡ record self.old { flags = flag_union self.old.flags (flags_in text.now) }) }
@@ -200,7 +204,7 @@ impl Actions {
         Ok(())
     }
 
-    /// Takes the flags of a text out of the internal ones (RFC 5232, section 3.3).
+    /// Removes the flags of a text from the internal flags (RFC 5232, 3.3).
     pub(crate) fn remove_text(&mut self, text: &[u8])
         ensures { self.new
             ≡ record self.old { flags = flags_without self.old.flags (flags_in text.now) } }
@@ -213,7 +217,7 @@ impl Actions {
         }
     }
 
-    /// Takes a flag out of the internal ones.
+    /// Removes a flag from the internal flags.
     fn remove_flag(&mut self, flag: &[u8])
         ensures { self.new
             ≡ record self.old { flags = flags_without self.old.flags (flag.now ∷ []) } }

@@ -1,7 +1,7 @@
-//! Which actions stand in each other's way (RFC 5429, section 2.4; RFC 5230, section 4.7).
+//! Conflicts between actions (RFC 5429, 2.4; RFC 5230, 4.7).
 ghost use Rattle.std.specs.Prelude.{◌≡◌};
 ghost use Rattle.std.specs.List.{list_any};
-ghost use Rattle.sieve_delivery.specs.Act as spec;
+ghost use Rattle.sieve_delivery.specs.Conflicts.{conflict_among, conflict_of, goes_with_rejections, is_rejection, is_response};
 ghost use Rattle.sieve_delivery.specs.State.{actions_in};
 ghost use Rattle.sieve_delivery.specs.view.Actions.{entries_as};
 
@@ -10,28 +10,28 @@ use crate::error::ErrorKind;
 
 /// Whether an action answers the sender.
 fn is_response(action: &Action) -> bool
-    ensures { result ≡ spec.is_response action.now }
+    ensures { result ≡ is_response action.now }
 {
     matches!(action, Action::Respond { .. })
 }
 
 /// Whether an action rejects the message.
 fn is_rejection(action: &Action) -> bool
-    ensures { result ≡ spec.is_rejection action.now }
+    ensures { result ≡ is_rejection action.now }
 {
     matches!(action, Action::Reject { .. })
 }
 
-/// Whether an action goes with one that rejects the message (RFC 5429, section 2.4).
+/// Whether an action goes with one that rejects the message (RFC 5429, 2.4).
 fn goes_with_rejections(action: &Action) -> bool
-    ensures { result ≡ spec.goes_with_rejections action.now }
+    ensures { result ≡ goes_with_rejections action.now }
 {
     matches!(action, Action::Discard)
 }
 
-/// The error of two actions that stand in each other's way.
+/// The error of two actions that conflict, or none.
 fn conflict_of(performed: &Action, there: &Action) -> Option<ErrorKind>
-    ensures { result ≡ spec.conflict_of performed.now there.now }
+    ensures { result ≡ conflict_of performed.now there.now }
 {
     if is_response(performed) && is_response(there) {
         return Some(ErrorKind::SecondVacation);
@@ -44,10 +44,11 @@ fn conflict_of(performed: &Action, there: &Action) -> Option<ErrorKind>
     None
 }
 
-/// The error of an action that is performed where some are there.
+/// The error of an action that is performed where others are there. It is that of the first that
+/// conflicts with it.
 pub(crate) fn conflict_among(performed: &Action, entries: &[Entry]) -> Option<ErrorKind>
     ensures { result
-        ≡ spec.conflict_among performed.now (actions_in (entries_as entries.now)) }
+        ≡ conflict_among performed.now (actions_in (entries_as entries.now)) }
 {
     for there in entries {
         if let Some(kind) = conflict_of(performed, &there.action) {
@@ -59,7 +60,7 @@ pub(crate) fn conflict_among(performed: &Action, entries: &[Entry]) -> Option<Er
 
 /// Whether one of some actions rejects the message.
 pub(crate) fn has_rejection(entries: &[Entry]) -> bool
-    ensures { result ≡ list_any spec.is_rejection (actions_in (entries_as entries.now)) }
+    ensures { result ≡ list_any is_rejection (actions_in (entries_as entries.now)) }
 {
     for entry in entries {
         if is_rejection(&entry.action) {

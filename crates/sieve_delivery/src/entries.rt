@@ -1,7 +1,8 @@
-//! Entries of the list of a run's actions (RFC 5228, section 2.10).
+//! Entries of the list of a run's actions (RFC 5228, 2.10).
 ghost use Rattle.std.specs.Prelude.{◌≡◌, ◌∷◌, ◌++◌, IfOk, OnErr, OnOk, map, []};
 ghost use Rattle.std.specs.List.{list_any};
-ghost use Rattle.sieve_delivery.specs.Act.{entry_at, filing_with, joined_entry, joined_with, same_action};
+ghost use Rattle.sieve_delivery.specs.Joining.{filing_with, joined_entry, joined_with, same_action};
+ghost use Rattle.sieve_delivery.specs.Performing.{entry_at};
 ghost use Rattle.sieve_delivery.specs.State.{actions_in};
 ghost use Rattle.sieve_delivery.specs.declared.action.Action.TheVariants.{Store};
 ghost use Rattle.sieve_delivery.specs.view.Actions.{AreKnown, IsKnown, entered_of, entries_as, joined_in, lowered, lowered_in, stores_into};
@@ -13,7 +14,8 @@ use match_text::FlagList;
 use octets::Octets;
 use std::alloc::{AllocError, Global};
 
-/// An action with the command at a line of the script that runs. None of the internal flags is known to be among its own.
+/// Makes an entry of an action, for the command at a line of the script that runs. None of the
+/// internal flags is known to be among the action's own.
 pub(crate) fn first_entry(
     delivery: &Delivery<'_>,
     line: u64,
@@ -31,7 +33,8 @@ pub(crate) fn first_entry(
     })
 }
 
-/// Adds an entry. Most runs perform one action, and each verdict keeps its list, so a list begins with room for one.
+/// Adds an entry. A list begins with room for one, since most runs perform one action and each
+/// verdict keeps its list.
 pub(crate) fn push_entry(entries: &mut Vec<Entry>, entry: Entry) -> Result<(), AllocError>
     ensures ok { OnOk result (entries.new.items ≡ entries.old.items ++ entry ∷ []) }
     ensures err { OnErr result (entries.new.items ≡ entries.old.items) }
@@ -43,7 +46,8 @@ pub(crate) fn push_entry(entries: &mut Vec<Entry>, entry: Entry) -> Result<(), A
     Ok(())
 }
 
-/// How many of the first flags are left where the one at a place is taken out, or where all are.
+/// The number of known first flags after the flag at a place is taken out. Without a place, all
+/// flags are taken out.
 fn lowered(place: Option<usize>, known: usize) -> usize
     ensures { result ≡ lowered place known }
 {
@@ -53,14 +57,14 @@ fn lowered(place: Option<usize>, known: usize) -> usize
     }
 }
 
-/// Lowers so what is known of an action.
+/// Lowers the known number of an entry in this way.
 fn lower(entry: &mut Entry, place: Option<usize>)
     ensures { entry.new ≡ lowered_in place entry.old }
 {
     entry.known = lowered(place, entry.known);
 }
 
-/// Lowers so what is known of each of several actions.
+/// Lowers the known number of each entry in this way.
 pub(crate) fn lower_all(entries: &mut Vec<Entry>, place: Option<usize>)
     ensures { entries.new.items ≡ map (lowered_in place) entries.old.items }
 {
@@ -103,7 +107,8 @@ pub(crate) fn has_store(mailbox: &[u8], entries: &[Entry]) -> bool
     false
 }
 
-/// How a mailbox is filed into, where another store into it asks for this too (RFC 5490, section 3.2; RFC 8579, section 4).
+/// The filing of a store and that of another store into its mailbox, joined (RFC 5490, 3.2;
+/// RFC 8579, 4).
 fn filing_with(alloc: Global, brought: &Filing, there: Filing) -> Result<Filing, AllocError>
     ensures { IfOk result (λ filing. filing ≡ filing_with brought.now there) }
 {
@@ -119,7 +124,8 @@ fn filing_with(alloc: Global, brought: &Filing, there: Filing) -> Result<Filing,
     })
 }
 
-/// An action that is there, joined with one that is performed, where the two are one: a store then has the flags of both, and what both ask for.
+/// An action that is there, joined with one that is performed if the two count as one. A store then
+/// has the flags of both, and the joined filing.
 fn joined_with(alloc: Global, action: &Action, there: Action) -> Result<Action, AllocError>
     ensures { IfOk result (λ joined. joined ≡ joined_with action.now there) }
 {
@@ -164,7 +170,7 @@ fn joined_in(alloc: Global, action: &Action, there: Entry) -> Result<Entry, Allo
     })
 }
 
-/// The actions that are there, each joined with one that is performed.
+/// The entries that are there, each joined with an action that is performed.
 pub(crate) fn all_joined(
     alloc: Global,
     action: &Action,
@@ -179,8 +185,9 @@ pub(crate) fn all_joined(
     Ok(joined)
 }
 
-/// An action that is there, with the internal flags and what a store asks for where it stores into a mailbox, and how many of the flags are
-/// among its own then. The first ones, as many as `known`, were among its own already.
+/// An action that is there. If it stores into the mailbox, the internal flags and the filing are
+/// joined to it. Also returns how many of the flags are then known to be among its own. The first
+/// `known` flags were among its own already.
 fn with_flags(
     alloc: Global,
     mailbox: &[u8],
@@ -219,7 +226,7 @@ fn with_flags(
     }
 }
 
-/// The same of an action with what belongs to it.
+/// The same for an entry.
 fn entry_with_flags(
     alloc: Global,
     mailbox: &[u8],
@@ -245,7 +252,8 @@ fn entry_with_flags(
     })
 }
 
-/// The actions that are there, each with the internal flags and what a store asks for where it stores into a mailbox.
+/// The entries that are there. The internal flags and the filing are joined to each store into the
+/// mailbox.
 pub(crate) fn all_with_flags(
     alloc: Global,
     mailbox: &[u8],

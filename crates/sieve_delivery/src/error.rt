@@ -11,28 +11,29 @@ pub enum ErrorKind {
     MissingScript = 1,
     /// The script has a fault.
     InvalidScript = 2,
-    /// A script that is running is included again (RFC 6609, section 3.1).
+    /// A script that is running is included again (RFC 6609, 3.1).
     RecursiveInclude = 3,
-    /// Includes are nested too deeply (RFC 6609, section 3.1).
+    /// Includes are nested too deeply (RFC 6609, 3.1).
     IncludeDepth = 4,
-    /// Too many scripts are included (RFC 6609, section 3.1, lets an implementation limit them).
+    /// Too many scripts are included. RFC 6609, section 3.1, lets an implementation limit them.
     IncludeCount = 5,
-    /// A redirect isn't to one address (RFC 5228, section 4.2), or a response from one (RFC 5230, section 4.3).
+    /// A redirect isn't to one address (RFC 5228, 4.2), or a response isn't from one (RFC 5230,
+    /// 4.3).
     BadAddress = 6,
-    /// Too many actions (RFC 5228, section 2.10.4).
+    /// Too many actions (RFC 5228, 2.10.4).
     TooManyActions = 7,
-    /// Too many global variables (RFC 5229, section 6).
+    /// Too many global variables (RFC 5229, 6).
     TooManyGlobals = 8,
-    /// A mailbox has no legal name (RFC 5228, section 4.1).
+    /// A mailbox has no legal name (RFC 5228, 4.1), or no legal use (RFC 8579, 4).
     BadMailbox = 9,
-    /// A second response (RFC 5230, section 4.7).
+    /// A second response (RFC 5230, 4.7).
     SecondVacation = 10,
-    /// A rejection, and an action that doesn't go with one (RFC 5429, section 2.4).
+    /// A rejection, and an action that doesn't go with one (RFC 5429, 2.4).
     ConflictingActions = 11,
 }
 
 impl ErrorKind {
-    /// The word by which a report names the error. Takes no memory.
+    /// The word that a report prints for the error.
     pub fn word(self) -> &'static [u8]
         ensures { result.now ≡ error_word self }
     {
@@ -52,12 +53,12 @@ impl ErrorKind {
     }
 }
 
-/// Where a run failed, and why.
+/// The place at which a run failed, and the reason.
 #[derive(Drop)]
 pub struct RunError {
     /// The script of the command that failed.
     pub script: ScriptName,
-    /// The command's line, or 0 where the main script itself can't run.
+    /// The command's line, or 0 if the main script itself can't run.
     pub line: u64,
     /// Why it failed.
     pub kind: ErrorKind,

@@ -1,18 +1,19 @@
-//! What commands do with flags (RFC 5232, sections 3 and 5).
+//! Commands on flags (RFC 5232, 3 and 5).
 ghost use Rattle.std.specs.Prelude.{◌≡◌, IfOk, OnOk, Some, None, map};
 ghost use Rattle.match_text.specs.Flags.{flag_list, flag_union, flags_of_texts, flags_without};
 ghost use Rattle.std.specs.Option.{option_copied};
-ghost use Rattle.sieve_delivery.specs.Act.{changed_flags, changes, flags_named, held_flags};
+ghost use Rattle.sieve_delivery.specs.Act.{changed_flags, changes, held_flags};
+ghost use Rattle.sieve_delivery.specs.Storing.{flags_named};
 ghost use Rattle.sieve_delivery.specs.view.Delivery.{delivery_as};
-ghost use Rattle.sieve_delivery.specs.view.Flow.{ending_by};
+ghost use Rattle.sieve_delivery.specs.view.Ending.{ending_by};
 ghost use Rattle.sieve_delivery.specs.view.State.{state_of};
 ghost use Rattle.sieve_variables.specs.Value.{text_value};
 
 use crate::acting::give;
 use crate::actions::Actions;
 use crate::delivery::Delivery;
-use crate::flow::Flow;
-use crate::state::State;
+use crate::ending::Ending;
+use crate::state::RunState;
 use match_text::laws::texts_are_changed_in_turn;
 use match_text::{FlagList, flag_text, flags_of, flags_of_texts, union, without};
 use octets::Octets;
@@ -22,10 +23,10 @@ use sieve_script::FlagChange;
 use sieve_variables::{Values, Variable};
 use std::alloc::{AllocError, Global};
 
-/// The flags that strings name (RFC 5232, section 2).
+/// The flags that strings name (RFC 5232, 2).
 pub(crate) fn flags_named(
     delivery: &Delivery<'_>,
-    state: &State,
+    state: &RunState,
     texts: &Strings<'_>,
 ) -> Result<FlagList, AllocError>
     ensures { IfOk result (λ list. list ≡ flags_named (state_of state.now) texts.now) }
@@ -34,7 +35,7 @@ pub(crate) fn flags_named(
     flags_of_texts(delivery.alloc, &texts)
 }
 
-/// Flags after a command that names some.
+/// The flags that are left by a command that names some.
 fn changed_flags(
     alloc: Global,
     change: FlagChange,
@@ -50,7 +51,7 @@ fn changed_flags(
     }
 }
 
-/// What a variable holds of flags: their text, its first 4,096 octets at most (RFC 5229, section 6).
+/// The text of flags as the value of a variable: its first 4,096 octets at most (RFC 5229, 6).
 #[tactic(auto, unfolding(crate::specs::Act::held_flags))]
 fn held_flags(alloc: Global, flags: &FlagList) -> Result<Octets, AllocError>
     ensures { IfOk result (λ octets. octets ≡ held_flags flags.now) }
@@ -73,7 +74,7 @@ fn changed_list(
     changed_flags(alloc, change, &flags, named)
 }
 
-/// What a variable holds after a command that names some flags.
+/// The value of a variable after a command that names some flags.
 fn changed_value(
     alloc: Global,
     change: FlagChange,
@@ -94,9 +95,9 @@ fn change_variable(
     variable: &Variable,
     texts: &Strings<'_>,
     line: u64,
-    state: &mut State,
-) -> Result<Flow, AllocError>
-    ensures { IfOk result (λ flow. ending_by flow (state_of state.new) ≡ changes
+    state: &mut RunState,
+) -> Result<Ending, AllocError>
+    ensures { IfOk result (λ ending. ending_by ending (state_of state.new) ≡ changes
         (delivery_as delivery.now) line change (Some variable.now) texts.now (state_of state.old)) }
 {
     let named = flags_named(delivery, &*state, texts)?;
@@ -109,7 +110,7 @@ fn change_variable(
     give(delivery, variable, value, line, state)
 }
 
-/// Adds the flags that strings name to the internal ones, one string after the other.
+/// Adds the flags that strings name to the internal flags, one string after the other.
 fn add_named(
     alloc: Global,
     values: &Values,
@@ -130,7 +131,7 @@ fn add_named(
     Ok(())
 }
 
-/// Takes the flags that strings name out of the internal ones, one string after the other.
+/// Removes the flags that strings name from the internal flags, one string after the other.
 fn remove_named(
     alloc: Global,
     values: &Values,
@@ -157,9 +158,9 @@ fn change_internal(
     change: FlagChange,
     texts: &Strings<'_>,
     line: u64,
-    state: &mut State,
-) -> Result<Flow, AllocError>
-    ensures { IfOk result (λ flow. ending_by flow (state_of state.new)
+    state: &mut RunState,
+) -> Result<Ending, AllocError>
+    ensures { IfOk result (λ ending. ending_by ending (state_of state.new)
         ≡ changes (delivery_as delivery.now) line change None texts.now (state_of state.old)) }
 {
     match change {
@@ -175,20 +176,20 @@ fn change_internal(
             &mut state.actions,
         )?,
     }
-    Ok(Flow::GoesOn)
+    Ok(Ending::GoesOn)
 }
 
-/// Changes the internal flags, or those that a variable holds (RFC 5232, section 3); one shared variable too many is an error of the
-/// script. Fails where memory is refused.
+/// Changes the internal flags, or those that a variable holds (RFC 5232, 3). One shared variable
+/// too many is an error of the script. Fails if memory is refused.
 pub fn change(
     delivery: &Delivery<'_>,
     change: FlagChange,
     variable: Option<&Variable>,
     texts: &Strings<'_>,
     line: u64,
-    state: &mut State,
-) -> Result<Flow, AllocError>
-    ensures { IfOk result (λ flow. ending_by flow (state_of state.new) ≡ changes (delivery_as
+    state: &mut RunState,
+) -> Result<Ending, AllocError>
+    ensures { IfOk result (λ ending. ending_by ending (state_of state.new) ≡ changes (delivery_as
         delivery.now) line change (option_copied variable.entry) texts.now (state_of state.old)) }
 {
     match variable {

@@ -1,22 +1,22 @@
 //! Responses (RFC 5230), and rejections (RFC 5429).
 ghost use Rattle.std.specs.Prelude.{◌≡◌, ◌∷◌, ◌++◌, ◌<◌, [], IfOk, OnOk, Some, length, map, slice_get};
 ghost use Rattle.std.specs.Option.{option_copied, option_map};
-ghost use Rattle.sieve_delivery.specs.Act as spec;
+ghost use Rattle.sieve_delivery.specs.Sending.{may_be_from, rejects, responds, response_of};
 ghost use Rattle.sieve_delivery.specs.view.Delivery.{delivery_as};
-ghost use Rattle.sieve_delivery.specs.view.Flow.{ending_by};
-ghost use Rattle.packed_strings.specs.view.Ops.{vacation_op_as};
+ghost use Rattle.sieve_delivery.specs.view.Ending.{ending_by};
+ghost use Rattle.packed_strings.specs.view.Refs.{vacation_ref_as};
 ghost use Rattle.sieve_delivery.specs.view.State.{state_of};
 ghost use Rattle.sieve_variables.specs.Value.{text_value};
 
 use crate::acting::{only_address, perform};
 use crate::action::{Action, Deed};
 use crate::delivery::Delivery;
+use crate::ending::{Ending, fail};
 use crate::error::ErrorKind;
-use crate::flow::{Flow, fail};
-use crate::state::State;
+use crate::state::RunState;
 use message_text::addresses;
 use octets::Octets;
-use packed_strings::{Strings, VacationOp};
+use packed_strings::{Strings, VacationRef};
 use sieve_script::Rejection;
 use sieve_variables::{Part, Values};
 use std::alloc::{AllocError, Global};
@@ -37,7 +37,7 @@ impl Model for Texts {
 }
 
 impl Texts {
-    /// No texts. Takes no memory.
+    /// Makes a value without texts.
     fn new(alloc: Global) -> Texts
         ensures { result ≡ [] }
     {
@@ -54,14 +54,14 @@ impl Texts {
         Ok(())
     }
 
-    /// How many texts there are. Takes no memory.
+    /// The number of texts.
     pub fn len(&self) -> usize
         ensures { result ≡ length self.now }
     {
         self.texts.len()
     }
 
-    /// Text `i`. Takes no memory.
+    /// Text `i`.
     pub fn get(&self, i: usize) -> &[u8]
         requires { i < length self.now }
         ensures { slice_get self.now i ≡ Some result.now }
@@ -70,26 +70,26 @@ impl Texts {
     }
 }
 
-/// What the sender is answered (RFC 5230, section 4).
+/// The response that the sender gets (RFC 5230, 4).
 #[derive(Drop)]
 pub struct Response {
-    /// The text.
+    /// The text of the response.
     pub reason: Octets,
-    /// For how many days the sender gets no other response, where that is said (section 4.1).
+    /// For how many days the sender gets no other response, if it is said (RFC 5230, 4.1).
     pub days: Option<u64>,
-    /// The subject, where it is said (section 4.3).
+    /// The subject, if it is said (RFC 5230, 4.3).
     pub subject: Option<Octets>,
-    /// Whom the response is from, where that is said, as it is said (section 4.3).
+    /// The sender of the response as it is said, if it is said (RFC 5230, 4.3).
     pub from: Option<Octets>,
-    /// Further addresses of the user, where they are given (section 4.5). They aren't judged.
+    /// Further addresses of the user, if they are given (RFC 5230, 4.5). They aren't judged.
     pub addresses: Option<Texts>,
-    /// Whether the text is a MIME entity (section 4.4).
+    /// Whether the text is a MIME entity (RFC 5230, 4.4).
     pub mime: bool,
-    /// What a server would know such a response by, where that is said (section 4.2).
+    /// The handle by which a server would know such a response, if it is said (RFC 5230, 4.2).
     pub handle: Option<Octets>,
 }
 
-/// What a string stands for, to be kept.
+/// The octets that a string stands for, copied.
 fn kept_text(alloc: Global, values: &Values, string: &[Part]) -> Result<Octets, AllocError>
     ensures { IfOk result (λ octets. octets ≡ text_value values.now string.now) }
 {
@@ -97,7 +97,7 @@ fn kept_text(alloc: Global, values: &Values, string: &[Part]) -> Result<Octets, 
     Octets::copied(alloc, text.as_slice())
 }
 
-/// What a string stands for that may be left out.
+/// The octets that a string stands for, or none if the string is left out.
 pub(crate) fn given_text(
     alloc: Global,
     values: &Values,
@@ -112,7 +112,7 @@ pub(crate) fn given_text(
     }
 }
 
-/// What each of some strings stands for.
+/// The octets that each of some strings stands for.
 fn kept_texts(alloc: Global, values: &Values, strings: &Strings<'_>) -> Result<Texts, AllocError>
     ensures { IfOk result (λ texts. texts ≡ map (text_value values.now) strings.now) }
 {
@@ -123,7 +123,7 @@ fn kept_texts(alloc: Global, values: &Values, strings: &Strings<'_>) -> Result<T
     Ok(texts)
 }
 
-/// What each of some strings stands for that may be left out.
+/// The octets that each of some strings stands for, or none if the strings are left out.
 fn given_texts(
     alloc: Global,
     values: &Values,
@@ -137,14 +137,14 @@ fn given_texts(
     }
 }
 
-/// What a `vacation` answers.
+/// The response of a `vacation`.
 fn response_of(
     alloc: Global,
     values: &Values,
-    vacation: &VacationOp<'_>,
+    vacation: &VacationRef<'_>,
 ) -> Result<Response, AllocError>
     ensures { IfOk result
-        (λ response. response ≡ spec.response_of values.now (vacation_op_as vacation.now)) }
+        (λ response. response ≡ response_of values.now (vacation_ref_as vacation.now)) }
 {
     Ok(Response {
         reason: kept_text(alloc, values, vacation.reason)?,
@@ -157,9 +157,9 @@ fn response_of(
     })
 }
 
-/// Whether a response may be from whom it says.
+/// Whether a response may be from the sender that it says. It may be if it says none.
 fn may_be_from(alloc: Global, from: &Option<Octets>) -> Result<bool, AllocError>
-    ensures { IfOk result (λ may. may ≡ spec.may_be_from from.now) }
+    ensures { IfOk result (λ may. may ≡ may_be_from from.now) }
 {
     match from {
         Some(from) => {
@@ -170,17 +170,18 @@ fn may_be_from(alloc: Global, from: &Option<Octets>) -> Result<bool, AllocError>
     }
 }
 
-/// Answers the sender (RFC 5230, section 4). The implicit keep stays as it is (section 4.7). Where `:from` isn't exactly one address, with a
-/// local part and a domain, that is an error of the script, and so are a second response, a response beside a rejection, and one action too
-/// many (RFC 5228, section 2.10.4). Fails where memory is refused.
+/// Answers the sender (RFC 5230, 4). The implicit keep stays as it is (RFC 5230, 4.7). A `:from`
+/// that isn't exactly one address, with a local part and a domain, is an error of the script. So is
+/// a second response (RFC 5230, 4.7). So is a response if the message was rejected before, and one
+/// action too many (RFC 5228, 2.10.4). Fails if memory is refused.
 pub fn respond(
     delivery: &Delivery<'_>,
-    vacation: &VacationOp<'_>,
+    vacation: &VacationRef<'_>,
     line: u64,
-    state: &mut State,
-) -> Result<Flow, AllocError>
-    ensures { IfOk result (λ flow. ending_by flow (state_of state.new) ≡ spec.responds
-        (delivery_as delivery.now) (vacation_op_as vacation.now) line (state_of state.old)) }
+    state: &mut RunState,
+) -> Result<Ending, AllocError>
+    ensures { IfOk result (λ ending. ending_by ending (state_of state.new) ≡ responds
+        (delivery_as delivery.now) (vacation_ref_as vacation.now) line (state_of state.old)) }
 {
     let response = response_of(delivery.alloc, &state.values, vacation)?;
     if !may_be_from(delivery.alloc, &response.from)? {
@@ -199,18 +200,18 @@ pub fn respond(
     )
 }
 
-/// Rejects the message (RFC 5429, section 2), which takes the place of the implicit keep. Beside a store, a redirect, a response or another
-/// rejection that is an error of the script (section 2.4), and so is one action too many (RFC 5228, section 2.10.4). Fails where memory is
-/// refused.
+/// Rejects the message (RFC 5429, 2), which takes the place of the implicit keep. It is an error of
+/// the script beside a store, a redirect, a response or another rejection (RFC 5429, 2.4). So is
+/// one action too many (RFC 5228, 2.10.4). Fails if memory is refused.
 pub fn reject(
     delivery: &Delivery<'_>,
     how: Rejection,
     reason: &[Part],
     line: u64,
-    state: &mut State,
-) -> Result<Flow, AllocError>
-    ensures { IfOk result (λ flow. ending_by flow (state_of state.new)
-        ≡ spec.rejects (delivery_as delivery.now) how reason.now line (state_of state.old)) }
+    state: &mut RunState,
+) -> Result<Ending, AllocError>
+    ensures { IfOk result (λ ending. ending_by ending (state_of state.new)
+        ≡ rejects (delivery_as delivery.now) how reason.now line (state_of state.old)) }
 {
     let reason = kept_text(delivery.alloc, &state.values, reason)?;
     let action = Action::Reject { how, reason };

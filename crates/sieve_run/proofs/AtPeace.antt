@@ -9,11 +9,12 @@ use Rattle.sieve_delivery.specs.declared.action.Action.{Action}
 use Rattle.sieve_delivery.specs.declared.action.Action.TheVariants.{Store, Discard, Respond, Reject}
 use Rattle.sieve_delivery.specs.declared.error.ErrorKind.{ErrorKind}
 use Rattle.script_names.specs.declared.name.ScriptName.{ScriptName}
-use Rattle.sieve_delivery.specs.Act.{brought_by, conflict_among, conflict_of, goes_with_rejections, is_rejection, is_response, joined_with, same_action}
+use Rattle.sieve_delivery.specs.Conflicts.{conflict_among, conflict_of, goes_with_rejections, is_rejection, is_response}
+use Rattle.sieve_delivery.specs.Joining.{brought_by, joined_with, same_action}
 use Rattle.sieve_run.specs.Library.{Lookup}
-use Rattle.sieve_run.specs.Run.{outcome_of}
-use Rattle.sieve_run.specs.Verdict.{actions_of}
-use Rattle.sieve_run.proofs.Bounds.{IsKept, of_actions, outcome_holds}
+use Rattle.sieve_run.specs.Run.{verdict_of}
+use Rattle.sieve_verdict.specs.Verdict.{actions_of}
+use Rattle.sieve_run.proofs.Bounds.{IsKept, of_actions, verdict_holds}
 
 -- two actions of which the second is performed where the first is there, and nothing is in its way
 abbrev GoesAfter : (there performed : Action) → Type 0
@@ -82,8 +83,8 @@ peace_entered action (a ∷ actions) none peace =
 at_peace : IsKept (λ s. AreAtPeace (actions_in s.entries))
 at_peace = of_actions AreAtPeace peace_joined (λ action actions none apart room h. peace_entered action actions none h)
 
-outcome_peace : (find : ScriptName → Lookup) (main : Option ScriptName) (arrival : Arrival) → AreAtPeace (actions_of (outcome_of find main arrival))
-outcome_peace find main arrival = outcome_holds AreAtPeace tt at_peace find main arrival
+verdict_peace : (find : ScriptName → Lookup) (main : Option ScriptName) (arrival : Arrival) → AreAtPeace (actions_of (verdict_of find main arrival))
+verdict_peace find main arrival = verdict_holds AreAtPeace tt at_peace find main arrival
 
 -- RESPONSES
 
@@ -106,8 +107,8 @@ few_responses (a ∷ actions) peace = by (is_response a) refl (few_responses act
     by false is rest = rest
 
 -- a verdict has one response at most
-pub outcome_responses : (find : ScriptName → Lookup) (main : Option ScriptName) (arrival : Arrival) → length (filter is_response (actions_of (outcome_of find main arrival))) ≤ 1
-outcome_responses find main arrival = few_responses (actions_of (outcome_of find main arrival)) (outcome_peace find main arrival)
+pub verdict_responses : (find : ScriptName → Lookup) (main : Option ScriptName) (arrival : Arrival) → length (filter is_response (actions_of (verdict_of find main arrival))) ≤ 1
+verdict_responses find main arrival = few_responses (actions_of (verdict_of find main arrival)) (verdict_peace find main arrival)
 
 -- REJECTIONS
 
@@ -150,6 +151,6 @@ one_rejection (a ∷ actions) peace any = by (is_rejection a) refl any (one_reje
     by false is any rest = ap (λ t. length (cond (not t) (a ∷ others) others)) (goes_before_all a actions peace.0 any) ∙ rest any
 
 -- a verdict that rejects the message does nothing else than discard it, and rejects it once
-pub outcome_rejections : (find : ScriptName → Lookup) (main : Option ScriptName) (arrival : Arrival) → list_any is_rejection (actions_of (outcome_of find main arrival)) ≡ true
-    → length (filter (λ a. not (goes_with_rejections a)) (actions_of (outcome_of find main arrival))) ≡ 1
-outcome_rejections find main arrival any = one_rejection (actions_of (outcome_of find main arrival)) (outcome_peace find main arrival) any
+pub verdict_rejections : (find : ScriptName → Lookup) (main : Option ScriptName) (arrival : Arrival) → list_any is_rejection (actions_of (verdict_of find main arrival)) ≡ true
+    → length (filter (λ a. not (goes_with_rejections a)) (actions_of (verdict_of find main arrival))) ≡ 1
+verdict_rejections find main arrival any = one_rejection (actions_of (verdict_of find main arrival)) (verdict_peace find main arrival) any

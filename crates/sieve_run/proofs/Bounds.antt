@@ -13,21 +13,27 @@ use Rattle.sieve_code.specs.Walk.{Walk, at_end, by_stop, by_return, cut_off, ask
 use Rattle.sieve_delivery.specs.Delivery.{Arrival, Delivery, inside}
 use Rattle.sieve_run.specs.Origin.{ComesOf}
 use Rattle.sieve_run.specs.Library.{Lookup, missing, invalid, present, found_at}
-use Rattle.sieve_run.specs.Verdict.{actions_of}
+use Rattle.sieve_verdict.specs.Verdict.{actions_of}
 use Rattle.sieve_conditions.specs.Matching.{after_test, truth_of}
 use Rattle.sieve_run.specs.Perform.{perform}
-use Rattle.sieve_delivery.specs.Act.{deed_of, store_deed, Ending, goes_on, returned, stopped, failed, Performed, accepted, refused, unless, conflict_among, entry_at, same_action, joined_entry, joined_with, changes, ends_with, gives, performs, fails_at, filing_of, is_mailbox, may_be_from, may_be_used, only_address, redirects, response_of, held_flags, changed_flags, flags_named, state_after}
-use Rattle.sieve_run.specs.Run.{entering, included, include_of, includes, is_running, is_script, is_there, looked_up, act_of, and_then, answer_of, begun, chosen, delivery_to, exec, resumed, run_of, running, verdict_at, verdict_of, outcome_of, with_found_script, with_lookup}
+use Rattle.sieve_delivery.specs.Act.{changes, gives, held_flags, changed_flags}
+use Rattle.sieve_delivery.specs.Conflicts.{conflict_among}
+use Rattle.sieve_delivery.specs.Ending.{Ending, goes_on, returned, stopped, failed, state_after}
+use Rattle.sieve_delivery.specs.Joining.{same_action, joined_entry, joined_with}
+use Rattle.sieve_delivery.specs.Performing.{deed_of, Performed, accepted, refused, unless, entry_at, ends_with, performs, fails_at}
+use Rattle.sieve_delivery.specs.Sending.{may_be_from, only_address, redirects, response_of}
+use Rattle.sieve_delivery.specs.Storing.{store_deed, filing_of, is_mailbox, may_be_used, flags_named}
+use Rattle.sieve_run.specs.Run.{entering, included, include_of, includes, is_running, is_script, is_there, looked_up, act_of, and_then, answer_of, begun, chosen, delivery_to, exec, resumed, run_of, running, verdict_at, verdict_after, verdict_of, with_found_script, with_lookup}
 use Rattle.sieve_delivery.specs.State.{Entered, RunState, actions_in}
-use Rattle.sieve_delivery.specs.declared.flow.Flow.{Flow}
-use Rattle.sieve_delivery.specs.declared.flow.Flow.TheVariants as flow
+use Rattle.sieve_delivery.specs.declared.ending.Ending as endings
+use Rattle.sieve_delivery.specs.declared.ending.Ending.TheVariants as ending
 use Rattle.script_names.specs.declared.name.ScriptName.{ScriptName}
 use Rattle.sieve_delivery.specs.declared.action.Deed.{Deed}
 use Rattle.sieve_delivery.specs.declared.action.Action.{Action}
 use Rattle.sieve_delivery.specs.declared.action.Action.TheVariants.{Redirect, Discard, Respond, Reject}
 use Rattle.sieve_delivery.specs.declared.error.ErrorKind.{ErrorKind}
 use Rattle.sieve_delivery.specs.declared.error.ErrorKind.TheVariants.{BadAddress, BadMailbox, TooManyActions, TooManyGlobals, IncludeCount}
-use Rattle.sieve_delivery.specs.view.Flow.{ending_by}
+use Rattle.sieve_delivery.specs.view.Ending.{ending_by}
 use Rattle.sieve_run.specs.view.Step.{Acts, doing}
 use Rattle.sieve_variables.specs.Modifier.{modified}
 use Rattle.sieve_variables.specs.Part.{Part}
@@ -199,7 +205,7 @@ module _ (Holds : RunState → Type 0) (kept : IsKept Holds) where
 
 -- what holds of no actions, and of the actions throughout a run, holds of those of a verdict
 module _ (Holds : List Action → Type 0) (none : Holds []) (kept : IsKept (λ s. Holds (actions_in s.entries))) where
-  verdict_holds : (e : Ending) → Holds (actions_in (state_after e).entries) → Holds (actions_of (verdict_of e))
+  verdict_holds : (e : Ending) → Holds (actions_in (state_after e).entries) → Holds (actions_of (verdict_after e))
   verdict_holds (goes_on s) h = h
   verdict_holds (returned s) h = h
   verdict_holds (stopped s) h = h
@@ -211,10 +217,10 @@ module _ (Holds : List Action → Type 0) (none : Holds []) (kept : IsKept (λ s
   found_holds_of find arrival main (present program) =
       verdict_holds (run_of find arrival main program) (running_holds (λ s. Holds (actions_in s.entries)) kept find include_depth (delivery_to arrival main) program (begun main) none)
 
-  pub outcome_holds : (find : ScriptName → Lookup) (main : Option ScriptName) (arrival : Arrival) → Holds (actions_of (outcome_of find main arrival))
-  unfolding outcome_of
-  outcome_holds find None arrival = none
-  outcome_holds find (Some main) arrival = found_holds_of find arrival main (found_at find main)
+  pub verdict_holds : (find : ScriptName → Lookup) (main : Option ScriptName) (arrival : Arrival) → Holds (actions_of (verdict_of find main arrival))
+  unfolding verdict_of
+  verdict_holds find None arrival = none
+  verdict_holds find (Some main) arrival = found_holds_of find arrival main (found_at find main)
 
 -- ACTIONS
 
@@ -255,22 +261,22 @@ bounded = of_actions AreFew (λ action actions h. subst (λ n. n ≤ action_limi
 few_entries : (entries : List Entered) → AreFew (actions_in entries) → length entries ≤ action_limit
 few_entries entries few = subst (λ n. n ≤ action_limit) (length-map entries (λ (e : Entered). e.action)) few
 
-ending_state : (f : Flow) (s : RunState) → state_after (ending_by f s) ≡ s
-ending_state flow.GoesOn s = refl
-ending_state flow.Returned s = refl
-ending_state flow.Stopped s = refl
-ending_state (flow.Failed error) s = refl
+ending_state : (f : endings.Ending) (s : RunState) → state_after (ending_by f s) ≡ s
+ending_state ending.GoesOn s = refl
+ending_state ending.Returned s = refl
+ending_state ending.Stopped s = refl
+ending_state (ending.Failed error) s = refl
 
 -- the interpreter ends a walk that it begins without an action in a state with no more actions than it may have
-pub run_bounded : (find : ScriptName → Lookup) (depth : ℕ) (delivery : Delivery) (w : Walk) (f : Flow) (old new : RunState) → old.entries ≡ [] → doing (act_of find depth delivery) delivery w old ≡ ending_by f new → length new.entries ≤ action_limit
+pub run_bounded : (find : ScriptName → Lookup) (depth : ℕ) (delivery : Delivery) (w : Walk) (f : endings.Ending) (old new : RunState) → old.entries ≡ [] → doing (act_of find depth delivery) delivery w old ≡ ending_by f new → length new.entries ≤ action_limit
 run_bounded find depth delivery w f old new none does =
     few_entries new.entries
     (subst (λ (s : RunState). AreFew (actions_in s.entries)) (ending_state f new)
     (subst (λ e. AreFew (actions_in (state_after e).entries)) does
     (running_walk_holds (λ s. AreFew (actions_in s.entries)) bounded find depth delivery w old (subst (λ entries. AreFew (actions_in entries)) (sym none) (omega arith)))))
 
-pub outcome_bounded : (find : ScriptName → Lookup) (main : Option ScriptName) (arrival : Arrival) → length (outcome_of find main arrival).entries ≤ action_limit
-outcome_bounded find main arrival = few_entries (outcome_of find main arrival).entries (outcome_holds AreFew (omega arith) bounded find main arrival)
+pub verdict_bounded : (find : ScriptName → Lookup) (main : Option ScriptName) (arrival : Arrival) → length (verdict_of find main arrival).entries ≤ action_limit
+verdict_bounded find main arrival = few_entries (verdict_of find main arrival).entries (verdict_holds AreFew (omega arith) bounded find main arrival)
 
 -- WHO ENTERED THEM
 

@@ -8,7 +8,8 @@ use Rattle.sieve_script.specs.Script.{Commands}
 use Rattle.sieve_delivery.specs.Delivery.{Arrival, Delivery, inside}
 use Rattle.sieve_run.specs.Depth.{IsDeepest, depth_left, entered_within, watched, watched_include, watched_run}
 use Rattle.sieve_run.specs.Library.{Lookup}
-use Rattle.sieve_delivery.specs.Act.{Ending, goes_on, act_by, state_after}
+use Rattle.sieve_delivery.specs.Act.{act_by}
+use Rattle.sieve_delivery.specs.Ending.{Ending, goes_on, state_after}
 use Rattle.sieve_run.specs.Run.{answer_of, begun, delivery_to, exec, include_of, included, is_running, is_script, run_of, running}
 use Rattle.sieve_delivery.specs.State.{RunState}
 use Rattle.script_names.specs.declared.name.ScriptName.{ScriptName}

@@ -10,12 +10,12 @@ use Rattle.sieve_delivery.specs.State.{actions_in}
 use Rattle.sieve_delivery.specs.declared.action.Action.{Action}
 use Rattle.sieve_delivery.specs.declared.action.Action.TheVariants.{Store, Redirect, Discard, Respond, Reject}
 use Rattle.script_names.specs.declared.name.ScriptName.{ScriptName}
-use Rattle.sieve_delivery.specs.Act.{brought_by, joined_with, same_action}
-use Rattle.sieve_run.specs.Distinct.{AreDistinct}
+use Rattle.sieve_delivery.specs.Joining.{brought_by, joined_with, same_action}
+use Rattle.sieve_run.specs.Distinct.{AreDistinctActions}
 use Rattle.sieve_run.specs.Library.{Lookup}
-use Rattle.sieve_run.specs.Run.{outcome_of}
-use Rattle.sieve_run.specs.Verdict.{actions_of}
-use Rattle.sieve_run.proofs.Bounds.{IsKept, of_actions, outcome_holds}
+use Rattle.sieve_run.specs.Run.{verdict_of}
+use Rattle.sieve_verdict.specs.Verdict.{actions_of}
+use Rattle.sieve_run.proofs.Bounds.{IsKept, of_actions, verdict_holds}
 
 -- WHEN TWO ACTIONS ARE ONE
 
@@ -70,7 +70,7 @@ module _ (action : Action) where
   apart_joined a [] apart = tt
   apart_joined a (b ∷ actions) apart = (both_joined a b ∙ apart.0, apart_joined a actions apart.1)
 
-  distinct_joined : (actions : List Action) → AreDistinct actions → AreDistinct (map (joined_with action) actions)
+  distinct_joined : (actions : List Action) → AreDistinctActions actions → AreDistinctActions (map (joined_with action) actions)
   unfolding IsDistinct
   distinct_joined [] distinct = tt
   distinct_joined (a ∷ actions) distinct = (apart_joined a actions distinct.0, distinct_joined actions distinct.1)
@@ -78,13 +78,13 @@ module _ (action : Action) where
 -- RUNS
 
 -- the actions so far are distinct
-apart : IsKept (λ s. AreDistinct (actions_in s.entries))
-apart = of_actions AreDistinct distinct_joined (λ action actions none apart room h. IsDistinct-push same_equiv actions action h apart)
+apart : IsKept (λ s. AreDistinctActions (actions_in s.entries))
+apart = of_actions AreDistinctActions distinct_joined (λ action actions none apart room h. IsDistinct-push same_equiv actions action h apart)
 
-none_distinct : AreDistinct []
+none_distinct : AreDistinctActions []
 unfolding IsDistinct
 none_distinct = tt
 
 -- the actions of a verdict are distinct
-pub outcome_distinct : (find : ScriptName → Lookup) (main : Option ScriptName) (arrival : Arrival) → AreDistinct (actions_of (outcome_of find main arrival))
-outcome_distinct find main arrival = outcome_holds AreDistinct none_distinct apart find main arrival
+pub verdict_distinct : (find : ScriptName → Lookup) (main : Option ScriptName) (arrival : Arrival) → AreDistinctActions (actions_of (verdict_of find main arrival))
+verdict_distinct find main arrival = verdict_holds AreDistinctActions none_distinct apart find main arrival

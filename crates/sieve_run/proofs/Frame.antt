@@ -12,11 +12,15 @@ use Rattle.sieve_script.specs.Reading.{plain_settings, Leaf, keep_leaf, fileinto
 use Rattle.sieve_script.specs.declared.reading.FlagChange.{FlagChange}
 use Rattle.sieve_script.specs.Script.{Condition, Commands, no_commands, stops, returns, acts, chooses, Branches, no_branches, else_branch, test_branch}
 use Rattle.sieve_delivery.specs.Delivery.{Arrival, Delivery, inside}
-use Rattle.sieve_run.specs.Frame.{Agree, Texts, outcome_over}
+use Rattle.sieve_run.specs.Frame.{Agree, LibraryTexts, verdict_over}
 use Rattle.sieve_run.specs.Library.{Lookup, found_at, invalid, library_of, lookup_of, missing, present}
 use Rattle.script_names.specs.Name.{name_eq, location_eq}
-use Rattle.sieve_delivery.specs.Act.{deed_of, store_deed, Ending, goes_on, returned, stopped, failed, changes, changed_flags, flags_named, held_flags, performs, fails_at, filing_of, is_mailbox, may_be_from, may_be_used, only_address, redirects, response_of, act_by, state_after}
-use Rattle.sieve_run.specs.Run.{entering, included, include_of, includes, is_looked_up, is_running, is_script, is_there, looked_up, act_of, and_then, answer_of, begun, chosen, decide, delivery_to, exec, exec_branches, resumed, run_of, running, verdict_at, verdict_of, outcome_of, with_found_script, with_lookup}
+use Rattle.sieve_delivery.specs.Act.{changes, changed_flags, held_flags, act_by}
+use Rattle.sieve_delivery.specs.Ending.{Ending, goes_on, returned, stopped, failed, state_after}
+use Rattle.sieve_delivery.specs.Performing.{deed_of, performs, fails_at}
+use Rattle.sieve_delivery.specs.Sending.{may_be_from, only_address, redirects, response_of}
+use Rattle.sieve_delivery.specs.Storing.{store_deed, flags_named, filing_of, is_mailbox, may_be_used}
+use Rattle.sieve_run.specs.Run.{entering, included, include_of, includes, is_looked_up, is_running, is_script, is_there, looked_up, act_of, and_then, answer_of, begun, chosen, decide, delivery_to, exec, exec_branches, resumed, run_of, running, verdict_at, verdict_after, verdict_of, with_found_script, with_lookup}
 use Rattle.sieve_delivery.specs.State.{RunState}
 use Rattle.script_names.specs.declared.name.ScriptName.{ScriptName}
 use Rattle.sieve_delivery.specs.declared.action.Deed.{Deed}
@@ -312,7 +316,7 @@ module _ (find other : ScriptName → Lookup) where
 
   -- VERDICTS
 
-  verdict_lookups : (e : Ending) → (verdict_of e).lookups ≡ (state_after e).lookups
+  verdict_lookups : (e : Ending) → (verdict_after e).lookups ≡ (state_after e).lookups
   verdict_lookups (goes_on s) = refl
   verdict_lookups (returned s) = refl
   verdict_lookups (stopped s) = refl
@@ -329,17 +333,17 @@ module _ (find other : ScriptName → Lookup) where
   verdict_same arrival main missing agree = refl
   verdict_same arrival main invalid agree = refl
   verdict_same arrival main (present program) agree =
-      ap verdict_of ((running_frames include_depth (delivery_to arrival main) program).same (begun main)
+      ap verdict_after ((running_frames include_depth (delivery_to arrival main) program).same (begun main)
       (λ name r. agree name (subst (λ lookups. is_looked_up name lookups ≡ true) (sym (verdict_lookups (run_of find arrival main program))) r)))
 
-  outcome_same : (main : Option ScriptName) (arrival : Arrival) → AgreeOn (outcome_of find main arrival).lookups → outcome_of other main arrival ≡ outcome_of find main arrival
-  unfolding outcome_of
-  outcome_same None arrival agree = refl
-  outcome_same (Some main) arrival agree =
+  verdict_same : (main : Option ScriptName) (arrival : Arrival) → AgreeOn (verdict_of find main arrival).lookups → verdict_of other main arrival ≡ verdict_of find main arrival
+  unfolding verdict_of
+  verdict_same None arrival agree = refl
+  verdict_same (Some main) arrival agree =
       ap (λ lookup. verdict_at other arrival main (if nat_lt name_limit (length main.name) then missing else lookup)) (sym (agree main (main_lookup arrival main (found_at find main))))
       ∙ verdict_same arrival main (found_at find main) agree
 
 -- the verdict over a library is the verdict over another that has the same at each name that was looked up
-pub frame : (texts others : Texts) (main : Option ScriptName) (arrival : Arrival) → Agree texts others (outcome_over texts main arrival).lookups → outcome_over others main arrival ≡ outcome_over texts main arrival
+pub frame : (texts others : LibraryTexts) (main : Option ScriptName) (arrival : Arrival) → Agree texts others (verdict_over texts main arrival).lookups → verdict_over others main arrival ≡ verdict_over texts main arrival
 frame texts others main arrival agree =
-    outcome_same (library_of arrival.profile texts) (library_of arrival.profile others) main arrival (λ name r. ap (lookup_of arrival.profile) (agree name r))
+    verdict_same (library_of arrival.profile texts) (library_of arrival.profile others) main arrival (λ name r. ap (lookup_of arrival.profile) (agree name r))

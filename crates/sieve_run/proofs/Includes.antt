@@ -7,14 +7,15 @@ use Rattle.sieve_code.specs.Operation.{Operation}
 use Rattle.sieve_code.specs.Walk.{code_walk}
 use Rattle.sieve_delivery.specs.Delivery.{Delivery, inside}
 use Rattle.sieve_run.specs.Library.{Lookup, missing, invalid, present, HasCode, found_at}
-use Rattle.sieve_delivery.specs.Act.{Ending, goes_on, fails_at}
+use Rattle.sieve_delivery.specs.Ending.{Ending, goes_on}
+use Rattle.sieve_delivery.specs.Performing.{fails_at}
 use Rattle.sieve_run.specs.Run.{act_of, answer_of, entering, exec, include_of, included, includes, is_running, is_script, is_there, looked_up, resumed, resuming, with_lookup}
 use Rattle.sieve_delivery.specs.State.{RunState}
-use Rattle.sieve_delivery.specs.declared.flow.Flow.{Flow}
-use Rattle.sieve_delivery.specs.declared.flow.Flow.TheVariants.{GoesOn, Returned, Stopped, Failed}
+use Rattle.sieve_delivery.specs.declared.ending.Ending as endings
+use Rattle.sieve_delivery.specs.declared.ending.Ending.TheVariants.{GoesOn, Returned, Stopped, Failed}
 use Rattle.script_names.specs.declared.name.ScriptName.{ScriptName}
 use Rattle.sieve_delivery.specs.declared.error.ErrorKind.TheVariants.{IncludeCount, IncludeDepth, RecursiveInclude}
-use Rattle.sieve_delivery.specs.view.Flow.{ending_by}
+use Rattle.sieve_delivery.specs.view.Ending.{ending_by}
 use Rattle.sieve_run.specs.view.Include.{enters, looks_up, resumed_by}
 use Rattle.sieve_run.specs.view.Step.{doing}
 use Rattle.sieve_variables.specs.Value.{Values}
@@ -99,18 +100,18 @@ looks_present find depth delivery name optional line ops old new there has is no
     ∙ by_found_code find depth delivery name optional line (found_at find name) ops (looked_up name (found_at find name) old) has
 
 -- how the including script goes on after the included one, by how that ended
-pub resumes : (before : Values) (flow : Flow) (s : RunState) → ending_by (resumed_by flow) (resuming before s) ≡ resumed before (ending_by flow s)
+pub resumes : (before : Values) (ending : endings.Ending) (s : RunState) → ending_by (resumed_by ending) (resuming before s) ≡ resumed before (ending_by ending s)
 resumes before GoesOn s = refl
 resumes before Returned s = refl
 resumes before Stopped s = refl
 resumes before (Failed error) s = refl
 
 -- running the code of an included script and going on after it is what entering it does
-pub enters_by : (find : ScriptName → Lookup) (depth : ℕ) (delivery : Delivery) (name : ScriptName) (ops : List Operation) (old begun ended after : RunState) (flow back : Flow) → begun ≡ entering name old
-    → doing (act_of find depth (inside name delivery)) (inside name delivery) (code_walk ops (length ops)) begun ≡ ending_by flow ended → back ≡ resumed_by flow → after ≡ resuming old.values ended → ending_by back after ≡ enters find depth delivery name ops old
-enters_by find depth delivery name ops old begun ended after flow back is_begun runs is_back is_after =
+pub enters_by : (find : ScriptName → Lookup) (depth : ℕ) (delivery : Delivery) (name : ScriptName) (ops : List Operation) (old begun ended after : RunState) (ending back : endings.Ending) → begun ≡ entering name old
+    → doing (act_of find depth (inside name delivery)) (inside name delivery) (code_walk ops (length ops)) begun ≡ ending_by ending ended → back ≡ resumed_by ending → after ≡ resuming old.values ended → ending_by back after ≡ enters find depth delivery name ops old
+enters_by find depth delivery name ops old begun ended after ending back is_begun runs is_back is_after =
     ap (λ f. ending_by f after) is_back
-    ∙ ap (ending_by (resumed_by flow)) is_after
-    ∙ resumes old.values flow ended
+    ∙ ap (ending_by (resumed_by ending)) is_after
+    ∙ resumes old.values ending ended
     ∙ ap (resumed old.values) (sym runs)
     ∙ ap (λ t. resumed old.values (doing (act_of find depth (inside name delivery)) (inside name delivery) (code_walk ops (length ops)) t)) is_begun

@@ -12,8 +12,8 @@ use Rattle.sieve_run.specs.Perform.{answers_after, answers_of, chosen_answers, d
 use Rattle.script_names.specs.declared.name.ScriptName.{ScriptName}
 use Rattle.sieve_run.specs.view.Include.{enters}
 use Rattle.sieve_run.specs.view.Step.{doing}
-use Rattle.sieve_delivery.specs.Act.{Ending, goes_on, returned, stopped, failed}
-use Rattle.sieve_run.specs.Run.{Answer, also, or_else, act_of, and_then, answer_of, begun, chosen, decide, decide_all, decide_any, delivery_to, entering, exec, exec_branches, resumed, running, verdict_at, verdict_of, with_found_script}
+use Rattle.sieve_delivery.specs.Ending.{Ending, goes_on, returned, stopped, failed}
+use Rattle.sieve_run.specs.Run.{Answer, also, or_else, act_of, and_then, answer_of, begun, chosen, decide, decide_all, decide_any, delivery_to, entering, exec, exec_branches, resumed, running, verdict_at, verdict_after, with_found_script}
 use Rattle.sieve_delivery.specs.State.{RunState}
 
 module _ (ask : Ask → RunState → Answer) (act : Leaf → ℕ → RunState → Ending) where
@@ -134,10 +134,10 @@ by_running_code find depth delivery program ops s has =
 
 -- the verdict of doing the code of the main script is the verdict on that script
 pub by_code : (find : ScriptName → Lookup) (arrival : Arrival) (main : ScriptName) (lookup : Lookup) (ops : List Operation) → HasCode lookup ops
-    → verdict_of (doing (act_of find include_depth (delivery_to arrival main)) (delivery_to arrival main) (code_walk ops (length ops)) (begun main)) ≡ verdict_at find arrival main lookup
+    → verdict_after (doing (act_of find include_depth (delivery_to arrival main)) (delivery_to arrival main) (code_walk ops (length ops)) (begun main)) ≡ verdict_at find arrival main lookup
 by_code find arrival main missing ops has = absurd has
 by_code find arrival main invalid ops has = absurd has
-by_code find arrival main (present program) ops has = ap verdict_of (by_running_code find include_depth (delivery_to arrival main) program ops (begun main) has)
+by_code find arrival main (present program) ops has = ap verdict_after (by_running_code find include_depth (delivery_to arrival main) program ops (begun main) has)
 
 -- entering a script by its code is what an include does with the script that is found
 pub by_found_code : (find : ScriptName → Lookup) (depth : ℕ) (delivery : Delivery) (name : ScriptName) (optional : Bool) (line : ℕ) (lookup : Lookup) (ops : List Operation) (s : RunState) → HasCode lookup ops

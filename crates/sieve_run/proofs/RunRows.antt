@@ -7,7 +7,7 @@ use Rattle.sieve_variables.specs.Value.{begun_values, no_values}
 use Rattle.script_names.specs.declared.location.Location.TheVariants.{Personal}
 use Rattle.sieve_limits.specs.Limits.{name_limit}
 use Rattle.script_names.specs.Name.{name_eq}
-use Rattle.sieve_delivery.specs.Act.{Ending, goes_on}
+use Rattle.sieve_delivery.specs.Ending.{Ending, goes_on}
 use Rattle.sieve_delivery.specs.Delivery.{Arrival, Delivery, inside}
 use Rattle.sieve_delivery.specs.State.{RunState}
 use Rattle.sieve_delivery.specs.declared.envelope.Envelope.{Envelope}
@@ -17,9 +17,9 @@ use Rattle.sieve_delivery.specs.declared.action.Filing.{Filing}
 use Rattle.sieve_delivery.specs.declared.error.ErrorKind.TheVariants.{MissingScript}
 use Rattle.script_names.specs.declared.name.ScriptName.{ScriptName}
 use Rattle.sieve_run.specs.Depth.{watched_include}
-use Rattle.sieve_run.specs.Distinct.{AreDistinct}
+use Rattle.sieve_run.specs.Distinct.{AreDistinctActions}
 use Rattle.sieve_run.specs.Library.{Lookup, missing, present, found_at}
-use Rattle.sieve_run.specs.Run.{begun, exec, included, outcome_of, resumed, verdict_at}
+use Rattle.sieve_run.specs.Run.{begun, exec, included, verdict_of, resumed, verdict_at}
 
 abbrev main : ScriptName
 main = record { location = Personal; name = codes "main" }
@@ -65,9 +65,9 @@ beyond_row beyond = refl
 long_include_row : (find : ScriptName → Lookup) (name : ScriptName) → length name.name ≡ 1025 → found_at find name ≡ missing
 long_include_row find name is = ap (λ n. if nat_lt name_limit n then missing else find name) is
 
-long_name_row : (find : ScriptName → Lookup) (name : ScriptName) (arrival : Arrival) → length name.name ≡ 1025 → outcome_of find (Some name) arrival
+long_name_row : (find : ScriptName → Lookup) (name : ScriptName) (arrival : Arrival) → length name.name ≡ 1025 → verdict_of find (Some name) arrival
     ≡ record { entries = []; implicit = Some []; error = Some (record { script = name; line = 0; kind = MissingScript }); lookups = (name, false) ∷ [] }
-unfolding outcome_of
+unfolding verdict_of
 long_name_row find name arrival is = ap (λ n. verdict_at find arrival name (if nat_lt name_limit n then missing else find name)) is
 
 -- DISTINCT ACTIONS
@@ -77,6 +77,6 @@ abbrev plain : Filing
 plain = record { create = false; special_use = None }
 
 -- two stores into one mailbox are one action, whatever their flags, wherever they stand
-one_store_row : AreDistinct (Store (codes "a") [] plain ∷ Discard ∷ Store (codes "a") (codes "\\Seen" ∷ []) plain ∷ []) → ⊥
+one_store_row : AreDistinctActions (Store (codes "a") [] plain ∷ Discard ∷ Store (codes "a") (codes "\\Seen" ∷ []) plain ∷ []) → ⊥
 unfolding IsDistinct
 one_store_row distinct = let e = distinct.0.1.0 in absurd cc

@@ -10,16 +10,16 @@ use Rattle.sieve_code.specs.Walk.{Walk, at_limit, code_walk, walk_from}
 use Rattle.sieve_delivery.specs.Delivery.{Delivery}
 use Rattle.sieve_conditions.specs.Matching.{after_test, truth_of}
 use Rattle.sieve_run.specs.Perform.{perform}
-use Rattle.sieve_delivery.specs.Act.{goes_on}
+use Rattle.sieve_delivery.specs.Ending.{goes_on}
 use Rattle.sieve_run.specs.Run.{and_then, chosen}
 use Rattle.sieve_delivery.specs.State.{RunState}
-use Rattle.sieve_delivery.specs.declared.flow.Flow.{Flow}
-use Rattle.sieve_delivery.specs.declared.flow.Flow.TheVariants as flow
-use Rattle.sieve_delivery.specs.declared.flow.Flow.TheVariants.{GoesOn}
+use Rattle.sieve_delivery.specs.declared.ending.Ending as endings
+use Rattle.sieve_delivery.specs.declared.ending.Ending.TheVariants as ending
+use Rattle.sieve_delivery.specs.declared.ending.Ending.TheVariants.{GoesOn}
 use Rattle.sieve_run.specs.declared.turn.Step.{Step}
 use Rattle.sieve_run.specs.declared.turn.Step.TheVariants.{Next, Ended}
-use Rattle.sieve_delivery.specs.view.Flow.{ending_by}
-use Rattle.sieve_run.specs.view.Step.{step_after, Acts, Follows, StepsTo, doing, doing_after}
+use Rattle.sieve_delivery.specs.view.Ending.{ending_by}
+use Rattle.sieve_run.specs.view.Step.{step_after, Acts, StepFollows, StepsTo, doing, doing_after}
 
 left_over : {n turn : ℕ} → n ≤ turn → n - turn ≡ 0
 left_over all = omega arith
@@ -48,45 +48,45 @@ module _ (act : Acts) (delivery : Delivery) where
   }
 
   -- what follows a command, by how the command ended
-  by_flow : (flow : Flow) (go : ℕ → Bool → Walk) (after place : ℕ) (register : Bool) (new : RunState) → after ≡ place + 1 → and_then (ending_by flow new) (doing act delivery (go (place + 1) register)) ≡ doing_after act delivery go (step_after flow after register) new
-  by_flow GoesOn go after place register new at = on_after go register after place new at
-  by_flow flow.Returned go after place register new at = refl
-  by_flow flow.Stopped go after place register new at = refl
-  by_flow (flow.Failed error) go after place register new at = refl
+  by_ending : (ending : endings.Ending) (go : ℕ → Bool → Walk) (after place : ℕ) (register : Bool) (new : RunState) → after ≡ place + 1 → and_then (ending_by ending new) (doing act delivery (go (place + 1) register)) ≡ doing_after act delivery go (step_after ending after register) new
+  by_ending GoesOn go after place register new at = on_after go register after place new at
+  by_ending ending.Returned go after place register new at = refl
+  by_ending ending.Stopped go after place register new at = refl
+  by_ending (ending.Failed error) go after place register new at = refl
 
-  pub acts_steps : (leaf : Leaf) (line after : ℕ) (register : Bool) (flow : Flow) (step : Step) (old new : RunState) → step ≡ step_after flow after register → ending_by flow new ≡ act leaf line old → StepsTo act delivery (act_op leaf line) after register old step new
+  pub acts_steps : (leaf : Leaf) (line after : ℕ) (register : Bool) (ending : endings.Ending) (step : Step) (old new : RunState) → step ≡ step_after ending after register → ending_by ending new ≡ act leaf line old → StepsTo act delivery (act_op leaf line) after register old step new
   unfolding perform
-  acts_steps leaf line after register flow step old new to does = record {
+  acts_steps leaf line after register ending step old new to does = record {
     before = λ place go at.
         sym (ap (λ e. and_then e (doing act delivery (go (place + 1) register))) does)
-        ∙ by_flow flow go after place register new at
+        ∙ by_ending ending go after place register new at
         ∙ sym (ap (λ s. doing_after act delivery go s new) to);
   }
 
   -- WHERE A CALL MAY RUN OUT OF MEMORY
 
   pub asks_follow : {E : Type 0} (ask : Ask) (op : Operation) (called : Result Bool E) (step : Result Step E) (after : ℕ) (register : Bool) (old new : RunState) → op ≡ test_op ask
-      → IfOk called (λ truth. truth ≡ truth_of delivery old ask) → IfOk called (λ _. new ≡ after_test delivery ask old) → IfOk step (Follows called (λ truth. Next after truth))
+      → IfOk called (λ truth. truth ≡ truth_of delivery old ask) → IfOk called (λ _. new ≡ after_test delivery ask old) → IfOk step (StepFollows called (λ truth. Next after truth))
       → IfOk step (λ taken. StepsTo act delivery op after register old taken new)
-  asks_follow ask op called step after register old new is truth moves follows = IfOk-weaker step (Follows called (λ truth. Next after truth)) _
+  asks_follow ask op called step after register old new is truth moves follows = IfOk-weaker step (StepFollows called (λ truth. Next after truth)) _
       (λ taken f. subst (λ o. StepsTo act delivery o after register old taken new) (sym is)
       (subst (λ r. StepsTo act delivery (test_op ask) after register old r new) (sym f.2)
       (asks_steps ask f.0 after register old new (IfOk-at_ok (λ t. t ≡ truth_of delivery old ask) f.1 truth) (IfOk-at_ok (λ _. new ≡ after_test delivery ask old) f.1 moves))))
       follows
 
-  pub acts_follow : {E : Type 0} (leaf : Leaf) (line : ℕ) (op : Operation) (called : Result Flow E) (step : Result Step E) (after : ℕ) (register : Bool) (old new : RunState) → op ≡ act_op leaf line
-      → IfOk called (λ flow. ending_by flow new ≡ act leaf line old) → IfOk step (Follows called (λ flow. step_after flow after register))
+  pub acts_follow : {E : Type 0} (leaf : Leaf) (line : ℕ) (op : Operation) (called : Result endings.Ending E) (step : Result Step E) (after : ℕ) (register : Bool) (old new : RunState) → op ≡ act_op leaf line
+      → IfOk called (λ ending. ending_by ending new ≡ act leaf line old) → IfOk step (StepFollows called (λ ending. step_after ending after register))
       → IfOk step (λ taken. StepsTo act delivery op after register old taken new)
-  acts_follow leaf line op called step after register old new is does follows = IfOk-weaker step (Follows called (λ flow. step_after flow after register)) _
+  acts_follow leaf line op called step after register old new is does follows = IfOk-weaker step (StepFollows called (λ ending. step_after ending after register)) _
       (λ taken f. subst (λ o. StepsTo act delivery o after register old taken new) (sym is)
-      (acts_steps leaf line after register f.0 taken old new f.2 (IfOk-at_ok (λ flow. ending_by flow new ≡ act leaf line old) f.1 does)))
+      (acts_steps leaf line after register f.0 taken old new f.2 (IfOk-at_ok (λ ending. ending_by ending new ≡ act leaf line old) f.1 does)))
       follows
 
-  pub stop_steps : (after : ℕ) (register : Bool) (s : RunState) → StepsTo act delivery stop_op after register s (Ended flow.Stopped) s
+  pub stop_steps : (after : ℕ) (register : Bool) (s : RunState) → StepsTo act delivery stop_op after register s (Ended ending.Stopped) s
   unfolding perform
   stop_steps after register s = record { before = λ place go is. refl }
 
-  pub return_steps : (after : ℕ) (register : Bool) (s : RunState) → StepsTo act delivery return_op after register s (Ended flow.Returned) s
+  pub return_steps : (after : ℕ) (register : Bool) (s : RunState) → StepsTo act delivery return_op after register s (Ended ending.Returned) s
   unfolding perform
   return_steps after register s = record { before = λ place go is. refl }
 

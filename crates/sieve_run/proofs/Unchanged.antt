@@ -7,7 +7,7 @@ use Rattle.sieve_script.specs.declared.reading.MatchType.TheVariants.{Is, Contai
 use Rattle.sieve_script.specs.Script.{Condition, always, never, asks, negated, all_hold, any_holds, Conditions, no_conditions, one_condition, Commands, stops, returns}
 use Rattle.sieve_delivery.specs.Delivery.{Delivery}
 use Rattle.sieve_conditions.specs.Matching.{after_test, match_found, sets_matched, values_after, with_found}
-use Rattle.sieve_delivery.specs.Act.{Ending, returned, stopped}
+use Rattle.sieve_delivery.specs.Ending.{Ending, returned, stopped}
 use Rattle.sieve_run.specs.Run.{SetsMatched, Answer, and_then, answer_of, also, or_else, decide, decide_all, decide_any, exec}
 use Rattle.sieve_delivery.specs.State.{RunState}
 use Rattle.sieve_variables.specs.Value.{with_matched}

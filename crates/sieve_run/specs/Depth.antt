@@ -4,7 +4,8 @@ use Rattle.sieve_limits.specs.Limits.{include_depth}
 use Rattle.sieve_script.specs.Script.{Commands}
 use Rattle.sieve_delivery.specs.Delivery.{Arrival, Delivery, inside}
 use Rattle.sieve_run.specs.Library.{Lookup}
-use Rattle.sieve_delivery.specs.Act.{Ending, act_by}
+use Rattle.sieve_delivery.specs.Act.{act_by}
+use Rattle.sieve_delivery.specs.Ending.{Ending}
 use Rattle.sieve_run.specs.Run.{answer_of, begun, delivery_to, exec, include_of, running}
 use Rattle.sieve_delivery.specs.State.{RunState}
 use Rattle.script_names.specs.declared.name.ScriptName.{ScriptName}

@@ -2,8 +2,8 @@
 use Rattle.std.specs.Prelude.{List}
 use Rattle.std.specs.List.{IsDistinct}
 use Rattle.sieve_delivery.specs.declared.action.Action.{Action}
-use Rattle.sieve_delivery.specs.Act.{same_action}
+use Rattle.sieve_delivery.specs.Joining.{same_action}
 
 -- no action is one with an action after it
-abbrev pub AreDistinct : List Action → Type 0
-AreDistinct actions = IsDistinct same_action actions
+abbrev pub AreDistinctActions : List Action → Type 0
+AreDistinctActions actions = IsDistinct same_action actions

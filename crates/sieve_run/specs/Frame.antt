@@ -3,18 +3,18 @@
 use Rattle.std.specs.Prelude.{◌≡◌, ℕ, Bool, true, List, Option}
 use Rattle.sieve_delivery.specs.Delivery.{Arrival}
 use Rattle.sieve_run.specs.Library.{library_of}
-use Rattle.sieve_run.specs.Run.{is_looked_up, outcome_of}
-use Rattle.sieve_run.specs.Verdict.{Verdict}
+use Rattle.sieve_run.specs.Run.{is_looked_up, verdict_of}
+use Rattle.sieve_verdict.specs.Verdict.{Verdict}
 use Rattle.script_names.specs.declared.name.ScriptName.{ScriptName}
 
 -- the texts of a library: at each name one, or none
-abbrev pub Texts : Type 0
-Texts = ScriptName → Option (List ℕ)
+abbrev pub LibraryTexts : Type 0
+LibraryTexts = ScriptName → Option (List ℕ)
 
 -- two libraries have the same text, or none, at each name that was looked up
-abbrev pub Agree : (texts others : Texts) → List (ScriptName × Bool) → Type 0
+abbrev pub Agree : (texts others : LibraryTexts) → List (ScriptName × Bool) → Type 0
 Agree texts others lookups = (name : ScriptName) → is_looked_up name lookups ≡ true → texts name ≡ others name
 
 -- the verdict over a library of the profile that the message is judged by
-abbrev pub outcome_over : Texts → Option ScriptName → Arrival → Verdict
-outcome_over texts main arrival = outcome_of (library_of arrival.profile texts) main arrival
+abbrev pub verdict_over : LibraryTexts → Option ScriptName → Arrival → Verdict
+verdict_over texts main arrival = verdict_of (library_of arrival.profile texts) main arrival

@@ -2,12 +2,10 @@ pub mod Depth
 pub mod Distinct
 pub mod Frame
 pub mod Library
-pub mod Lines
 pub mod Meter
 pub mod Origin
 pub mod Perform
 pub mod Run
 pub mod Script
 pub mod Shelf
-pub mod Verdict
 pub mod view

@@ -1,6 +1,7 @@
 -- Which command entered an action.
 use Rattle.std.specs.Prelude.{◌≡◌, ◌⊎◌, ℕ, List, [], ◌∷◌, ◌++◌, map}
-use Rattle.sieve_delivery.specs.Act.{entry_at, joined_entry}
+use Rattle.sieve_delivery.specs.Joining.{joined_entry}
+use Rattle.sieve_delivery.specs.Performing.{entry_at}
 use Rattle.sieve_delivery.specs.Delivery.{Delivery}
 use Rattle.sieve_delivery.specs.State.{Entered}
 use Rattle.sieve_delivery.specs.declared.action.Deed.{Deed}

@@ -1,9 +1,9 @@
 -- What doing the leaves of a walk in turn gives, up to the first that ends the run.
 use Rattle.std.specs.Prelude.{ℕ, Bool, true, false, List, [], ◌∷◌}
 use Rattle.sieve_script.specs.Reading.{Ask, Leaf}
-use Rattle.sieve_code.specs.Walk.{Walk, at_end, by_stop, by_return, cut_off, asked, acted, Met, met_ask, met_leaf, End, ended, unanswered, unfinished, Gone, gone}
+use Rattle.sieve_code.specs.Walk.{Walk, at_end, by_stop, by_return, cut_off, asked, acted, Met, met_ask, met_leaf, WalkEnd, ended, unanswered, unfinished, Gone, gone}
 use Rattle.sieve_code.specs.Walk as walk
-use Rattle.sieve_delivery.specs.Act.{Ending, goes_on, returned, stopped, failed}
+use Rattle.sieve_delivery.specs.Ending.{Ending, goes_on, returned, stopped, failed}
 use Rattle.sieve_run.specs.Run.{Answer, and_then, chosen}
 use Rattle.sieve_delivery.specs.State.{RunState}
 
@@ -46,7 +46,7 @@ do_met ask act (met_ask a ∷ met) state = do_met ask act met (ask a state).stat
 do_met ask act (met_leaf leaf line ∷ met) state = and_then (act leaf line state) (do_met ask act met)
 
 -- how the run ends then
-abbrev pub end_of : End → RunState → Ending
+abbrev pub end_of : WalkEnd → RunState → Ending
 end_of ended state = goes_on state
 end_of walk.stopped state = stopped state
 end_of walk.returned state = returned state

@@ -5,14 +5,16 @@ use Rattle.sieve_limits.specs.Limits.{include_depth, include_limit}
 use Rattle.sieve_script.specs.Reading.{Ask, Leaf}
 use Rattle.sieve_script.specs.Script.{Condition, always, never, asks, negated, all_hold, any_holds, Conditions, no_conditions, one_condition, Commands, no_commands, stops, returns, acts, chooses, Branches, no_branches, else_branch, test_branch}
 use Rattle.script_names.specs.declared.name.ScriptName.{ScriptName}
-use Rattle.sieve_delivery.specs.Act.{Ending, goes_on, returned, stopped, failed, fails_at, act_by}
+use Rattle.sieve_delivery.specs.Act.{act_by}
+use Rattle.sieve_delivery.specs.Ending.{Ending, goes_on, returned, stopped, failed}
+use Rattle.sieve_delivery.specs.Performing.{fails_at}
 use Rattle.sieve_delivery.specs.declared.error.ErrorKind.TheVariants.{MissingScript, InvalidScript, RecursiveInclude, IncludeDepth, IncludeCount}
 use Rattle.sieve_delivery.specs.Delivery.{Arrival, Delivery, inside}
 use Rattle.sieve_conditions.specs.Matching.{after_test, truth_of}
 use Rattle.sieve_run.specs.Library.{Lookup, missing, invalid, present, found_at}
 use Rattle.script_names.specs.Name.{name_eq}
 use Rattle.sieve_delivery.specs.State.{RunState}
-use Rattle.sieve_run.specs.Verdict.{Verdict}
+use Rattle.sieve_verdict.specs.Verdict.{Verdict}
 use Rattle.sieve_variables.specs.Value.{Values, begun_values, no_values, resumed_values, with_matched}
 
 -- what follows runs only where nothing has ended the run
@@ -178,11 +180,11 @@ implicit_of state = if state.cancelled then None else Some state.flags
 
 -- In the main script a return is the end (RFC 6609, section 3.3). After an error no action is taken, and the implicit keep stands
 -- (RFC 5228, sections 2.10.2 and 2.10.6), without flags.
-abbrev pub verdict_of : Ending → Verdict
-verdict_of (goes_on state) = record { entries = state.entries; implicit = implicit_of state; error = None; lookups = state.lookups }
-verdict_of (returned state) = record { entries = state.entries; implicit = implicit_of state; error = None; lookups = state.lookups }
-verdict_of (stopped state) = record { entries = state.entries; implicit = implicit_of state; error = None; lookups = state.lookups }
-verdict_of (failed error state) = record { entries = []; implicit = Some []; error = Some error; lookups = state.lookups }
+abbrev pub verdict_after : Ending → Verdict
+verdict_after (goes_on state) = record { entries = state.entries; implicit = implicit_of state; error = None; lookups = state.lookups }
+verdict_after (returned state) = record { entries = state.entries; implicit = implicit_of state; error = None; lookups = state.lookups }
+verdict_after (stopped state) = record { entries = state.entries; implicit = implicit_of state; error = None; lookups = state.lookups }
+verdict_after (failed error state) = record { entries = []; implicit = Some []; error = Some error; lookups = state.lookups }
 
 -- the state in which the main script begins
 abbrev pub begun : ScriptName → RunState
@@ -200,9 +202,9 @@ run_of find arrival main program = running find include_depth (delivery_to arriv
 abbrev pub verdict_at : (ScriptName → Lookup) → Arrival → ScriptName → Lookup → Verdict
 verdict_at find arrival main missing = record { entries = []; implicit = Some []; error = Some (record { script = main; line = 0; kind = MissingScript }); lookups = (main, false) ∷ [] }
 verdict_at find arrival main invalid = record { entries = []; implicit = Some []; error = Some (record { script = main; line = 0; kind = InvalidScript }); lookups = (main, true) ∷ [] }
-verdict_at find arrival main (present program) = verdict_of (run_of find arrival main program)
+verdict_at find arrival main (present program) = verdict_after (run_of find arrival main program)
 
 -- the verdict on a message, and the names that it looked up, over a library
-unfoldable pub outcome_of : (ScriptName → Lookup) → Option ScriptName → Arrival → Verdict
-outcome_of find None arrival = record { entries = []; implicit = Some []; error = None; lookups = [] }
-outcome_of find (Some main) arrival = verdict_at find arrival main (found_at find main)
+unfoldable pub verdict_of : (ScriptName → Lookup) → Option ScriptName → Arrival → Verdict
+verdict_of find None arrival = record { entries = []; implicit = Some []; error = None; lookups = [] }
+verdict_of find (Some main) arrival = verdict_at find arrival main (found_at find main)

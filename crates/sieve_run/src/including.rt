@@ -10,7 +10,7 @@ ghost use Rattle.sieve_run.specs.view.Include.{resumed_by, there_as};
 
 use crate::library::{Found, Library};
 use script_names::ScriptName;
-use sieve_delivery::{Delivery, Flow, State};
+use sieve_delivery::{Delivery, Ending, RunState};
 use sieve_limits::MAX_NAME;
 use sieve_variables::Own;
 use std::alloc::{AllocError, Global};
@@ -70,7 +70,7 @@ pub(crate) fn including_next<'a>(delivery: &Delivery<'a>) -> Result<Vec<&'a Scri
 pub(crate) fn begin_included(
     alloc: Global,
     name: &ScriptName,
-    state: &mut State,
+    state: &mut RunState,
 ) -> Result<Own, AllocError>
     ensures state { OnOk result (state_of state.new ≡ entering name.now (state_of state.old)) }
     ensures own { IfOk result (λ own. own ≡ own_of (state_of state.old).values) }
@@ -91,13 +91,13 @@ pub(crate) fn is_there(found: &Found<'_>) -> bool
 }
 
 /// How the including script goes on after one that ended so.
-pub(crate) fn resumed(flow: Flow) -> Flow
-    ensures { result ≡ resumed_by flow }
+pub(crate) fn resumed(ending: Ending) -> Ending
+    ensures { result ≡ resumed_by ending }
 {
-    match flow {
-        Flow::GoesOn => Flow::GoesOn,
-        Flow::Returned => Flow::GoesOn,
-        Flow::Stopped => Flow::Stopped,
-        Flow::Failed(error) => Flow::Failed(error),
+    match ending {
+        Ending::GoesOn => Ending::GoesOn,
+        Ending::Returned => Ending::GoesOn,
+        Ending::Stopped => Ending::Stopped,
+        Ending::Failed(error) => Ending::Failed(error),
     }
 }

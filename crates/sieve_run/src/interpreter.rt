@@ -3,19 +3,18 @@ ghost use Rattle.std.specs.Prelude.{◌≡◌, ◌≤◌, [], ◌∷◌, true, N
 ghost use Rattle.std.specs.Option.{option_copied};
 ghost use Rattle.sieve_run.specs.Library.{library_of};
 ghost use Rattle.sieve_run.specs.Meter.{next_run};
-ghost use Rattle.sieve_run.specs.Run.{act_of, begun, delivery_to, outcome_of, verdict_of};
+ghost use Rattle.sieve_run.specs.Run.{act_of, begun, delivery_to, verdict_of, verdict_after};
 ghost use Rattle.sieve_code.specs.Walk.{code_walk};
 ghost use Rattle.sieve_code.specs.view.Code.{ops_of};
 ghost use Rattle.sieve_limits.specs.Limits.{action_limit, include_depth};
 ghost use Rattle.sieve_delivery.specs.view.Delivery.{arrival_as};
-ghost use Rattle.sieve_delivery.specs.view.Flow.{ending_by};
+ghost use Rattle.sieve_delivery.specs.view.Ending.{ending_by};
 ghost use Rattle.sieve_delivery.specs.view.State.{state_of};
 ghost use Rattle.sieve_run.specs.view.Step.{doing};
 
 use crate::including::find;
 use crate::library::{Found, Library};
 use crate::meter::Meter;
-use crate::outcome::Outcome;
 use crate::steps::{Running, execute};
 use indexmap::IndexMap;
 use match_text::FlagList;
@@ -24,20 +23,39 @@ use script_names::ScriptName;
 use sieve_code::Code;
 use sieve_conditions::FieldCache;
 use sieve_delivery::{
-    Actions, Addresses, Arrival, Delivery, Envelope, ErrorKind, Flow, RunError, State,
+    Actions, Addresses, Arrival, Delivery, Ending, Envelope, ErrorKind, RunError, RunState,
 };
 use sieve_limits::MAX_INCLUDE_DEPTH;
 use sieve_variables::Values;
+use sieve_verdict::Verdict;
 use std::alloc::{AllocError, Global};
 
-/// The outcome where the main script itself can't run: the implicit keep stands.
+/// The verdict of an error: no action is performed, and the implicit keep stands, without flags (RFC
+/// 5228, 2.10.6).
+fn failed(alloc: Global, error: RunError, lookups: IndexMap<ScriptName, bool>) -> Verdict
+    ensures { result ≡ record {
+      entries = [];
+      implicit = Some [];
+      error = Some error;
+      lookups = lookups.entries;
+    } }
+{
+    Verdict::new(
+        Vec::new(alloc),
+        Some(FlagList::new(alloc)),
+        Some(error),
+        lookups,
+    )
+}
+
+/// The verdict where the main script itself can't run: the implicit keep stands.
 fn failed_at_main(
     alloc: Global,
     main: &ScriptName,
     is_present: bool,
     kind: ErrorKind,
-) -> Result<Outcome, AllocError>
-    ensures { IfOk result (λ outcome. outcome ≡ record {
+) -> Result<Verdict, AllocError>
+    ensures { IfOk result (λ verdict. verdict ≡ record {
       entries = [];
       implicit = Some [];
       error = Some (record { script = main.now; line = 0; kind = kind });
@@ -46,16 +64,12 @@ fn failed_at_main(
 {
     let script = main.copy(alloc)?;
     let lookups = first_lookup(alloc, main, is_present)?;
-    Ok(Outcome {
-        entries: Vec::new(alloc),
-        implicit: Some(FlagList::new(alloc)),
-        error: Some(RunError {
-            script,
-            line: 0,
-            kind,
-        }),
-        lookups,
-    })
+    let error = RunError {
+        script,
+        line: 0,
+        kind,
+    };
+    Ok(failed(alloc, error, lookups))
 }
 
 /// The record of lookups after that of the main script.
@@ -78,12 +92,12 @@ fn kept(cancelled: bool, flags: FlagList) -> Option<FlagList>
     if cancelled { None } else { Some(flags) }
 }
 
-/// The outcome of a run of the main script that ended so.
-fn ended(alloc: Global, flow: Flow, state: State) -> Outcome
+/// The verdict of a run of the main script that ended so.
+fn ended(alloc: Global, ending: Ending, state: RunState) -> Verdict
     requires { length state.actions.entries ≤ action_limit }
-    ensures { result ≡ verdict_of (ending_by flow (state_of state)) }
+    ensures { result ≡ verdict_after (ending_by ending (state_of state)) }
 {
-    let State {
+    let RunState {
         actions,
         cancelled,
         lookups,
@@ -93,29 +107,21 @@ fn ended(alloc: Global, flow: Flow, state: State) -> Outcome
     drop(entered);
     drop(values);
     let (entries, flags) = actions.into_parts();
-    match flow {
-        Flow::Failed(error) => Outcome {
-            entries: Vec::new(alloc),
-            implicit: Some(FlagList::new(alloc)),
-            error: Some(error),
-            lookups,
-        },
-        Flow::GoesOn | Flow::Returned | Flow::Stopped => Outcome {
-            entries,
-            implicit: kept(cancelled, flags),
-            error: None,
-            lookups,
-        },
+    match ending {
+        Ending::Failed(error) => failed(alloc, error, lookups),
+        Ending::GoesOn | Ending::Returned | Ending::Stopped => {
+            Verdict::new(entries, kept(cancelled, flags), None, lookups)
+        }
     }
 }
 
 /// The state in which the main script begins.
-fn begun(alloc: Global, main: &ScriptName) -> Result<State, AllocError>
+fn begun(alloc: Global, main: &ScriptName) -> Result<RunState, AllocError>
     ensures { IfOk result (λ state. state_of state ≡ begun main.now) }
 {
     let mut entered = Vec::new(alloc);
     entered.push(main.copy(alloc)?)?;
-    Ok(State {
+    Ok(RunState {
         actions: Actions::new(alloc),
         cancelled: false,
         lookups: first_lookup(alloc, main, true)?,
@@ -131,8 +137,8 @@ fn run_main<L: Library>(
     main: &ScriptName,
     code: &Code,
     arrival: &Arrival<'_>,
-) -> Result<Outcome, AllocError>
-    ensures { IfOk result (λ outcome. outcome ≡ verdict_of
+) -> Result<Verdict, AllocError>
+    ensures { IfOk result (λ verdict. verdict ≡ verdict_after
         (doing (act_of (library_of (L.profile lib.now) (L.texts lib.now)) include_depth (delivery_to
         (arrival_as arrival.now) main.now)) (delivery_to (arrival_as arrival.now) main.now)
         (code_walk (ops_of code.now) (length (ops_of code.now))) (begun main.now))) }
@@ -151,25 +157,25 @@ fn run_main<L: Library>(
         delivery: &delivery,
         code,
     };
-    let flow = execute(&running, &mut fields, &mut state)?;
-    Ok(ended(alloc, flow, state))
+    let ending = execute(&running, &mut fields, &mut state)?;
+    Ok(ended(alloc, ending, state))
 }
 
-/// The outcome where there is no main script: the implicit keep, and nothing is looked up.
-fn no_main(alloc: Global) -> Outcome
+/// The verdict where there is no main script: the implicit keep, and nothing is looked up.
+fn no_main(alloc: Global) -> Verdict
     ensures { result
         ≡ record { entries = []; implicit = Some []; error = None; lookups = [] } }
 {
-    Outcome {
-        entries: Vec::new(alloc),
-        implicit: Some(FlagList::new(alloc)),
-        error: None,
-        lookups: IndexMap::new(alloc),
-    }
+    Verdict::new(
+        Vec::new(alloc),
+        Some(FlagList::new(alloc)),
+        None,
+        IndexMap::new(alloc),
+    )
 }
 
 /// Runs the main script on a message, under the library's profile. A message's own addresses stand in place of those of the envelope. The meter counts the run, also where memory runs out.
-#[tactic(auto, using(crate::proofs::Performing::by_code), unfolding(crate::specs::Run::outcome_of))]
+#[tactic(auto, using(crate::proofs::Performing::by_code), unfolding(crate::specs::Run::verdict_of))]
 pub fn run<L: Library>(
     alloc: Global,
     lib: &L,
@@ -178,8 +184,8 @@ pub fn run<L: Library>(
     own: Option<&Addresses>,
     message: &Message,
     meter: &mut Meter,
-) -> Result<Outcome, AllocError>
-    ensures outcome { IfOk result (λ outcome. outcome ≡ outcome_of (library_of (L.profile lib.now)
+) -> Result<Verdict, AllocError>
+    ensures verdict { IfOk result (λ verdict. verdict ≡ verdict_of (library_of (L.profile lib.now)
         (L.texts lib.now)) (option_copied main.entry) (record {
           message = message.now;
           envelope = envelope.now;

@@ -8,15 +8,17 @@ ghost use Rattle.sieve_code.specs.Walk.{gone, script_walk};
 ghost use Rattle.sieve_limits.specs.Limits.{action_limit, include_limit};
 ghost use Rattle.sieve_delivery.specs.Delivery.{Arrival, Delivery};
 ghost use Rattle.sieve_run.specs.Depth.{IsDeepest, depth_left, entered_within, watched_run};
-ghost use Rattle.sieve_run.specs.Distinct.{AreDistinct};
-ghost use Rattle.sieve_run.specs.Frame.{Agree, Texts, outcome_over};
+ghost use Rattle.sieve_run.specs.Distinct.{AreDistinctActions};
+ghost use Rattle.sieve_run.specs.Frame.{Agree, LibraryTexts, verdict_over};
 ghost use Rattle.sieve_run.specs.Library.{Lookup};
 ghost use Rattle.sieve_run.specs.Origin.{ComesOf};
 ghost use Rattle.sieve_run.specs.Perform.{answers_of, do_gone, perform};
-ghost use Rattle.sieve_delivery.specs.Act.{Ending, goes_with_rejections, is_rejection, is_response, performs, returned, state_after, stopped};
+ghost use Rattle.sieve_delivery.specs.Conflicts.{goes_with_rejections, is_rejection, is_response};
+ghost use Rattle.sieve_delivery.specs.Ending.{Ending, returned, state_after, stopped};
+ghost use Rattle.sieve_delivery.specs.Performing.{performs};
 ghost use Rattle.sieve_delivery.specs.declared.action.Deed.{Deed};
 ghost use Rattle.sieve_run.specs.Run as spec;
-ghost use Rattle.sieve_run.specs.Verdict.{actions_of};
+ghost use Rattle.sieve_verdict.specs.Verdict.{actions_of};
 ghost use Rattle.sieve_delivery.specs.State.{RunState};
 ghost use Rattle.script_names.specs.declared.name.ScriptName as names;
 
@@ -76,9 +78,9 @@ pub fn no_run_comes_to_a_deeper_script()
 /// or none, at each of these names.
 #[tactic(auto, using(crate::proofs::Frame::frame))]
 pub fn a_verdict_depends_on_what_it_looked_up()
-    ensures { (texts others : Texts) (main : Option names.ScriptName) (arrival : Arrival)
-        → Agree texts others (outcome_over texts main arrival).lookups
-        → outcome_over others main arrival ≡ outcome_over texts main arrival }
+    ensures { (texts others : LibraryTexts) (main : Option names.ScriptName) (arrival : Arrival)
+        → Agree texts others (verdict_over texts main arrival).lookups
+        → verdict_over others main arrival ≡ verdict_over texts main arrival }
 {}
 
 /// Tests set match variables at most (RFC 5229, section 3.2): neither the actions of a run nor whether the implicit keep is
@@ -103,10 +105,10 @@ pub fn a_run_does_its_walk()
 {}
 
 /// Whatever the scripts, the message, the envelope and the profile: no verdict has more actions than a run may perform (RFC 5228, section 2.10.4).
-#[tactic(auto, using(crate::proofs::Bounds::outcome_bounded))]
+#[tactic(auto, using(crate::proofs::Bounds::verdict_bounded))]
 pub fn no_run_acts_too_often()
     ensures { (find : names.ScriptName → Lookup) (main : Option names.ScriptName)
-        (arrival : Arrival) → length (spec.outcome_of find main arrival).entries ≤ action_limit }
+        (arrival : Arrival) → length (spec.verdict_of find main arrival).entries ≤ action_limit }
 {}
 
 /// Each action has the command that entered it, in one record: where a command performs an action, those that were there keep theirs, joined or
@@ -119,22 +121,22 @@ pub fn each_action_has_its_origin()
 
 /// No two actions of a verdict are one: it has no two stores into one mailbox, no two redirects to one address, and no two discards (RFC
 /// 5228, section 2.10.3), nor two responses or two rejections.
-#[tactic(auto, using(crate::proofs::Distinct::outcome_distinct))]
+#[tactic(auto, using(crate::proofs::Distinct::verdict_distinct))]
 pub fn no_run_acts_twice_alike()
     ensures { (find : names.ScriptName → Lookup) (main : Option names.ScriptName)
-        (arrival : Arrival) → AreDistinct (actions_of (spec.outcome_of find main arrival)) }
+        (arrival : Arrival) → AreDistinctActions (actions_of (spec.verdict_of find main arrival)) }
 {}
 
 /// No verdict acts against itself: it answers the sender once at most (RFC 5230, section 4.7), and where it rejects the message it does that
 /// once, and does nothing else than discard it (RFC 5429, section 2.4).
-#[tactic(auto, using(crate::proofs::AtPeace::outcome_responses, crate::proofs::AtPeace::outcome_rejections))]
+#[tactic(auto, using(crate::proofs::AtPeace::verdict_responses, crate::proofs::AtPeace::verdict_rejections))]
 pub fn no_run_acts_against_itself()
     ensures responses { (find : names.ScriptName → Lookup) (main : Option names.ScriptName)
         (arrival : Arrival)
-        → length (filter is_response (actions_of (spec.outcome_of find main arrival))) ≤ 1 }
+        → length (filter is_response (actions_of (spec.verdict_of find main arrival))) ≤ 1 }
     ensures rejections { (find : names.ScriptName → Lookup) (main : Option names.ScriptName)
         (arrival : Arrival)
-        → list_any is_rejection (actions_of (spec.outcome_of find main arrival)) ≡ true
+        → list_any is_rejection (actions_of (spec.verdict_of find main arrival)) ≡ true
         → length (filter (λ action. not (goes_with_rejections action))
-        (actions_of (spec.outcome_of find main arrival))) ≡ 1 }
+        (actions_of (spec.verdict_of find main arrival))) ≡ 1 }
 {}

@@ -2,18 +2,13 @@
 //! verdict looked at.
 #![tactic(auto)]
 
-mod agreement;
-mod comparing;
 mod including;
 mod interpreter;
 pub mod laws;
 mod library;
-mod lines;
 mod lookups;
 mod meter;
 mod operations;
-mod outcome;
-mod response_lines;
 mod script;
 mod shelf;
 mod steps;
@@ -22,12 +17,10 @@ mod turn;
 pub use including::find;
 pub use interpreter::run;
 pub use library::{Found, Library};
-pub use lines::{write_action, write_error, write_implicit, write_lookup, write_origin};
 pub use match_text::FlagList;
 pub use message_text::{Message, MessageFault};
 pub use meter::Meter;
 pub use octets::Octets;
-pub use outcome::Outcome;
 pub use script::Script;
 pub use script_names::{Location, ScriptName};
 pub use shelf::Shelf;
@@ -36,3 +29,4 @@ pub use sieve_delivery::{
     Action, Addresses, Entry, Envelope, ErrorKind, Filing, Origin, Response, RunError, Texts,
 };
 pub use sieve_script::Rejection;
+pub use sieve_verdict::Verdict;

@@ -8,7 +8,7 @@ ghost use Rattle.sieve_conditions.specs.Matching.{after_test, truth_of};
 
 use sieve_code::{Code, PackedAsk};
 use sieve_conditions::{FieldCache, compare, exists, is_over, is_under, mailboxes_exist};
-use sieve_delivery::{Delivery, State};
+use sieve_delivery::{Delivery, RunState};
 use sieve_script::Ask;
 use std::alloc::AllocError;
 
@@ -19,7 +19,7 @@ pub(crate) fn ask(
     code: &Code,
     ask: &PackedAsk,
     fields: &mut FieldCache<'_>,
-    state: &mut State,
+    state: &mut RunState,
 ) -> Result<bool, AllocError>
     requires { fields.old ≡ (delivery_as delivery.now).arrival }
     ensures arrival { fields.new ≡ fields.old }

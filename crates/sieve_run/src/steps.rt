@@ -7,7 +7,7 @@ ghost use Rattle.sieve_run.specs.Library.{library_of};
 ghost use Rattle.sieve_run.specs.Run.{act_of, included};
 ghost use Rattle.sieve_delivery.specs.Delivery.{inside};
 ghost use Rattle.sieve_delivery.specs.view.Delivery.{delivery_as};
-ghost use Rattle.sieve_delivery.specs.view.Flow.{ending_by};
+ghost use Rattle.sieve_delivery.specs.view.Ending.{ending_by};
 ghost use Rattle.sieve_run.specs.view.Step.{StepsTo, doing};
 ghost use Rattle.sieve_run.specs.view.Include.{enters, looks_up};
 ghost use Rattle.sieve_delivery.specs.view.State.{state_of};
@@ -21,11 +21,11 @@ use crate::operations::ask;
 use crate::turn::{Step, acted, proceed, tested};
 use octets::Octets;
 use script_names::{Location, ScriptName};
-use sieve_code::{Code, Op, PackedLeaf};
+use sieve_code::{Code, PackedLeaf, PackedOperation};
 use sieve_conditions::FieldCache;
 use sieve_delivery::{
-    Delivery, ErrorKind, Flow, State, change, discard, fail, file_into, keep, redirect, reject,
-    respond, set,
+    Delivery, Ending, ErrorKind, RunState, change, discard, fail, file_into, keep, redirect,
+    reject, respond, set,
 };
 use sieve_limits::MAX_INCLUDES;
 use sieve_script::Leaf;
@@ -61,22 +61,22 @@ pub(crate) struct Running<'a, L: Library> {
 pub(crate) fn execute<L: Library>(
     running: &Running<'_, L>,
     fields: &mut FieldCache<'_>,
-    state: &mut State,
-) -> Result<Flow, AllocError>
+    state: &mut RunState,
+) -> Result<Ending, AllocError>
     requires { fields.old ≡ (delivery_as running.now.delivery.now).arrival }
     ensures arrival { fields.new ≡ fields.old }
-    ensures ending { IfOk result (λ flow. doing (act_of (library_of (L.profile running.now.lib.now)
+    ensures ending { IfOk result (λ ending. doing (act_of (library_of (L.profile running.now.lib.now)
         (L.texts running.now.lib.now)) running.now.depth (delivery_as running.now.delivery.now))
         (delivery_as running.now.delivery.now)
         (code_walk (ops_of running.now.code.now) (length (ops_of running.now.code.now)))
-        (state_of state.old) ≡ ending_by flow (state_of state.new)) }
+        (state_of state.old) ≡ ending_by ending (state_of state.new)) }
 {
     let code = running.code;
     let mut place = 0;
     let mut register = false;
     for _turn in 0..code.len() {
         if place >= code.len() {
-            return Ok(Flow::GoesOn);
+            return Ok(Ending::GoesOn);
         }
         match carry_out(
             running,
@@ -93,10 +93,10 @@ pub(crate) fn execute<L: Library>(
                 place = next;
                 register = truth;
             }
-            Step::Ended(flow) => return Ok(flow),
+            Step::Ended(ending) => return Ok(ending),
         }
     }
-    Ok(Flow::GoesOn)
+    Ok(Ending::GoesOn)
 }
 
 /// Carries out an operation of code, where this is the place after it.
@@ -104,11 +104,11 @@ pub(crate) fn execute<L: Library>(
 #[tactic(auto, using(crate::proofs::Stepping::stop_steps, crate::proofs::Stepping::return_steps))]
 fn carry_out<L: Library>(
     running: &Running<'_, L>,
-    op: Op,
+    op: PackedOperation,
     after: usize,
     register: bool,
     fields: &mut FieldCache<'_>,
-    state: &mut State,
+    state: &mut RunState,
 ) -> Result<Step, AllocError>
     requires { fields.old ≡ (delivery_as running.now.delivery.now).arrival }
     ensures arrival { fields.new ≡ fields.old }
@@ -119,27 +119,27 @@ fn carry_out<L: Library>(
 {
     let code = running.code;
     match op {
-        Op::True => Ok(proceed(true, after)),
-        Op::False => Ok(proceed(false, after)),
-        Op::Not => Ok(proceed(!register, after)),
-        Op::Test(place) => {
+        PackedOperation::True => Ok(proceed(true, after)),
+        PackedOperation::False => Ok(proceed(false, after)),
+        PackedOperation::Not => Ok(proceed(!register, after)),
+        PackedOperation::Test(place) => {
             let asked = code.ask(place);
             tested(ask(running.delivery, code, &asked, fields, state), after)
         }
-        Op::Jump(left) => Ok(proceed(register, code.jump_place(left))),
-        Op::JumpIfFalse(left) => {
+        PackedOperation::Jump(left) => Ok(proceed(register, code.jump_place(left))),
+        PackedOperation::JumpIfFalse(left) => {
             Ok(proceed(register, chosen(register, after, code.jump_place(left))))
         }
-        Op::JumpIfTrue(left) => {
+        PackedOperation::JumpIfTrue(left) => {
             Ok(proceed(register, chosen(register, code.jump_place(left), after)))
         }
-        Op::Act { leaf, line } => acted(
+        PackedOperation::Act { leaf, line } => acted(
             act_at(running, leaf, line, fields, state),
             after,
             register,
         ),
-        Op::Stop => Ok(Step::Ended(Flow::Stopped)),
-        Op::Return => Ok(Step::Ended(Flow::Returned)),
+        PackedOperation::Stop => Ok(Step::Ended(Ending::Stopped)),
+        PackedOperation::Return => Ok(Step::Ended(Ending::Returned)),
     }
 }
 
@@ -150,11 +150,11 @@ fn act_at<L: Library>(
     place: u32,
     line: u32,
     fields: &mut FieldCache<'_>,
-    state: &mut State,
-) -> Result<Flow, AllocError>
+    state: &mut RunState,
+) -> Result<Ending, AllocError>
     requires { fields.old ≡ (delivery_as running.now.delivery.now).arrival }
     ensures arrival { fields.new ≡ fields.old }
-    ensures ending { IfOk result (λ flow. ending_by flow (state_of state.new) ≡ act_of
+    ensures ending { IfOk result (λ ending. ending_by ending (state_of state.new) ≡ act_of
         (library_of (L.profile running.now.lib.now) (L.texts running.now.lib.now)) running.now.depth
         (delivery_as running.now.delivery.now) (leaf_at (pool_of running.now.code.now) place)
         line (state_of state.old)) }
@@ -172,11 +172,11 @@ fn act<L: Library>(
     leaf: &PackedLeaf,
     line: u32,
     fields: &mut FieldCache<'_>,
-    state: &mut State,
-) -> Result<Flow, AllocError>
+    state: &mut RunState,
+) -> Result<Ending, AllocError>
     requires { fields.old ≡ (delivery_as running.now.delivery.now).arrival }
     ensures arrival { fields.new ≡ fields.old }
-    ensures ending { IfOk result (λ flow. ending_by flow (state_of state.new) ≡ act_of
+    ensures ending { IfOk result (λ ending. ending_by ending (state_of state.new) ≡ act_of
         (library_of (L.profile running.now.lib.now) (L.texts running.now.lib.now)) running.now.depth
         (delivery_as running.now.delivery.now) (leaf_in (pool_of running.now.code.now) leaf.now)
         line (state_of state.old)) }
@@ -247,11 +247,11 @@ fn include_named<L: Library>(
     name: &Literal,
     inclusion: Inclusion,
     fields: &mut FieldCache<'_>,
-    state: &mut State,
-) -> Result<Flow, AllocError>
+    state: &mut RunState,
+) -> Result<Ending, AllocError>
     requires { fields.old ≡ (delivery_as running.now.delivery.now).arrival }
     ensures arrival { fields.new ≡ fields.old }
-    ensures ending { IfOk result (λ flow. ending_by flow (state_of state.new) ≡ included
+    ensures ending { IfOk result (λ ending. ending_by ending (state_of state.new) ≡ included
         (library_of (L.profile running.now.lib.now) (L.texts running.now.lib.now)) running.now.depth
         (delivery_as running.now.delivery.now) (record { location = location; name = name.now })
         inclusion.once inclusion.optional inclusion.line (state_of state.old)) }
@@ -270,15 +270,15 @@ fn execute_inside<L: Library>(
     name: &ScriptName,
     code: &Code,
     fields: &mut FieldCache<'_>,
-    state: &mut State,
-) -> Result<Flow, AllocError>
+    state: &mut RunState,
+) -> Result<Ending, AllocError>
     requires { fields.old ≡ (delivery_as running.now.delivery.now).arrival }
     ensures arrival { fields.new ≡ fields.old }
-    ensures ending { IfOk result (λ flow. doing (act_of
+    ensures ending { IfOk result (λ ending. doing (act_of
         (library_of (L.profile running.now.lib.now) (L.texts running.now.lib.now)) running.now.depth
         (inside name.now (delivery_as running.now.delivery.now)))
         (inside name.now (delivery_as running.now.delivery.now)) (code_walk (ops_of code.now)
-        (length (ops_of code.now))) (state_of state.old) ≡ ending_by flow (state_of state.new)) }
+        (length (ops_of code.now))) (state_of state.old) ≡ ending_by ending (state_of state.new)) }
 {
     let delivery = running.delivery;
     let including = including_next(delivery)?;
@@ -304,18 +304,18 @@ fn enter<L: Library>(
     name: &ScriptName,
     code: &Code,
     fields: &mut FieldCache<'_>,
-    state: &mut State,
-) -> Result<Flow, AllocError>
+    state: &mut RunState,
+) -> Result<Ending, AllocError>
     requires { fields.old ≡ (delivery_as running.now.delivery.now).arrival }
     ensures arrival { fields.new ≡ fields.old }
-    ensures ending { IfOk result (λ flow. ending_by flow (state_of state.new) ≡ enters
+    ensures ending { IfOk result (λ ending. ending_by ending (state_of state.new) ≡ enters
         (library_of (L.profile running.now.lib.now) (L.texts running.now.lib.now)) running.now.depth
         (delivery_as running.now.delivery.now) name.now (ops_of code.now) (state_of state.old)) }
 {
     let own = begin_included(running.delivery.alloc, name, state)?;
-    let flow = execute_inside(running, name, code, fields, state)?;
+    let ending = execute_inside(running, name, code, fields, state)?;
     state.values.resume(own);
-    Ok(resumed(flow))
+    Ok(resumed(ending))
 }
 
 /// Looks a script up, and does what an include does with what is found.
@@ -325,11 +325,11 @@ fn look_up<L: Library>(
     name: &ScriptName,
     inclusion: Inclusion,
     fields: &mut FieldCache<'_>,
-    state: &mut State,
-) -> Result<Flow, AllocError>
+    state: &mut RunState,
+) -> Result<Ending, AllocError>
     requires { fields.old ≡ (delivery_as running.now.delivery.now).arrival }
     ensures arrival { fields.new ≡ fields.old }
-    ensures ending { IfOk result (λ flow. ending_by flow (state_of state.new) ≡ looks_up
+    ensures ending { IfOk result (λ ending. ending_by ending (state_of state.new) ≡ looks_up
         (library_of (L.profile running.now.lib.now) (L.texts running.now.lib.now)) running.now.depth
         (delivery_as running.now.delivery.now) name.now inclusion.optional inclusion.line
         (state_of state.old)) }
@@ -341,7 +341,7 @@ fn look_up<L: Library>(
     match found {
         Found::Missing => {
             if inclusion.optional {
-                Ok(Flow::GoesOn)
+                Ok(Ending::GoesOn)
             } else {
                 fail(delivery, line, ErrorKind::MissingScript)
             }
@@ -359,11 +359,11 @@ fn include<L: Library>(
     name: &ScriptName,
     inclusion: Inclusion,
     fields: &mut FieldCache<'_>,
-    state: &mut State,
-) -> Result<Flow, AllocError>
+    state: &mut RunState,
+) -> Result<Ending, AllocError>
     requires { fields.old ≡ (delivery_as running.now.delivery.now).arrival }
     ensures arrival { fields.new ≡ fields.old }
-    ensures ending { IfOk result (λ flow. ending_by flow (state_of state.new) ≡ included
+    ensures ending { IfOk result (λ ending. ending_by ending (state_of state.new) ≡ included
         (library_of (L.profile running.now.lib.now) (L.texts running.now.lib.now)) running.now.depth
         (delivery_as running.now.delivery.now) name.now inclusion.once inclusion.optional
         inclusion.line (state_of state.old)) }
@@ -371,7 +371,7 @@ fn include<L: Library>(
     let delivery = running.delivery;
     let line = inclusion.line as u64;
     if inclusion.once && is_script(name, state.entered.as_slice()) {
-        return Ok(Flow::GoesOn);
+        return Ok(Ending::GoesOn);
     }
     if is_running(name, delivery) {
         return fail(delivery, line, ErrorKind::RecursiveInclude);

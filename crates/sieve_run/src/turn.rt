@@ -1,9 +1,9 @@
 //! A turn of a run: the step that an operation takes.
 ghost use Rattle.std.specs.Prelude.{◌≡◌, IfOk};
 ghost use Rattle.sieve_run.specs.declared.turn.Step.TheVariants.{Next};
-ghost use Rattle.sieve_run.specs.view.Step.{Follows, step_after};
+ghost use Rattle.sieve_run.specs.view.Step.{StepFollows, step_after};
 
-use sieve_delivery::Flow;
+use sieve_delivery::Ending;
 use std::alloc::AllocError;
 
 /// How an operation ended.
@@ -12,7 +12,7 @@ pub(crate) enum Step {
     /// The script goes on at a place, with a truth in the register.
     Next { place: usize, register: bool },
     /// The script ended so.
-    Ended(Flow),
+    Ended(Ending),
 }
 
 /// On at a place, with a truth in the register.
@@ -23,31 +23,31 @@ pub(crate) fn proceed(register: bool, place: usize) -> Step
 }
 
 /// The step after a command that ended so, where this is the place after its operation's.
-fn step_after(flow: Flow, after: usize, register: bool) -> Step
-    ensures { result ≡ step_after flow after register }
+fn step_after(ending: Ending, after: usize, register: bool) -> Step
+    ensures { result ≡ step_after ending after register }
 {
-    match flow {
-        Flow::GoesOn => proceed(register, after),
-        Flow::Returned => Step::Ended(Flow::Returned),
-        Flow::Stopped => Step::Ended(Flow::Stopped),
-        Flow::Failed(error) => Step::Ended(Flow::Failed(error)),
+    match ending {
+        Ending::GoesOn => proceed(register, after),
+        Ending::Returned => Step::Ended(Ending::Returned),
+        Ending::Stopped => Step::Ended(Ending::Stopped),
+        Ending::Failed(error) => Step::Ended(Ending::Failed(error)),
     }
 }
 
 /// The step after a test, where its call gave its truth.
 pub(crate) fn tested(truth: Result<bool, AllocError>, after: usize) -> Result<Step, AllocError>
-    ensures { IfOk result (Follows truth (λ truth. Next after truth)) }
+    ensures { IfOk result (StepFollows truth (λ truth. Next after truth)) }
 {
     Ok(proceed(truth?, after))
 }
 
 /// The step after a command, where its call says how it ended.
 pub(crate) fn acted(
-    flow: Result<Flow, AllocError>,
+    ending: Result<Ending, AllocError>,
     after: usize,
     register: bool,
 ) -> Result<Step, AllocError>
-    ensures { IfOk result (Follows flow (λ flow. step_after flow after register)) }
+    ensures { IfOk result (StepFollows ending (λ ending. step_after ending after register)) }
 {
-    Ok(step_after(flow?, after, register))
+    Ok(step_after(ending?, after, register))
 }

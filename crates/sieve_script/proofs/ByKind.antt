@@ -40,7 +40,7 @@ pub first_of_three : {A : Type 0} (a b c : Option A) → first_or (first_or a b)
 first_of_three None b c = refl
 first_of_three (Some a) b c = refl
 
--- ANOTHER TAG BEHIND OTHERS
+-- ANOTHER TAG AFTER OTHERS
 
 -- an argument that is no tag changes nothing
 pub no_tag : (tags : Tags) (label : Label) → ((k : TagKind) → tag_at k label ≡ None) → tags ≡ (λ k. first_or (tags k) (tag_at k label))

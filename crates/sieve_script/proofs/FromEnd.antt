@@ -21,6 +21,6 @@ module _ {X Y Z : Type 0} (f : X → Z) (put : Z → Y → Y) where
   last [] x after = refl
   last (y ∷ xs) x after = ap (put (f y)) (last xs x after)
 
-  -- what is pushed to a list in order stands after its other items
+  -- an item that is pushed to a list in order stands after its other items
   pub put_last : (xs new : List X) (x : X) (after : Y) → new ≡ xs ++ x ∷ [] → put_all put (map f new) after ≡ put_all put (map f xs) (put (f x) after)
   put_last xs new x after is = ap (λ l. put_all put (map f l) after) is ∙ last xs x after

@@ -21,7 +21,7 @@ never_both e = cc
 not_both : false ≡ true → ⊥
 not_both e = cc
 
--- WHAT IS EXPECTED BEHIND AN ARGUMENT
+-- ARGUMENTS THAT ARE EXPECTED AFTER ONE
 
 abbrev after_one : Option Shape → List Slot → Expected
 after_one before slots = record { awaited = taken_by before; slots = slots }
@@ -162,7 +162,7 @@ own_label (Some (Own own)) slot is = cc
 own_label (Some (InSlot other)) slot is = cc
 own_label (Some Unfit) slot is = cc
 
--- where an argument fits the slot that is taken, the slot found is that one, and the argument fits its form
+-- where a slot is found, it is the one that is taken, and the argument fits its form
 fitting_is : (own : Option Slot) (looks : Shape) (slot : Slot) → fitting own looks ≡ Some slot → (own ≡ Some slot) × (fits slot.form looks ≡ true)
 fitting_is None looks slot is = cc
 fitting_is (Some own) looks slot is = by_fit (fits own.form looks) refl is

@@ -14,6 +14,7 @@ positional_row = refl
 own_row : IsOwn (shape.Tag (Some tag.Comparator) ∷ shape.Text ∷ shape.Tag (Some tag.Is) ∷ shape.Text ∷ shape.Texts ∷ []) 1 (slot form.One role.ComparatorName)
 own_row = record { before = 0; next = refl; tag = tag.Comparator; tagged = refl; takes = refl; looks = shape.Text; there = refl; fit = refl }
 
--- header :comparator ["i;octet"] "a" "b": a list is no comparator, so it is the first of three positional arguments
+-- header :comparator ["i;octet"] "a" "b": a list is no comparator, so it is
+-- the first positional argument
 three_row : positional_of (shape.Tag (Some tag.Comparator) ∷ shape.Texts ∷ shape.Text ∷ shape.Text ∷ []) ≡ shape.Texts ∷ shape.Text ∷ shape.Text ∷ []
 three_row = refl

@@ -1,5 +1,8 @@
--- How a command is read (RFC 5228, sections 3 and 4; RFC 5229, section 4; RFC 5232, sections 3 and 5; RFC 6609, section 3; RFC 3894,
--- section 3; RFC 5490, section 3.2; RFC 8579, section 4; RFC 5230, section 4; RFC 5429, section 2), by its arguments and their labels.
+-- How a command is read, by its arguments and their labels (RFC 5228, sections 3 and 4). Extensions
+-- add `set` (RFC 5229, section 4), flags (RFC 5232, sections 3 and 5) and `:copy` (RFC 3894,
+-- section 3). They add `include` and `return` (RFC 6609, section 3), `:create` (RFC 5490,
+-- section 3.2) and `:specialuse` (RFC 8579, section 4). They add `vacation` (RFC 5230, section 4),
+-- `reject` and `ereject` (RFC 5429, section 2).
 use Rattle.std.specs.Prelude.{List, Option, Some, None}
 use Rattle.script_names.specs.declared.location.Location.{Location}
 use Rattle.script_names.specs.declared.location.Location.TheVariants.{Personal, Global}
@@ -21,7 +24,8 @@ use Rattle.sieve_variables.specs.declared.modifier.Modifiers.{Modifiers}
 use Rattle.sieve_script.specs.Given.{Tags, tags_of, in_role, texts_in, given_texts, text_in, given_text, given_number, variable_in, given_variable, literal_in, has_tag}
 use Rattle.sieve_script.specs.Reading.{Settings, Leaf, keep_leaf, fileinto_leaf, redirect_leaf, discard_leaf, set_leaf, flag_leaf, include_leaf, vacation_leaf, reject_leaf, CommandReading, reads_if, reads_elsif, reads_else, reads_stop, reads_return, reads_nothing, reads_act}
 
--- what a `fileinto` says beside its mailbox (RFC 5232, section 5; RFC 3894, section 3; RFC 5490, section 3.2; RFC 8579, section 4)
+-- The settings of a `fileinto`: its flags (RFC 5232, section 5), and `:copy` (RFC 3894, section 3).
+-- It may also have `:create` (RFC 5490, section 3.2) and a special use (RFC 8579, section 4).
 abbrev pub settings_by : List Label → List CutArgument → Settings
 settings_by labels args = record {
   flags = given_texts (in_role role.Flags labels args);
@@ -30,19 +34,19 @@ settings_by labels args = record {
   special_use = given_text (in_role role.Text labels args);
 }
 
--- what a `keep` does (RFC 5228, section 4.3; RFC 5232, section 5)
+-- the reading of a `keep` (RFC 5228, section 4.3; RFC 5232, section 5)
 abbrev pub keep_by : List Label → List CutArgument → Leaf
 keep_by labels args = keep_leaf (given_texts (in_role role.Flags labels args))
 
--- what a `fileinto` does (RFC 5228, section 4.1)
+-- the reading of a `fileinto` (RFC 5228, section 4.1)
 abbrev pub fileinto_by : List Label → List CutArgument → Leaf
 fileinto_by labels args = fileinto_leaf (text_in (in_role role.Mailbox labels args)) (settings_by labels args)
 
--- what a `redirect` does (RFC 5228, section 4.2; RFC 3894, section 3)
+-- the reading of a `redirect` (RFC 5228, section 4.2; RFC 3894, section 3)
 abbrev pub redirect_by : List Label → List CutArgument → Leaf
 redirect_by labels args = redirect_leaf (text_in (in_role role.Address labels args)) (has_tag kind.Copy (tags_of labels))
 
--- the case that a modifier makes (RFC 5229, section 4.1.3)
+-- the case of letters that a modifier makes (RFC 5229, section 4.1.3)
 abbrev pub case_by : Option Tag → Option LetterCase
 case_by (Some tag.Lower) = Some letter_case.Lower
 case_by (Some tag.Upper) = Some letter_case.Upper
@@ -59,15 +63,16 @@ modifiers_of tags = record {
   length = has_tag kind.Length tags;
 }
 
--- what a `set` does (RFC 5229, section 4)
+-- the reading of a `set` (RFC 5229, section 4)
 abbrev pub set_by : List Label → List CutArgument → Leaf
 set_by labels args = set_leaf (variable_in (in_role role.NameToSet labels args)) (modifiers_of (tags_of labels)) (text_in (in_role role.Text labels args))
 
--- what `setflag`, `addflag` and `removeflag` do (RFC 5232, section 3)
+-- the reading of `setflag`, `addflag` and `removeflag` (RFC 5232, section 3)
 abbrev pub flags_by : FlagChange → List Label → List CutArgument → Leaf
 flags_by how labels args = flag_leaf how (given_variable (in_role role.NameToSet labels args)) (texts_in (in_role role.Flags labels args))
 
--- the location of a script that is included, which is the personal one where none is named (RFC 6609, section 3.2)
+-- the location of a script that is included; the personal one where none is named
+-- (RFC 6609, section 3.2)
 abbrev pub location_by : Option Tag → Location
 location_by (Some tag.Global) = Global
 location_by other = Personal
@@ -75,12 +80,12 @@ location_by other = Personal
 unfoldable pub location_of : Tags → Location
 location_of tags = location_by (tags kind.Location)
 
--- what an `include` does (RFC 6609, section 3.2)
+-- the reading of an `include` (RFC 6609, section 3.2)
 abbrev pub include_by : List Label → List CutArgument → Leaf
 include_by labels args =
     include_leaf (location_of (tags_of labels)) (has_tag kind.Once (tags_of labels)) (has_tag kind.Optional (tags_of labels)) (literal_in (in_role role.ScriptName labels args))
 
--- what a `vacation` does (RFC 5230, section 4)
+-- the reading of a `vacation` (RFC 5230, section 4)
 abbrev pub vacation_by : List Label → List CutArgument → Leaf
 vacation_by labels args = vacation_leaf (record {
   reason = text_in (in_role role.Text labels args);
@@ -92,11 +97,11 @@ vacation_by labels args = vacation_leaf (record {
   handle = given_text (in_role role.Handle labels args);
 })
 
--- what `reject` and `ereject` do (RFC 5429, sections 2, 2.1 and 2.2)
+-- the reading of `reject` and `ereject` (RFC 5429, sections 2, 2.1 and 2.2)
 abbrev pub reject_by : Rejection → List Label → List CutArgument → Leaf
 reject_by how labels args = reject_leaf how (text_in (in_role role.Text labels args))
 
--- what a command of a kind is with these arguments
+-- the reading of a command of a kind, by its arguments and their labels
 abbrev pub command_reading_by : CommandKind → List Label → List CutArgument → CommandReading
 command_reading_by command.Require labels args = reads_nothing
 command_reading_by command.If labels args = reads_if

@@ -1,5 +1,5 @@
--- An argument whose strings are cut into parts (RFC 5229, section 3): what a command or a test is
--- read by, beside the labels of its arguments.
+-- An argument whose strings are cut into parts (RFC 5229, section 3). A command or a test is read
+-- by such arguments, beside their labels.
 use Rattle.std.specs.Prelude.{ℕ, List, Option}
 use Rattle.sieve_variables.specs.Part.{Part}
 

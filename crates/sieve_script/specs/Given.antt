@@ -1,5 +1,6 @@
--- What the arguments of a command or a test give, by their labels, by which the rules and the cut of strings go too. Any arguments give
--- something: what isn't given is empty, or what counts by default.
+-- The values that the arguments of a command or a test give, by their labels. The rules and the
+-- cut of strings go by these labels too. Any arguments give a value: one that isn't given is
+-- empty, or the default.
 use Rattle.std.specs.Prelude.{ℕ, Bool, false, List, [], ◌∷◌, Option, Some, None, is_some, drop, if◌then◌else◌}
 use Rattle.match_text.specs.Comparator.{collation_named}
 use Rattle.match_text.specs.declared.comparators.Collation.{Collation}
@@ -37,26 +38,28 @@ abbrev pub texts_in : Option CutArgument → List (List Part)
 texts_in (Some (cut_strings texts)) = texts
 texts_in other = []
 
--- the strings of an argument that may be left out
+-- the strings of an argument that may be left out; none where it is left out
 abbrev pub given_texts : Option CutArgument → Option (List (List Part))
 given_texts None = None
 given_texts (Some a) = Some (texts_in (Some a))
 
--- the string of an argument, which is the first where it has several
+-- the first of some strings; no parts where there are none
 abbrev pub first_text : List (List Part) → List Part
 first_text [] = []
 first_text (text ∷ texts) = text
 
+-- the string of an argument, which is the first where it has several; no parts where it has none
 abbrev pub text_in : Option CutArgument → List Part
 text_in argument = first_text (texts_in argument)
 
--- the string of an argument that may be left out
+-- the string of an argument that may be left out; none where it is left out
 abbrev pub given_text : Option CutArgument → Option (List Part)
 given_text None = None
 given_text (Some a) = Some (text_in (Some a))
 
--- The variable that parts name. What is set is such a variable, and no match variable (RFC 5229, section 4; RFC 5232, section 3). Other
--- parts name the one without a name, which no script has.
+-- The variable that parts name, where they are one variable. A script sets such a variable, and no
+-- match variable (RFC 5229, section 4; RFC 5232, section 3). Other parts name the variable without
+-- a name, which no script has.
 abbrev pub variable_in_parts : List Part → Variable
 variable_in_parts (variable_part variable ∷ []) = variable
 variable_in_parts other = local_variable []
@@ -65,7 +68,7 @@ variable_in_parts other = local_variable []
 abbrev pub variable_in : Option CutArgument → Variable
 variable_in argument = variable_in_parts (text_in argument)
 
--- the variable that an argument names that may be left out
+-- the variable that an argument names; none where the argument is left out
 abbrev pub given_variable : Option CutArgument → Option Variable
 given_variable None = None
 given_variable (Some a) = Some (variable_in (Some a))
@@ -80,22 +83,22 @@ abbrev pub literal_or_nothing : Option (List ℕ) → List ℕ
 literal_or_nothing None = []
 literal_or_nothing (Some octets) = octets
 
--- the octets of an argument whose string stands for itself
+-- the octets of an argument whose first string is one literal; none for others
 abbrev pub literal_in : Option CutArgument → List ℕ
 literal_in argument = literal_or_nothing (literal_in_parts (text_in argument))
 
--- the number that an argument is
+-- the number of an argument; 0 where it has none
 abbrev pub number_in : Option CutArgument → ℕ
 number_in (Some (cut_number (Some value))) = value
 number_in other = 0
 
--- the number that an argument is that may be left out
+-- the number of an argument that may be left out; none where it is left out
 abbrev pub given_number : Option CutArgument → Option ℕ
 given_number None = None
 given_number (Some a) = Some (number_in (Some a))
 
--- the comparator, which is `i;ascii-casemap` where none is named (RFC 5228, section 2.7.3), and where a name isn't known, which a script without
--- a breach doesn't have
+-- The comparator, which is `i;ascii-casemap` where none is named (RFC 5228, section 2.7.3). It is
+-- so too where a name isn't known, which a script without a breach doesn't have.
 abbrev pub collation_or_casemap : Option Collation → Collation
 collation_or_casemap None = Casemap
 collation_or_casemap (Some collation) = collation
@@ -103,8 +106,9 @@ collation_or_casemap (Some collation) = collation
 abbrev pub collation_by : Option CutArgument → Collation
 collation_by argument = collation_or_casemap (collation_named (literal_in argument))
 
--- The relation. Without `:value` and `:count` (RFC 5231, section 4) none is named, and none is asked for; that equality stands there then,
--- and where a word isn't known, which a script without a breach doesn't have, says nothing.
+-- The relation that is named. Without `:value` and `:count` none is named, and the match type has
+-- none (RFC 5231, section 4). Equality stands there then, and no match type looks at it. It also
+-- stands there where a word isn't known, which a script without a breach doesn't have.
 abbrev pub relation_or_eq : Option Relation → Relation
 relation_or_eq None = Eq
 relation_or_eq (Some relation) = relation
@@ -114,7 +118,7 @@ relation_by argument = relation_or_eq (relation_named (literal_in argument))
 
 -- TAGS
 
--- a tag of that kind
+-- whether a label is that of a tag of that kind
 abbrev pub is_of_kind : TagKind → Label → Bool
 is_of_kind k (Tagged taken) = same_kind k (tag_row taken).kind
 is_of_kind k other = false
@@ -124,7 +128,7 @@ abbrev pub tag_at : TagKind → Label → Option Tag
 tag_at k (Tagged taken) = if same_kind k (tag_row taken).kind then Some taken else None
 tag_at k other = None
 
--- the one that is there, or the other
+-- the first where there is one, or else the other
 abbrev pub first_or : {A : Type 0} → Option A → Option A → Option A
 first_or None other = other
 first_or (Some first) other = Some first
@@ -141,7 +145,8 @@ Tags = TagKind → Option Tag
 abbrev pub tags_of : List Label → Tags
 tags_of labels = λ k. tag_given k labels
 
--- the match type, which is `:is` where none is given (RFC 5228, section 2.7.1); two of them go by a relation (RFC 5231, section 4)
+-- The match type, which is `:is` where none is given (RFC 5228, section 2.7.1). `:value` and
+-- `:count` go by a relation (RFC 5231, section 4).
 abbrev pub match_type_by : Option Tag → Relation → MatchType
 match_type_by (Some tag.Contains) relation = Contains
 match_type_by (Some tag.Matches) relation = Matches
@@ -152,7 +157,8 @@ match_type_by other relation = Is
 unfoldable pub match_type_of : Tags → Relation → MatchType
 match_type_of tags relation = match_type_by (tags kind.MatchType) relation
 
--- the part of an address, which is all of it where none is named (RFC 5228, section 2.7.4; RFC 5233, section 4)
+-- the part of an address; all of it where none is named (RFC 5228, section 2.7.4;
+-- RFC 5233, section 4)
 abbrev pub address_part_by : Option Tag → AddressPart
 address_part_by (Some tag.LocalPart) = part.Local
 address_part_by (Some tag.Domain) = part.Domain

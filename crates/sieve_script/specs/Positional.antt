@@ -1,5 +1,6 @@
--- Which arguments are tags' own and which are positional (RFC 5228, section 2.6), and whether positional ones are as slots say. All goes by
--- the shapes of arguments: by that of an argument, and by that of the one right before it.
+-- Which arguments are tags' own and which are positional (RFC 5228, section 2.6). Also, whether
+-- positional ones are as slots say. An argument's shape and that of the one right before it
+-- decide which it is.
 use Rattle.std.specs.Prelude.{◌≡◌, ℕ, zero, suc, Bool, true, false, not, ◌||◌, List, [], ◌∷◌, Option, Some, None, slice_get, if◌then◌else◌}
 use lib.Pointwise.{pointwise}
 use Rattle.sieve_table.specs.Table.{tag_row}
@@ -13,8 +14,8 @@ use Rattle.sieve_table.specs.declared.table.Tag.{Tag}
 
 -- TAGS' OWN ARGUMENTS
 
--- The argument at a place is a tag's own: the one right before it is a tag that takes an argument, and it fits the tag's form (RFC 5228,
--- section 2.6.2). A tag fits no form.
+-- The argument at a place is a tag's own (RFC 5228, section 2.6.2). The one right before it is a
+-- tag that takes an argument, and it fits the tag's form. A tag fits no form.
 pub record IsOwn (shapes : List Shape) (place : ℕ) (slot : Slot) : Type 0 where
   pub before : ℕ
   pub next : place ≡ suc before
@@ -25,7 +26,7 @@ pub record IsOwn (shapes : List Shape) (place : ℕ) (slot : Slot) : Type 0 wher
   pub there : slice_get shapes place ≡ Some looks
   pub fit : fits slot.form looks ≡ true
 
--- what an argument takes itself, where it is a tag that takes one
+-- the slot of the argument that a tag takes itself, where this is a tag that takes one
 abbrev pub taken_by : Option Shape → Option Slot
 taken_by None = None
 taken_by (Some shape.Text) = None
@@ -44,7 +45,8 @@ abbrev pub is_tag_shape : Shape → Bool
 is_tag_shape (shape.Tag taken) = true
 is_tag_shape other = false
 
--- an argument that is no tag, and not what the one right before it takes (RFC 5228, section 2.6.1)
+-- an argument that is no tag, and that the one right before it doesn't take
+-- (RFC 5228, section 2.6.1)
 abbrev pub is_positional : (before : Option Shape) → Shape → Bool
 is_positional before looks = not (is_tag_shape looks || fits_taken (taken_by before) looks)
 
@@ -72,11 +74,12 @@ abbrev pub at_slot : Option Slot → Shape → Label
 at_slot None looks = Unfit
 at_slot (Some slot) looks = if fits slot.form looks then InSlot slot else Unfit
 
--- whether there are as many as slots, and each fits the form of its slot
+-- whether there are as many arguments as slots, and each fits the form of its slot
 abbrev pub fit_one_by_one : List Slot → List Shape → Bool
 fit_one_by_one slots positional = pointwise (λ slot looks. fits slot.form looks) slots positional
 
--- the slots of a row for such positional arguments: the longer row, with the slot in front, exactly where they fit it one by one
+-- The slots of a row for such positional arguments. The longer row, with the slot in front, counts
+-- exactly where they fit it one by one.
 abbrev pub meant_slots : (front : Option Slot) → List Slot → List Shape → List Slot
 meant_slots None slots positional = slots
 meant_slots (Some front) slots positional = if fit_one_by_one (front ∷ slots) positional then front ∷ slots else slots

@@ -1,10 +1,10 @@
--- What an argument is for, by its label.
+-- The role of an argument, by its label.
 use Rattle.std.specs.Prelude.{List, [], ◌∷◌, Option, Some, None}
 use Rattle.sieve_script.specs.declared.label.Label.{Label}
 use Rattle.sieve_script.specs.declared.label.Label.TheVariants.{Own, InSlot}
 use Rattle.sieve_table.specs.declared.row.Role.{Role}
 
--- the role of an argument
+-- the role of an argument; tags and arguments that don't fit have none
 abbrev pub role_of : Label → Option Role
 role_of (Own slot) = Some slot.role
 role_of (InSlot slot) = Some slot.role

@@ -22,9 +22,9 @@ shape_of tags (tag name line) = shape.Tag (tag_named tags name)
 abbrev pub shapes_of : List Tag → List Argument → List Shape
 shapes_of tags args = map (shape_of tags) args
 
--- WHERE A BENCH OF A PROFILE READS THEM
--- A tag that it doesn't know is another tag, and takes no argument.
+-- AS A BENCH OF A PROFILE READS THEM
 
+-- a tag that the bench doesn't know is another tag, and takes no argument
 abbrev pub known_shape : Profile → Shape → Shape
 known_shape profile shape.Text = shape.Text
 known_shape profile shape.Texts = shape.Texts

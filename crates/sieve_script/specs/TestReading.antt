@@ -1,5 +1,7 @@
--- How a test is read (RFC 5228, section 5; RFC 5229, section 5; RFC 5232, section 4; RFC 5490, section 3.1; RFC 7352, section 3; RFC 5260,
--- sections 4 and 5; RFC 5173, section 4), by its arguments and their labels.
+-- How a test is read, by its arguments and their labels (RFC 5228, section 5). Extensions add
+-- `string` (RFC 5229, section 5), `hasflag` (RFC 5232, section 4) and `mailboxexists` (RFC 5490,
+-- section 3.1). They add `duplicate` (RFC 7352, section 3) and `body` (RFC 5173, section 4). They
+-- add `date` and `currentdate` (RFC 5260, sections 4 and 5).
 use Rattle.std.specs.Prelude.{ℕ, List, Option, None, Some}
 use Rattle.sieve_script.specs.CutArgument.{CutArgument}
 use Rattle.sieve_script.specs.declared.label.Label.{Label}
@@ -21,32 +23,32 @@ comparison_by labels args = record {
   collation = collation_by (in_role role.ComparatorName labels args);
 }
 
--- what a test asks that compares values with keys
+-- the question of a test that compares values with keys
 abbrev pub compares_by : ValueSource → List Label → List CutArgument → Ask
 compares_by source labels args = compares source (comparison_by labels args) (texts_in (in_role role.Keys labels args))
 
--- where a `header` test takes its values from (RFC 5228, section 5.7)
+-- where a `header` test takes values from (RFC 5228, section 5.7)
 abbrev pub header_source : List Label → List CutArgument → ValueSource
 header_source labels args = field_values None (texts_in (in_role role.FieldNames labels args))
 
--- an `address` test (RFC 5228, section 5.1)
+-- where an `address` test takes values from (RFC 5228, section 5.1)
 abbrev pub address_source : List Label → List CutArgument → ValueSource
 address_source labels args = field_values (Some (address_part_of (tags_of labels))) (texts_in (in_role role.AddressFields labels args))
 
--- an `envelope` test (RFC 5228, section 5.4)
+-- where an `envelope` test takes values from (RFC 5228, section 5.4)
 abbrev pub envelope_source : List Label → List CutArgument → ValueSource
 envelope_source labels args = envelope_values (address_part_of (tags_of labels)) (texts_in (in_role role.EnvelopeParts labels args))
 
--- a `string` test (RFC 5229, section 5)
+-- where a `string` test takes values from (RFC 5229, section 5)
 abbrev pub string_source : List Label → List CutArgument → ValueSource
 string_source labels args = string_values (texts_in (in_role role.Text labels args))
 
--- a `hasflag` test (RFC 5232, section 4)
+-- where a `hasflag` test takes values from (RFC 5232, section 4)
 abbrev pub flag_source : List Label → List CutArgument → ValueSource
 flag_source labels args = flag_values (given_texts (in_role role.NamesToRead labels args))
 
--- the zone in which a date is shown: that of the date under `:originalzone`, else the one that `:zone` names, and else the local one
--- (RFC 5260, section 4.1)
+-- The zone in which a date is shown (RFC 5260, section 4.1). It is that of the date under
+-- `:originalzone`, else the one that `:zone` names, and else the local one.
 abbrev pub zone_by : Option Tag → (named : Option (List Part)) → DateZone
 zone_by (Some tag.OriginalZone) named = original_zone
 zone_by other (Some zone) = named_zone zone
@@ -59,16 +61,17 @@ zone_of tags named = zone_by (tags kind.Zone) named
 abbrev pub date_zone : List Label → List CutArgument → DateZone
 date_zone labels args = zone_of (tags_of labels) (given_text (in_role role.Zone labels args))
 
--- a `date` test (RFC 5260, section 4)
+-- where a `date` test takes values from (RFC 5260, section 4)
 abbrev pub date_source : List Label → List CutArgument → ValueSource
 date_source labels args = date_values (date_zone labels args) (text_in (in_role role.FieldNames labels args)) (text_in (in_role role.DatePart labels args))
 
--- a `currentdate` test (RFC 5260, section 5)
+-- where a `currentdate` test takes values from (RFC 5260, section 5)
 abbrev pub clock_source : List Label → List CutArgument → ValueSource
 clock_source labels args = clock_values (date_zone labels args) (text_in (in_role role.DatePart labels args))
 
--- what is taken of a body: all of it under `:raw`, else what `:content` names, and else the texts (RFC 5173, sections 4 and 5); a script without
--- a breach has entries under `:content`, and nowhere else
+-- The part of a body that a test looks at (RFC 5173, sections 4 and 5). It is all of it under
+-- `:raw`, else the types that `:content` names, and else the texts. A script without a breach has
+-- entries under `:content`, and nowhere else.
 abbrev pub transform_by : Option Tag → (named : Option (List (List Part))) → BodyTransform
 transform_by (Some tag.Raw) named = raw_transform
 transform_by other (Some entries) = content_transform entries
@@ -77,15 +80,16 @@ transform_by other None = text_transform
 unfoldable pub transform_of : Tags → (named : Option (List (List Part))) → BodyTransform
 transform_of tags named = transform_by (tags kind.BodyTransform) named
 
--- a `body` test (RFC 5173, section 4)
+-- where a `body` test takes values from (RFC 5173, section 4)
 abbrev pub body_source : List Label → List CutArgument → ValueSource
 body_source labels args = body_values (transform_of (tags_of labels) (given_texts (in_role role.ContentTypes labels args)))
 
--- what an `exists` test asks (RFC 5228, section 5.5)
+-- the question of an `exists` test (RFC 5228, section 5.5)
 abbrev pub exists_by : List Label → List CutArgument → Ask
 exists_by labels args = exists_ask (texts_in (in_role role.FieldNames labels args))
 
--- what a `size` test asks (RFC 5228, section 5.9); without a bound, which no script without a breach lacks, as with `:over`
+-- The question of a `size` test (RFC 5228, section 5.9). Without a bound, which no script without a
+-- breach lacks, it is as with `:over`.
 abbrev pub bound_by : Option Tag → ℕ → Ask
 bound_by (Some tag.Under) limit = under_ask limit
 bound_by other limit = over_ask limit
@@ -96,11 +100,11 @@ bound_ask tags limit = bound_by (tags kind.Bound) limit
 abbrev pub size_by : List Label → List CutArgument → Ask
 size_by labels args = bound_ask (tags_of labels) (number_in (in_role role.Limit labels args))
 
--- what a `mailboxexists` test asks (RFC 5490, section 3.1)
+-- the question of a `mailboxexists` test (RFC 5490, section 3.1)
 abbrev pub mailboxes_by : List Label → List CutArgument → Ask
 mailboxes_by labels args = mailboxes_ask (texts_in (in_role role.Mailbox labels args))
 
--- what a test of a kind is with these arguments
+-- the reading of a test of a kind, by its arguments and their labels
 abbrev pub test_reading_by : TestKind → List Label → List CutArgument → TestReading
 test_reading_by test_kind.Header labels args = reads_ask (compares_by (header_source labels args) labels args)
 test_reading_by test_kind.Address labels args = reads_ask (compares_by (address_source labels args) labels args)

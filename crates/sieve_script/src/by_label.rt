@@ -1,4 +1,4 @@
-//! The arguments of a checked command or test by their labels. None of it takes memory.
+//! The arguments of a checked command or test, found by the roles that their labels give.
 ghost use Rattle.std.specs.Prelude.{◌≡◌, Some, false, map};
 ghost use Rattle.std.specs.Option.{option_map};
 ghost use Rattle.sieve_script.specs.Given.{first_or, in_role};
@@ -9,7 +9,7 @@ use crate::cut_argument::CutArgument;
 use crate::label::{Label, after_first, first_role};
 use sieve_table::{Role, has_role};
 
-/// The first argument in a role.
+/// The first argument in a role; `None` where no argument has it.
 pub(crate) fn argument_in<'a>(
     labels: &[Label],
     wanted: Role,
@@ -28,7 +28,7 @@ pub(crate) fn argument_in<'a>(
     None
 }
 
-/// The first argument in a role, to be kept.
+/// The first argument in a role, by value; `None` where no argument has it.
 pub(crate) fn into_argument(
     labels: &[Label],
     wanted: Role,
@@ -47,7 +47,7 @@ pub(crate) fn into_argument(
     None
 }
 
-/// The one that is there already, or the other.
+/// The first argument where there is one, or else the other.
 pub(crate) fn first_or(first: Option<CutArgument>, other: CutArgument) -> Option<CutArgument>
     ensures { option_map cut_as result
         ≡ first_or (option_map cut_as first) (Some (cut_as other)) }
@@ -58,7 +58,7 @@ pub(crate) fn first_or(first: Option<CutArgument>, other: CutArgument) -> Option
     }
 }
 
-/// The first arguments in each of two roles, to be kept.
+/// The first argument in each of two roles, by value. The roles must differ.
 pub(crate) fn into_arguments(
     labels: &[Label],
     wanted: Role,
@@ -75,8 +75,8 @@ pub(crate) fn into_arguments(
     (in_wanted, in_other)
 }
 
-/// The first arguments in each of three roles, to be kept. The last may be one of the others,
-/// and then has none.
+/// The first argument in each of three roles, by value. `wanted` and `other` must differ. `third`
+/// may be one of these, and then has no argument.
 pub(crate) fn into_three(
     labels: &[Label],
     wanted: Role,

@@ -1,5 +1,8 @@
-//! How a command is read (RFC 5228, sections 3 and 4; RFC 5229, section 4; RFC 5232, section 3; RFC 6609, section 3; RFC 5490,
-//! section 3.2; RFC 8579, section 4; RFC 5230, section 4; RFC 5429, section 2).
+//! How a command is read, by its arguments and their labels (RFC 5228, sections 3 and 4).
+//! Extensions add `set` (RFC 5229, section 4), flags (RFC 5232, sections 3 and 5) and `:copy`
+//! (RFC 3894, section 3). They add `include` and `return` (RFC 6609, section 3), `:create`
+//! (RFC 5490, section 3.2) and `:specialuse` (RFC 8579, section 4). They add `vacation` (RFC 5230,
+//! section 4), `reject` and `ereject` (RFC 5429, section 2).
 ghost use Rattle.std.specs.Prelude.{◌≡◌, false, IfOk, map};
 ghost use Rattle.std.specs.Option.{option_map};
 ghost use Rattle.sieve_script.specs.CommandReading as spec;
@@ -24,7 +27,7 @@ use sieve_table::{CommandKind, Role, Tag, TagKind};
 use sieve_variables::{LetterCase, Modifiers};
 use std::alloc::{AllocError, Global};
 
-/// What a `keep` does.
+/// Reads a `keep` (RFC 5228, section 4.3; RFC 5232, section 5).
 fn keep_leaf(alloc: Global, labels: &[Label], args: Vec<CutArgument>) -> ReadLeaf
     ensures { leaf_as result
         ≡ spec.keep_by labels.now (map cut_as args.items) }
@@ -34,7 +37,7 @@ fn keep_leaf(alloc: Global, labels: &[Label], args: Vec<CutArgument>) -> ReadLea
     Leaf::Keep { flags }
 }
 
-/// What a `fileinto` does.
+/// Reads a `fileinto` (RFC 5228, section 4.1).
 fn fileinto_leaf(alloc: Global, labels: &[Label], args: Vec<CutArgument>) -> ReadLeaf
     ensures { leaf_as result
         ≡ spec.fileinto_by labels.now (map cut_as args.items) }
@@ -57,7 +60,7 @@ fn fileinto_leaf(alloc: Global, labels: &[Label], args: Vec<CutArgument>) -> Rea
     Leaf::Fileinto { mailbox, settings }
 }
 
-/// What a `redirect` does.
+/// Reads a `redirect` (RFC 5228, section 4.2; RFC 3894, section 3).
 fn redirect_leaf(labels: &[Label], args: Vec<CutArgument>) -> ReadLeaf
     ensures { leaf_as result
         ≡ spec.redirect_by labels.now (map cut_as args.items) }
@@ -67,7 +70,7 @@ fn redirect_leaf(labels: &[Label], args: Vec<CutArgument>) -> ReadLeaf
     Leaf::Redirect { address, copy }
 }
 
-/// The case that a tag asks for.
+/// The case of letters that a tag asks for; `None` for any other tag, or none.
 fn case_by(tag: Option<Tag>) -> Option<LetterCase>
     ensures { result ≡ spec.case_by tag }
 {
@@ -93,7 +96,7 @@ fn modifiers_of(tags: Tags) -> Modifiers
     }
 }
 
-/// What a `set` does.
+/// Reads a `set` (RFC 5229, section 4).
 fn set_leaf(labels: &[Label], args: Vec<CutArgument>) -> ReadLeaf
     ensures { leaf_as result
         ≡ spec.set_by labels.now (map cut_as args.items) }
@@ -109,7 +112,7 @@ fn set_leaf(labels: &[Label], args: Vec<CutArgument>) -> ReadLeaf
     }
 }
 
-/// What a command does that changes flags.
+/// Reads a command that changes flags (RFC 5232, section 3).
 fn flags_leaf(
     alloc: Global,
     change: FlagChange,
@@ -129,7 +132,7 @@ fn flags_leaf(
     }
 }
 
-/// The location that a tag names, which is the personal one where none does.
+/// The location that a tag names; the personal one for any other tag, or none.
 fn location_by(tag: Option<Tag>) -> Location
     ensures { result ≡ spec.location_by tag }
 {
@@ -147,7 +150,7 @@ fn location_of(tags: Tags) -> Location
     location_by(tags.of(TagKind::Location))
 }
 
-/// What an `include` does.
+/// Reads an `include` (RFC 6609, section 3.2).
 fn include_leaf(labels: &[Label], args: Vec<CutArgument>) -> ReadLeaf
     ensures { leaf_as result
         ≡ spec.include_by labels.now (map cut_as args.items) }
@@ -162,7 +165,7 @@ fn include_leaf(labels: &[Label], args: Vec<CutArgument>) -> ReadLeaf
     }
 }
 
-/// What a command does that rejects the message.
+/// Reads a command that rejects the message (RFC 5429, section 2).
 fn reject_leaf(how: Rejection, labels: &[Label], args: Vec<CutArgument>) -> ReadLeaf
     ensures { leaf_as result
         ≡ spec.reject_by how labels.now (map cut_as args.items) }
@@ -171,8 +174,9 @@ fn reject_leaf(how: Rejection, labels: &[Label], args: Vec<CutArgument>) -> Read
     Leaf::Reject { how, reason }
 }
 
-/// What a command of that kind and with these arguments is, by their labels, apart from its test
-/// and its block. What is read has the strings of the arguments.
+/// Reads a command of a kind by its arguments and their labels, without its test and its
+/// block. The reading keeps the strings of the arguments. An error means that memory ran out;
+/// only a `vacation` takes any.
 pub fn read_command(
     alloc: Global,
     kind: CommandKind,

@@ -9,7 +9,7 @@ use crate::reading::TestReading;
 use crate::script::Condition;
 use std::alloc::{AllocError, Global};
 
-/// The first of some conditions. Without one it never holds.
+/// The first of some conditions; one that never holds where there are none.
 pub fn first_condition(conditions: Vec<Condition>) -> Condition
     ensures { condition_as result
         ≡ spec.first_condition (conditions_before conditions.items no_conditions) }
@@ -20,7 +20,7 @@ pub fn first_condition(conditions: Vec<Condition>) -> Condition
     }
 }
 
-/// Conditions in order with one more at their end.
+/// Conditions in order with one more at their end. An error means that memory ran out.
 pub fn with_condition(
     conditions: Vec<Condition>,
     condition: Condition,
@@ -33,7 +33,7 @@ pub fn with_condition(
     Ok(conditions)
 }
 
-/// Conditions in order as those of a condition, of which the last stands first.
+/// Conditions in order, turned around: the last stands first, as a condition keeps them.
 fn from_end(conditions: Vec<Condition>) -> Vec<Condition>
     ensures { conditions_as result.items ≡ conditions_before conditions.items no_conditions }
 {
@@ -42,7 +42,8 @@ fn from_end(conditions: Vec<Condition>) -> Vec<Condition>
     conditions
 }
 
-/// A test, by what it is read as and by the conditions of the tests in it, in order.
+/// The condition of a test, by its reading and the conditions of the tests in it, in order. An
+/// error means that memory ran out; only a `not` takes any.
 pub fn joined(
     alloc: Global,
     reading: TestReading,

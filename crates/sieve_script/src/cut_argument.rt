@@ -1,7 +1,7 @@
 //! An argument whose strings are cut into parts (RFC 5229, section 3).
 use sieve_variables::Parts;
 
-/// What a command or a test is read by, beside the labels of its arguments (RFC 5228, section 2.6).
+/// An argument by which a command or a test is read, beside its label (RFC 5228, section 2.6).
 #[derive(Drop)]
 pub enum CutArgument {
     /// Its strings, each as its parts.

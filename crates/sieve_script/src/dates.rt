@@ -28,7 +28,7 @@ struct Strings {
     keys: Option<CutArgument>,
 }
 
-/// The arguments that have strings, to be kept.
+/// The first argument in each of these roles, by value.
 fn into_strings(labels: &[Label], args: Vec<CutArgument>) -> Strings
     ensures zone { option_map cut_as result.zone
         ≡ in_role role.Zone labels.now (map cut_as args.items) }
@@ -65,7 +65,7 @@ fn into_strings(labels: &[Label], args: Vec<CutArgument>) -> Strings
     }
 }
 
-/// The zone in which a date is shown, by a tag and what `:zone` names.
+/// The zone in which a date is shown, by a tag and the zone that `:zone` names.
 fn zone_by(tag: Option<Tag>, named: Option<Parts>) -> DateZone<Parts>
     ensures { date_zone_as result ≡ spec.zone_by tag named }
 {
@@ -84,7 +84,7 @@ fn zone_of(tags: Tags, named: Option<Parts>) -> DateZone<Parts>
     zone_by(tags.of(TagKind::Zone), named)
 }
 
-/// What a `date` test asks.
+/// Reads a `date` test (RFC 5260, section 4).
 pub(crate) fn date_ask(alloc: Global, labels: &[Label], args: Vec<CutArgument>) -> ReadAsk
     ensures { ask_as result ≡ (let given = map cut_as args.items
         in spec.compares_by (spec.date_source labels.now given) labels.now given) }
@@ -108,7 +108,7 @@ pub(crate) fn date_ask(alloc: Global, labels: &[Label], args: Vec<CutArgument>) 
     }
 }
 
-/// What a `currentdate` test asks.
+/// Reads a `currentdate` test (RFC 5260, section 5).
 pub(crate) fn current_date_ask(alloc: Global, labels: &[Label], args: Vec<CutArgument>) -> ReadAsk
     ensures { ask_as result ≡ (let given = map cut_as args.items
         in spec.compares_by (spec.clock_source labels.now given) labels.now given) }

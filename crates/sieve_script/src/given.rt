@@ -1,4 +1,4 @@
-//! What the arguments of a command or a test give. None of it takes memory.
+//! The values that the arguments of a command or a test give, with defaults where none is given.
 ghost use Rattle.std.specs.Prelude.{◌≡◌, map};
 ghost use Rattle.std.specs.Option.{option_map};
 ghost use Rattle.sieve_script.specs.Given as spec;
@@ -14,7 +14,7 @@ use sieve_table::{Tag, TagKind};
 use sieve_variables::{Literal, Part, PartRef, Parts, Variable};
 use std::alloc::Global;
 
-/// The strings of an argument.
+/// The strings of an argument; none where it is missing, or no list of strings.
 pub(crate) fn texts_in(alloc: Global, argument: Option<CutArgument>) -> Vec<Parts>
     ensures { result.items ≡ spec.texts_in (option_map cut_as argument) }
 {
@@ -26,7 +26,7 @@ pub(crate) fn texts_in(alloc: Global, argument: Option<CutArgument>) -> Vec<Part
     }
 }
 
-/// The strings of an argument that may be left out.
+/// The strings of an argument that may be left out; `None` where it is left out.
 pub(crate) fn given_texts(alloc: Global, argument: Option<CutArgument>) -> Option<Vec<Parts>>
     ensures { option_map (λ texts. texts.items) result
         ≡ spec.given_texts (option_map cut_as argument) }
@@ -37,7 +37,7 @@ pub(crate) fn given_texts(alloc: Global, argument: Option<CutArgument>) -> Optio
     }
 }
 
-/// The first of some strings.
+/// The first of some strings; no parts where there are none.
 fn first_text(texts: Vec<Parts>) -> Parts
     ensures { result ≡ spec.first_text texts.items }
 {
@@ -47,7 +47,7 @@ fn first_text(texts: Vec<Parts>) -> Parts
     }
 }
 
-/// The string of an argument.
+/// The first string of an argument; no parts where it has none.
 pub(crate) fn text_in(argument: Option<CutArgument>) -> Parts
     ensures { result ≡ spec.text_in (option_map cut_as argument) }
 {
@@ -59,7 +59,7 @@ pub(crate) fn text_in(argument: Option<CutArgument>) -> Parts
     }
 }
 
-/// The string of an argument that may be left out.
+/// The first string of an argument that may be left out; `None` where it is left out.
 pub(crate) fn given_text(argument: Option<CutArgument>) -> Option<Parts>
     ensures { result ≡ spec.given_text (option_map cut_as argument) }
 {
@@ -69,7 +69,8 @@ pub(crate) fn given_text(argument: Option<CutArgument>) -> Option<Parts>
     }
 }
 
-/// The variable that parts name.
+/// The variable that parts name, where they are one variable. Other parts name the variable without
+/// a name, which no script has.
 fn variable_in_parts(parts: Parts) -> Variable
     ensures { result ≡ spec.variable_in_parts parts }
 {
@@ -86,7 +87,7 @@ pub(crate) fn variable_in(argument: Option<CutArgument>) -> Variable
     variable_in_parts(text_in(argument))
 }
 
-/// The variable that an argument names that may be left out.
+/// The variable that an argument names; `None` where the argument is left out.
 pub(crate) fn given_variable(argument: Option<CutArgument>) -> Option<Variable>
     ensures { result ≡ spec.given_variable (option_map cut_as argument) }
 {
@@ -96,7 +97,7 @@ pub(crate) fn given_variable(argument: Option<CutArgument>) -> Option<Variable>
     }
 }
 
-/// The octets of a string that is one literal. Takes no memory.
+/// The octets of parts that are one literal; `None` for other parts.
 pub fn literal_in_parts(parts: &[Part]) -> Option<&[u8]>
     ensures { option_map (λ octets. octets.now) result ≡ spec.literal_in_parts parts.now }
 {
@@ -110,7 +111,7 @@ pub fn literal_in_parts(parts: &[Part]) -> Option<&[u8]>
     }
 }
 
-/// The octets of an argument whose string stands for itself.
+/// The octets of an argument whose first string is one literal; none for others.
 pub(crate) fn literal_in(argument: Option<&CutArgument>) -> &[u8]
     ensures { result.now ≡ spec.literal_in (option_map (λ a. cut_as a.now) argument.entry) }
 {
@@ -128,7 +129,7 @@ pub(crate) fn literal_in(argument: Option<&CutArgument>) -> &[u8]
     }
 }
 
-/// The octets of parts that are one literal; others have none.
+/// The octets of parts that are one literal; none for other parts.
 fn into_literal(parts: Parts) -> Literal
     ensures { result ≡ spec.literal_or_nothing (spec.literal_in_parts parts) }
 {
@@ -138,14 +139,14 @@ fn into_literal(parts: Parts) -> Literal
     }
 }
 
-/// The octets of an argument whose string stands for itself, to be kept.
+/// The octets of an argument whose first string is one literal, by value; none for others.
 pub(crate) fn name_in(argument: Option<CutArgument>) -> Literal
     ensures { result ≡ spec.literal_in (option_map cut_as argument) }
 {
     into_literal(text_in(argument))
 }
 
-/// The number that an argument is.
+/// The number of an argument; 0 where it has none, or one past `u64::MAX`.
 pub(crate) fn number_in(argument: Option<&CutArgument>) -> u64
     ensures { result ≡ spec.number_in (option_map (λ a. cut_as a.now) argument.entry) }
 {
@@ -158,7 +159,7 @@ pub(crate) fn number_in(argument: Option<&CutArgument>) -> u64
     }
 }
 
-/// The number that an argument is that may be left out.
+/// The number of an argument that may be left out; `None` where it is left out.
 pub(crate) fn given_number(argument: Option<&CutArgument>) -> Option<u64>
     ensures { result ≡ spec.given_number (option_map (λ a. cut_as a.now) argument.entry) }
 {
@@ -168,7 +169,7 @@ pub(crate) fn given_number(argument: Option<&CutArgument>) -> Option<u64>
     }
 }
 
-/// The comparator of a test, which is `i;ascii-casemap` where none is named.
+/// The comparator that an argument names; `i;ascii-casemap` where it names none.
 pub(crate) fn collation_by(argument: Option<&CutArgument>) -> Collation
     ensures { result ≡ spec.collation_by (option_map (λ a. cut_as a.now) argument.entry) }
 {
@@ -178,7 +179,7 @@ pub(crate) fn collation_by(argument: Option<&CutArgument>) -> Collation
     }
 }
 
-/// The relation that an argument names, which is that of equality where none does.
+/// The relation that an argument names; that of equality where it names none.
 fn relation_by(argument: Option<&CutArgument>) -> Relation
     ensures { result ≡ spec.relation_by (option_map (λ a. cut_as a.now) argument.entry) }
 {
@@ -188,7 +189,8 @@ fn relation_by(argument: Option<&CutArgument>) -> Relation
     }
 }
 
-/// The match type that a tag names, with the relation that is given beside, which is `:is` where none does.
+/// The match type that a tag names; `:is` for any other tag, or none. `:value` and
+/// `:count` take the relation.
 fn match_type_by(tag: Option<Tag>, relation: Option<&CutArgument>) -> MatchType
     ensures { result ≡ spec.match_type_by tag
         (spec.relation_by (option_map (λ a. cut_as a.now) relation.entry)) }
@@ -211,7 +213,7 @@ pub(crate) fn match_type_of(tags: Tags, relation: Option<&CutArgument>) -> Match
     match_type_by(tags.of(TagKind::MatchType), relation)
 }
 
-/// The part of an address that a tag names, which is all of it where none does.
+/// The part of an address that a tag names; all of it for any other tag, or none.
 fn address_part_by(tag: Option<Tag>) -> AddressPart
     ensures { result ≡ spec.address_part_by tag }
 {

@@ -1,4 +1,4 @@
-//! What each argument is to its command or test (RFC 5228, section 2.6).
+//! The labels of the arguments of a command or a test (RFC 5228, section 2.6).
 ghost use Rattle.std.specs.Prelude.{◌≡◌, None, Some, drop, slice_get};
 ghost use Rattle.sieve_script.specs.Label.{expected_after, expecting, fits, label_at, slot_label, is_unfit};
 ghost use Rattle.sieve_script.specs.Role.{first_role, role_of};
@@ -6,10 +6,10 @@ ghost use Rattle.sieve_script.specs.view.Expected.{expected_as, put_before, own_
 
 use sieve_table::{Form, Role, Slot, Tag};
 
-/// What an argument looks like, where some tags are taken (RFC 5228, section 2.6).
+/// The shape of an argument, where some tags are taken (RFC 5228, section 2.6).
 #[derive(Clone, Copy)]
 pub enum Shape {
-    /// A tag: which of those that are taken, or another.
+    /// A tag: one of those that are taken, or `None` for another.
     Tag(Option<Tag>),
     /// One string without brackets.
     Text,
@@ -19,25 +19,25 @@ pub enum Shape {
     Number,
 }
 
-/// What an argument is (RFC 5228, sections 2.6.1 and 2.6.2).
+/// The label of an argument (RFC 5228, sections 2.6.1 and 2.6.2).
 #[derive(Clone, Copy)]
 pub enum Label {
     /// A tag that is taken.
     Tagged(Tag),
-    /// Another tag.
+    /// A tag that isn't taken.
     OtherTag,
-    /// What the tag before it takes.
+    /// The argument that the tag before it takes, by its slot.
     Own(Slot),
     /// The positional argument of this slot.
     InSlot(Slot),
-    /// Nothing that fits.
+    /// A positional argument that fits no slot: none is left, or the next takes another form.
     Unfit,
 }
 
-/// What is expected at an argument.
+/// The arguments that are still expected.
 #[derive(Clone, Copy)]
 pub struct Expected<'a> {
-    /// What the tag before it takes itself.
+    /// The argument that the tag before takes itself.
     awaited: Option<Slot>,
     /// A positional argument before those of `slots`.
     front: Option<Slot>,
@@ -58,7 +58,7 @@ fn fits(form: Form, shape: Shape) -> bool
 }
 
 impl<'a> Expected<'a> {
-    /// The positional arguments that are expected: the one in front, where there is one, and those of the slots.
+    /// Expects positional arguments: the one in front, where there is one, and those of the slots.
     pub(crate) fn new(front: Option<Slot>, slots: &'a [Slot]) -> Expected<'a>
         ensures { expected_as result ≡ expecting (put_before front slots.now) }
     {
@@ -69,7 +69,7 @@ impl<'a> Expected<'a> {
         }
     }
 
-    /// The next positional argument.
+    /// The slot of the next positional argument; `None` where no more are expected.
     pub(crate) fn next_slot(self) -> Option<Slot>
         ensures { result ≡ slice_get (expected_as self.entry).slots 0 }
     {
@@ -79,7 +79,7 @@ impl<'a> Expected<'a> {
         }
     }
 
-    /// What a positional argument of that shape is.
+    /// The label of a positional argument of that shape.
     fn slot_label(self, shape: Shape) -> Label
         ensures { result ≡ slot_label (expected_as self.entry).slots shape }
     {
@@ -95,7 +95,7 @@ impl<'a> Expected<'a> {
         }
     }
 
-    /// Whether the tag before an argument of that shape takes it.
+    /// The slot of the tag before an argument of that shape, where the tag takes it.
     fn own_slot(self, shape: Shape) -> Option<Slot>
         ensures { result ≡ own_slot (expected_as self.entry).awaited shape }
     {
@@ -111,7 +111,8 @@ impl<'a> Expected<'a> {
         }
     }
 
-    /// What an argument of that shape is (RFC 5228, section 2.6): a tag, what the tag before it takes, or else a positional one.
+    /// The label of an argument of that shape (RFC 5228, section 2.6). It is a tag, the argument
+    /// that the tag before it takes, or else a positional one.
     pub fn label(self, shape: Shape) -> Label
         ensures { result ≡ label_at (expected_as self.entry) shape }
     {
@@ -125,7 +126,7 @@ impl<'a> Expected<'a> {
         }
     }
 
-    /// What is expected after the next positional argument.
+    /// The arguments that are expected after the next positional one.
     fn past_slot(self) -> Expected<'a>
         ensures { expected_as result
             ≡ record { awaited = None; slots = drop 1 (expected_as self.entry).slots } }
@@ -137,7 +138,7 @@ impl<'a> Expected<'a> {
         }
     }
 
-    /// What is expected after an argument of that shape (RFC 5228, section 2.6).
+    /// The arguments that are expected after one of that shape (RFC 5228, section 2.6).
     pub fn after(self, shape: Shape) -> Expected<'a>
         ensures { expected_as result ≡ expected_after (expected_as self.entry) shape }
     {
@@ -161,7 +162,7 @@ impl<'a> Expected<'a> {
     }
 }
 
-/// Whether an argument is nothing that fits.
+/// Whether an argument is a positional one that fits no slot.
 pub(crate) fn is_unfit(label: Label) -> bool
     ensures { result ≡ is_unfit label }
 {
@@ -171,7 +172,7 @@ pub(crate) fn is_unfit(label: Label) -> bool
     }
 }
 
-/// The role of an argument, by its label. A tag has none, nor has what doesn't fit.
+/// The role of an argument, by its label. Tags and arguments that don't fit have none.
 fn role_of(label: Label) -> Option<Role>
     ensures { result ≡ role_of label }
 {
@@ -181,7 +182,8 @@ fn role_of(label: Label) -> Option<Role>
     }
 }
 
-/// The role of the first of some arguments, by their labels.
+/// The role of the first of some arguments, by their labels. It is `None` where there is no label,
+/// or its argument has no role.
 pub fn first_role(labels: &[Label]) -> Option<Role>
     ensures { result ≡ first_role labels.now }
 {
@@ -191,7 +193,7 @@ pub fn first_role(labels: &[Label]) -> Option<Role>
     }
 }
 
-/// The labels after the first.
+/// The labels after the first; none where there are none.
 pub fn after_first(labels: &[Label]) -> &[Label]
     ensures { result.now ≡ drop 1 labels.now }
 {

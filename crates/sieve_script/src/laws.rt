@@ -11,11 +11,14 @@ ghost use Rattle.sieve_script.specs.declared.label.Shape.TheVariants as shape;
 ghost use Rattle.sieve_table.specs.declared.row.Slot.{Slot};
 ghost use Rattle.sieve_table.specs.declared.table.Tag.{Tag};
 
-/// What each argument is, by its shape and that of the argument right before it (RFC 5228, section 2.6). Tags that are taken are labelled so,
-/// and nothing else is. An argument is a tag's own exactly where the one right before it is a tag that takes one, and it fits the tag's
-/// form. The others that are no tags are positional: the i-th of them has the i-th slot where it fits it, and is unfit where it doesn't or
-/// no slot is left. The slots are those of the longer row, with the slot in front (RFC 5232, sections 3 and 4), exactly where the positional
-/// arguments fit that row one by one; and a row is filled exactly where they fit it so.
+/// The label of each argument, by its shape and that of the argument right before it (RFC 5228,
+/// section 2.6). Tags that are taken are labelled so, and nothing else is. An argument is a tag's
+/// own exactly where two things hold. The one right before it is a tag that takes an argument, and
+/// it fits the tag's form. The others that are no tags are positional. The i-th of them has the
+/// i-th slot where it fits it. It is unfit where it doesn't fit it, or no slot is left. Where a row
+/// has a slot in front, there are two lists of slots (RFC 5232, sections 3 and 4). The longer one,
+/// with that slot, counts exactly where the positional arguments fit it one by one. A row is filled
+/// exactly where the positional arguments fit the slots that count one by one.
 pub fn arguments_are_tags_own_or_positional()
     ensures tagged { (row : Row) (shapes : List Shape) (place : ℕ) (tag : Tag)
         → (slice_get (labels_of row shapes) place ≡ Some (Tagged tag))

@@ -1,5 +1,5 @@
-//! What the arguments of a Sieve script are (RFC 5228, section 2.6), what its commands and tests
-//! are, read from these, and the abstract script.
+//! The labels of the arguments of a Sieve script (RFC 5228, section 2.6). By these its commands and
+//! tests are read, and their readings make the abstract script.
 #![tactic(auto)]
 
 mod by_label;

@@ -1,6 +1,8 @@
-//! What the commands and tests of a checked script are, with defaults filled in (RFC 5228, sections 3, 4 and 5). A reading has the
-//! strings of the arguments that it is made of. What tests ask and what commands do is over how names of fields (`N`), lists of strings (`L`),
-//! strings (`S`) and what a `vacation` says (`V`) are kept: what is read has a string as its parts, and code has it at a place.
+//! The readings of commands and tests, with defaults filled in (RFC 5228, sections 3, 4 and 5).
+//! The reading of a checked script has the strings of the arguments that it is made of. The types
+//! are generic in how names of fields (`N`), lists of strings (`L`) and strings (`S`) are kept.
+//! `V` is how the arguments of a `vacation` are kept. A reading has a string as its parts, and
+//! code has it at a place.
 ghost use Rattle.std.specs.Prelude.{◌≡◌};
 ghost use Rattle.sieve_script.specs.Reading.{rejection_word};
 
@@ -16,7 +18,7 @@ pub enum MatchType {
     Is,
     /// A value contains a key.
     Contains,
-    /// A value is what the wildcards of a key may stand for.
+    /// A value matches a key, which may have wildcards.
     Matches,
     /// A value stands in that relation to a key.
     Value(Relation),
@@ -27,7 +29,7 @@ pub enum MatchType {
 /// How a test compares a value with a key (RFC 5228, section 2.7).
 #[derive(Clone, Copy, PartialEq, Eq)]
 pub struct Comparison {
-    /// What makes a value match a key (RFC 5228, section 2.7.1).
+    /// How a value matches a key (RFC 5228, section 2.7.1).
     pub match_type: MatchType,
     /// Which octets are equal (RFC 5228, section 2.7.3).
     pub collation: Collation,
@@ -44,7 +46,7 @@ pub enum DateZone<S> {
     Named(S),
 }
 
-/// What is taken of a body (RFC 5173, section 5).
+/// The part of a body that a test looks at (RFC 5173, section 5).
 #[derive(Clone, Copy, Drop)]
 pub enum BodyTransform<L> {
     /// All of it as it stands.
@@ -61,7 +63,8 @@ pub enum BodyTransform<L> {
 /// Where a test takes values from.
 #[derive(Clone, Copy, Drop)]
 pub enum ValueSource<N, L, S> {
-    /// From the fields of some names (RFC 5228, section 5.7), or from the addresses in them (section 5.1).
+    /// From the fields of some names (RFC 5228, section 5.7), or from the addresses in them
+    /// (RFC 5228, section 5.1).
     Fields {
         /// Which part of an address, where the values are addresses.
         part: Option<AddressPart>,
@@ -103,12 +106,12 @@ pub enum ValueSource<N, L, S> {
     },
     /// From the body of the message (RFC 5173, section 4).
     Body {
-        /// What is taken of it.
+        /// The part of it that the test looks at.
         transform: BodyTransform<L>,
     },
 }
 
-/// What a test asks of the delivery.
+/// The question that a test asks of the delivery.
 #[derive(Clone, Copy, Drop)]
 pub enum Ask<N, L, S> {
     /// Whether some value matches some key (RFC 5228, section 2.7).
@@ -144,17 +147,17 @@ pub enum Ask<N, L, S> {
     Duplicate,
 }
 
-/// What a test of a checked script asks.
+/// The question of a test of a checked script, whose strings are parts.
 pub type ReadAsk = Ask<Vec<Parts>, Vec<Parts>, Parts>;
 
-/// What a test is, apart from the tests in it.
+/// The reading of a test, without the tests in it.
 #[derive(Drop)]
 pub enum TestReading {
     /// True (RFC 5228, section 5.10).
     Always,
     /// False (RFC 5228, section 5.6).
     Never,
-    /// What the test asks of the message.
+    /// A question that the test asks of the delivery.
     Asks(ReadAsk),
     /// Whether all tests in it hold (RFC 5228, section 5.2).
     AllOf,
@@ -175,10 +178,10 @@ pub enum FlagChange {
     Remove,
 }
 
-/// What a `fileinto` says beside its mailbox.
+/// The settings of a `fileinto`, beside its mailbox.
 #[derive(Clone, Copy, Drop)]
 pub struct Settings<L, S> {
-    /// The flags of what the command stores, where it names them (RFC 5232, section 5).
+    /// The flags of the stored message, where the command names them (RFC 5232, section 5).
     pub flags: Option<L>,
     /// Whether the command's action leaves the implicit keep as it is (RFC 3894, section 3).
     pub copy: bool,
@@ -188,26 +191,28 @@ pub struct Settings<L, S> {
     pub special_use: Option<S>,
 }
 
-/// What a `vacation` says (RFC 5230, section 4).
+/// The arguments of a `vacation` (RFC 5230, section 4).
 #[derive(Clone, Copy, Drop)]
 pub struct Vacation<L, S> {
     /// The text of the response.
     pub reason: S,
-    /// For how many days a sender gets no other response, where that is said (section 4.1).
+    /// For how many days a sender gets no other response, where that is given
+    /// (RFC 5230, section 4.1).
     pub days: Option<u64>,
-    /// The subject of the response, where it is said (section 4.3).
+    /// The subject of the response, where it is given (RFC 5230, section 4.3).
     pub subject: Option<S>,
-    /// Whom the response is from, where that is said (section 4.3).
+    /// Whom the response is from, where that is given (RFC 5230, section 4.3).
     pub from: Option<S>,
-    /// Further addresses of the user, where they are given (section 4.5).
+    /// Further addresses of the user, where they are given (RFC 5230, section 4.5).
     pub addresses: Option<L>,
-    /// Whether the text is a MIME entity (section 4.4).
+    /// Whether the text is a MIME entity (RFC 5230, section 4.4).
     pub mime: bool,
-    /// What a server would know such a response by, where that is said (section 4.2).
+    /// The handle by which a server would know such a response, where it is given
+    /// (RFC 5230, section 4.2).
     pub handle: Option<S>,
 }
 
-/// What a `vacation` of a checked script says.
+/// The arguments of a `vacation` of a checked script, whose strings are parts.
 pub type ReadVacation = Vacation<Vec<Parts>, Parts>;
 
 /// The action by which a message is rejected (RFC 5429, section 2).
@@ -220,7 +225,7 @@ pub enum Rejection {
 }
 
 impl Rejection {
-    /// The word of the command, and of its line in a dump and a verdict. Takes no memory.
+    /// The word of the command, and of its line in a dump and a verdict.
     pub fn word(self) -> &'static [u8]
         ensures { result.now ≡ rejection_word self }
     {
@@ -231,19 +236,19 @@ impl Rejection {
     }
 }
 
-/// What a command does that acts.
+/// A command that acts, with its arguments.
 #[derive(Drop)]
 pub enum Leaf<L, S, V> {
     /// A command that stores into the mailbox of the delivery (RFC 5228, section 4.3).
     Keep {
-        /// The flags of what the command stores, where it names them (RFC 5232, section 5).
+        /// The flags of the stored message, where the command names them (RFC 5232, section 5).
         flags: Option<L>,
     },
     /// A command that stores into the mailbox of that name (RFC 5228, section 4.1).
     Fileinto {
         /// The name.
         mailbox: S,
-        /// What the command says beside.
+        /// The settings beside the mailbox.
         settings: Settings<L, S>,
     },
     /// A command that sends the message on to that address (RFC 5228, section 4.2).
@@ -259,7 +264,7 @@ pub enum Leaf<L, S, V> {
     Set {
         /// The variable.
         variable: Variable,
-        /// What is done to the value.
+        /// The changes of the value before it is set (RFC 5229, section 4.1).
         modifiers: Modifiers,
         /// The value.
         value: S,
@@ -286,22 +291,22 @@ pub enum Leaf<L, S, V> {
     },
     /// A command that answers the sender (RFC 5230).
     Vacation {
-        /// What the command says.
+        /// The arguments of the command.
         vacation: V,
     },
     /// A command that rejects the message (RFC 5429).
     Reject {
-        /// By which action.
+        /// The action by which the message is rejected.
         how: Rejection,
-        /// Why.
+        /// The reason of the rejection.
         reason: S,
     },
 }
 
-/// What a command of a checked script does that acts.
+/// A command of a checked script that acts, whose strings are parts.
 pub type ReadLeaf = Leaf<Vec<Parts>, Parts, Box<ReadVacation>>;
 
-/// What a command is, apart from its test and its block.
+/// The reading of a command, without its test and its block.
 #[derive(Drop)]
 pub enum CommandReading {
     /// The first branch of a chain (RFC 5228, section 3.1).

@@ -1,26 +1,27 @@
-//! The abstract script (RFC 5228, sections 3 to 5): what a checked script's commands and tests are read as, with the branches
-//! of each `if` grouped. Its lists are kept from the end: the last command, branch or condition stands first. `ScriptBuilder`
-//! and `joined` read in order and turn each list around once, so that the compiler, which begins at the end, takes them as they are.
+//! The abstract script: the readings of a checked script's commands and tests (RFC 5228, sections 3
+//! to 5). The branches of each `if` are grouped. Lists are kept from the end: the last command,
+//! branch or condition stands first. `ScriptBuilder` and `joined` read in order and turn each list
+//! around once. The compiler begins at the end, so it takes the lists as they are.
 use crate::reading::{ReadAsk, ReadLeaf};
 
-/// A condition: what tests ask, joined (RFC 5228, section 5).
+/// A condition: the questions of tests, joined (RFC 5228, section 5).
 #[derive(Drop)]
 pub enum Condition {
-    /// It holds.
+    /// It always holds.
     Always,
-    /// It doesn't hold.
+    /// It never holds.
     Never,
-    /// What a test asks of the delivery.
+    /// The question that a test asks of the delivery.
     Asks(ReadAsk),
-    /// The condition doesn't hold.
+    /// The condition in it doesn't hold.
     Not(Box<Condition>),
-    /// All of them hold; the last stands first.
+    /// All conditions in it hold; the last stands first.
     All(Vec<Condition>),
-    /// One of them holds; the last stands first.
+    /// Some condition in it holds; the last stands first.
     Any(Vec<Condition>),
 }
 
-/// What a command does.
+/// A command of the abstract script.
 #[derive(Drop)]
 #[cycle(statements)]
 pub enum Statement {
@@ -30,7 +31,7 @@ pub enum Statement {
     Return,
     /// It acts.
     Act {
-        /// What it does.
+        /// The command, with its arguments.
         leaf: ReadLeaf,
         /// The line of the command.
         line: u32,
@@ -48,7 +49,7 @@ pub enum Statement {
 #[derive(Drop)]
 #[cycle(statements)]
 pub struct Branch {
-    /// What its test asks.
+    /// The condition of its test.
     pub condition: Condition,
     /// Its block; the last command stands first.
     pub block: Vec<Statement>,

@@ -11,13 +11,14 @@ use std::alloc::{AllocError, Global};
 /// Commands that are read one after another, in order.
 #[derive(Drop)]
 pub struct ScriptBuilder {
-    /// The statements that nothing is added to.
+    /// The statements that are finished, in order.
     done: Vec<Statement>,
-    /// The branches of an `if` after them, which the next command may go on with.
+    /// The branches of an open `if` after them, in order. The next command may add one.
     open: Option<Vec<Branch>>,
 }
 
-/// Branches in order as those of a statement, of which the last stands first.
+/// The statement of an `if`, by its branches in order and its `else`. It keeps
+/// the last branch first.
 fn from_end(branches: Vec<Branch>, otherwise: Option<Vec<Statement>>) -> Statement
     ensures { (rest : Commands) → statement_as result rest
         ≡ chooses (branches_before branches.items (else_as otherwise)) rest }
@@ -52,7 +53,7 @@ fn with_branch(branches: Vec<Branch>, branch: Branch) -> Result<Vec<Branch>, All
 }
 
 impl ScriptBuilder {
-    /// No commands, with room for so many statements.
+    /// No commands, with room for `count` statements. An error means that memory ran out.
     pub fn with_capacity(alloc: Global, count: usize) -> Result<ScriptBuilder, AllocError>
         ensures { IfOk result (λ new. (chain : Chain) → script_before new chain ≡ chain.rest) }
     {
@@ -60,7 +61,7 @@ impl ScriptBuilder {
         Ok(ScriptBuilder { done, open: None })
     }
 
-    /// The statements, where an open `if` has no other branches, but for an `else` with this block,
+    /// The statements in order. Where an `if` is open, it is closed, with this block as its `else`
     /// if there is one.
     fn closed(self, otherwise: Option<Vec<Statement>>) -> Result<Vec<Statement>, AllocError>
         ensures { IfOk result (λ done. (rest : Commands) → statements_before done.items rest
@@ -73,8 +74,8 @@ impl ScriptBuilder {
         }
     }
 
-    /// The same where no branch goes on with an open `if` but for an `else` with this block, if
-    /// there is one.
+    /// The same commands where an open `if` is closed, with this block as its `else`
+    /// if there is one.
     fn ended(self, otherwise: Option<Vec<Statement>>) -> Result<ScriptBuilder, AllocError>
         ensures { IfOk result (λ new. (chain : Chain) → script_before new chain
             ≡ script_before self (record { otherwise = else_as otherwise; rest = chain.rest })) }
@@ -83,7 +84,7 @@ impl ScriptBuilder {
         Ok(ScriptBuilder { done, open: None })
     }
 
-    /// A statement after them.
+    /// Closes an open `if`, and adds a statement.
     fn put(self, statement: Statement) -> Result<ScriptBuilder, AllocError>
         ensures { IfOk result (λ new. (chain : Chain) → script_before new chain
             ≡ script_before self
@@ -94,7 +95,7 @@ impl ScriptBuilder {
         Ok(ScriptBuilder { done, open: None })
     }
 
-    /// An `if` after them, with its first branch.
+    /// Closes an open `if`, and opens another with this branch.
     fn begun(self, alloc: Global, branch: Branch) -> Result<ScriptBuilder, AllocError>
         ensures { IfOk result (λ new. (chain : Chain) → script_before new chain
             ≡ script_before self (record {
@@ -113,8 +114,8 @@ impl ScriptBuilder {
         })
     }
 
-    /// A branch with a test that goes on with an open `if`. Where none is open it vanishes, which
-    /// is so in no script without a breach.
+    /// Adds a branch with a test to an open `if`. Where none is open the branch vanishes, which is
+    /// so in no script without a breach.
     fn gone_on(self, branch: Branch) -> Result<ScriptBuilder, AllocError>
         ensures { IfOk result (λ new. (chain : Chain) → script_before new chain
             ≡ script_before self (record {
@@ -137,7 +138,8 @@ impl ScriptBuilder {
         }
     }
 
-    /// A command after them, by what it is read as, its line, its condition and its block.
+    /// Adds a command, by its reading, its line, and a branch of its condition and its block. An
+    /// error means that memory ran out.
     pub fn with_command(
         self,
         alloc: Global,
@@ -160,7 +162,7 @@ impl ScriptBuilder {
         }
     }
 
-    /// The abstract script of these commands, the last first.
+    /// The abstract script of these commands, the last first. An error means that memory ran out.
     pub fn finished(self) -> Result<Vec<Statement>, AllocError>
         ensures { IfOk result (λ statements. commands_as statements.items ≡ script_before self
             (record { otherwise = no_branches; rest = no_commands })) }

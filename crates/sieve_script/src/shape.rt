@@ -1,4 +1,4 @@
-//! What the arguments of a text's tree look like, and what they are by that.
+//! The shapes of the arguments of a text's tree, and the labels that they have by these.
 ghost use Rattle.std.specs.Prelude.{◌≡◌, IfOk, map};
 ghost use Rattle.sieve_syntax.specs.view.Tree.{argument_of};
 ghost use Rattle.sieve_profile.specs.view.Profile.{profile_as};
@@ -13,7 +13,7 @@ use sieve_syntax::Argument;
 use sieve_table::{Row, Tag, known_tag, tag_named};
 use std::alloc::{AllocError, Global};
 
-/// One string without brackets, or a list.
+/// The shape of strings: one string without brackets, or a list.
 fn texts_shape(count: usize, bracketed: bool) -> Shape
     ensures { result ≡ texts_shape count bracketed }
 {
@@ -24,7 +24,7 @@ fn texts_shape(count: usize, bracketed: bool) -> Shape
     }
 }
 
-/// What an argument looks like, where these tags are taken.
+/// The shape of an argument, where these tags are taken.
 fn written_shape(tags: &[Tag], argument: &Argument) -> Shape
     ensures { result ≡ shape_of tags.now (argument_of argument.now) }
 {
@@ -35,8 +35,7 @@ fn written_shape(tags: &[Tag], argument: &Argument) -> Shape
     }
 }
 
-/// What an argument looks like, where those of these tags are taken that a bench of a profile
-/// knows.
+/// The shape of an argument, where these tags are taken as far as a bench of a profile knows them.
 fn shape_of(profile: Profile, tags: &[Tag], argument: &Argument) -> Shape
     ensures { result
         ≡ known_shape (profile_as profile) (shape_of tags.now (argument_of argument.now)) }
@@ -48,16 +47,17 @@ fn shape_of(profile: Profile, tags: &[Tag], argument: &Argument) -> Shape
     }
 }
 
-/// What the arguments of a row are.
+/// The labels of a row's arguments.
 #[derive(Drop)]
 pub struct RowLabels {
-    /// Each by its label.
+    /// The label of each argument, in order.
     pub labels: Vec<Label>,
     /// Whether the positional arguments are there and no others (RFC 5228, section 2.6.1).
     pub filled: bool,
 }
 
-/// What arguments are where these tags are taken, and whether the positional ones are exactly those that are expected.
+/// The labels of arguments where these tags are taken, and whether the positional ones are exactly
+/// those that are expected.
 fn labels_from(
     alloc: Global,
     start: Expected<'_>,
@@ -101,8 +101,8 @@ fn fills(start: Expected<'_>, profile: Profile, tags: &[Tag], args: &[Argument])
     expected.next_slot().is_none()
 }
 
-/// What is expected of a row's arguments, at the first of them (RFC 5228, section 2.6): the positional argument in front too,
-/// where they are then exactly those.
+/// The arguments that are expected of a row, at the first of them (RFC 5228, section 2.6). The
+/// positional one in front is expected only where the arguments then fill the row exactly.
 fn row_expected<'a>(row: &Row, profile: Profile, args: &[Argument]) -> Expected<'a>
     ensures { expected_as result ≡ expecting (slots_of (row_as row.now)
         (known_shapes (profile_as profile) row.now.tags.now (map argument_of args.now))) }
@@ -116,7 +116,8 @@ fn row_expected<'a>(row: &Row, profile: Profile, args: &[Argument]) -> Expected<
     Expected::new(None, row.slots)
 }
 
-/// What a row's arguments are to a bench of a profile (RFC 5228, section 2.6).
+/// The labels of a row's arguments, to a bench of a profile (RFC 5228, section 2.6). An error means
+/// that memory ran out.
 pub fn known_labels(
     alloc: Global,
     profile: Profile,

@@ -14,7 +14,7 @@ const KINDS: usize = 26;
 /// The tags among arguments: of each kind the first, if there is one.
 #[derive(Clone, Copy)]
 pub(crate) struct Tags {
-    /// By kinds, in their order.
+    /// The tag of each kind, in the order of the kinds.
     found: [Option<Tag>; KINDS],
 }
 
@@ -28,7 +28,7 @@ impl Tags {
         }
     }
 
-    /// The tag of that kind.
+    /// The tag of that kind, where there is one.
     pub(crate) fn of(self, kind: TagKind) -> Option<Tag>
         ensures { result ≡ tags_as self kind }
     {

@@ -1,5 +1,7 @@
-//! How a test is read (RFC 5228, section 5; RFC 5229, section 5; RFC 5232, section 4; RFC 5490, section 3.1; RFC 7352,
-//! section 3; RFC 5260, sections 4 and 5; RFC 5173, section 4).
+//! How a test is read, by its arguments and their labels (RFC 5228, section 5). Extensions add
+//! `string` (RFC 5229, section 5), `hasflag` (RFC 5232, section 4) and `mailboxexists` (RFC 5490,
+//! section 3.1). They add `duplicate` (RFC 7352, section 3) and `body` (RFC 5173, section 4). They
+//! add `date` and `currentdate` (RFC 5260, sections 4 and 5).
 ghost use Rattle.std.specs.Prelude.{◌≡◌, map};
 ghost use Rattle.std.specs.Option.{option_map};
 ghost use Rattle.sieve_script.specs.Given.{tags_of};
@@ -32,7 +34,7 @@ pub(crate) fn comparison_of(tags: Tags, labels: &[Label], args: &[CutArgument]) 
     }
 }
 
-/// What a `header` test asks.
+/// Reads a `header` test (RFC 5228, section 5.7).
 fn header_ask(alloc: Global, labels: &[Label], args: Vec<CutArgument>) -> ReadAsk
     ensures { ask_as result ≡ (let given = map cut_as args.items
         in spec.compares_by (spec.header_source labels.now given) labels.now given) }
@@ -49,7 +51,7 @@ fn header_ask(alloc: Global, labels: &[Label], args: Vec<CutArgument>) -> ReadAs
     }
 }
 
-/// What an `address` test asks.
+/// Reads an `address` test (RFC 5228, section 5.1).
 fn address_ask(alloc: Global, labels: &[Label], args: Vec<CutArgument>) -> ReadAsk
     ensures { ask_as result ≡ (let given = map cut_as args.items
         in spec.compares_by (spec.address_source labels.now given) labels.now given) }
@@ -67,7 +69,7 @@ fn address_ask(alloc: Global, labels: &[Label], args: Vec<CutArgument>) -> ReadA
     }
 }
 
-/// What an `envelope` test asks.
+/// Reads an `envelope` test (RFC 5228, section 5.4).
 fn envelope_ask(alloc: Global, labels: &[Label], args: Vec<CutArgument>) -> ReadAsk
     ensures { ask_as result ≡ (let given = map cut_as args.items
         in spec.compares_by (spec.envelope_source labels.now given) labels.now given) }
@@ -85,7 +87,7 @@ fn envelope_ask(alloc: Global, labels: &[Label], args: Vec<CutArgument>) -> Read
     }
 }
 
-/// What a `string` test asks.
+/// Reads a `string` test (RFC 5229, section 5).
 fn string_ask(alloc: Global, labels: &[Label], args: Vec<CutArgument>) -> ReadAsk
     ensures { ask_as result ≡ (let given = map cut_as args.items
         in spec.compares_by (spec.string_source labels.now given) labels.now given) }
@@ -101,7 +103,7 @@ fn string_ask(alloc: Global, labels: &[Label], args: Vec<CutArgument>) -> ReadAs
     }
 }
 
-/// What a `hasflag` test asks.
+/// Reads a `hasflag` test (RFC 5232, section 4).
 fn flag_ask(alloc: Global, labels: &[Label], args: Vec<CutArgument>) -> ReadAsk
     ensures { ask_as result ≡ (let given = map cut_as args.items
         in spec.compares_by (spec.flag_source labels.now given) labels.now given) }
@@ -117,7 +119,7 @@ fn flag_ask(alloc: Global, labels: &[Label], args: Vec<CutArgument>) -> ReadAsk
     }
 }
 
-/// What is taken of a body, by a tag and the entries that `:content` takes.
+/// The part of a body that a test looks at, by a tag and the entries that `:content` takes.
 fn transform_by(tag: Option<Tag>, named: Option<Vec<Parts>>) -> BodyTransform<Vec<Parts>>
     ensures { transform_as result
         ≡ spec.transform_by tag (option_map list_as named) }
@@ -129,7 +131,7 @@ fn transform_by(tag: Option<Tag>, named: Option<Vec<Parts>>) -> BodyTransform<Ve
     }
 }
 
-/// What is taken of a body.
+/// The part of a body that a test looks at.
 #[tactic(auto, unfolding(crate::specs::TestReading::transform_of))]
 fn transform_of(tags: Tags, named: Option<Vec<Parts>>) -> BodyTransform<Vec<Parts>>
     ensures { transform_as result
@@ -138,7 +140,7 @@ fn transform_of(tags: Tags, named: Option<Vec<Parts>>) -> BodyTransform<Vec<Part
     transform_by(tags.of(TagKind::BodyTransform), named)
 }
 
-/// What a `body` test asks.
+/// Reads a `body` test (RFC 5173, section 4).
 fn body_ask(alloc: Global, labels: &[Label], args: Vec<CutArgument>) -> ReadAsk
     ensures { ask_as result ≡ (let given = map cut_as args.items
         in spec.compares_by (spec.body_source labels.now given) labels.now given) }
@@ -155,7 +157,7 @@ fn body_ask(alloc: Global, labels: &[Label], args: Vec<CutArgument>) -> ReadAsk
     }
 }
 
-/// What an `exists` test asks.
+/// Reads an `exists` test (RFC 5228, section 5.5).
 fn exists_ask(alloc: Global, labels: &[Label], args: Vec<CutArgument>) -> ReadAsk
     ensures { ask_as result
         ≡ spec.exists_by labels.now (map cut_as args.items) }
@@ -164,7 +166,7 @@ fn exists_ask(alloc: Global, labels: &[Label], args: Vec<CutArgument>) -> ReadAs
     Ask::Exists { names }
 }
 
-/// What a test asks of the message's size, by a tag.
+/// The question about the message's size, by a tag: fewer octets under `:under`, and else more.
 fn bound_by(tag: Option<Tag>, limit: u64) -> ReadAsk
     ensures { ask_as result ≡ spec.bound_by tag limit }
 {
@@ -174,7 +176,7 @@ fn bound_by(tag: Option<Tag>, limit: u64) -> ReadAsk
     }
 }
 
-/// What a test asks of the message's size.
+/// The question about the message's size.
 #[tactic(auto, unfolding(crate::specs::TestReading::bound_ask))]
 fn bound_ask(tags: Tags, limit: u64) -> ReadAsk
     ensures { ask_as result ≡ spec.bound_ask (tags_as tags) limit }
@@ -182,7 +184,7 @@ fn bound_ask(tags: Tags, limit: u64) -> ReadAsk
     bound_by(tags.of(TagKind::Bound), limit)
 }
 
-/// What a `size` test asks.
+/// Reads a `size` test (RFC 5228, section 5.9).
 fn size_ask(labels: &[Label], args: Vec<CutArgument>) -> ReadAsk
     ensures { ask_as result
         ≡ spec.size_by labels.now (map cut_as args.items) }
@@ -191,7 +193,7 @@ fn size_ask(labels: &[Label], args: Vec<CutArgument>) -> ReadAsk
     bound_ask(Tags::among(labels), limit)
 }
 
-/// What a `mailboxexists` test asks.
+/// Reads a `mailboxexists` test (RFC 5490, section 3.1).
 fn mailboxes_ask(alloc: Global, labels: &[Label], args: Vec<CutArgument>) -> ReadAsk
     ensures { ask_as result
         ≡ spec.mailboxes_by labels.now (map cut_as args.items) }
@@ -200,8 +202,8 @@ fn mailboxes_ask(alloc: Global, labels: &[Label], args: Vec<CutArgument>) -> Rea
     Ask::MailboxExists { names }
 }
 
-/// What a test of that kind and with these arguments is, by their labels, apart from the tests in
-/// it. What is read has the strings of the arguments. Takes no memory.
+/// Reads a test of a kind by its arguments and their labels, without the tests in it. The reading
+/// keeps the strings of the arguments.
 pub fn read_test(
     alloc: Global,
     kind: TestKind,

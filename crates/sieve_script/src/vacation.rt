@@ -25,7 +25,7 @@ struct Strings {
     handle: Option<CutArgument>,
 }
 
-/// The arguments that have strings, to be kept.
+/// The first argument in each of these roles, by value.
 fn into_strings(labels: &[Label], args: Vec<CutArgument>) -> Strings
     ensures reason { option_map cut_as result.reason
         ≡ in_role role.Text labels.now (map cut_as args.items) }
@@ -68,7 +68,7 @@ fn into_strings(labels: &[Label], args: Vec<CutArgument>) -> Strings
     }
 }
 
-/// What a `vacation` does.
+/// Reads a `vacation`. An error means that memory ran out.
 pub(crate) fn vacation_leaf(
     alloc: Global,
     labels: &[Label],

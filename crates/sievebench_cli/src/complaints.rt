@@ -1,14 +1,15 @@
-//! What standard error says. Where that can't be written either, the status tells.
+//! Complaints on standard error. If one can't be written either, the status still says it.
 
 use devices::{Counted, write_quoted};
 use std::alloc::Global;
 
-/// Says what went wrong.
+/// Prints what went wrong.
 pub(crate) fn complain(rt: &impl Eprint, complaint: &str) {
     let _ = eprintln!(rt; "sievebench: {complaint}");
 }
 
-/// Says what is wrong with a file, or with another word of the command line: its octets stand after, in quotes.
+/// Prints what is wrong with a file, or with another word of the command line. The word's octets
+/// follow, in quotes, if there is memory for it.
 pub(crate) fn complain_of(rt: &(impl AllocGlobal + Eprint), complaint: &str, word: &[u8]) {
     match quoted(rt.alloc(), word) {
         Some(word) => {

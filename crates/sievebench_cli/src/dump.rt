@@ -13,8 +13,9 @@ use std::io;
 use std::io::{ErrorKind, Write};
 use std::rt::Files;
 
-/// Prints the code of the script in the file at a path, or the script's line of a report where it has a fault. The script is personal,
-/// under the name of its file. Answers the status of the process.
+/// Prints the code of the script in the file at a path. If the script has a fault, its line of a
+/// report is printed instead. The script is personal, under the name of its file. Returns the
+/// status of the process.
 pub(crate) fn run_dump(
     rt: &(impl AllocGlobal + Files + Print + Eprint),
     profile: Profile,
@@ -36,7 +37,7 @@ pub(crate) fn run_dump(
     end_with(rt, path, end)
 }
 
-/// Says on standard error what went wrong, and answers the status.
+/// Prints what went wrong on standard error, and returns the status.
 fn end_with(rt: &(impl AllocGlobal + Eprint), path: &str, end: TestEnd) -> u8 {
     match end {
         TestEnd::TooLarge => complain_of(rt, "too large", path.as_bytes()),
@@ -61,7 +62,7 @@ fn dump_over<W: Write + Drop>(
     }
 }
 
-/// Writes the dump of a text under a name, and writes out what is left of it.
+/// Writes the dump of a text under a name, and writes out the octets that are still held.
 fn dump_on<W: Write + Drop>(
     alloc: Global,
     profile: Profile,

@@ -5,15 +5,15 @@ use std::io::{ErrorKind, Read};
 use std::rt::Files;
 use std::{fs, io, str};
 
-/// What a script's file is named after its script's name.
+/// The end of the name of a script's file. It follows the script's name.
 pub(crate) const SCRIPT_END: &str = ".sieve";
 
-/// Why files could not be read.
+/// The reason that files could not be read.
 #[derive(Drop)]
 pub(crate) enum ReadFault {
     /// The file, or the folder, at this path can't be read.
     Unreadable(Vec<u8>),
-    /// Memory ran out.
+    /// Out of memory.
     NoMemory,
 }
 
@@ -36,7 +36,8 @@ impl ReadFault {
     }
 }
 
-/// The octets of a file: all of them, or where there are more than `limit`, the first of them and one more.
+/// The octets of a file. If there are more than `limit`, only the first `limit` and one more are
+/// read.
 pub(crate) fn octets_in<R: Files + AllocGlobal>(
     rt: &R,
     path: &str,
@@ -48,7 +49,8 @@ pub(crate) fn octets_in<R: Files + AllocGlobal>(
     Ok(octets)
 }
 
-/// The octets of the file at a path, to one past `limit` at most. A path has to be UTF-8 to be opened.
+/// The octets of the file at a path, to one past `limit` at most. A path has to be UTF-8 to be
+/// opened.
 pub(crate) fn octets_at<R: Files + AllocGlobal>(
     rt: &R,
     path: &[u8],

@@ -10,11 +10,13 @@ use std::io::{BufReader, ErrorKind, Read};
 use std::rt::Files;
 use std::{fs, io, str};
 
-/// How much of a folder is listed at once: room for any one name.
+/// The number of octets of a folder's listing that are read at once. There is room for any one
+/// name.
 const LISTING_ROOM: usize = 65_536;
 
-/// Adds the scripts of a folder: its plain files, and symbolic links to such, that are named `NAME.sieve` with a NAME of one octet or more. They
-/// come in the order of the octets of these file names. No other file is opened.
+/// Adds the scripts of a folder. They are its plain files, and symbolic links to such, that are
+/// named `NAME.sieve`. NAME has one octet or more. They are added in the order of the octets of
+/// these file names. No other file is opened.
 pub(crate) fn read_folder<R: Files + AllocGlobal>(
     rt: &R,
     location: Location,
@@ -80,7 +82,8 @@ fn with_slash(alloc: Global, path: &str) -> Result<String, AllocError> {
     Ok(with_slash)
 }
 
-/// The names in a listing that are `NAME.sieve` with a NAME of one octet or more, in the order of their octets.
+/// The names in a listing that are `NAME.sieve`, with a NAME of one octet or more. They are in the
+/// order of their octets.
 fn file_names(alloc: Global, listing: &[u8]) -> Result<Vec<&[u8]>, AllocError> {
     let mut names: Vec<&[u8]> = Vec::new(alloc);
     for name in listing.split(|octet| *octet == 0) {
@@ -99,7 +102,8 @@ fn path_in(alloc: Global, folder: &str, file: &[u8]) -> Result<Vec<u8>, AllocErr
     Ok(path)
 }
 
-/// Whether a plain file is at a path, where symbolic links are followed. A link to nothing is none.
+/// Whether a plain file is at a path. Symbolic links are followed. A link to nothing is no plain
+/// file.
 fn is_plain<R: Files + AllocGlobal>(rt: &R, path: &[u8]) -> Result<bool, ReadFault> {
     match metadata_at(rt, path) {
         Ok(metadata) => Ok(metadata.is_file()),
@@ -108,14 +112,15 @@ fn is_plain<R: Files + AllocGlobal>(rt: &R, path: &[u8]) -> Result<bool, ReadFau
     }
 }
 
-/// Whether an error says that a path leads to no file: that of a link to nothing, through a plain file, or in a ring.
+/// Whether an error says that a path leads to no file. Such a path is a link to nothing, goes
+/// through a plain file, or is in a ring.
 fn leads_nowhere(kind: ErrorKind) -> bool {
     kind == ErrorKind::NotFound
         || kind == ErrorKind::NotADirectory
         || kind == ErrorKind::FilesystemLoop
 }
 
-/// What is known of the file at a path. A path has to be UTF-8 to be asked for.
+/// The metadata of the file at a path. A path has to be UTF-8 to be asked for.
 fn metadata_at(rt: &impl Files, path: &[u8]) -> io::Result<Metadata> {
     match str::from_utf8(path) {
         Ok(path) => fs::metadata(rt, path),

@@ -22,13 +22,13 @@ use std::io::{ErrorKind, Read, Write};
 use std::process::ExitCode;
 use std::rt::{Env, Files};
 use std::{env, io};
-use streams::{Held, Output, Replies, Requests};
+use streams::{Held, Output, ReplyWriter, Requests};
 use test_run::run_test;
 
-/// How many reads a session may make.
+/// The number of reads that a session may make.
 const SESSION_TURNS: u64 = 1_000_000_000;
 
-/// The status of help that was printed, and of a mistake in the words.
+/// The status after help was printed, and the status after a mistake in the words.
 const HELP_STATUS: u8 = 0;
 
 const USAGE_STATUS: u8 = 2;
@@ -37,7 +37,7 @@ fn main(rt: HostRuntime) -> ExitCode {
     ExitCode::from(run(&rt))
 }
 
-/// Serves a session. Answers the status of the process.
+/// Serves a session. Returns the status of the process.
 fn serve(rt: &(impl AllocGlobal + Input + Print + Eprint), profile: Profile) -> u8 {
     let end = run_session(rt, profile);
     if let Some(complaint) = complaint_of(end) {
@@ -46,7 +46,7 @@ fn serve(rt: &(impl AllocGlobal + Input + Print + Eprint), profile: Profile) -> 
     status_of(End::Session(end))
 }
 
-/// Does what the command line asks for, and answers the status of the process.
+/// Does the job of the command line, and returns the status of the process.
 fn run(rt: &(impl Env + AllocGlobal + Input + Print + Eprint + Files)) -> u8 {
     match asked(rt) {
         Ok(line) => {
@@ -65,13 +65,13 @@ fn run(rt: &(impl Env + AllocGlobal + Input + Print + Eprint + Files)) -> u8 {
     }
 }
 
-/// What the command line asks for.
+/// The job that the command line asks for, with its profile and its clock.
 fn asked(rt: &(impl Env + AllocGlobal)) -> Result<CommandLine, UsageFault> {
     let words = words_of(rt)?;
     command_of(rt.alloc(), words.as_slice())
 }
 
-/// The words of the command line, the program's name first. A word that is no text is a mistake.
+/// The words of the command line, the program's name first. A word that isn't UTF-8 is a mistake.
 fn words_of(rt: &(impl Env + AllocGlobal)) -> Result<Vec<String>, UsageFault> {
     match env::args(rt) {
         Ok(words) => Ok(words.collect(rt.alloc())?),
@@ -86,7 +86,8 @@ fn words_of(rt: &(impl Env + AllocGlobal)) -> Result<Vec<String>, UsageFault> {
     }
 }
 
-/// Prints help on standard output, and what is wrong with the words on standard error.
+/// Prints help on standard output, and mistakes in the words on standard error. Returns the status
+/// of the process.
 fn answer_usage(rt: &(impl Print + Eprint), fault: UsageFault) -> u8 {
     match fault {
         UsageFault::Usage { help: true, text } => match rt.print(text.as_str()) {
@@ -145,15 +146,15 @@ fn run_on<R: Read + Drop, W: Write + Drop>(
     }
 }
 
-/// Runs a session on a bench, and writes out what is left of its replies. An output that has failed, be it before a read, fails here
-/// too.
+/// Runs a session on a bench, and writes out the replies that are still held. An output that has
+/// failed, even before a read, fails here too.
 fn run_held<R: Read + Drop, W: Write + Drop>(
     bench: &mut Bench,
     input: R,
     held: &RefCell<Held<W>>,
 ) -> SessionEnd {
     let mut reader = Counted::new(Requests::new(input, held));
-    let mut writer = Counted::new(Replies::new(held));
+    let mut writer = Counted::new(ReplyWriter::new(held));
     let end = session(
         bench,
         &mut Meter::new(),
@@ -167,7 +168,7 @@ fn run_held<R: Read + Drop, W: Write + Drop>(
     }
 }
 
-/// What standard error says of a session that did not go through.
+/// The complaint on standard error about a session that did not go through.
 fn complaint_of(end: SessionEnd) -> Option<&'static str> {
     match end {
         SessionEnd::Read => Some("cannot read standard input"),

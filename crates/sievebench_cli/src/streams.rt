@@ -1,15 +1,16 @@
-//! Standard input and output of a session: replies are held together, and written out before the
-//! program waits for more input.
+//! Standard input and output of a session. The replies are held together. They are written out
+//! before the program waits for more input.
 
 use std::alloc::Global;
 use std::cell::RefCell;
 use std::io;
 use std::io::{BufWriter, ErrorKind, Read, Write};
 
-/// How many octets are held before they are written.
+/// The number of octets that are held before they are written.
 const HELD_ROOM: usize = 65_536;
 
-/// An output that is asked nothing more once it has failed: each later write and flush is an error.
+/// An output that is asked nothing more after it has failed. Each later write and flush is an
+/// error.
 #[derive(Drop)]
 pub(crate) struct Output<W> {
     device: W,
@@ -56,17 +57,17 @@ impl<W: Write> Write for Output<W> {
 
 /// Takes replies into a buffer that it shares.
 #[derive(Drop)]
-pub(crate) struct Replies<'a, W: Write + Drop> {
+pub(crate) struct ReplyWriter<'a, W: Write + Drop> {
     held: &'a RefCell<Held<W>>,
 }
 
-impl<'a, W: Write + Drop> Replies<'a, W> {
-    pub(crate) fn new(held: &'a RefCell<Held<W>>) -> Replies<'a, W> {
-        Replies { held }
+impl<'a, W: Write + Drop> ReplyWriter<'a, W> {
+    pub(crate) fn new(held: &'a RefCell<Held<W>>) -> ReplyWriter<'a, W> {
+        ReplyWriter { held }
     }
 }
 
-impl<W: Write + Drop> Write for Replies<'_, W> {
+impl<W: Write + Drop> Write for ReplyWriter<'_, W> {
     fn write(&mut self, buf: &[u8]) -> io::Result<usize> {
         self.held.try_borrow_mut()?.write(buf)
     }
@@ -76,8 +77,8 @@ impl<W: Write + Drop> Write for Replies<'_, W> {
     }
 }
 
-/// Gives requests. Before each read the replies that are held are written out, so that whoever
-/// waits for them before the next request gets them. Where they can't be, nothing is read.
+/// Gives requests. Before each read the replies that are held are written out. So a client that
+/// waits for them before its next request gets them. If they can't be written, nothing is read.
 #[derive(Drop)]
 pub(crate) struct Requests<'a, R, W: Write + Drop> {
     input: R,

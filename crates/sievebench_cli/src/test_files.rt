@@ -1,4 +1,5 @@
-//! What a test reads: the list of mailboxes, the scripts of two folders, the main script and the message.
+//! The files that a test reads. They are the list of mailboxes, the scripts of two folders, the
+//! main script and the message.
 
 use crate::files::{ReadFault, octets_at, script_name};
 use crate::folder::read_folder;
@@ -9,21 +10,22 @@ use sieve_limits::{MAX_ADDRESS, MAX_MAILBOX, MAX_MAILBOXES, MAX_MESSAGE, MAX_NAM
 use std::alloc::{AllocError, Global};
 use std::rt::Files;
 
-/// The mailbox that mail is kept in where the words name none.
+/// The mailbox that mail is kept in if the words name none.
 const DEFAULT_MAILBOX: &str = "INBOX";
 
-/// A test of which files were read.
+/// A test whose files were read.
 #[derive(Drop)]
 pub(crate) struct TestInput {
     pub job: TestJob,
-    /// The path of the list of mailboxes, where the words give one.
+    /// The path of the list of mailboxes, if the words give one.
     pub mailboxes: Vec<u8>,
     /// The path of each script of the job.
     pub paths: Vec<Vec<u8>>,
 }
 
-/// Reads what a test wants, in this order: the list of mailboxes, the personal folder, the global one, the main script, the message. The main script is personal, under
-/// the name of its file, and goes last among the scripts.
+/// Reads the files of a test. First the list of mailboxes, then the personal folder and the global
+/// one. Then the main script, and then the message. The main script is personal, under the name of
+/// its file, and goes last among the scripts.
 pub(crate) fn read_test<R: Files + AllocGlobal>(
     rt: &R,
     profile: Profile,
@@ -104,7 +106,7 @@ fn set(alloc: Global, place: &mut Octets, text: &str) -> Result<(), AllocError> 
     Ok(())
 }
 
-/// An option's value, or another text where it is not given.
+/// An option's value, or another text if it isn't given.
 fn text_or<'a>(value: &'a Option<Argument>, other: &'a str) -> &'a str {
     match value {
         Some(value) => value.as_str(),
@@ -153,8 +155,9 @@ impl TestInput {
         Ok(self.job.scripts.push(TestScript { name, text })?)
     }
 
-    /// The first word or path that names something past its limit: the values of the options stand before all paths, and these in the order in
-    /// which they are read. Where nothing else is past its limit, the message's.
+    /// The first word or path that names something past its limit. The values of the options come
+    /// before all paths. Paths come in the order in which they are read. If nothing else is past
+    /// its limit, it is the message's path.
     pub(crate) fn first_too_large(&self) -> &[u8] {
         let job = &self.job;
         if job.from.as_slice().len() > MAX_ADDRESS {

@@ -13,7 +13,8 @@ use std::io;
 use std::io::Write;
 use std::rt::Files;
 
-/// Reads all that the words name, and then prints the report of a bench of that profile, clock and message. Answers the status of the process.
+/// Reads all that the words name, and then prints the report of a bench of that profile, clock and
+/// message. Returns the status of the process.
 pub(crate) fn run_test(
     rt: &(impl AllocGlobal + Files + Print + Eprint),
     profile: Profile,
@@ -26,7 +27,7 @@ pub(crate) fn run_test(
     }
 }
 
-/// Says on standard error which file could not be read, and answers the status.
+/// Prints on standard error which file could not be read, and returns the status.
 fn answer_fault(rt: &(impl AllocGlobal + Eprint), fault: &ReadFault) -> u8 {
     match fault {
         ReadFault::Unreadable(path) => {
@@ -40,7 +41,7 @@ fn answer_fault(rt: &(impl AllocGlobal + Eprint), fault: &ReadFault) -> u8 {
     }
 }
 
-/// Prints the report, says on standard error what went wrong, and answers the status.
+/// Prints the report, and what went wrong on standard error. Returns the status.
 fn report_test(rt: &(impl AllocGlobal + Print + Eprint), input: &TestInput) -> u8 {
     let end = test_over(rt.alloc(), &input.job, io::writer(rt));
     match end {
@@ -53,7 +54,7 @@ fn report_test(rt: &(impl AllocGlobal + Print + Eprint), input: &TestInput) -> u
     status_of(End::Test(end))
 }
 
-/// Writes the report of a job, and writes out what is left of it.
+/// Writes the report of a job, and writes out the octets that are still held.
 fn test_over<W: Write + Drop>(alloc: Global, job: &TestJob, output: W) -> TestEnd {
     let Ok(held) = Output::held(alloc, output) else {
         return TestEnd::NoMemory;

@@ -5,14 +5,14 @@ use Rattle.script_names.specs.declared.name.ScriptName.{ScriptName}
 use Rattle.sieve_delivery.specs.declared.action.Action.{Action}
 use Rattle.sieve_delivery.specs.declared.error.RunError.{RunError}
 use Rattle.sieve_delivery.specs.State.{Entered}
-use Rattle.sieve_run.specs.Lines.{action_line, error_line, implicit_line, origin_line, lookup_line}
-use Rattle.sieve_run.specs.Verdict.{Verdict}
+use Rattle.sieve_verdict.specs.Lines.{action_line, error_line, implicit_line, origin_line, lookup_line}
+use Rattle.sieve_verdict.specs.Verdict.{Verdict}
 use Rattle.bench.specs.Report.{indented}
 
 abbrev pub action_text : Action → List ℕ
 action_text action = indented (action_line action)
 
--- the line of an action, and that of the command that entered it where it is told
+-- the line of an action, and that of the command that entered it where that is traced
 abbrev pub told_text : (traced : Bool) → Entered → List ℕ
 told_text false entry = action_text entry.action
 told_text true entry = action_text entry.action ++ indented (origin_line entry.origin)

@@ -1,4 +1,4 @@
--- What the scripts of a bench stand for.
+-- The model of the scripts of a bench.
 use Rattle.std.specs.Prelude.{◌≡◌, ⊤, ℕ, List, [], ◌∷◌, map, Option}
 use Rattle.std.specs.Option.{option_map}
 use Rattle.script_names.specs.declared.name.ScriptName.{ScriptName}

@@ -1,4 +1,4 @@
--- What a bench holds that all messages are judged with.
+-- The values of a bench that all messages are judged with.
 use Rattle.std.specs.Prelude.{◌≡◌, ℕ, List, Option, map, false, nat_eq}
 use Rattle.std.specs.List.{IsDistinct}
 use Rattle.std.specs.Map.{keys_of}
@@ -9,7 +9,7 @@ use Rattle.sieve_delivery.specs.declared.envelope.Envelope.{Envelope}
 use Rattle.script_names.specs.Name.{name_eq}
 use Rattle.bench.specs.Content.{text_at}
 use Rattle.bench.specs.Report.{Site, verdict_by}
-use Rattle.bench.specs.declared.entry.Entry.{Entry}
+use Rattle.bench.specs.declared.entry.MessageEntry.{MessageEntry}
 use Rattle.bench.specs.view.Entry.{KeepsDue, messages_of, unread}
 use Rattle.bench.specs.declared.site.Site as sites
 use Rattle.bench.specs.view.Scripts.{ScriptsState}
@@ -24,8 +24,9 @@ site_as site = site_by (option_copied site.main) site.envelope.now site.scripts.
 abbrev pub with_scripts : Site → List (ScriptName × List ℕ) → Site
 with_scripts site scripts = record site { scripts = scripts }
 
--- Those messages are marked whose runs looked a name up, and no two have one id. Each verdict that is kept stays due where the text at no other name changes.
-pub record ForgetsReaders (name : ScriptName) (old new : List (List ℕ × Entry)) : Type 0 where
+-- Those messages are marked whose runs looked a name up, and no two have one id. Each verdict that
+-- is kept stays due where the text at no other name changes.
+pub record ForgetsReaders (name : ScriptName) (old new : List (List ℕ × MessageEntry)) : Type 0 where
   pub entries : new ≡ map (λ e. (e.0, unread name e.1)) old
   pub messages : messages_of new ≡ messages_of old
   pub ids : IsDistinct (pointwise nat_eq) (keys_of new)

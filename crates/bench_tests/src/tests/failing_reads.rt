@@ -1,4 +1,4 @@
-//! Sessions over readers that fail at some calls and work at every other.
+//! Sessions over readers that fail at some calls and work at all others.
 
 use super::{At, REPLIES, REPORT, SESSION, TURNS, check_report, holds, same};
 use session_server::{Bench, Counted, Faults, Meter, SessionEnd, Source, session};
@@ -7,15 +7,15 @@ use std::io::{ErrorKind, Read};
 use std::process::Abort;
 use std::test::Fail;
 
-/// The report once the session has put its script.
+/// The report after the session has put its script.
 pub(super) const SCRIPT_REPORT: &[u8] =
     b"main none\nenvelope \"\" \"\" mailbox \"INBOX\"\nscript personal \"main\" ok\ntotal 0 messages 0 errors\n";
 
-/// The report once it has put its message too.
+/// The report after it has put its message too.
 pub(super) const MESSAGE_REPORT: &[u8] =
     b"main none\nenvelope \"\" \"\" mailbox \"INBOX\"\nscript personal \"main\" ok\nmessage \"m1\"\n  implicit \"INBOX\"\ntotal 1 messages 0 errors\n";
 
-/// The report once it has made the script main.
+/// The report after it has made the script main.
 pub(super) const MAIN_REPORT: &[u8] =
     b"main personal \"main\"\nenvelope \"\" \"\" mailbox \"INBOX\"\nscript personal \"main\" ok\nmessage \"m1\"\n  discard\n  read personal \"main\"\ntotal 1 messages 0 errors\n";
 
@@ -64,7 +64,7 @@ pub(super) const LASTING: &[ErrorKind] = &[
     ErrorKind::Uncategorized,
 ];
 
-/// The calls at which a device fails: so many in a row, after so many at which it works.
+/// The calls at which a device fails: `times` in a row, after `before` at which it works.
 #[derive(Clone, Copy)]
 pub(super) struct Failures {
     pub before: u64,
@@ -86,7 +86,7 @@ impl Failures {
     }
 }
 
-/// A reader that gives so many octets a call.
+/// A reader that gives at most `piece` octets a call.
 #[derive(Clone, Copy)]
 struct Faltering<'a> {
     octets: &'a [u8],
@@ -107,8 +107,8 @@ impl Read for Faltering<'_> {
     }
 }
 
-/// What must come of a session: its row in a message, its end, what it writes, the report of the bench after it, and how many reads and
-/// faults are counted.
+/// The wanted results of a session: its row in a message, its end, and the text that it writes.
+/// Also the report of the bench after it, and the counts of reads and faults.
 #[derive(Clone, Copy)]
 struct Outcome<'a> {
     at: At<'a>,
@@ -119,7 +119,7 @@ struct Outcome<'a> {
     faults: u64,
 }
 
-/// Serves what a reader gives on a bench, and compares what comes of it.
+/// Serves the input of a reader on a bench, and compares the results.
 fn check_read_on(
     rt: &(impl AllocGlobal + Abort),
     bench: &mut Bench,
@@ -137,7 +137,7 @@ fn check_read_on(
     check_report(rt, bench, wanted.report)
 }
 
-/// Serves what a reader gives on a new bench, and compares what comes of it.
+/// Serves the input of a reader on a new bench, and compares the results.
 fn check_read(
     rt: &(impl AllocGlobal + Abort),
     input: Faltering<'_>,
@@ -148,7 +148,8 @@ fn check_read(
     check_read_on(rt, &mut bench, &mut Counted::new(input), turns, wanted)
 }
 
-/// What the session writes once it has read so many octets, with more to come, and the report of the bench then.
+/// The text that the session writes after it has read so many octets, with more to come. Also the
+/// report of the bench then.
 fn left_by(octets: u64) -> (&'static [u8], &'static [u8]) {
     match octets {
         0..=31 => (b"", REPORT),
@@ -159,8 +160,9 @@ fn left_by(octets: u64) -> (&'static [u8], &'static [u8]) {
     }
 }
 
-/// A run of the session, an octet a read: how many reads go before the failures, how many of these there are, and how many reads may
-/// be made; then how many octets are read, how it ends, and how many reads and faults are counted.
+/// A run of the session, an octet a read. First the number of reads before the failures, of
+/// failures, and of reads that may be made. Then the octets that are read, the end, and the counts
+/// of reads and faults.
 type Run = (u64, u64, u64, u64, SessionEnd, u64, u64);
 
 /// Runs the session over a reader that fails in this way, and compares.
@@ -187,7 +189,7 @@ fn check_run(
     check_read(rt, input, turns, &wanted)
 }
 
-/// Compares a session of which one read fails in this way, be it any of the 72.
+/// Compares a session of which one read fails in this way, for each of the 72 reads.
 fn check_each_read(
     rt: &(impl AllocGlobal + Abort),
     what: &str,
@@ -200,7 +202,7 @@ fn check_each_read(
     Ok(())
 }
 
-/// A read that fails is the last one, and what came whole before it is answered.
+/// A read that fails is the last one. Each command that came whole before it is answered.
 #[test]
 fn a_read_that_fails_ends_the_session(rt: HostRuntime) -> Result<(), Fail> {
     check_each_read(&rt, "a reset", ErrorKind::ConnectionReset)?;
@@ -211,7 +213,8 @@ fn a_read_that_fails_ends_the_session(rt: HostRuntime) -> Result<(), Fail> {
     check_run(&rt, ("no reset", ErrorKind::ConnectionReset), run)
 }
 
-/// Compares sessions of which one read fails in some way, be it any but an interruption, each after one more read.
+/// Compares sessions of which one read fails, for each kind of error but an interruption. Each
+/// fails after one more read.
 fn check_lasting(rt: &(impl AllocGlobal + Abort)) -> Result<(), Fail> {
     for (place, kind) in LASTING.iter().enumerate() {
         let before = place as u64;
@@ -222,13 +225,13 @@ fn check_lasting(rt: &(impl AllocGlobal + Abort)) -> Result<(), Fail> {
     Ok(())
 }
 
-/// No read is tried again but one that was interrupted.
+/// Only a read that was interrupted is tried again.
 #[test]
 fn a_read_that_fails_in_any_other_way_is_the_last(rt: HostRuntime) -> Result<(), Fail> {
     check_lasting(&rt)
 }
 
-/// Compares runs of which reads are interrupted.
+/// Compares runs of which some reads are interrupted.
 fn check_runs(rt: &(impl AllocGlobal + Abort), runs: &[Run]) -> Result<(), Fail> {
     for run in runs {
         check_run(rt, ("interruptions", ErrorKind::Interrupted), *run)?;
@@ -236,7 +239,7 @@ fn check_runs(rt: &(impl AllocGlobal + Abort), runs: &[Run]) -> Result<(), Fail>
     Ok(())
 }
 
-/// A read that is tried again is one more read, and a fault.
+/// A read that is tried again counts as one more read, and as a fault.
 #[test]
 fn reads_run_out_among_interruptions_too(rt: HostRuntime) -> Result<(), Fail> {
     check_runs(
@@ -265,11 +268,11 @@ fn reads_run_out_among_interruptions_too(rt: HostRuntime) -> Result<(), Fail> {
     )
 }
 
-/// What is cut: so many reads fail after the last octet, so many may be made, and how that ends, what is written, how many reads are
-/// made after the last octet, and how many faults there are.
+/// How a put is cut. First the number of reads that fail after the last octet, and of reads that
+/// may be made. Then the end, the text, the number of reads after the last octet, and of faults.
 type Cut<'a> = (u64, u64, SessionEnd, &'a [u8], u64, u64);
 
-/// Serves octets of three commands and a put that is cut, and compares.
+/// Serves octets of some commands and a put that is cut, and compares.
 fn check_cut_by(
     rt: &(impl AllocGlobal + Abort),
     octets: &[u8],
@@ -324,7 +327,7 @@ fn a_put_that_is_cut_puts_nothing(rt: HostRuntime) -> Result<(), Fail> {
     )
 }
 
-/// Serves octets that come at once, where the read after so many fails, and compares.
+/// Serves octets that come at once, of which the read after `before` others fails, and compares.
 fn check_at_once<'a>(
     rt: &(impl AllocGlobal + Abort),
     octets: &[u8],
@@ -349,7 +352,7 @@ fn check_at_once<'a>(
     check_read(rt, input, TURNS, &wanted)
 }
 
-/// Octets that come at once: the commands that are whole are answered, and nothing else is.
+/// Octets that come at once. The commands that are whole are answered, and nothing else is.
 #[test]
 fn a_reader_that_fails_ends_the_session(rt: HostRuntime) -> Result<(), Fail> {
     check_at_once(&rt, b"", 0, b"", REPORT)?;

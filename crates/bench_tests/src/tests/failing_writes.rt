@@ -1,4 +1,4 @@
-//! Sessions and dumps over writers that fail at some calls and work at every other.
+//! Sessions and dumps over writers that fail at some calls and work at all others.
 
 use super::failing_reads::{Failures, LASTING, MAIN_REPORT, MESSAGE_REPORT, SCRIPT_REPORT};
 use super::{At, REPLIES, REPORT, SESSION, TURNS, check_report, holds, personal};
@@ -16,7 +16,7 @@ const SCRIPT: &[u8] = b"keep;\ndiscard;\n";
 
 const DUMP: &[u8] = b"0: keep internal @1\n1: discard @2\n";
 
-/// A writer that takes at most so many octets a call. Where it fails without a kind, it takes none.
+/// A writer that takes at most `piece` octets a call. If it fails without a kind, it takes none.
 #[derive(Drop)]
 struct Balking {
     taken: Vec<u8>,
@@ -57,7 +57,7 @@ impl Write for Balking {
     }
 }
 
-/// What is written.
+/// The output that is written.
 #[derive(Clone, Copy)]
 enum Output {
     /// The replies of the session.
@@ -67,7 +67,7 @@ enum Output {
 }
 
 impl Output {
-    /// All of it, the end where it could be written, and where it couldn't.
+    /// The whole output, the end if it could be written, and the end if it couldn't.
     fn whole(self) -> (&'static [u8], End, End) {
         match self {
             Output::Replies => (
@@ -79,7 +79,8 @@ impl Output {
         }
     }
 
-    /// The report of the bench once so much was written: a command is carried out before it is answered.
+    /// The report of the bench after so much was written. A command is carried out before it is
+    /// answered.
     fn report_after(self, octets: usize) -> &'static [u8] {
         match (self, octets) {
             (Output::Dump, _) => REPORT,
@@ -97,7 +98,7 @@ impl Output {
         }
     }
 
-    /// Writes it, and answers how that ended.
+    /// Writes the output, and returns how that ended.
     fn write(self, alloc: Global, bench: &mut Bench, writer: &mut Counted<Balking>) -> End {
         match self {
             Output::Replies => End::Session(session(
@@ -112,7 +113,7 @@ impl Output {
     }
 }
 
-/// Dumps the script, and answers how that ended.
+/// Dumps the script, and returns how that ended.
 fn dumped(alloc: Global, writer: &mut Counted<Balking>) -> TestEnd {
     match personal(alloc, b"a") {
         Ok(name) => dump_text(alloc, Profile::new(), &name, SCRIPT, writer),
@@ -120,10 +121,10 @@ fn dumped(alloc: Global, writer: &mut Counted<Balking>) -> TestEnd {
     }
 }
 
-/// A front of an output that was written: how that ended, and how many calls and faults there were.
+/// How writing an output ended, and the counts of calls and faults.
 type Written = (End, u64, u64);
 
-/// Compares what a writer took, where an output was written to it that is whole or isn't.
+/// Compares the octets that a writer took with an output that was written whole or in part.
 fn check_taken(
     rt: &(impl AllocGlobal + Abort),
     bench: &mut Bench,
@@ -138,8 +139,8 @@ fn check_taken(
     check_report(rt, bench, output.report_after(taken.len()))
 }
 
-/// Writes an output to a writer, and compares how that ends. The whole output is written where the writer didn't fail, and a front
-/// where it did.
+/// Writes an output to a writer, and compares how that ends. The whole output is written if the
+/// writer didn't fail, and a front of it if it did.
 fn check_written_on(
     rt: &(impl AllocGlobal + Abort),
     bench: &mut Bench,
@@ -160,7 +161,8 @@ fn check_written_on(
     check_taken(rt, bench, output, &balking.taken, at, end)
 }
 
-/// Writes an output on a new bench to a writer that takes at most so many octets a call and fails in this way, and compares.
+/// Writes an output on a new bench to a writer, and compares. The writer takes at most `piece`
+/// octets a call, and fails in this way.
 fn check_written(
     rt: &(impl AllocGlobal + Abort),
     output: Output,
@@ -174,14 +176,14 @@ fn check_written(
     check_written_on(rt, &mut bench, output, balking, wanted)
 }
 
-/// In how many calls an output is written on a bench to a writer.
+/// The number of calls in which an output is written on a bench to a writer.
 fn calls_on(alloc: Global, bench: &mut Bench, output: Output, balking: Balking) -> u64 {
     let mut writer = Counted::new(balking);
     let _ = output.write(alloc, bench, &mut writer);
     writer.into_inner().calls
 }
 
-/// In how many calls an output is written that takes at most so many octets each.
+/// The number of calls in which an output is written, each of at most `piece` octets.
 fn calls_of(alloc: Global, output: Output, piece: usize) -> Result<u64, Fail> {
     let never = Failures {
         before: 0,
@@ -192,7 +194,7 @@ fn calls_of(alloc: Global, output: Output, piece: usize) -> Result<u64, Fail> {
     Ok(calls_on(alloc, &mut bench, output, balking))
 }
 
-/// Writes an output to writers that fail once, at each call in turn and at the one after the last.
+/// Writes an output to writers that fail once: at each call in turn, and at the one after the last.
 fn check_each_call(
     rt: &(impl AllocGlobal + Abort),
     output: Output,
@@ -213,7 +215,8 @@ fn check_each_call(
     check_written(rt, output, piece, after, kind, (done, calls, 0))
 }
 
-/// Compares both outputs over writers that fail once in this way, where the writer takes little and where it takes all at once.
+/// Compares both outputs over writers that fail once in this way. The writers take one octet a
+/// call, or all at once.
 fn check_kind(rt: &(impl AllocGlobal + Abort), kind: Option<ErrorKind>) -> Result<(), Fail> {
     check_each_call(rt, Output::Replies, 1, kind)?;
     check_each_call(rt, Output::Replies, usize::MAX, kind)?;
@@ -229,7 +232,7 @@ fn a_write_that_fails_ends_the_output(rt: HostRuntime) -> Result<(), Fail> {
     check_kind(&rt, None)
 }
 
-/// Compares replies of which one write fails in some way, be it any but an interruption.
+/// Compares replies of which one write fails, for each kind of error but an interruption.
 fn check_lasting(rt: &(impl AllocGlobal + Abort)) -> Result<(), Fail> {
     for kind in LASTING {
         check_each_call(rt, Output::Replies, usize::MAX, Some(*kind))?;
@@ -237,13 +240,14 @@ fn check_lasting(rt: &(impl AllocGlobal + Abort)) -> Result<(), Fail> {
     Ok(())
 }
 
-/// No write is tried again but one that was interrupted.
+/// Only a write that was interrupted is tried again.
 #[test]
 fn a_write_that_fails_in_any_other_way_is_the_last(rt: HostRuntime) -> Result<(), Fail> {
     check_lasting(&rt)
 }
 
-/// An output, and how many interruptions there are after how many octets.
+/// An output, the number of octets before the interruptions, and the number of interruptions. Then
+/// the wanted results.
 type Interrupted = (Output, u64, u64, Written);
 
 /// Writes outputs an octet a call, with interruptions, and compares.

@@ -1,6 +1,7 @@
-//! The numbers of refusals and ends, and what refusals print.
+//! The numbers of refusals and ends, and the texts that refusals print.
 //!
-//! A refusal with fields has no number of its own: its variants are listed in the order of their numbers.
+//! A refusal with fields has no number of its own. Its variants are listed in the order of their
+//! numbers.
 
 use super::{holds, same};
 use session_server::{EditFault, ReportFault, SessionEnd, TestEnd, UsageFault};

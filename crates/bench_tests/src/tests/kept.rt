@@ -1,4 +1,4 @@
-//! Reports that run what edits have touched, and the verdicts that are kept.
+//! Reports that run the messages that edits have touched, and the verdicts that are kept.
 
 use super::{TURNS, holds, put_message, same};
 use session_server::{
@@ -10,10 +10,11 @@ use std::io::{ErrorKind, Write};
 use std::process::Abort;
 use std::test::Fail;
 
-/// Edits as a session's octets, how many runs the report after them makes, and its text.
+/// Edits as a session's octets, the number of runs of the report after them, and its text.
 type Step<'a> = (&'a [u8], u64, &'a [u8]);
 
-/// Two messages, and a main script that includes another for the first of them, as far as that is there.
+/// Two messages, and a main script. For the first message it includes another script, if that is
+/// there.
 const TWO_MESSAGES: &[u8] =
     b"script personal main 71\nrequire \"include\"; if header \"Subject\" \"one\" { include :optional \"x\"; }message m1 14\nSubject: one\n\nmessage m2 14\nSubject: two\n\nmain personal main\n";
 
@@ -26,7 +27,7 @@ fn edit(rt: &(impl AllocGlobal + Abort), bench: &mut Bench, edits: &[u8]) {
     holds(rt, at, end == SessionEnd::Done);
 }
 
-/// Makes edits and then a report, and compares its text and how many runs it makes.
+/// Makes edits and then a report, and compares its text and its number of runs.
 fn check_step(
     rt: &(impl AllocGlobal + Abort),
     bench: &mut Bench,
@@ -169,7 +170,7 @@ fn each_edit_reruns_what_it_touches(rt: HostRuntime) -> Result<(), Fail> {
     check_removals(&rt, &mut bench)
 }
 
-/// Each of them touches its messages also where nothing changes.
+/// Each setting touches its messages even if nothing changes.
 #[test]
 fn each_setting_reruns_what_it_touches(rt: HostRuntime) -> Result<(), Fail> {
     let profile = Profile::new()
@@ -304,7 +305,8 @@ fn is_discarded(bench: &Bench, id: &Octets) -> bool {
     }
 }
 
-/// Puts a script anew that one of two messages has looked up, and looks at their verdicts before the next report and after it.
+/// Puts a script anew that one of two messages has looked up. Compares their verdicts before the
+/// next report and after it.
 fn check_verdicts(
     rt: &(impl AllocGlobal + Abort),
     bench: &mut Bench,

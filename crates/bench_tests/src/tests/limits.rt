@@ -1,11 +1,12 @@
-//! Edits at the limits of names, texts and messages, and past them: sessions refuse what is past them before they ask for an edit.
+//! Edits at the limits of names, texts and messages, and past them. Sessions refuse larger ones
+//! before they ask for an edit.
 
 use super::{holds, many, personal};
 use session_server::{Bench, EditFault};
 use std::alloc::AllocError;
 use std::process::Abort;
 
-/// Makes edits with a name and an id of so many octets, and compares what each answers.
+/// Makes edits with a name and an id of so many octets, and compares the answers.
 fn check_names(
     rt: &(impl AllocGlobal + Abort),
     bench: &mut Bench,
@@ -30,7 +31,7 @@ fn check_names(
     Ok(())
 }
 
-/// Makes an edit with a text of so many octets, and compares what it answers.
+/// Makes an edit with a text of so many octets, and compares the answer.
 fn check_text(
     rt: &(impl AllocGlobal + Abort),
     bench: &mut Bench,
@@ -44,7 +45,7 @@ fn check_text(
     Ok(())
 }
 
-/// Makes an edit with a message of so many octets, and compares what it answers.
+/// Makes an edit with a message of so many octets, and compares the answer.
 fn check_message(
     rt: &(impl AllocGlobal + Abort),
     bench: &mut Bench,
@@ -58,7 +59,7 @@ fn check_message(
     Ok(())
 }
 
-/// Expects a text of so many octets of a message that is there, and compares what that answers.
+/// Sets an expected text of so many octets for a message that is there, and compares the answer.
 fn check_expected(
     rt: &(impl AllocGlobal + Abort),
     bench: &mut Bench,
@@ -75,7 +76,7 @@ fn check_expected(
     Ok(())
 }
 
-/// Expects texts at the limit and past it, on a new bench.
+/// Sets expected texts at the limit and past it, on a new bench.
 fn check_expected_sizes(rt: &(impl AllocGlobal + Abort)) -> Result<(), AllocError> {
     let mut bench = Bench::new(rt.alloc())?;
     check_expected(rt, &mut bench, 65_536, &Ok(()))?;
@@ -87,7 +88,7 @@ fn expected_texts_have_their_limit(rt: HostRuntime) -> Result<(), AllocError> {
     check_expected_sizes(&rt)
 }
 
-/// Makes edits with a name, a text and a message of so many octets, and compares what each answers.
+/// Makes edits with a name, a text and a message of so many octets, and compares the answers.
 fn check_edits(
     rt: &(impl AllocGlobal + Abort),
     bench: &mut Bench,
@@ -116,7 +117,8 @@ fn names_texts_and_messages_have_their_limits(rt: HostRuntime) -> Result<(), All
     check_sizes(&rt, (1_025, 1_048_577, 16_777_217), &large)
 }
 
-/// Gives a message that is there addresses of so many octets, and lists mailboxes in so many, and compares what each answers.
+/// Sets addresses of so many octets for a message that is there. Sets a list of mailboxes of so
+/// many octets. Compares the answers.
 fn check_settings(
     rt: &(impl AllocGlobal + Abort),
     bench: &mut Bench,
@@ -133,7 +135,7 @@ fn check_settings(
     Ok(())
 }
 
-/// Sets them at their limits and past them, on a new bench.
+/// Makes these settings at their limits and past them, on a new bench.
 fn check_setting_sizes(rt: &(impl AllocGlobal + Abort)) -> Result<(), AllocError> {
     let mut bench = Bench::new(rt.alloc())?;
     check_message(rt, &mut bench, 0, &Ok(()))?;

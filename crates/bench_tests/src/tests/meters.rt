@@ -1,11 +1,11 @@
-//! How many runs sessions make.
+//! The number of runs that sessions make.
 
 use super::{TURNS, holds};
 use session_server::{Bench, Counted, Meter, SessionEnd, session};
 use std::alloc::AllocError;
 use std::process::Abort;
 
-/// Serves a session on a bench, and compares how many runs it makes.
+/// Serves a session on a bench, and compares the number of runs.
 fn check_served(rt: &impl Abort, bench: &mut Bench, writer: Vec<u8>, input: &[u8], runs: u64) {
     let mut meter = Meter::new();
     let mut reader = Counted::new(input);
@@ -20,7 +20,7 @@ fn check_served(rt: &impl Abort, bench: &mut Bench, writer: Vec<u8>, input: &[u8
     holds(rt, at, end == SessionEnd::Done && meter.runs() == runs);
 }
 
-/// Serves a session on a new bench, and compares how many runs it makes.
+/// Serves a session on a new bench, and compares the number of runs.
 fn check_session_runs(
     rt: &(impl AllocGlobal + Abort),
     input: &[u8],

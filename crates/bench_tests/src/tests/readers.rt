@@ -48,7 +48,7 @@ impl Read for Dripping<'_> {
     }
 }
 
-/// Serves a session on a bench, and compares what it writes and how it ends.
+/// Serves a session on a bench, and compares the text that it writes and its end.
 fn check_served<R: Source>(
     rt: &(impl AllocGlobal + Abort),
     bench: &mut Bench,
@@ -77,7 +77,7 @@ fn check_ended<R: Source>(
     Ok(())
 }
 
-/// Compares with how many reads a session is served.
+/// Compares the number of reads with which a session is served.
 fn check_calls<R: Source>(rt: &impl Abort, reader: &R, turns: u64) {
     let calls = reader.calls();
     holds(rt, ("so many reads", turns, calls), calls == turns);
@@ -149,7 +149,7 @@ fn octets_in_one_piece_take_two_reads(rt: HostRuntime) -> Result<(), AllocError>
     check_piece(&rt, 1, b"", SessionEnd::TurnLimit)
 }
 
-/// A reader of one line for ever.
+/// A reader of one line, again and again without end.
 #[derive(Drop)]
 struct Endless<'a>(&'a [u8]);
 
@@ -161,7 +161,7 @@ impl Read for Endless<'_> {
     }
 }
 
-/// Serves one line for ever with so many reads, and compares.
+/// Serves one line again and again with so many reads, and compares.
 fn check_endless(
     rt: &(impl AllocGlobal + Abort),
     line: &[u8],
@@ -180,7 +180,8 @@ fn reads_are_limited(rt: HostRuntime) -> Result<(), AllocError> {
     check_endless(&rt, b"report\n", 0, b"")
 }
 
-/// Serves octets one at a time, of which the first so many are no line, and compares with how many reads that is answered.
+/// Serves octets one at a time, of which the first `calls` are no line. Compares the number of
+/// reads after which that is answered.
 fn check_refused_line(
     rt: &(impl AllocGlobal + Abort),
     octets: &[u8],

@@ -1,4 +1,5 @@
-//! The test of a message by a job: what is written, how it ends, and how many runs it makes. `tools/checks` has the limits of its parts.
+//! The test of a message by a job: the text that is written, the end, and the number of runs.
+//! `tools/checks` has the limits of its parts.
 
 use super::{holds, personal, same};
 use session_server::{
@@ -18,7 +19,7 @@ fn script_of(alloc: Global, name: &[u8], text: &[u8]) -> Result<TestScript, Allo
     })
 }
 
-/// A job of nothing but the name of a main script.
+/// A job with only the name of a main script.
 fn bare(alloc: Global, main: ScriptName) -> TestJob {
     TestJob {
         profile: Profile::new(),
@@ -64,7 +65,7 @@ fn job_of(alloc: Global, texts: Texts<'_>) -> Result<TestJob, AllocError> {
     Ok(job)
 }
 
-/// Makes a test, and compares how it ends, how many runs it makes and what it writes.
+/// Makes a test, and compares its end, its number of runs and the text that it writes.
 fn check_job(
     rt: &(impl AllocGlobal + Abort),
     job: &TestJob,

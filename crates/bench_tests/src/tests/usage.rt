@@ -1,4 +1,5 @@
-//! The words of the command line, and the status of each end. What further words ask for stands in `examples/rows` and `tools/checks`.
+//! The words of the command line, and the status of each end. Further words are in `examples/rows`
+//! and `tools/checks`.
 
 use super::holds;
 use session_server::{End, SessionEnd, TestEnd, UsageFault, command_of, status_of};
@@ -33,7 +34,7 @@ fn each_end_has_its_status(rt: HostRuntime) {
     );
 }
 
-/// Compares what is printed where there are no words.
+/// Compares the text that is printed if there are no words.
 fn check_fault(rt: &impl Abort, fault: &UsageFault) {
     match fault {
         UsageFault::Usage { help: false, text } => {
@@ -43,7 +44,7 @@ fn check_fault(rt: &impl Abort, fault: &UsageFault) {
     }
 }
 
-/// Compares what words that are none ask for.
+/// Compares the answer to an empty list of words.
 fn check_no_words(rt: &(impl AllocGlobal + Abort), words: &[&str]) {
     match command_of(rt.alloc(), words) {
         Err(fault) => check_fault(rt, &fault),
@@ -51,7 +52,7 @@ fn check_no_words(rt: &(impl AllocGlobal + Abort), words: &[&str]) {
     }
 }
 
-/// Not even the program's name.
+/// There is not even the program's name.
 #[test]
 fn words_that_are_none_name_no_job(rt: HostRuntime) {
     check_no_words(&rt, &[]);

@@ -1,21 +1,22 @@
-//! A caller of the libraries, which `docs/ARCHITECTURE.md` shows: what becomes of a mail by one script.
+//! A caller of the libraries, which `docs/ARCHITECTURE.md` shows. It finds one script's verdict on
+//! a mail.
 
 ghost use Rattle.std.specs.Prelude.{◌≡◌, ◌≤◌, [], ◌∷◌, IfOk, None, Some, length};
 ghost use Rattle.sieve_limits.specs.Limits.{name_limit};
 ghost use Rattle.sieve_run.specs.Library.{library_of};
-ghost use Rattle.sieve_run.specs.Run.{outcome_of};
+ghost use Rattle.sieve_run.specs.Run.{verdict_of};
 ghost use Rattle.sieve_run.specs.Shelf.{text_on};
 
 use super::holds;
 use sieve_profile::Profile;
 use sieve_run::{
-    Action, Entry, Envelope, Location, Message, Meter, Octets, Outcome, ScriptName, Shelf, run,
+    Action, Entry, Envelope, Location, Message, Meter, Octets, ScriptName, Shelf, Verdict, run,
 };
 use std::alloc::{AllocError, Global};
 use std::test::Fail;
 
-/// The verdict on a mail of a script that stands alone.
-pub(crate) fn verdict_of(
+/// The verdict of a script, without other scripts, on a mail.
+pub(crate) fn verdict_on(
     alloc: Global,
     profile: Profile,
     name: &ScriptName,
@@ -23,10 +24,10 @@ pub(crate) fn verdict_of(
     envelope: &Envelope,
     mail: &Message,
     meter: &mut Meter,
-) -> Result<Outcome, AllocError>
+) -> Result<Verdict, AllocError>
     requires { length name.now.name ≤ name_limit }
     ensures { IfOk result (λ verdict. verdict
-        ≡ outcome_of (library_of profile (text_on ((name.now, text.now) ∷ []))) (Some name.now)
+        ≡ verdict_of (library_of profile (text_on ((name.now, text.now) ∷ []))) (Some name.now)
         (record { message = mail.now; envelope = envelope.now; own = None; profile = profile })) }
 {
     let mut shelf = Shelf::new(alloc, profile);
@@ -45,7 +46,7 @@ fn discards(alloc: Global, text: &[u8], from: &[u8], octets: Vec<u8>) -> Result<
         clock: None,
     };
     let mail = Message::new(alloc, octets)?;
-    let verdict = verdict_of(
+    let verdict = verdict_on(
         alloc,
         Profile::new(),
         &name,

@@ -1,4 +1,5 @@
-//! Checked scripts, and a breach. The faults of texts stand in `examples/rows`. What is expected was written by hand from RFC 5228.
+//! Checked scripts, and a breach. The faults of texts are in `examples/rows`. The expected results
+//! were written by hand from RFC 5228.
 
 use super::{holds, same};
 use sieve_check::{CheckFault, Checked, Rule, check};
@@ -38,7 +39,7 @@ fn are_stop(statements: Vec<Statement>) -> bool {
     matches!(statements.as_slice(), [Statement::Stop])
 }
 
-/// The second command, an `if`.
+/// Checks the second command, an `if`.
 fn check_choice(rt: &impl Abort, branches: Vec<Branch>) {
     let mut branches = branches.into_iter();
     match (branches.next(), branches.next()) {
@@ -50,7 +51,7 @@ fn check_choice(rt: &impl Abort, branches: Vec<Branch>) {
     }
 }
 
-/// The last command stands first.
+/// Checks the commands of the script. The last command is first.
 fn check_both(rt: &impl Abort, checked: Checked) {
     let mut statements = checked.into_statements().into_iter();
     match (statements.next(), statements.next(), statements.next()) {
@@ -84,7 +85,7 @@ fn a_sound_text_has_its_script(rt: HostRuntime) -> Result<(), Fail> {
     Ok(())
 }
 
-/// How many branches with tests a statement has, and whether it has an `else`.
+/// The number of branches with tests that a statement has, and whether it has an `else`.
 fn branches_of(statement: &Statement) -> (usize, bool) {
     match statement {
         Statement::Choose {
@@ -127,7 +128,7 @@ fn check_text(rt: &impl Abort, text: &Parts, octets: &[u8]) {
     }
 }
 
-/// The strings of the test.
+/// Checks the strings of the test.
 fn check_strings(rt: &impl Abort, names: &[Parts], keys: &[Parts]) {
     match (names, keys) {
         ([name], [first, second]) => {
@@ -139,7 +140,7 @@ fn check_strings(rt: &impl Abort, names: &[Parts], keys: &[Parts]) {
     }
 }
 
-/// The condition of `if header :comparator "i;octet" "a"\n["b", "c"] {}`.
+/// Checks the condition of `if header :comparator "i;octet" "a"\n["b", "c"] {}`.
 fn check_header(rt: &impl Abort, condition: Condition) {
     match condition {
         Condition::Asks(
@@ -156,7 +157,7 @@ fn check_header(rt: &impl Abort, condition: Condition) {
     }
 }
 
-/// The names of fields and the keys of the test.
+/// Checks the names of fields and the keys of the test.
 fn check_source<S: Drop>(
     rt: &impl Abort,
     source: ValueSource<Vec<Parts>, Vec<Parts>, S>,

@@ -1,13 +1,13 @@
-//! Runs of scripts through the library's calls. What further scripts come to stands in `examples/rows`. What is expected was written by
-//! hand from RFC 5228.
+//! Runs of scripts through the library's calls. Runs of further scripts are in `examples/rows`. The
+//! expected results were written by hand from RFC 5228.
 
 ghost use Rattle.std.specs.Prelude.{◌≤◌, IfOk, length};
 
 use super::{holds, same};
 use sieve_profile::Profile;
 use sieve_run::{
-    Action, Entry, Envelope, ErrorKind, Location, Message, Meter, Octets, Outcome, ScriptName,
-    Shelf, run,
+    Action, Entry, Envelope, ErrorKind, Location, Message, Meter, Octets, ScriptName, Shelf,
+    Verdict, run,
 };
 use std::alloc::{AllocError, Global};
 use std::process::Abort;
@@ -41,30 +41,30 @@ fn empty_message(alloc: Global) -> Result<Message, Fail> {
     Ok(Message::new(alloc, Vec::new(alloc))?)
 }
 
-/// The outcome of a main script on a message.
-fn outcome_on(
+/// The verdict of a main script on a message.
+fn verdict_on(
     alloc: Global,
     shelf: &Shelf,
     main: Option<&ScriptName>,
     (envelope, message): (&Envelope, &Message),
     meter: &mut Meter,
-) -> Result<Outcome, Fail> {
+) -> Result<Verdict, Fail> {
     Ok(run(alloc, shelf, main, envelope, None, message, meter)?)
 }
 
-/// The outcome of a main script on a message of no octets.
-fn outcome_of(
+/// The verdict of a main script on a message of no octets.
+fn verdict_of(
     alloc: Global,
     shelf: &Shelf,
     main: Option<&ScriptName>,
     meter: &mut Meter,
-) -> Result<Outcome, Fail> {
+) -> Result<Verdict, Fail> {
     let envelope = envelope_of(alloc)?;
     let message = empty_message(alloc)?;
-    outcome_on(alloc, shelf, main, (&envelope, &message), meter)
+    verdict_on(alloc, shelf, main, (&envelope, &message), meter)
 }
 
-/// The actions of the script of `check_acting`.
+/// Checks the actions of the script of `check_acting`.
 fn check_actions(rt: &impl Abort, entries: &[Entry]) {
     match entries {
         [
@@ -98,39 +98,39 @@ fn check_actions(rt: &impl Abort, entries: &[Entry]) {
     }
 }
 
-/// How many actions a run comes to, whether the implicit keep stands, the line and the kind of its error, and whether the last name that
-/// it looked up was there.
+/// The number of actions of a run, and whether the implicit keep stands. Then the line and the kind
+/// of its error, and whether the last name that it looked up was there.
 type Told = (usize, bool, Option<(u64, ErrorKind)>, Option<bool>);
 
 /// The line and the kind of the error of a run.
-fn error_of(outcome: &Outcome) -> Option<(u64, ErrorKind)> {
-    match outcome.error() {
+fn error_of(verdict: &Verdict) -> Option<(u64, ErrorKind)> {
+    match verdict.error() {
         Some(error) => Some((error.line, error.kind)),
         None => None,
     }
 }
 
 /// Whether the last name that a run looked up was there.
-fn last_read(outcome: &Outcome) -> Option<bool> {
+fn last_read(verdict: &Verdict) -> Option<bool> {
     let mut found = None;
-    for (_name, present) in outcome.lookups() {
+    for (_name, present) in verdict.lookups() {
         found = Some(*present);
     }
     found
 }
 
-/// Compares what a run comes to. One that has actions is that of `check_acting`.
-fn check_told(rt: &impl Abort, row: &str, outcome: &Outcome, wanted: Told) {
-    holds(rt, row, outcome.entries().len() == wanted.0);
+/// Compares the verdict of a run. A run that has actions is that of `check_acting`.
+fn check_told(rt: &impl Abort, row: &str, verdict: &Verdict, wanted: Told) {
+    holds(rt, row, verdict.entries().len() == wanted.0);
     if wanted.0 > 0 {
-        check_actions(rt, outcome.entries());
+        check_actions(rt, verdict.entries());
     }
-    holds(rt, row, outcome.implicit().is_some() == wanted.1);
-    holds(rt, row, error_of(outcome) == wanted.2);
-    holds(rt, row, last_read(outcome) == wanted.3);
+    holds(rt, row, verdict.implicit().is_some() == wanted.1);
+    holds(rt, row, error_of(verdict) == wanted.2);
+    holds(rt, row, last_read(verdict) == wanted.3);
 }
 
-/// Runs a main script, and compares what it comes to.
+/// Runs a main script, and compares its verdict.
 fn check_run(
     rt: &(impl AllocGlobal + Abort),
     shelf: &Shelf,
@@ -138,12 +138,12 @@ fn check_run(
     meter: &mut Meter,
     (row, wanted): (&str, Told),
 ) -> Result<(), Fail> {
-    let outcome = outcome_of(rt.alloc(), shelf, main, meter)?;
-    check_told(rt, row, &outcome, wanted);
+    let verdict = verdict_of(rt.alloc(), shelf, main, meter)?;
+    check_told(rt, row, &verdict, wanted);
     Ok(())
 }
 
-/// Puts a text on a shelf, and compares what a run of it comes to.
+/// Puts a text on a shelf, runs it, and compares its verdict.
 fn check_text(
     rt: &(impl AllocGlobal + Abort),
     shelf: &mut Shelf,
@@ -171,7 +171,7 @@ fn check_acting(
     check_text(rt, shelf, main, text, ("three actions", wanted))
 }
 
-/// Runs a text of so many octets, and compares what that comes to.
+/// Runs a text of `count` octets, and compares its verdict.
 fn check_long(
     rt: &(impl AllocGlobal + Abort),
     shelf: &mut Shelf,
@@ -185,7 +185,7 @@ fn check_long(
     check_text(rt, shelf, main, &text, wanted)
 }
 
-/// Runs on one shelf: of 1,048,576 octets a text can be run, and none of more.
+/// Makes the runs on one shelf. A text of 1,048,576 octets can be run, and no longer text can.
 fn check_all(
     rt: &(impl AllocGlobal + Abort),
     shelf: &mut Shelf,
@@ -200,7 +200,8 @@ fn check_all(
     check_acting(rt, shelf, main)
 }
 
-/// Runs of texts at the limit and past it, and of one with actions, each in the place of the one before.
+/// Runs texts at the limit and past it, and one with actions. Each takes the place of the one
+/// before.
 #[test]
 fn scripts_are_run(rt: HostRuntime) -> Result<(), Fail> {
     let main = main_name(rt.alloc())?;

@@ -2,10 +2,10 @@
 use Rattle.std.specs.Prelude.{ℕ, List, length, ◌-◌}
 use Rattle.sieve_code.specs.Operation.{Operation, targeting}
 use Rattle.sieve_code.specs.Pool.{Pool}
-use Rattle.sieve_code.specs.view.Op.{op_in, ops_in}
+use Rattle.sieve_code.specs.view.Operation.{op_in, ops_in}
 use Rattle.sieve_code.specs.view.Pools.{pool_as}
 use Rattle.sieve_code.specs.declared.code.Code.{Code}
-use Rattle.sieve_code.specs.declared.op.Op.{Op}
+use Rattle.sieve_code.specs.declared.operation.PackedOperation.{PackedOperation}
 
 abbrev pub ops_of : Code → List Operation
 ops_of code = ops_in (pool_as code.pools) code.ops.items
@@ -19,5 +19,5 @@ abbrev pub jump_place_of : Code → ℕ → ℕ
 jump_place_of code left = length code.ops.items - left
 
 -- what one of its operations is
-abbrev pub op_of : Code → Op → Operation
+abbrev pub op_of : Code → PackedOperation → Operation
 op_of code op = targeting (jump_place_of code) (op_in (pool_of code) op)

@@ -1,4 +1,4 @@
--- What is kept of the fields of a message, and of what it is made of.
+-- The results that are kept of reading a message: its fields and its entities.
 use Rattle.std.specs.Prelude.{◌≡◌, ◌<◌, ◌+◌, ◌-◌, ◌^◌, ℕ, List, ◌∷◌, drop, length, map, slice_get, Option, None, Some, false, true}
 use Rattle.std.specs.Cow.{cow_slice_items}
 use Rattle.std.specs.declared.alloc.Global.{Global}
@@ -25,7 +25,7 @@ AreListed message lists = (i : ℕ) (listed : Vec AddrSpec Global) → slice_get
 abbrev pub AreDecoded : Profile → List ℕ → List (Option (CowSlice ℕ Global)) → Type 0
 AreDecoded profile message values = (i : ℕ) (value : CowSlice ℕ Global) → slice_get values i ≡ Some (Some value) → slice_get (decoded_values_of profile message) i ≡ Some (cow_slice_items value)
 
--- the entities, where they are kept, are those of the message
+-- if the entities are kept, they are those of the message
 abbrev pub AreEntities : List ℕ → Option (Vec entity.Entity Global) → Type 0
 AreEntities message None = Unit {0}
 AreEntities message (Some kept) = map entity_as kept.items ≡ entities_of message
@@ -37,8 +37,8 @@ pub record IsNextField (message name : List ℕ) (start i : ℕ) : Type 0 where
   pub next : IsNextNamed (fields_of message) name start i
   pub rest : fields_named (drop start (fields_of message)) name ≡ field ∷ fields_named (drop (i + 1) (fields_of message)) name
 
--- The field at the first place is there, and the first that has its name; the next place is after it, and no field of that name stands
--- between the two.
+-- The field at the first place is there, and it is the first that has its name. The next place is
+-- after it. No field of that name is between the two.
 pub record IsNamedPlace (message : List ℕ) (named : NamedPlace) : Type 0 where
   pub before : (name : List ℕ) → slice_get (map (is_field_named name) (fields_of message)) named.first ≡ Some true → (k : ℕ) → k < named.first → slice_get (map (is_field_named name) (fields_of message)) k ≡ Some false
   pub after : (name : List ℕ) → slice_get (map (is_field_named name) (fields_of message)) named.first ≡ Some true → (k : ℕ) → named.first < k → k < named.next → slice_get (map (is_field_named name) (fields_of message)) k ≡ Some false
@@ -50,6 +50,6 @@ pub record IsNamedPlace (message : List ℕ) (named : NamedPlace) : Type 0 where
 abbrev pub AreNamed : List ℕ → List (Option NamedPlace) → Type 0
 AreNamed message places = (i : ℕ) (named : NamedPlace) → slice_get places i ≡ Some (Some named) → IsNamedPlace message named
 
--- whatever lies at one of these places, lay there before
+-- each item at one of these places was at that place before
 abbrev pub HasNoMore : {X : Type 0} → (before places : List (Option X)) → Type 0
 HasNoMore {X = X} before places = (i : ℕ) (x : X) → slice_get places i ≡ Some (Some x) → slice_get before i ≡ Some (Some x)

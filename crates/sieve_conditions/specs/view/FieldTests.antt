@@ -1,4 +1,4 @@
--- What tests find in one value, one field and one entity.
+-- The match values that one value, one field and one entity give.
 use Rattle.std.specs.Prelude.{ℕ, ◌+◌, Bool, true, false, List, [], ◌∷◌, length, map, Option}
 use Rattle.std.specs.List.{flat_map}
 use Rattle.std.specs.Option.{option_and_then, option_map, option_or}
@@ -19,7 +19,7 @@ use Rattle.sieve_conditions.specs.declared.field_values.Finder.{Finder}
 use Rattle.sieve_conditions.specs.declared.matcher.Matcher.{Matcher}
 use Rattle.sieve_delivery.specs.declared.envelope.Envelope.{Envelope}
 
--- what a key stands for: itself, or its pieces where keys are cut at spaces
+-- the texts of a key: itself, or its pieces if keys are cut at spaces
 abbrev pub cut_key : (cut : Bool) → List ℕ → List (List ℕ)
 cut_key true text = flag_keys text
 cut_key false text = text ∷ []
@@ -28,7 +28,7 @@ cut_key false text = text ∷ []
 abbrev pub key_texts : Matcher → List (List ℕ)
 key_texts matcher = flat_map (cut_key matcher.are_cut) (map (text_value matcher.values.now) matcher.keys.now)
 
--- what a key gives that a value matches, and what the first key gives
+-- the match values that a value gives by one key, and by the first key that it matches
 abbrev pub key_found : Matcher → List ℕ → List Part → Option (List (List ℕ))
 key_found matcher value key = first_match matcher.comparison (pairs_with (cut_key matcher.are_cut (text_value matcher.values.now key)) value)
 
@@ -40,7 +40,7 @@ abbrev pub cuts_keys : ValueSource → Bool
 cuts_keys (flag_values variables) = true
 cuts_keys other = false
 
--- where `find` says what a value that matches gives
+-- here `find` gives the match values of a value that matches
 module _ (find : List ℕ → Option (List (List ℕ))) where
   -- a part of an address that is there
   abbrev pub part_found : AddressPart → AddrSpec → Option (List (List ℕ))
@@ -57,7 +57,8 @@ module _ (find : List ℕ → Option (List (List ℕ))) where
   abbrev pub entity_found : Profile → (entries : List (List ℕ)) → Entity → Option (List (List ℕ))
   entity_found profile entries entity = first_some find (texts_if_named profile entries entity)
 
--- what has been found after one more field, and how many values have been counted
+-- The visitor after one more field. It has the match that was found, or the number of the values so
+-- far.
 abbrev pub found_after : Profile → Option AddressPart → Finder → Field → Finder
 found_after profile part finder field = record finder { found = option_or finder.found (first_some (found_with finder.matcher.now) (values_in profile part field)) }
 

@@ -1,4 +1,4 @@
--- The actions of a run with the internal flags, and how the code says what became of them.
+-- The actions of a run with the internal flags, and how code reports whether one was accepted.
 use Rattle.std.specs.Prelude.{◌≡◌, ⊤, ℕ, ◌-◌, ◌≤◌, Bool, true, false, List, [], ◌∷◌, length, map, take, nat_eq, nat_lt, if◌then◌else◌, Option, None, Some}
 use Rattle.std.specs.List.{All}
 use lib.Pointwise.{pointwise}
@@ -6,24 +6,25 @@ use Rattle.match_text.specs.Flags.{has_flag}
 use Rattle.sieve_delivery.specs.declared.action.Action.{Action}
 use Rattle.sieve_delivery.specs.declared.action.Action.TheVariants.{Store}
 use Rattle.sieve_delivery.specs.declared.action.Entry.{Entry}
-use Rattle.sieve_delivery.specs.declared.actions.Added.{Added}
-use Rattle.sieve_delivery.specs.declared.actions.Added.TheVariants.{Accepted, Refused}
-use Rattle.sieve_delivery.specs.Act.{Performed, accepted, joined_with, refused}
+use Rattle.sieve_delivery.specs.declared.actions.Performed as performances
+use Rattle.sieve_delivery.specs.declared.actions.Performed.TheVariants.{Accepted, Refused}
+use Rattle.sieve_delivery.specs.Joining.{joined_with}
+use Rattle.sieve_delivery.specs.Performing.{Performed, accepted, refused}
 use Rattle.sieve_delivery.specs.State.{Entered}
 
 pub record EntriesAndFlags : Type 0 where
   pub entries : List Entered
   pub flags : List (List ℕ)
 
--- an action with the command that entered it, whatever else is known of it
+-- an action with the command that entered it, without the rest of its entry
 abbrev pub entered_of : Entry → Entered
 entered_of entry = record { action = entry.action; origin = entry.origin }
 
 abbrev pub entries_as : List Entry → List Entered
 entries_as entries = map entered_of entries
 
--- what became of the actions, by what became of the one that was performed
-abbrev pub performed_as : Added → List Entered → Performed
+-- the result for the run's actions, by the report on the one that was performed
+abbrev pub performed_as : performances.Performed → List Entered → Performed
 performed_as Accepted entries = accepted entries
 performed_as (Refused kind) entries = refused kind
 
@@ -36,22 +37,24 @@ stores_into mailbox other = false
 abbrev pub joined_in : Action → Entry → Entry
 joined_in action entry = record entry { action = joined_with action entry.action }
 
--- the first flags, as many as `known`, are among those of a store
+-- the first `known` flags are among those of a store
 abbrev pub AreAmong : (flags : List (List ℕ)) → (known : ℕ) → Action → Type 0
 AreAmong flags known (Store mailbox own filing) = All (λ flag. has_flag own flag ≡ true) (take known flags)
 AreAmong flags known other = ⊤
 
--- what is known of an action: no more flags than there are, and they are among its own
+-- `known` is at most the number of flags. The first `known` flags are among the action's own, if it
+-- is a store.
 pub record IsKnown (flags : List (List ℕ)) (known : ℕ) (action : Action) : Type 0 where
   pub within : known ≤ length flags
   pub among : AreAmong flags known action
 
--- what is known of each action
+-- the same for each entry
 abbrev pub AreKnown : (flags : List (List ℕ)) → List Entry → Type 0
 AreKnown flags [] = ⊤
 AreKnown flags (entry ∷ entries) = IsKnown flags entry.known entry.action × AreKnown flags entries
 
--- how many of the first flags are left where the one at a place is taken out, or where all are
+-- The number of known first flags after the flag at a place is taken out. Without a place, all
+-- flags are taken out.
 abbrev pub lowered : (place : Option ℕ) → (known : ℕ) → ℕ
 lowered None known = 0
 lowered (Some place) known = if nat_lt place known then known - 1 else known

@@ -1,4 +1,4 @@
--- What code knows of a delivery.
+-- The meaning of a delivery of the program.
 use Rattle.std.specs.Prelude.{map}
 use Rattle.std.specs.Option.{option_copied}
 use Rattle.sieve_delivery.specs.Delivery.{Arrival, Delivery}

@@ -4,11 +4,11 @@ use Rattle.sieve_code.specs.Operation.{Operation}
 use Rattle.sieve_code.specs.Walk.{code_walk}
 use Rattle.sieve_delivery.specs.Delivery.{Delivery, inside}
 use Rattle.sieve_run.specs.Library.{Lookup, found_at}
-use Rattle.sieve_delivery.specs.Act.{Ending}
+use Rattle.sieve_delivery.specs.Ending.{Ending}
 use Rattle.sieve_run.specs.Run.{act_of, answer_of, entering, exec, looked_up, resumed, with_found_script}
 use Rattle.sieve_delivery.specs.State.{RunState}
-use Rattle.sieve_delivery.specs.declared.flow.Flow.{Flow}
-use Rattle.sieve_delivery.specs.declared.flow.Flow.TheVariants.{GoesOn, Returned, Stopped, Failed}
+use Rattle.sieve_delivery.specs.declared.ending.Ending as endings
+use Rattle.sieve_delivery.specs.declared.ending.Ending.TheVariants.{GoesOn, Returned, Stopped, Failed}
 use Rattle.sieve_run.specs.declared.library.Found.{Found}
 use Rattle.sieve_run.specs.declared.library.Found.TheVariants.{Missing, Invalid, Present}
 use Rattle.script_names.specs.declared.name.ScriptName.{ScriptName}
@@ -19,7 +19,7 @@ there_as Missing = false
 there_as Invalid = true
 there_as (Present code) = true
 
-abbrev pub resumed_by : Flow → Flow
+abbrev pub resumed_by : endings.Ending → endings.Ending
 resumed_by GoesOn = GoesOn
 resumed_by Returned = GoesOn
 resumed_by Stopped = Stopped

@@ -6,14 +6,14 @@ use Rattle.sieve_code.specs.Walk as walk
 use Rattle.sieve_code.specs.Walk.{Walk}
 use Rattle.sieve_delivery.specs.Delivery.{Delivery}
 use Rattle.sieve_run.specs.Perform.{perform}
-use Rattle.sieve_delivery.specs.Act.{Ending}
+use Rattle.sieve_delivery.specs.Ending.{Ending}
 use Rattle.sieve_run.specs.Run.{answer_of}
 use Rattle.sieve_delivery.specs.State.{RunState}
-use Rattle.sieve_delivery.specs.declared.flow.Flow.{Flow}
-use Rattle.sieve_delivery.specs.declared.flow.Flow.TheVariants as flow
+use Rattle.sieve_delivery.specs.declared.ending.Ending as endings
+use Rattle.sieve_delivery.specs.declared.ending.Ending.TheVariants as ending
 use Rattle.sieve_run.specs.declared.turn.Step.{Step}
 use Rattle.sieve_run.specs.declared.turn.Step.TheVariants.{Next, Ended}
-use Rattle.sieve_delivery.specs.view.Flow.{ending_by}
+use Rattle.sieve_delivery.specs.view.Ending.{ending_by}
 use Rattle.script_names.specs.declared.name.ScriptName.{ScriptName}
 
 -- what commands do that act
@@ -31,19 +31,19 @@ doing act delivery w state = perform (answer_of delivery) act w state
 -- after a step, where `go` is the walk from a place with a truth in the register
 abbrev pub doing_after : Acts → Delivery → (go : ℕ → Bool → Walk) → Step → RunState → Ending
 doing_after act delivery go (Next place register) state = doing act delivery (go place register) state
-doing_after act delivery go (Ended flow) state = ending_by flow state
+doing_after act delivery go (Ended ending) state = ending_by ending state
 
 -- a step does its operation, whatever the walk after it; `after` is the place after the operation's
 pub record StepsTo (act : Acts) (delivery : Delivery) (op : Operation) (after : ℕ) (register : Bool) (old : RunState) (step : Step) (new : RunState) : Type 0 where
   pub before : (place : ℕ) (go : ℕ → Bool → Walk) → after ≡ place + 1 → doing act delivery (walk.step go (Some op) place register) old ≡ doing_after act delivery go step new
 
 -- the step after a command that ended so, where this is the place after its operation's
-abbrev pub step_after : Flow → ℕ → Bool → Step
-step_after flow.GoesOn after register = Next after register
-step_after flow.Returned after register = Ended flow.Returned
-step_after flow.Stopped after register = Ended flow.Stopped
-step_after (flow.Failed error) after register = Ended (flow.Failed error)
+abbrev pub step_after : endings.Ending → ℕ → Bool → Step
+step_after ending.GoesOn after register = Next after register
+step_after ending.Returned after register = Ended ending.Returned
+step_after ending.Stopped after register = Ended ending.Stopped
+step_after (ending.Failed error) after register = Ended (ending.Failed error)
 
 -- the step is the one after what a call gave
-abbrev pub Follows : {T E : Type 0} → Result T E → (T → Step) → Step → Type 0
-Follows {T = T} called after step = (given : T) × (called ≡ Ok given) × (step ≡ after given)
+abbrev pub StepFollows : {T E : Type 0} → Result T E → (T → Step) → Step → Type 0
+StepFollows {T = T} called after step = (given : T) × (called ≡ Ok given) × (step ≡ after given)

@@ -27,8 +27,8 @@ use Rattle.sieve_script.specs.declared.reading.TestReading.TheVariants.{Always, 
 abbrev pub list_as : Vec (List Part) Global → List (List Part)
 list_as texts = texts.items
 
--- the zone in which a date is shown, what is taken of a body, and where a test takes values from, by what the names of fields, the lists,
--- a list that may be left out, and the strings in it are
+-- The zone in which a date is shown, the part of a body, and the source of a test's values. The
+-- functions give the values of names of fields, lists, lists that may be left out, and strings.
 abbrev pub date_zone_by : {S : Type 0} → (S → List Part) → DateZone S → reading.DateZone
 date_zone_by string zone.Local = reading.local_zone
 date_zone_by string zone.Original = reading.original_zone
@@ -48,8 +48,8 @@ source_by names list given_list string (source.Date zone field part) = reading.d
 source_by names list given_list string (source.CurrentDate zone part) = reading.clock_values (date_zone_by string zone) (string part)
 source_by names list given_list string (source.Body transform) = reading.body_values (body_by list transform)
 
--- what a `fileinto` says beside its mailbox, and what a `vacation` says, by what a list and a string that may be left out are, and for a
--- `vacation` by what its text is
+-- The settings of a `fileinto`, and the arguments of a `vacation`. The functions give the values of
+-- lists and strings that may be left out, and of the text of a `vacation`.
 abbrev pub filed_by : {L S : Type 0} → (Option L → Option (List (List Part))) → (Option S → Option (List Part)) → settings.Settings L S → reading.Settings
 filed_by given_list given_string s = record { flags = given_list s.flags; copy = s.copy; create = s.create; special_use = given_string s.special_use }
 
@@ -64,7 +64,8 @@ answered_by string given_list given_string v = record {
   handle = given_string v.handle;
 }
 
--- what a test asks, and what a command does that acts, by the same, and by what the thing is that a `vacation` says
+-- The question of a test, and a command that acts, by the same functions. `answer` gives the
+-- arguments of a `vacation`.
 abbrev pub ask_by : {N L S : Type 0} → (N → List (List Part)) → (L → List (List Part)) → (Option L → Option (List (List Part))) → (S → List Part) → Ask N L S → reading.Ask
 ask_by names list given_list string (Compares source comparison keys) = reading.compares (source_by names list given_list string source) comparison (list keys)
 ask_by names list given_list string (Exists fields) = reading.exists_ask (names fields)
@@ -85,7 +86,7 @@ leaf_by list given_list string given_string answer (Include location once option
 leaf_by list given_list string given_string answer (Vacation vacation) = reading.vacation_leaf (answer vacation)
 leaf_by list given_list string given_string answer (Reject how reason) = reading.reject_leaf how (string reason)
 
--- those of a script
+-- readings of a script, whose strings are parts
 abbrev pub date_zone_as : DateZone (List Part) → reading.DateZone
 date_zone_as = date_zone_by (λ parts. parts)
 
@@ -104,7 +105,7 @@ ReadVacation = vacations.Vacation (Vec (List Part) Global) (List Part)
 abbrev pub vacation_as : ReadVacation → reading.Vacation
 vacation_as = answered_by (λ parts. parts) (option_map list_as) (λ string. string)
 
--- what a test asks, and what a command does, as they are read
+-- the question of a test, and a command that acts, as they are read
 abbrev pub ReadAsk : Type 0
 ReadAsk = Ask (Vec (List Part) Global) (Vec (List Part) Global) (List Part)
 

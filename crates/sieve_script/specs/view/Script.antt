@@ -12,7 +12,8 @@ use Rattle.sieve_script.specs.declared.script.Statement as statements
 use Rattle.sieve_script.specs.declared.script.Statement.TheOpen as layers
 use Rattle.sieve_script.specs.declared.script_builder.ScriptBuilder.{ScriptBuilder}
 
--- the items of a list, each put before what is made of those in front of it, so that the last one stands first
+-- The items of a list, put before the rest. Each is put before the result of those in front of it,
+-- so that the last one stands first.
 abbrev pub put_each : {X Y : Type 0} → (X → Y → Y) → List X → Y → Y
 put_each put [] after = after
 put_each put (x ∷ xs) after = put_each put xs (put x after)
@@ -44,7 +45,7 @@ conditions_as list = conditions_from (map condition_as list)
 
 -- COMMANDS
 
--- what is put before commands, and before branches
+-- functions that put a command before commands, and a branch before branches
 abbrev pub Before : Type 0
 Before = Commands → Commands
 
@@ -61,7 +62,7 @@ abbrev pub else_from : Option (Vec Before Global) → Branches
 else_from None = no_branches
 else_from (Some block) = else_branch (commands_from block.items)
 
--- a layer of statements, with what is below it already seen
+-- a layer of statements, with the layers below it already seen
 abbrev pub statement_step : layers.Statement-F Before BranchBefore → Before
 statement_step layers.Stop = stops
 statement_step layers.Return = returns
@@ -100,12 +101,12 @@ branches_before list others = put_all (λ before. before) (map branch_as list) o
 abbrev pub statements_before : List statements.Statement → Commands → Commands
 statements_before list rest = put_all (λ before. before) (map statement_as list) rest
 
--- the branches of an `if` that is open, where one is, and what follows: the branches that go on
--- with it, and the commands after these
+-- The branches of an open `if`, where there is one, before a chain. The chain has the branches that
+-- go on with it, and the commands after them.
 abbrev pub open_before : Option (Vec branches.Branch Global) → Chain → Commands
 open_before None chain = chain.rest
 open_before (Some list) chain = chooses (branches_before list.items chain.otherwise) chain.rest
 
--- the commands that are read, before what follows
+-- the commands that are read, before a chain
 abbrev pub script_before : ScriptBuilder → Chain → Commands
 script_before read chain = statements_before read.done.items (open_before read.open chain)

@@ -1,6 +1,6 @@
 use Rattle.std.proofs.Common.{◌++◌, ap}
 use Rattle.std.specs.List.{flat_map}
-use Rattle.sieve_run.specs.Lines.{lookup_lines}
+use Rattle.sieve_verdict.specs.Lines.{lookup_lines}
 use Rattle.bench.specs.Report.{indented, told_lines}
 use Rattle.bench.proofs.laws.origins_are_told_where_they_are_asked_for.Goals as goal
 

@@ -2,11 +2,11 @@ use Rattle.std.proofs.Common.{◌≡◌, ℕ, List, suc, true, None, Some, rules
 use Rattle.std.specs.Map.{values_of}
 use Rattle.std.specs.Prelude.{slice_get}
 use Rattle.indexmap.specs.Layout.{set_value_at}
-use Rattle.sieve_run.specs.Verdict.{Verdict}
+use Rattle.sieve_verdict.specs.Verdict.{Verdict}
 use Rattle.bench.specs.Content.{Sample}
 use Rattle.bench.specs.Report.{verdict_by}
 use Rattle.bench.specs.view.Site.{site_as}
-use Rattle.bench.specs.declared.entry.Entry.{Entry}
+use Rattle.bench.specs.declared.entry.MessageEntry.{MessageEntry}
 use Rattle.bench.specs.view.Entry.{is_stale, refreshed, runs_at}
 use Rattle.bench.proofs.Refreshing.{Refreshing, starts, one_more, refused, skipped, none_left, all_run, distinct-messages, same_value}
 use Rattle.bench.proofs.report.run_stale.Goals as goal
@@ -49,7 +49,7 @@ returns-in_err-refresh-clause-refused c =
 pub loop-index-preserved : goal.loop-index-preserved
 loop-index-preserved c =
     let due : Sample → Verdict = verdict_by (site_as c.args.site.now) in
-    let old : List (List ℕ × Entry) = c.args.messages.now.entries in
+    let old : List (List ℕ × MessageEntry) = c.args.messages.now.entries in
     let ran : Refreshing due old c.match-get_index_mut.messages.entries (suc c.loop-index.index) c.args.meter.now c.match-get_index_mut.meter =
     elim c.match-get_index_mut.branch [
       | in-Some+in_ok-refresh w ↦

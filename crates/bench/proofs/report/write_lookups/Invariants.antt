@@ -6,4 +6,4 @@ use Rattle.bench.proofs.report.write_lookups.Given as goal
 -- the lines of the names that are left are to be written
 abbrev pub invariant-loop-name : goal.invariant-loop-name
 invariant-loop-name g l =
-    Writing g.W.Sink.contents g.W.Faults.fault_count l.initial.writer l.writer (flat_map lookup_text l.name-iterator) (flat_map lookup_text l.fn.outcome.lookups)
+    Writing g.W.Sink.contents g.W.Faults.fault_count l.initial.writer l.writer (flat_map lookup_text l.name-iterator) (flat_map lookup_text l.fn.verdict.lookups)

@@ -1,6 +1,7 @@
 use Rattle.std.proofs.Common.{◌≡◌, ◌++◌}
 use Rattle.packed_strings.proofs.strings.put_after.Given as goal
 
--- the strings so far, and then those of the texts that are left, are those at the start and then those of all texts
+-- The strings so far, and then those that are left, are one list. It is the strings at the start
+-- and then all texts.
 abbrev pub invariant-loop-text : goal.invariant-loop-text
 invariant-loop-text l = l.strings ++ l.text-iterator.rest.items ≡ l.initial.strings ++ l.fn.texts.items

@@ -3,7 +3,8 @@ use Rattle.octets.specs.Octet.{is_filled}
 use Rattle.sieve_variables.specs.Value.{text_value}
 use Rattle.sieve_conditions.proofs.counting.filled_strings.Given as goal
 
--- the strings that are counted and those that are left are all, and no more are counted than are passed
+-- The strings that are counted and those that are left are all. At most as many are counted as are
+-- passed.
 abbrev pub invariant-loop-i : goal.invariant-loop-i
 invariant-loop-i l =
     let texts = map (text_value l.values) l.texts in

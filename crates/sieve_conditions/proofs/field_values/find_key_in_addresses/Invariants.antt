@@ -3,7 +3,7 @@ use Rattle.sieve_conditions.specs.Matching.{first_some, match_of}
 use Rattle.sieve_conditions.specs.view.FieldTests.{part_found}
 use Rattle.sieve_conditions.proofs.field_values.find_key_in_addresses.Given as goal
 
--- what the addresses that are left give is what all addresses give
+-- the addresses that are left give the match values of all addresses
 abbrev pub invariant-loop-address : goal.invariant-loop-address
 invariant-loop-address l =
     let find = part_found (λ octets. match_of l.matcher.comparison octets l.key) l.fn.part in

@@ -3,7 +3,7 @@ use Rattle.sieve_conditions.specs.Matching.{first_some}
 use Rattle.sieve_conditions.specs.view.FieldTests.{found_with, part_found}
 use Rattle.sieve_conditions.proofs.field_values.find_keys_in_addresses.Given as goal
 
--- what the addresses that are left give is what all addresses give
+-- the addresses that are left give the match values of all addresses
 abbrev pub invariant-loop-address : goal.invariant-loop-address
 invariant-loop-address l =
     let find = part_found (found_with l.matcher) l.fn.part in

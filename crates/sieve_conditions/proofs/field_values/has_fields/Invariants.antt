@@ -5,7 +5,7 @@ use Rattle.sieve_conditions.specs.Matching.{has_field}
 use Rattle.sieve_variables.specs.Value.{text_value}
 use Rattle.sieve_conditions.proofs.field_values.has_fields.Given as goal
 
--- whether there is a field of each name is decided by the names that are left
+-- the names that are left decide whether there is a field of each name
 abbrev pub invariant-loop-i : goal.invariant-loop-i
 invariant-loop-i l =
     let has = has_field (fields_of l.message) in

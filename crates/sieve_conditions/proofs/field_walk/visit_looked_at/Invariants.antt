@@ -6,7 +6,8 @@ use Rattle.sieve_delivery.specs.view.State.{state_of}
 use Rattle.sieve_variables.specs.Value.{text_value}
 use Rattle.sieve_conditions.proofs.field_walk.visit_looked_at.Given as goal
 
--- what is delivered stays, and what the visitor is after the fields of the names that are left is what it is after all
+-- The arrival stays. The visitor after the fields of the names that are left is the visitor after
+-- all.
 abbrev pub invariant-loop-i : goal.invariant-loop-i
 invariant-loop-i g l =
     let after = g.V.FieldVisitor.after l.initial.fields.profile l.part in let fields = fields_of l.initial.fields.message in let names = map (text_value (state_of l.state).values) l.names in

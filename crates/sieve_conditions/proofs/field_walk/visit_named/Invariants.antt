@@ -4,7 +4,7 @@ use Rattle.message_text.specs.Fields.{fields_of}
 use Rattle.sieve_conditions.specs.Matching.{fields_looked_at, fields_named}
 use Rattle.sieve_conditions.proofs.field_walk.visit_named.Given as goal
 
--- what is delivered stays, and what the visitor is after the fields that are left is what it is after all
+-- The arrival stays. The visitor after the fields that are left is the visitor after all.
 abbrev pub invariant-loop-alloc : goal.invariant-loop-alloc
 invariant-loop-alloc g l =
     let after = g.V.FieldVisitor.after l.initial.fields.profile l.part in let fields = fields_of l.initial.fields.message in

@@ -5,6 +5,6 @@ use Rattle.sieve_conditions.specs.view.FieldTests.{found_with}
 use Rattle.octets.specs.view.Texts.{octets_of_each}
 use Rattle.sieve_conditions.proofs.flag_values.find_in_texts.Given as goal
 
--- what the texts that are left give is what all give
+-- the texts that are left give the match values of all
 abbrev pub invariant-loop-text : goal.invariant-loop-text
 invariant-loop-text l = first_some (λ text. first_some (found_with l.matcher) (flag_list text)) (octets_of_each (drop l.text-index l.texts)) ≡ first_some (λ text. first_some (found_with l.matcher) (flag_list text)) (octets_of_each l.texts)

@@ -4,7 +4,7 @@ use Rattle.match_text.specs.Flags.{filled_pieces, flag_keys, has_key}
 use Rattle.match_text.specs.Order.{are_equal}
 use Rattle.sieve_conditions.proofs.flag_values.has_piece.Given as goal
 
--- whether one of the pieces that are left is among the flags is whether one of all is
+-- one of the pieces that are left is among the flags exactly if one of all is
 abbrev pub invariant-loop-piece : goal.invariant-loop-piece
 invariant-loop-piece l = list_any (has_key (are_equal l.collation) l.flags) (filled_pieces l.left) ≡ list_any (has_key (are_equal l.collation) l.flags) (flag_keys l.key)
 

@@ -6,7 +6,7 @@ use Rattle.sieve_variables.specs.Value.{text_value}
 use Rattle.sieve_conditions.specs.view.FieldTests.{cut_key, key_texts}
 use Rattle.sieve_conditions.proofs.flag_values.has_some.Given as goal
 
--- whether one of the keys that are left is among the flags is whether one of all is
+-- one of the keys that are left is among the flags exactly if one of all is
 abbrev pub invariant-loop-i : goal.invariant-loop-i
 invariant-loop-i l =
     let among = list_any (has_key (are_equal l.matcher.comparison.collation) l.flags) in

@@ -4,7 +4,7 @@ use Rattle.sieve_conditions.specs.Matching.{has_mailbox}
 use Rattle.sieve_variables.specs.Value.{text_value}
 use Rattle.sieve_conditions.proofs.mailboxes.has_mailboxes.Given as goal
 
--- whether there is a mailbox of each name is decided by the names that are left
+-- the names that are left decide whether there is a mailbox of each name
 abbrev pub invariant-loop-i : goal.invariant-loop-i
 invariant-loop-i l =
     let has = has_mailbox l.envelope in

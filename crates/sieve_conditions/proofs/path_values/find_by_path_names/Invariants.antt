@@ -6,7 +6,7 @@ use Rattle.sieve_conditions.specs.view.FieldTests.{found_with, path_name_found}
 use Rattle.sieve_variables.specs.Value.{text_value}
 use Rattle.sieve_conditions.proofs.path_values.find_by_path_names.Given as goal
 
--- what the names that are left give is what all names give
+-- the names that are left give the match values of all names
 abbrev pub invariant-loop-i : goal.invariant-loop-i
 invariant-loop-i l =
     let find = path_name_found (found_with l.matcher) l.part (envelope_of (arrival_as l.arrival)) in

@@ -4,7 +4,7 @@ use Rattle.sieve_conditions.specs.view.FieldTests.{found_with}
 use Rattle.sieve_variables.specs.Value.{text_value}
 use Rattle.sieve_conditions.proofs.string_values.find_in_texts.Given as goal
 
--- what the strings that are left give is what all give
+-- the strings that are left give the match values of all
 abbrev pub invariant-loop-i : goal.invariant-loop-i
 invariant-loop-i l =
     let find = found_with l.matcher in

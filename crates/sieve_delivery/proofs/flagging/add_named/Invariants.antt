@@ -3,7 +3,8 @@ use Rattle.match_text.specs.Flags.{flag_union, flags_of_texts}
 use Rattle.sieve_variables.specs.Value.{text_value}
 use Rattle.sieve_delivery.proofs.flagging.add_named.Given as goal
 
--- the internal flags with those of the strings that are left are the flags at the start with those of all strings, and the actions stay
+-- The internal flags with those of the strings that are left stay the same. They are the flags at
+-- the start with those of all strings. The actions stay.
 abbrev pub invariant-loop-i : goal.invariant-loop-i
 invariant-loop-i l =
     record l.actions { flags = flag_union l.actions.flags (flags_of_texts (drop l.i (map (text_value l.values) l.texts))) }

@@ -8,13 +8,13 @@ use Rattle.sieve_code.specs.view.Code.{op_of, ops_of, pool_of}
 use Rattle.sieve_limits.specs.Limits.{include_limit}
 use Rattle.sieve_run.specs.Library.{Lookup, found_at, library_of}
 use Rattle.sieve_run.specs.Run.{act_of, included, is_script}
-use Rattle.sieve_delivery.specs.declared.flow.Flow.{Flow}
-use Rattle.sieve_delivery.specs.declared.flow.Flow.TheVariants.{Failed}
+use Rattle.sieve_delivery.specs.declared.ending.Ending as endings
+use Rattle.sieve_delivery.specs.declared.ending.Ending.TheVariants.{Failed}
 use Rattle.script_names.specs.declared.name.ScriptName.{ScriptName}
 use Rattle.sieve_delivery.specs.declared.error.ErrorKind.TheVariants.{IncludeCount, IncludeDepth, RecursiveInclude}
 use Rattle.sieve_delivery.specs.Delivery.{Delivery}
 use Rattle.sieve_delivery.specs.view.Delivery.{delivery_as}
-use Rattle.sieve_delivery.specs.view.Flow.{ending_by}
+use Rattle.sieve_delivery.specs.view.Ending.{ending_by}
 use Rattle.sieve_run.specs.view.Found.{FoundAs}
 use Rattle.sieve_run.specs.view.Include.{looks_up, there_as}
 use Rattle.sieve_delivery.specs.view.State.{state_of}
@@ -46,7 +46,7 @@ execute_inside-returns-clause-ending g t c =
     let find : ScriptName → Lookup = library_of (g.L.Library.profile c.args.running.now.lib.now) (g.L.Library.texts c.args.running.now.lib.now) in
     let d = delivery_as c.args.running.now.delivery.now in
     let ops = ops_of c.args.code.now in
-    subst (λ (inner : Delivery). IfOk c.execute.result (λ (flow : Flow). doing (act_of find c.args.running.now.depth inner) inner (code_walk ops (length ops)) (state_of c.args.state.now) ≡ ending_by flow (state_of c.execute.new.state)))
+    subst (λ (inner : Delivery). IfOk c.execute.result (λ (ending : endings.Ending). doing (act_of find c.args.running.now.depth inner) inner (code_walk ops (length ops)) (state_of c.args.state.now) ≡ ending_by ending (state_of c.execute.new.state)))
     (ap (λ (names : List ScriptName). record d { script = c.args.name.now; including = names }) (ap (map (λ (name : Bor ScriptName). name.now)) c.as_slice.ensures.value ∙ c.in_ok-including.ensures))
     c.execute.ensures.ending
 
@@ -56,9 +56,9 @@ enter-returns-clause-ending g t c =
     let d = delivery_as c.args.running.now.delivery.now in
     let s = state_of c.args.state.now in
     let ended = state_of c.execute_inside.new.state in
-    enters_by find c.args.running.now.depth d c.args.name.now (ops_of c.args.code.now) s _ ended _ c.in_ok-flow.flow c.resumed.result
+    enters_by find c.args.running.now.depth d c.args.name.now (ops_of c.args.code.now) s _ ended _ c.in_ok-ending.ending c.resumed.result
     c.in_ok-own.ensures.state
-    c.in_ok-flow.ensures.ending
+    c.in_ok-ending.ensures.ending
     c.resumed.ensures
     (ap (λ values. record ended { values = values }) (c.resume.ensures ∙ ap (λ own. with_own own ended.values) c.in_ok-own.ensures.own))
 
@@ -112,9 +112,9 @@ include-returns-then-is_running-clause-ending g t c =
       | include-else-inclusion-via-then-inclusion+else-is_script w ↦ not_entered c.args.inclusion.once w.is_script.result c.args.name.now s.entered w.as_slice.result.now w.as_slice.ensures.value w.is_script.ensures w.if-is_script.false
       | include-else-inclusion-via-else-inclusion w ↦ not_once c.args.inclusion.once c.args.name.now s.entered w.if-inclusion.false
     ] in
-    IfOk-weaker c.fail.result (λ (flow : Flow). flow ≡ Failed (record { script = d.script; line = c.args.inclusion.line; kind = RecursiveInclude }))
-    (λ (flow : Flow). ending_by flow s ≡ included find c.args.running.now.depth d c.args.name.now c.args.inclusion.once c.args.inclusion.optional c.args.inclusion.line s)
-    (λ flow is. ap (λ f. ending_by f s) is ∙ fails_running find d c.args.name.now c.args.inclusion.once c.args.inclusion.optional c.args.inclusion.line s c.args.running.now.depth first (sym c.is_running.ensures ∙ c.if-is_running.true))
+    IfOk-weaker c.fail.result (λ (ending : endings.Ending). ending ≡ Failed (record { script = d.script; line = c.args.inclusion.line; kind = RecursiveInclude }))
+    (λ (ending : endings.Ending). ending_by ending s ≡ included find c.args.running.now.depth d c.args.name.now c.args.inclusion.once c.args.inclusion.optional c.args.inclusion.line s)
+    (λ ending is. ap (λ f. ending_by f s) is ∙ fails_running find d c.args.name.now c.args.inclusion.once c.args.inclusion.optional c.args.inclusion.line s c.args.running.now.depth first (sym c.is_running.ensures ∙ c.if-is_running.true))
     c.fail.ensures
 
 pub include-returns-then-running-eq0-clause-ending : goal.include-returns-then-running-eq0-clause-ending
@@ -126,9 +126,9 @@ include-returns-then-running-eq0-clause-ending g t c =
       | include-else-inclusion-via-then-inclusion+else-is_script w ↦ not_entered c.args.inclusion.once w.is_script.result c.args.name.now s.entered w.as_slice.result.now w.as_slice.ensures.value w.is_script.ensures w.if-is_script.false
       | include-else-inclusion-via-else-inclusion w ↦ not_once c.args.inclusion.once c.args.name.now s.entered w.if-inclusion.false
     ] in
-    IfOk-weaker c.fail-then-running-eq0.result (λ (flow : Flow). flow ≡ Failed (record { script = d.script; line = c.args.inclusion.line; kind = IncludeDepth }))
-    (λ (flow : Flow). ending_by flow s ≡ included find c.args.running.now.depth d c.args.name.now c.args.inclusion.once c.args.inclusion.optional c.args.inclusion.line s)
-    (λ flow is. ap (λ f. ending_by f s) is ∙ fails_deep find d c.args.name.now c.args.inclusion.once c.args.inclusion.optional c.args.inclusion.line s c.args.running.now.depth first (sym c.is_running.ensures ∙ c.if-is_running.false) c.if-running-eq0.true)
+    IfOk-weaker c.fail-then-running-eq0.result (λ (ending : endings.Ending). ending ≡ Failed (record { script = d.script; line = c.args.inclusion.line; kind = IncludeDepth }))
+    (λ (ending : endings.Ending). ending_by ending s ≡ included find c.args.running.now.depth d c.args.name.now c.args.inclusion.once c.args.inclusion.optional c.args.inclusion.line s)
+    (λ ending is. ap (λ f. ending_by f s) is ∙ fails_deep find d c.args.name.now c.args.inclusion.once c.args.inclusion.optional c.args.inclusion.line s c.args.running.now.depth first (sym c.is_running.ensures ∙ c.if-is_running.false) c.if-running-eq0.true)
     c.fail-then-running-eq0.ensures
 
 pub include-returns-then-len-gt-MAX_INCLUDES-clause-ending : goal.include-returns-then-len-gt-MAX_INCLUDES-clause-ending
@@ -141,9 +141,9 @@ include-returns-then-len-gt-MAX_INCLUDES-clause-ending g t c =
       | include-else-inclusion-via-else-inclusion w ↦ not_once c.args.inclusion.once c.args.name.now s.entered w.if-inclusion.false
     ] in
     let many : nat_lt include_limit (length s.entered) ≡ true = grind (arith, nat_tests, c.len.ensures, c.if-len-gt-MAX_INCLUDES.true) in
-    IfOk-weaker c.fail-then-len-gt-MAX_INCLUDES.result (λ (flow : Flow). flow ≡ Failed (record { script = d.script; line = c.args.inclusion.line; kind = IncludeCount }))
-    (λ (flow : Flow). ending_by flow s ≡ included find c.args.running.now.depth d c.args.name.now c.args.inclusion.once c.args.inclusion.optional c.args.inclusion.line s)
-    (λ flow is. ap (λ f. ending_by f s) is ∙ fails_many find d c.args.name.now c.args.inclusion.once c.args.inclusion.optional c.args.inclusion.line s c.args.running.now.depth first (sym c.is_running.ensures ∙ c.if-is_running.false) c.if-running-eq0.false many)
+    IfOk-weaker c.fail-then-len-gt-MAX_INCLUDES.result (λ (ending : endings.Ending). ending ≡ Failed (record { script = d.script; line = c.args.inclusion.line; kind = IncludeCount }))
+    (λ (ending : endings.Ending). ending_by ending s ≡ included find c.args.running.now.depth d c.args.name.now c.args.inclusion.once c.args.inclusion.optional c.args.inclusion.line s)
+    (λ ending is. ap (λ f. ending_by f s) is ∙ fails_many find d c.args.name.now c.args.inclusion.once c.args.inclusion.optional c.args.inclusion.line s c.args.running.now.depth first (sym c.is_running.ensures ∙ c.if-is_running.false) c.if-running-eq0.false many)
     c.fail-then-len-gt-MAX_INCLUDES.ensures
 
 pub include-returns-clause-ending : goal.include-returns-clause-ending
@@ -156,9 +156,9 @@ include-returns-clause-ending g t c =
       | include-else-inclusion-via-else-inclusion w ↦ not_once c.args.inclusion.once c.args.name.now s.entered w.if-inclusion.false
     ] in
     let few : nat_lt include_limit (length s.entered) ≡ false = grind (arith, nat_tests, c.len.ensures, c.if-len-gt-MAX_INCLUDES.false) in
-    IfOk-weaker c.look_up.result (λ (flow : Flow). ending_by flow (state_of c.look_up.new.state) ≡ looks_up find (c.args.running.now.depth - 1) d c.args.name.now c.args.inclusion.optional c.args.inclusion.line s)
-    (λ (flow : Flow). ending_by flow (state_of c.look_up.new.state) ≡ included find c.args.running.now.depth d c.args.name.now c.args.inclusion.once c.args.inclusion.optional c.args.inclusion.line s)
-    (λ flow is. is ∙ looks_included find d c.args.name.now c.args.inclusion.once c.args.inclusion.optional c.args.inclusion.line s c.args.running.now.depth first (sym c.is_running.ensures ∙ c.if-is_running.false) c.if-running-eq0.false few)
+    IfOk-weaker c.look_up.result (λ (ending : endings.Ending). ending_by ending (state_of c.look_up.new.state) ≡ looks_up find (c.args.running.now.depth - 1) d c.args.name.now c.args.inclusion.optional c.args.inclusion.line s)
+    (λ (ending : endings.Ending). ending_by ending (state_of c.look_up.new.state) ≡ included find c.args.running.now.depth d c.args.name.now c.args.inclusion.once c.args.inclusion.optional c.args.inclusion.line s)
+    (λ ending is. is ∙ looks_included find d c.args.name.now c.args.inclusion.once c.args.inclusion.optional c.args.inclusion.line s c.args.running.now.depth first (sym c.is_running.ensures ∙ c.if-is_running.false) c.if-running-eq0.false few)
     c.look_up.ensures.ending
 
 pub look_up-returns-in-Present-clause-ending : goal.look_up-returns-in-Present-clause-ending
@@ -170,6 +170,6 @@ look_up-returns-in-Present-clause-ending g t c =
     let has = subst (λ found. FoundAs found (found_at find c.args.name.now)) c.in-Present.is c.find-found.ensures in
     let there : c.is_there.result ≡ true = c.is_there.ensures ∙ ap there_as c.in-Present.is in
     IfOk-weaker c.enter.result _
-    (λ (flow : Flow). ending_by flow (state_of c.enter.new.state) ≡ looks_up find c.args.running.now.depth d c.args.name.now c.args.inclusion.optional c.args.inclusion.line s)
-    (λ flow is. is ∙ looks_present find c.args.running.now.depth d c.args.name.now c.args.inclusion.optional c.args.inclusion.line ops s _ c.is_there.result has there (ap (λ lookups. record s { lookups = lookups }) c.in_ok-note_lookup.ensures))
+    (λ (ending : endings.Ending). ending_by ending (state_of c.enter.new.state) ≡ looks_up find c.args.running.now.depth d c.args.name.now c.args.inclusion.optional c.args.inclusion.line s)
+    (λ ending is. is ∙ looks_present find c.args.running.now.depth d c.args.name.now c.args.inclusion.optional c.args.inclusion.line ops s _ c.is_there.result has there (ap (λ lookups. record s { lookups = lookups }) c.in_ok-note_lookup.ensures))
     c.enter.ensures.ending

@@ -5,7 +5,8 @@ use Rattle.sieve_script.specs.view.CutArgument.{cut_as}
 use Rattle.sieve_table.specs.declared.row.Role.TheVariants as role
 use Rattle.sieve_script.proofs.dates.into_strings.Given as goal
 
--- the argument found in each role, or else the first in it among the arguments that are left, is the first of all arguments
+-- In each role, the argument found so far is the first of all arguments. Where none was found, the
+-- first in the role among the arguments that are left is.
 abbrev pub invariant-loop-argument : goal.invariant-loop-argument
 invariant-loop-argument l = record {
   zone : first_or (option_map cut_as l.zone) (in_role role.Zone l.labels_left (map cut_as l.argument-iterator.rest.items)) ≡ in_role role.Zone l.labels (map cut_as l.fn.args.items);

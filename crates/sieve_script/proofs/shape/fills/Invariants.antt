@@ -6,6 +6,7 @@ use Rattle.sieve_script.specs.Shape.{known_shapes}
 use Rattle.sieve_script.specs.view.Expected.{expected_as}
 use Rattle.sieve_script.proofs.shape.fills.Given as goal
 
--- the arguments fill what is expected at the start exactly where those that are left fill what is still expected
+-- the arguments fill the slots expected at the start exactly where those that are left fill
+-- the slots still expected
 abbrev pub invariant-loop-argument : goal.invariant-loop-argument
 invariant-loop-argument l = fills (expected_as l.expected) (known_shapes (profile_as l.profile) l.tags (map argument_of (drop l.argument-index l.args))) ≡ fills (expected_as l.start) (known_shapes (profile_as l.profile) l.tags (map argument_of l.args))

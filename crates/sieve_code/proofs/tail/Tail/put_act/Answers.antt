@@ -3,7 +3,7 @@ use Rattle.sieve_script.specs.view.Reading.{leaf_as}
 use Rattle.sieve_code.specs.Operation.{Operation, act_op}
 use Rattle.sieve_code.specs.view.Pools.{pool_as}
 use Rattle.sieve_code.specs.Pool.{Pool, leaf_at}
-use Rattle.sieve_code.specs.declared.op.Op.TheVariants as op
+use Rattle.sieve_code.specs.declared.operation.PackedOperation.TheVariants as op
 use Rattle.sieve_code.proofs.Keeping.{kept_as, ops_more, stays_grown, stays_more, stays_same}
 use Rattle.sieve_code.proofs.tail.Tail.put_act.Goals as goal
 

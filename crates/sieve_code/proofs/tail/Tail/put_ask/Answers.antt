@@ -3,7 +3,7 @@ use Rattle.sieve_script.specs.view.Reading.{ask_as}
 use Rattle.sieve_code.specs.Operation.{Operation, test_op}
 use Rattle.sieve_code.specs.view.Pools.{pool_as}
 use Rattle.sieve_code.specs.Pool.{Pool, ask_at}
-use Rattle.sieve_code.specs.declared.op.Op.TheVariants as op
+use Rattle.sieve_code.specs.declared.operation.PackedOperation.TheVariants as op
 use Rattle.sieve_code.proofs.Keeping.{kept_as, ops_more, stays_grown, stays_more, stays_same}
 use Rattle.sieve_code.proofs.tail.Tail.put_ask.Goals as goal
 

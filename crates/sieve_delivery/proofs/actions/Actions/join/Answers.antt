@@ -1,6 +1,6 @@
 use Rattle.std.proofs.Common.{List, map, subst, sym, ap, ◌∙◌}
 use Rattle.sieve_delivery.specs.declared.action.Entry.{Entry}
-use Rattle.sieve_delivery.specs.Act.{joined_entry}
+use Rattle.sieve_delivery.specs.Joining.{joined_entry}
 use Rattle.sieve_delivery.specs.view.Actions.{AreKnown, EntriesAndFlags, entries_as}
 use Rattle.sieve_delivery.proofs.Known.{are_known_joined, as_joined}
 use Rattle.sieve_delivery.proofs.actions.Actions.join.Goals as goal

@@ -2,7 +2,8 @@ use Rattle.std.proofs.Common.{◌≡◌, length}
 use Rattle.match_text.specs.Flags.{flags_in, flags_without}
 use Rattle.sieve_delivery.proofs.actions.Actions.remove_text.Given as goal
 
--- the internal flags without those of the rest of the text are the flags at the start without those of the whole text, and the actions stay
+-- The internal flags without those of the rest of the text stay the same. They are the flags at the
+-- start without those of the whole text. The actions stay.
 abbrev pub invariant-loop-flag : goal.invariant-loop-flag
 invariant-loop-flag l = record l.self { flags = flags_without l.self.flags (flags_in l.rest) } ≡ record l.initial.self { flags = flags_without l.initial.self.flags (flags_in l.text) }
 

@@ -1,9 +1,0 @@
-use Rattle.std.proofs.Common.{◌≡◌, ◌++◌, ℕ, List, drop, map}
-use Rattle.sieve_delivery.specs.State.{actions_in}
-use Rattle.sieve_delivery.specs.view.Actions.{entries_as}
-use Rattle.sieve_run.specs.Lines.{action_line, says}
-use Rattle.sieve_run.proofs.agreement.after_actions.Given as goal
-
--- what is left says the lines of the actions that are left where the text says those of all
-abbrev pub invariant-loop-entry : goal.invariant-loop-entry
-invariant-loop-entry l = (wanted : List (List ℕ)) → says l.left (map action_line (actions_in (entries_as (drop l.entry-index l.entries))) ++ wanted) ≡ says l.text (map action_line (actions_in (entries_as l.entries)) ++ wanted)

@@ -1,0 +1,4 @@
+mod AgreeRows
+pub mod Compared
+pub mod Left
+mod Pieces
