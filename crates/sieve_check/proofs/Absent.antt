@@ -28,8 +28,8 @@ use Rattle.sieve_check.proofs.Reprofiled.{elements_again, reprofiled}
 use Rattle.sieve_check.proofs.Truth.{never_both}
 use Rattle.sieve_check.proofs.Unbroken.{keeps, nothing_before}
 
--- where no tag is another, each tag that is taken is known, so all tags are seen as they are where
--- all are known
+-- Where no tag is another, each tag that is taken is known. So all tags have the shapes that they
+-- have where all are known.
 module _ (profile : Profile) where
   kept_tag : (expected : Expected) (t : Tag) (known : Bool) → is_other_tag (label_at expected (shape.Tag (if known then Some t else None))) ≡ false → shape.Tag (if known then Some t else None) ≡ shape.Tag (Some t)
   kept_tag expected t true other = refl

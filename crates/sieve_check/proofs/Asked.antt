@@ -1,4 +1,5 @@
--- A row gives what the reading of its command or test asks for, and the reading goes by nothing else.
+-- A row gives the arguments that the reading of its command or test asks for. The reading goes by
+-- these and by the tags alone.
 use Rattle.std.proofs.Common.{◌≡◌, true, List, None, Some, refl, ap, ◌∙◌}
 use Rattle.match_text.specs.Comparator.{collation_named}
 use Rattle.match_text.specs.Relation.{relation_named}

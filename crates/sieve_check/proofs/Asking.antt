@@ -1,4 +1,4 @@
--- What is asked for by name has the name of its capability.
+-- A capability that is asked for by name has that name.
 use Rattle.std.proofs.Common.{◌≡◌, Some, ap}
 use Rattle.sieve_profile.specs.Extension.{extension_name}
 use Rattle.sieve_profile.specs.declared.extension.Extension.{Extension}

@@ -39,7 +39,7 @@ test_unknown t context line is l =
     first_stops (the_test context o.name o.line args ts) (test_arguments context (known_test context.profile o.name) args ts) (faults.Breach line UnknownCommand)
     (subst (λ x. IsFirst (breaches_at (the_test context o.name o.line args ts)) (faults.Breach x UnknownCommand)) (sym l) here)
 
--- what is found in a test of a kind is the breaches of the test and its arguments
+-- the breaches found in a test of a kind are those of the test and its arguments
 known_by : (t : one_tests.Test) (context : Context) (kind : TestKind) (row : Row) (line : ℕ) (xs : List arguments.Argument) → let o = one_tests.out-Test t in
     Some kind ≡ known_test context.profile o.name → line ≡ o.line → row ≡ test_row kind → xs ≡ o.args.items → row_found false context line row (map argument_of xs) (tests_of o.tests) false ≡ breaches_in (test_head context t)
 unfolding breaches_at
@@ -68,7 +68,7 @@ block_there None = refl
 block_there (Some v) = refl
 
 module _ (context : Context) (kind : CommandKind) (c : commands.Command) where
-  -- what is found in a command of a kind, by whether it is a `require` in a wrong place
+  -- the breaches found in a command of a kind, by whether it is a `require` in a wrong place
   by_places : Bool → List Breach
   by_places misplaced =
       let o = commands.out-Command c in
@@ -125,7 +125,7 @@ head_by c context kind is =
     ap (λ k. breaches_by (command_breaks context k args ts ending) o.line all_rules ++ breaches_in (command_arguments context k args ts ending)) is
     ∙ sym (cons_in (the_command context o.name o.line args ts ending) (command_arguments context (known_command context.profile o.name) args ts ending))
 
--- what is found in a command of a kind is the breaches of the command and its arguments
+-- the breaches found in a command of a kind are those of the command and its arguments
 pub command_stops : (c : commands.Command) (context : Context) (kind : CommandKind) (fault : CheckFault) → Some kind ≡ known_command context.profile (commands.out-Command c).name → IsFirst (kind_found context kind c) fault → IsFirst (breaches_in (command_head context c)) fault
 command_stops c context kind fault is h = subst (λ bs. IsFirst bs fault) (head_by c context kind is) h
 

@@ -28,8 +28,8 @@ module _ {A : Type 0} where
       ∙ ap (λ l. x ∷ l) (drop_one_more now old i is.left)
 
 module _ {A B : Type 0} (see : A → B) where
-  -- Where all items changed are those that are changed so far and what `P` makes of the others, they are, with one more changed, those and what
-  -- `Q` makes of the others.
+  -- Where the whole is the changed items and then `P` of the others, one more item may be changed.
+  -- The whole is then the changed items and `Q` of the rest.
   pub whole_more : (P Q : List A → List B) (now old : List A) (i : ℕ) (x new : A) (whole : List B) → i < length old → x ≡ get_or now i x → IsLeft i now old → P (x ∷ drop (i + 1) old) ≡ see new ∷ Q (drop (i + 1) old) → whole ≡ map see (take i now) ++ P (drop i old) → whole ≡ map see (take (i + 1) (set now i new)) ++ Q (drop (i + 1) old)
   whole_more P Q now old i x new whole below there is made so_far =
       let rest = drop (i + 1) old in let count = is.count in

@@ -1,4 +1,4 @@
--- Worked rows of what the laws speak of.
+-- Worked rows of the things that the laws are about.
 use Rattle.std.proofs.Common.{◌≡◌, ℕ, false, List, [], ◌∷◌, map, None, Some, refl, codes}
 use Rattle.sieve_syntax.specs.Tree as syntax
 use Rattle.sieve_syntax.specs.Symbol.{identifier, number_symbol, string_symbol}
@@ -23,14 +23,14 @@ branch name line condition inner = syntax.node name line [] (syntax.one_test (sy
 abbrev last : ℕ → syntax.Node → syntax.Node
 last line inner = syntax.node (codes "else") line [] syntax.no_tests (syntax.block (syntax.nodes (inner ∷ [])))
 
--- a test without arguments, and one that joins others
+-- a test without arguments, and one with a list of tests
 abbrev bare : List ℕ → syntax.Test
 bare name = syntax.test name 1 [] syntax.no_tests
 
 abbrev joining : List ℕ → List syntax.Test → syntax.Test
 joining name inner = syntax.test name 1 [] (syntax.test_list (syntax.tests inner))
 
--- if true { keep; } elsif false { stop; } else { discard; } keep;
+-- `if true { keep; } elsif false { stop; } else { discard; } keep;`
 abbrev branches : List syntax.Node
 branches = branch (codes "if") 1 (codes "true") (plain (codes "keep") 1) ∷ branch (codes "elsif") 2 (codes "false") (plain (codes "stop") 2) ∷ last 3 (plain (codes "discard") 3) ∷ plain (codes "keep") 4 ∷ []
 
@@ -38,25 +38,25 @@ marks_row : marks (script_of empty_profile branches) ≡ test_mark ∷ always_ma
 unfolding marks branch_marks condition_marks conditions_marks chain_of chain_with block_commands condition_of conditions_in command_named test_named after has_tag
 marks_row = refl
 
--- return; keep;
+-- `return; keep;`
 return_marks_row : marks (script_of empty_profile (plain (codes "return") 1 ∷ plain (codes "keep") 2 ∷ [])) ≡ return_mark ∷ act_mark (keep_leaf None) 2 ∷ []
 unfolding marks branch_marks condition_marks conditions_marks chain_of chain_with block_commands condition_of conditions_in command_named test_named after has_tag
 return_marks_row = refl
 
--- if anyof(true, not allof(false, true)) { stop; }
+-- `if anyof(true, not allof(false, true)) { stop; }`
 joins_row : marks (script_of empty_profile (syntax.node (codes "if") 1 [] (syntax.one_test (joining (codes "anyof") (bare (codes "true") ∷ syntax.test (codes "not") 1 [] (syntax.one_test (joining (codes "allof") (bare (codes "false") ∷ bare (codes "true") ∷ []))) ∷ []))) (syntax.block (syntax.nodes (plain (codes "stop") 1 ∷ []))) ∷ []))
     ≡ test_mark ∷ any_mark ∷ always_mark ∷ not_mark ∷ all_mark ∷ never_mark ∷ always_mark ∷ join_end ∷ join_end ∷ join_end ∷ stop_mark ∷ block_end ∷ choice_end ∷ []
 unfolding marks branch_marks condition_marks conditions_marks chain_of chain_with block_commands condition_of conditions_in conditions command_named test_named after has_tag
 joins_row = refl
 
--- if size :over 5 { keep; } require "a";
+-- `if size :over 5 { keep; } require "a";`
 order_row : map written_by (elements_of empty_profile (syntax.node (codes "if") 1 [] (syntax.one_test (syntax.test (codes "size") 1 (syntax.tag (codes "over") 1 ∷ syntax.number (Some 5) 1 ∷ []) syntax.no_tests)) (syntax.block (syntax.nodes (plain (codes "keep") 2 ∷ [])))
     ∷ syntax.node (codes "require") 3 (syntax.strings (record { string = codes "a"; line = 3 } ∷ []) false ∷ []) syntax.no_tests syntax.no_block ∷ []))
     ≡ identifier (codes "if") 1 ∷ identifier (codes "size") 1 ∷ number_symbol (Some 5) 1 ∷ identifier (codes "keep") 2 ∷ identifier (codes "require") 3 ∷ string_symbol (codes "a") 3 ∷ []
 unfolding nodes_elements node_elements block_elements tests_elements test_elements command_named test_named after
 order_row = refl
 
--- A STRING, AND WHAT IS REQUIRED
+-- A STRING
 
 abbrev string : List ℕ → ℕ → syntax.Argument
 string octets line = syntax.strings (record { string = octets; line = line } ∷ []) false
@@ -70,7 +70,8 @@ naming_one command name = syntax.node command 1 (string name 1 ∷ []) syntax.no
 abbrev naming_two : List ℕ → List ℕ → syntax.Node
 naming_two command name = syntax.node command 1 (string name 1 ∷ string (codes "x") 1 ∷ []) syntax.no_tests syntax.no_block
 
--- set "Ab" "x"; set "aB" "x"; if true { addflag "c" "x"; } global "d"; set "D" "x"; set "1" "x"; setflag "E" "x"; setflag "f";
+-- `set "Ab" "x"; set "aB" "x"; if true { addflag "c" "x"; } global "d"; set "D" "x"; set "1" "x";
+-- setflag "E" "x"; setflag "f";`
 abbrev naming : List syntax.Node
 naming =
     naming_two (codes "set") (codes "Ab") ∷ naming_two (codes "set") (codes "aB") ∷ branch (codes "if") 1 (codes "true") (naming_two (codes "addflag") (codes "c")) ∷ naming_one (codes "global") (codes "d")

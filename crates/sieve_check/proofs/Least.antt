@@ -21,7 +21,8 @@ record IsFirstRule (element : Element) (rules : List Rule) (breach : Breach) : T
   breaks : breaks element breach.rule ≡ true
   none_lower : broken_by element lower ≡ []
 
--- the first breach is by the first of the rules that the element breaks, or the element breaks none and the rest has it
+-- The first breach is by the first of the rules that the element breaks. Or the element breaks none
+-- of them, and the rest has it.
 data Finding (element : Element) (rules : List Rule) (rest : List Breach) (breach : Breach) : Type 0 where
   here : IsFirstRule element rules breach → Finding element rules rest breach
   later : broken_by element rules ≡ [] → slice_get rest 0 ≡ Some breach → Finding element rules rest breach
@@ -32,7 +33,7 @@ some_is a b e = cc
 none_is : (b : Breach) → None ≡ Some b → ⊥
 none_is b e = cc
 
--- what is found stays so with a rule in front that the element doesn't break
+-- a finding stays so with a rule in front that the element doesn't break
 passed_over : (element : Element) (rule : Rule) (rules : List Rule) (rest : List Breach) (breach : Breach) → breaks element rule ≡ false → Finding element rules rest breach → Finding element (rule ∷ rules) rest breach
 passed_over element rule rules rest breach is (here found) =
     here (record {
@@ -60,7 +61,8 @@ finding : (element : Element) (rules : List Rule) (rest : List Breach) (breach :
 finding element [] rest breach first = later refl first
 finding element (rule ∷ rules) rest breach first = at_rule element rule rules rest breach (breaks element rule) refl first (finding element rules rest breach)
 
--- with an element before others, the breach that is found at it, or else the least of the others, is the least
+-- With an element before others, the breach that is found at it is the least. Where none is, the
+-- least of the others is.
 at_front : (element : Element) (after : List Element) (breach : Breach) → Finding element all_rules (breaches_in after) breach
     → (slice_get (breaches_in after) 0 ≡ Some breach → IsLeast after breach) → IsLeast (element ∷ after) breach
 unfolding breaches_in breaches_at

@@ -1,5 +1,4 @@
--- The abstract script of a tree without a breach does what the tree's commands and tests say, each once and in the order of the text, and
--- each block in its branch.
+-- The abstract script of a tree without a breach has the same marks as the tree.
 use Rattle.std.proofs.Common.{◌≡◌, ℕ, Bool, true, false, List, [], ◌∷◌, ◌++◌, Option, Some, None, refl, sym, ap, ◌∙◌, subst}
 use Rattle.std.proofs.lemmas.List.{append-nil, append_assoc}
 use Rattle.sieve_check.specs.Breach.{breaches_in, breaches_of}
@@ -22,21 +21,22 @@ use Rattle.sieve_check.proofs.Unbroken.{keeps, none_in_both, nothing_before}
 -- TESTS
 
 module _ (context : Context) where
-  -- where no tests are needed there are none
+  -- where no tests are needed there are no marks of tests
   no_marks : (ts : Tests) → tests_fit inner.None ts ≡ true → tests_marks context ts ≡ []
   unfolding tests_marks
   no_marks no_tests fits = refl
   no_marks (one_test t) fits = absurd (not_both fits)
   no_marks (test_list ts) fits = absurd (not_both fits)
 
-  -- where one test is needed it is the first
+  -- where one test is needed, the marks of the first condition are those of the tests
   first_marks : (ts : Tests) → tests_fit inner.One ts ≡ true → conditions_marks (conditions_in context ts) ≡ tests_marks context ts → condition_marks (first_condition (conditions_in context ts)) ≡ tests_marks context ts
   unfolding conditions_marks conditions_in
   first_marks no_tests fits same = absurd (not_both fits)
   first_marks (one_test t) fits same = sym (append-nil (condition_marks (condition_of context t))) ∙ same
   first_marks (test_list ts) fits same = absurd (not_both fits)
 
-  -- a test that has the tests in it that it needs does what it says, where these do
+  -- a test with the tests in it that it needs has the marks of its condition,
+  -- where these have theirs
   joined_marks : (r : Option TestReading) (ts : Tests) → Joins r ts → conditions_marks (conditions_in context ts) ≡ tests_marks context ts → condition_marks (joined r (conditions_in context ts)) ≡ test_opening r ++ (tests_marks context ts ++ test_closing r)
   unfolding condition_marks
   joined_marks None ts joins same = absurd joins
@@ -75,8 +75,8 @@ abbrev ends_there : (continued : Bool) → List Mark → List Mark
 ends_there true all = all
 ends_there false all = choice_end ∷ all
 
--- Commands from some place on do what these marks say. Where no branch stands there, there is none before them; and one stands there only
--- where it may.
+-- The chain of commands from some place on has these marks. Where no `elsif` or `else` stands
+-- there, the commands alone have them. One stands there only after an `if` or `elsif`.
 record Agrees (follows_if continued : Bool) (chain : Chain) (all : List Mark) : Type 0 where
   same : branch_marks chain.otherwise ++ (choice_end ∷ marks chain.rest) ≡ ends_there continued all
   alone : continued ≡ false → marks chain.rest ≡ all
@@ -191,7 +191,8 @@ module _ (line : ℕ) (condition : Condition) (tested : List Mark) (within : Con
     may = λ _. refl;
   }
 
-  -- a command that stands where it may agrees with its marks, before commands that agree with theirs
+  -- a command that stands where it may agrees with its marks, before commands
+  -- that agree with theirs
   at_command : (r : Option CommandReading) (follows_if : Bool) (ts : Tests) → (tests_fit inner.One ts ≡ true → condition_marks condition ≡ tested) → (tests_fit inner.None ts ≡ true → tested ≡ []) → Stands follows_if r ts ending → marks (block_commands within ending) ≡ block_marks within ending → Agrees (may_go_on r) continued chain all
       → Agrees follows_if (continues r) (chain_with_command r line condition (block_commands within ending) chain) ((opening r line ++ (tested ++ (block_marks within ending ++ closing r continued))) ++ all)
   at_command None follows_if ts one none stands inner so = absurd stands

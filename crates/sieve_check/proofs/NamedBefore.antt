@@ -1,4 +1,5 @@
--- Where an element of a script stands, those variables are set that the names written before its command set.
+-- Where an element of a script stands, those variables are set that the names
+-- before its command set.
 use Rattle.std.proofs.Common.{◌≡◌, zero, suc, ◌+◌, ◌-◌, ◌≤◌, cond, length, take, slice_get, arith, subst, ℕ, Bool, true, false, not, List, [], ◌∷◌, ◌++◌, drop, Option, None, Some, refl, sym, ap, ◌∙◌, append-nil, append_assoc}
 use Rattle.std.proofs.lemmas.Grind.{flat_map-append}
 use Rattle.std.proofs.lemmas.List.{length_push, reverse-append, take-append-le, take_at}
@@ -23,7 +24,8 @@ use Rattle.sieve_check.proofs.Naming.{after_mentions, block_writes, in_turn, kin
 
 -- BEFORE EACH ELEMENT
 
--- Elements in turn: `done` are the names written before the command that they stand in, `own` those that it writes.
+-- Elements in turn: `done` are the names written before the command that they stand in, `own`
+-- those that it writes.
 abbrev Goes : (done own : List Mention) → List Element → Type 0
 Goes done own [] = Unit {0}
 Goes done own (the_command context name line args ts ending ∷ es) = (context.scope.assigned ≡ set_by (done ++ own)) × Goes (done ++ own) (command_mentions context.profile context.required (known_command context.profile name) args) es
@@ -84,7 +86,7 @@ module _ (done own : List Mention) (context : Context) (so : context.scope.assig
         subst (Goes done own) (sym (append_assoc (test_elements context t) (test_list_elements context ts) es))
         (test_goes t (test_list_elements context ts ++ es) (test_list_goes ts es goes))
 
--- a scope is what stands after these names at the start of a script
+-- a scope is the one after these names, from the start of a script on
 abbrev Following : Scope → List Mention → Type 0
 Following scope names = scope ≡ after_mentions no_names names
 
@@ -140,7 +142,7 @@ all_go profile tree = subst (Goes [] []) (append-nil (elements_of profile tree))
 suffix_push : {X : Type 0} (p : X → Bool) (x : X) (xs : List X) → suffix_len p (xs ++ x ∷ []) ≡ cond (p x) (1 + suffix_len p xs) 0
 suffix_push p x xs = ap (prefix_len p) (reverse-append xs (x ∷ []))
 
--- what stands before the last element that passes, with one element more
+-- the elements before the last one that passes, with one element more
 module _ {X : Type 0} (p : X → Bool) (x : X) (xs : List X) where
   before_push : (b : Bool) → p x ≡ b → before_last p (xs ++ x ∷ []) ≡ (if b then xs else before_last p xs)
   before_push true is =

@@ -132,7 +132,7 @@ kind_mentions context (Some kind) args =
     ∙ arguments_declare said (after_mentions context.scope first) labels
     ∙ sym (in_turn first then_those context.scope)
 
--- the names that a command and its block write, in the order of the text, where this stands before it
+-- the names that a command and its block write, in the order of the text, under this context
 abbrev mutual
   pub node_writes : Context → Node → List Mention
   node_writes context (node name line args ts ending) = command_mentions context.profile context.required (known_command context.profile name) args ++ block_writes (after_kind context (known_command context.profile name) args) ending
@@ -345,10 +345,10 @@ fresh_without scope now name names agree =
     filter_agree now (λ other. not (same name other) && is_fresh scope other) agree names
     ∙ sym (filter_twice (is_fresh scope) (λ other. not (same name other)) names)
 
--- WHAT MENTIONS SET
+-- VARIABLES THAT MENTIONS SET
 
 module _ (scope : Scope) (name : List ℕ) (ms : List Mention) (below : (s : Scope) → (after_mentions s ms).assigned ≡ s.assigned ++ filter (is_fresh s) (set_by ms)) where
-  -- the scope after a name that is written to be set, by whether it is an identifier, and whether it is fresh
+  -- the scope after a name that is written to be set, by whether it is an identifier and fresh
   abbrev now_set : Bool → Bool → Scope
   now_set i f = if i && f then with_set scope name else scope
 

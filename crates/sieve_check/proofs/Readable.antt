@@ -1,4 +1,5 @@
--- A command and a test without a breach are read as something that has the tests and the block that it needs, and stand where they may.
+-- A command and a test without a breach have a reading, and the tests and the block that it needs.
+-- They stand where they may.
 use Rattle.std.proofs.Common.{◌≡◌, Bool, true, false, not, ◌&&◌, ◌||◌, List, [], ◌++◌, Option, None, Some, refl, sym, ap, ◌∙◌, subst}
 use Rattle.std.proofs.lemmas.Bool.{and_parts, or_parts}
 use denote.Enum.Bare.{sameb, same_true}
@@ -33,7 +34,7 @@ use Rattle.sieve_table.specs.declared.table.TestKind.{TestKind}
 use Rattle.sieve_check.proofs.Truth.{agree, alike, never_both, not_false}
 use Rattle.sieve_check.proofs.Unbroken.{keeps, nothing_before}
 
--- WHAT A READING NEEDS
+-- NEEDS OF A READING
 
 -- which tests a test of such a reading has in it (RFC 5228, sections 5.2, 5.3 and 5.8)
 abbrev pub tests_of_reading : TestReading → Inner
@@ -49,7 +50,8 @@ abbrev pub Joins : Option TestReading → Tests → Type 0
 Joins None ts = ⊥
 Joins (Some r) ts = tests_fit (tests_of_reading r) ts ≡ true
 
--- what a command of such a reading needs: which tests, whether a block, and whether an `if` with which it goes on (RFC 5228, section 3.1)
+-- The needs of a command of such a reading (RFC 5228, section 3.1). They are its tests, whether it
+-- has a block, and whether it goes on with an `if`.
 pub record Needs : Type 0 where
   pub tests : Inner
   pub block : Bool
@@ -67,7 +69,8 @@ needs_of reading.reads_return = no_needs
 needs_of reading.reads_nothing = no_needs
 needs_of (reading.reads_act leaf) = no_needs
 
--- a command of such a reading stands where it may, and has the tests and the block that it needs and no others
+-- A command of such a reading stands where it may. It has the tests and the block that it
+-- needs, and no others.
 abbrev pub Stands : (follows_if : Bool) → Option CommandReading → Tests → Block → Type 0
 Stands follows_if None ts ending = ⊥
 Stands follows_if (Some r) ts ending = (tests_fit (needs_of r).tests ts ≡ true) × (block_fits (needs_of r).block (has_block ending) ≡ true) × ((needs_of r).after_if ≡ true → follows_if ≡ true)
@@ -78,7 +81,7 @@ may_go_on (Some reading.reads_if) = true
 may_go_on (Some reading.reads_elsif) = true
 may_go_on other = false
 
--- whether all is as the row says, by the shapes of its arguments, by which tests there are, and by whether there is a block
+-- whether all is as the row says, by the shapes of its arguments, the tests and the block
 abbrev used_by : Row → List Shape → Inner → Bool → Bool
 used_by row shapes there ends =
     not (has_bad_tag (labels_of row shapes))
@@ -102,7 +105,7 @@ ends_well row shapes there ends used =
     not_true true e = sym e
     not_true false e = refl
 
--- WHAT READINGS NEED, AND ROWS SAY
+-- NEEDS OF READINGS, AND ROWS
 
 one_inner : (a b : Inner) → sameb inners.the_type a b ≡ true → a ≡ b
 one_inner a b e = same_true inners.the_type tt a b e
@@ -112,7 +115,8 @@ tests_read_of k labels args =
     one_inner (tests_of_reading (tests.test_reading_by k labels args)) (test_row k).tests
     (of_each every_test.enum tt (λ k. sameb inners.the_type (tests_of_reading (tests.test_reading_by k labels args)) (test_row k).tests) refl k)
 
--- which tests, whether a block, whether an `if` before it, and whether a branch may go on after it
+-- whether a kind agrees with a reading: the tests, the block, an `if` before it, and
+-- a branch after it
 abbrev says_so : CommandKind → CommandReading → Bool
 says_so k r =
     sameb inners.the_type (needs_of r).tests (command_row k).tests
@@ -169,8 +173,7 @@ module _ (context : Context) where
       follows continues true is fine = refl
       follows continues false is fine = absurd (never_both (sym (ap (λ b. b && true) is) ∙ fine))
 
-  -- a branch may go on after a command exactly where the command is read as one that it may go on
-  -- after
+  -- a branch may go on after a command exactly where its reading says so
   kind_goes_on : (k : Option CommandKind) (args : List Argument) (ts : Tests) (ending : Block) → command_breaks context k args ts ending UnknownCommand ≡ false → (after_kind context k args).follows_if ≡ may_go_on (command_reading context k args)
   kind_goes_on None args ts ending unbroken = absurd (never_both unbroken)
   kind_goes_on (Some kind) args ts ending unbroken = (command_says_so kind (known_labels context.profile (command_row kind) args) (cut_row context (command_row kind) args)).goes_on

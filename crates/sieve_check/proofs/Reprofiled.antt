@@ -1,4 +1,5 @@
--- A script is judged alike by profiles by which the same capabilities are known, but for what may be required.
+-- Profiles that know the same capabilities judge a script alike, but for names
+-- that may be required.
 use Rattle.std.proofs.Common.{◌≡◌, ℕ, Bool, false, ◌&&◌, ◌||◌, List, [], ◌∷◌, ◌++◌, map, drop, Option, None, Some, refl, sym, ap, ◌∙◌}
 use Rattle.std.proofs.lemmas.List.{map-append}
 use Rattle.std.specs.List.{list_all, list_any}
@@ -46,7 +47,7 @@ module _ (p q : Profile) (same : is_known p ≡ is_known q) where
   abbrev again : Element → Element
   again = reprofiled p
 
-  -- WHAT IS KNOWN
+  -- KNOWN COMMANDS, TESTS AND TAGS
 
   pub command_again : (name : List ℕ) → known_command p name ≡ known_command q name
   command_again name = ap (λ known. option_and_then (only_if (λ kind. list_all known (command_row kind).needs)) (command_named name)) same
@@ -72,7 +73,7 @@ module _ (p q : Profile) (same : is_known p ≡ is_known q) where
   pub labels_again : (row : Row) (args : List Argument) → known_labels p row args ≡ known_labels q row args
   labels_again row args = ap (labels_of row) (shapes_again row.tags args)
 
-  -- WHAT IS NEEDED
+  -- NEEDED CAPABILITIES
 
   pub collation_again : (name : List ℕ) → known_collation p name ≡ known_collation q name
   collation_again name = ap (λ known. option_and_then (only_if (λ collation. known (needed_for collation))) (collation_named name)) same
@@ -161,7 +162,7 @@ module _ (p q : Profile) (same : is_known p ≡ is_known q) where
   set : (x : Context) → x.profile ≡ q → under q x ≡ x
   set x is = ap (λ r. record x { profile = r }) (sym is)
 
-  -- what stands after a command
+  -- the context after a command
   kind_again : (c : Context) (k : Option CommandKind) (args : List Argument) → after_kind (under p c) k args ≡ under p (after_kind (under q c) k args)
   kind_again c None args = refl
   kind_again c (Some kind) args = ap (λ labels. record (after_kind (under p c) (Some kind) args) { scope = naming_said c.required c.scope labels args }) (labels_again (command_row kind) args)

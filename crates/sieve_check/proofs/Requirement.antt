@@ -1,4 +1,5 @@
--- What is required after the `require` commands at the top of a script is what they name.
+-- After the `require` commands at the top of a script, exactly the capabilities that
+-- they name are required.
 use Rattle.std.proofs.Common.{◌≡◌, suc, ◌+◌, Bool, true, false, cond, ◌&&◌, List, [], ◌∷◌, ◌++◌, take, ℕ, Option, None, Some, refl, sym, ap, ◌∙◌, subst, arith, append_assoc, drop}
 use Rattle.std.proofs.lemmas.List.Elements.{All-append, All-cons, All-nil}
 use Rattle.std.specs.List.{All, prefix_len, take_while}
@@ -74,7 +75,7 @@ module _ (r : Required) where
     test_list_judged (more_tests t ts) context same =
         All-append Judged (test_elements context t) (test_list_elements context ts) (test_judged t context same) (test_list_judged ts context same)
 
-  -- COMMANDS BEHIND THE REQUIRES
+  -- COMMANDS AFTER THE REQUIRES
 
   -- after a command that is no `require` at the top, no more is required
   kind_requires_none : (context : Context) (k : Option CommandKind) (args : List Argument) → (context.leads && requires_kind k) ≡ false → context.required ≡ r → ((after_kind context k args).leads ≡ false) × ((after_kind context k args).required ≡ r)
@@ -123,7 +124,7 @@ never : (b : Bool) → (b && false) ≡ false
 never true = refl
 never false = refl
 
--- after a `require` at the top, what its strings name is required too
+-- after a `require` at the top, the capabilities that its strings name are required too
 kind_requires : (context : Context) (k : Option CommandKind) (args : List Argument) → context.leads ≡ true → requires_kind k ≡ true → ((after_kind context k args).leads ≡ true) × ((after_kind context k args).required ≡ requiring_arguments context.required args)
 kind_requires context None args leads is = absurd (not_both is)
 kind_requires context (Some kind) args leads is =
@@ -135,7 +136,7 @@ unfolding after_block
 block_requires r no_block context so = so
 block_requires r (block ns) context so = so
 
--- what is required after a `require`
+-- the required capabilities after a `require`
 node_requires : (n : Node) (context : Context) → context.leads ≡ true → is_require_command context.profile n ≡ true → ((after context n).leads ≡ true) × ((after context n).required ≡ requiring_command context.required n)
 unfolding after
 node_requires (node name line args ts ending) context leads is = block_requires (requiring_arguments context.required args) ending (after_kind context (known_command context.profile name) args) (kind_requires context (known_command context.profile name) args leads is)
@@ -143,14 +144,15 @@ node_requires (node name line args ts ending) context leads is = block_requires 
 take_one : {X : Type 0} (x : X) (xs : List X) (n : ℕ) → take (1 + n) (x ∷ xs) ≡ x ∷ take n xs
 take_one x xs n = let one : 1 + n ≡ suc n = omega arith in ap (λ k. take k (x ∷ xs)) one
 
--- what passes at the front of a list, with one item more in front
+-- the items that pass at the front of a list, with one more in front
 front_passes : {X : Type 0} (p : X → Bool) (x : X) (xs : List X) → p x ≡ true → take_while p (x ∷ xs) ≡ x ∷ take_while p xs
 front_passes p x xs is = ap (λ b. take (cond b (1 + prefix_len p xs) 0) (x ∷ xs)) is ∙ take_one x xs (prefix_len p xs)
 
 front_fails : {X : Type 0} (p : X → Bool) (x : X) (xs : List X) → p x ≡ false → take_while p (x ∷ xs) ≡ []
 front_fails p x xs not = ap (λ b. take (cond b (1 + prefix_len p xs) 0) (x ∷ xs)) not
 
--- the elements from a place at the top of a script on: those of the `require` commands there, and others for which these are required
+-- The elements from a place at the top of a script on. First are those of the `require` commands
+-- there. For the others, the capabilities that these name are required.
 abbrev Splits : Profile → Context → List Node → Type 0
 Splits p context tree = (rest : List Element) × (nodes_elements context (nodes tree) ≡ nodes_elements context (nodes (leading_requires p tree)) ++ rest) × All (IsJudgedUnder (requiring_commands context.required (leading_requires p tree))) rest
 

@@ -45,14 +45,16 @@ cons_in e es = refl
 pub one_in : (e : Element) → breaches_in (e ∷ []) ≡ breaches_at e
 one_in e = cons_in e [] ∙ ap (λ bs. breaches_at e ++ bs) none_in ∙ append-nil (breaches_at e)
 
--- an element before others has the first breach, or has none, and the breaches are those of the others
+-- an element before others has the first breach, or has none, and the breaches are
+-- those of the others
 pub first_stops : (e : Element) (es : List Element) (fault : CheckFault) → IsFirst (breaches_at e) fault → IsFirst (breaches_in (e ∷ es)) fault
 first_stops e es fault h = subst (λ bs. IsFirst bs fault) (sym (cons_in e es)) (first_of _ _ fault h)
 
 pub first_passes : (e : Element) (es : List Element) → breaches_at e ≡ [] → breaches_in (e ∷ es) ≡ breaches_in es
 first_passes e es none = cons_in e es ∙ ap (λ bs. bs ++ breaches_in es) none
 
--- elements before others have the first breach, or have none, and the breaches are those of the others
+-- elements before others have the first breach, or have none, and the breaches are
+-- those of the others
 pub front_stops : (xs ys : List Element) (fault : CheckFault) → IsFirst (breaches_in xs) fault → IsFirst (breaches_in (xs ++ ys)) fault
 front_stops xs ys fault h = subst (λ bs. IsFirst bs fault) (sym (in_turn xs ys)) (first_of _ _ fault h)
 

@@ -1,5 +1,5 @@
--- A script without a breach has none either where capabilities that aren't known may be required,
--- and is the same script then.
+-- A script without a breach has none either where capabilities that aren't known may be required.
+-- It is the same script then.
 use Rattle.std.proofs.Common.{◌≡◌, ℕ, Bool, true, false, not, ◌&&◌, ◌||◌, List, [], ◌∷◌, ◌++◌, map, Option, None, Some, Result, Ok, Err, is_none, slice_get, refl, sym, ap, ◌∙◌}
 use Rattle.std.specs.List.{list_any}
 use Rattle.sieve_profile.proofs.Each.{of_each}
@@ -64,7 +64,7 @@ known_alike p = λ i c. asked_alike p (extension_of c) (never_unused c) i
 
 -- WITHOUT A BREACH
 
--- what may be required may be required with it too
+-- a name that may be required may be required with it too
 refused_less : (p : Profile) (in_role leads : Bool) (name : List ℕ) → (in_role && (leads && not (may_be_required p name))) ≡ false → (in_role && (leads && not (may_be_required (with_extension p Unused) name))) ≡ false
 refused_less p in_role leads name fine =
     ap (λ known. in_role && (leads && not (list_any (λ c. is_name_of name c && known c) capabilities || (has (with_extension p Unused) Unused && not (is_shown_by_no_word name))))) (known_alike p)

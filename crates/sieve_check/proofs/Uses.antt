@@ -1,4 +1,4 @@
--- What is found in a command or test of a row.
+-- The breaches that are found in a command or test of a row.
 use Rattle.std.proofs.Common.{◌≡◌, ℕ, Bool, true, false, not, ◌&&◌, List, [], ◌++◌, refl, sym, ap, ◌∙◌, subst}
 use Rattle.sieve_syntax.specs.Tree.{Argument, Tests}
 use Rattle.sieve_check.specs.Breach.{Breach, breach_if, breaches_in, use_lacks}
@@ -16,8 +16,8 @@ use Rattle.sieve_check.specs.declared.validator.CheckFault.{CheckFault}
 use Rattle.sieve_check.specs.declared.validator.CheckFault.TheVariants as faults
 
 module _ (alone : Bool) (context : Context) (line : ℕ) (row : Row) (args : List Argument) (ts : Tests) (b : Bool) where
-  -- what is found, by whether something isn't required, whether a branch stands alone, whether a tag is bad, and whether
-  -- arguments are
+  -- The breaches that are found. The flags say whether something isn't required, a branch stands
+  -- alone, a tag is bad, and arguments are bad.
   by_uses : Bool → Bool → Bool → Bool → List Breach
   by_uses lacking apart bad_tag bad_arguments =
       (breach_if lacking line NotRequired ++ (breach_if apart line ElsePlace ++ (breach_if bad_tag line BadTag ++ (breach_if bad_arguments line BadArguments ++ []))))

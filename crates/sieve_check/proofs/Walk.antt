@@ -1,5 +1,4 @@
--- The walk over tests and commands: what is found in them, what is read of them, and what stands
--- after them.
+-- The walk over tests and commands: their breaches, their readings, and the context after them.
 use Rattle.std.proofs.Common.{◌≡◌, List, [], ◌∷◌, ◌++◌, map, None, Option, Some, refl, sym, ap, ◌∙◌, subst}
 use Rattle.std.specs.declared.boxed.Box.{Box}
 use Rattle.std.specs.declared.vec.Vec.{Vec}
@@ -47,7 +46,7 @@ module _ (t : one_tests.Test) (context : Context) where
   pub test_ends : breaches_in (test_head context t) ≡ [] → breaches_in (tests_elements context (tests_of (one_tests.out-Test t).tests)) ≡ [] → breaches_in (test_elements context (test_of t)) ≡ []
   test_ends none fine = test_left none ∙ fine
 
--- what is read of a test by its parts
+-- the reading of a test by its parts
 pub test_reads : (t : one_tests.Test) (context : Context) (kind : TestKind) (reading : TestReading) (inner : Conditions) → let o = one_tests.out-Test t in
     known_test context.profile o.name ≡ Some kind → reading ≡ test_kind_reading context kind (map argument_of o.args.items) → inner ≡ conditions_in context (tests_of o.tests) → joined (Some reading) inner ≡ condition_of context (test_of t)
 unfolding condition_of
@@ -122,7 +121,7 @@ unfolding block_elements nodes_elements
 in_block no_block context = refl
 in_block (block ns) context = refl
 
--- what stands after commands in a block
+-- the context after commands in a block
 abbrev past_nodes : Context → Nodes → Context
 past_nodes context ns = record context { scope = (after_nodes (inside context) ns).scope }
 
@@ -139,7 +138,7 @@ block_does (block ns) context = refl
 -- A COMMAND
 
 module _ (c : commands.Command) (context : Context) where
-  -- what stands before its block
+  -- the context before its block
   abbrev before_block : Context
   before_block = let o = commands.out-Command c in after_kind context (known_command context.profile o.name) (map argument_of o.args.items)
 
@@ -167,13 +166,13 @@ module _ (c : commands.Command) (context : Context) where
   unfolding after
   after_at = ap (after context) (seen_command c)
 
-  -- what is read of a command by its parts
+  -- the reading of a command by its parts
   read_at : (chain : Chain) → let o = commands.out-Command c in
       chain_with_command (command_reading context (known_command context.profile o.name) (map argument_of o.args.items)) o.line (first_condition (conditions_in context (tests_of o.tests))) (block_commands before_block (block_of o.block)) chain ≡ chain_with context (node_of c) chain
   unfolding chain_with
   read_at chain = sym (ap (λ n. chain_with context n chain) (seen_command c))
 
-  -- its block, at whose start `within` stands with these names
+  -- its block; `within` and these names are the context at its start
   module _ (next within : Spot) (names : Scope) (inner : List commands.Command) (goes : at_spot next names ≡ before_block) (start : (scope : Scope) → at_spot within scope ≡ inside (at_spot next scope)) (is : nodes (map node_of inner) ≡ inner_nodes (block_of (commands.out-Command c).block)) where
     within_block : at_spot within names ≡ inside before_block
     within_block = start names ∙ ap inside goes
@@ -200,7 +199,7 @@ module _ (c : commands.Command) (context : Context) where
         ∙ ap (past_nodes before_block) is
         ∙ sym (after_at ∙ past_block (block_of (commands.out-Command c).block) before_block)
 
-    -- and what is read of the command, where that of its parts is
+    -- and the reading of the command, by the readings of its parts
     pub block_reads : (kind : CommandKind) (reading : CommandReading) (condition : Condition) (does : Commands) → let o = commands.out-Command c in
         known_command context.profile o.name ≡ Some kind → reading ≡ command_kind_reading context kind (map argument_of o.args.items) → condition ≡ first_condition (conditions_in context (tests_of o.tests)) → does ≡ (chain_of (at_spot within names) (nodes (map node_of inner))).rest
         → (chain : Chain) → chain_with_command (Some reading) o.line condition does chain ≡ chain_with context (node_of c) chain

@@ -1,4 +1,5 @@
--- The elements of a tree are written, one by one and in order, by the identifiers, strings and numbers that the tree writes.
+-- The identifiers, strings and numbers that a tree writes are its elements, one by
+-- one and in order.
 use Rattle.std.proofs.Common.{◌≡◌, ℕ, Bool, true, false, cond, List, [], ◌∷◌, ◌++◌, map, drop, Option, None, Some, refl, sym, ap, ◌∙◌, append_assoc, append-nil}
 use Rattle.std.proofs.lemmas.List.{map-append}
 use Rattle.std.proofs.lemmas.List.Elements.{filter-append}

@@ -1,4 +1,4 @@
--- What a bench of a profile lacks, in a script.
+-- Things in a script that a bench of a profile doesn't know.
 use Rattle.std.specs.Prelude.{ℕ, Bool, true, false, not, ◌&&◌, ◌||◌, List, Option, Some, None, is_none}
 use Rattle.std.specs.List.{list_any}
 use Rattle.sieve_profile.specs.Profile.{Profile}
@@ -26,11 +26,11 @@ is_absent_tag profile shape.Number = false
 is_absent_tag profile (shape.Tag None) = true
 is_absent_tag profile (shape.Tag (Some tag)) = not (is_known_tag profile tag)
 
--- a use of a row that needs what isn't known, or of a tag that is absent
+-- a use of a row that needs a capability that isn't known, or has a tag that is absent
 abbrev pub row_lacks : Profile → Row → List Argument → Bool
 row_lacks profile row args = not (is_known_row profile row) || list_any (is_absent_tag profile) (shapes_of row.tags args)
 
--- the use of a command, where there is one of its name, and of a test
+-- a command or a test of a name that none has, or whose use of a row lacks something
 abbrev pub command_lacks : Profile → Option CommandKind → List Argument → Bool
 command_lacks profile None args = true
 command_lacks profile (Some kind) args = row_lacks profile (command_row kind) args
@@ -39,7 +39,8 @@ abbrev pub test_lacks : Profile → Option TestKind → List Argument → Bool
 test_lacks profile None args = true
 test_lacks profile (Some kind) args = row_lacks profile (test_row kind) args
 
--- a string of a leading `require` that may not be required: it names no capability which is known, and with `unused` one whose use no word shows
+-- A string of a leading `require` that may not be required. It names no capability that is known.
+-- With `unused` it also names one whose use no word shows.
 abbrev pub capability_lacks : Profile → Context → Option Role → List ℕ → Bool
 capability_lacks profile context role octets = has_role Capabilities role && (context.leads && not (may_be_required profile octets))
 
@@ -47,13 +48,14 @@ capability_lacks profile context role octets = has_role Capabilities role && (co
 abbrev pub comparator_lacks : Profile → Option Role → List ℕ → Bool
 comparator_lacks profile role octets = has_role ComparatorName role && is_none (known_collation profile octets)
 
--- what a string says, where it says something
+-- the octets that a string says, where it says any
 abbrev pub said_lacks : Profile → Context → Option Role → Option (List ℕ) → Bool
 said_lacks profile context role None = false
 said_lacks profile context role (Some octets) = capability_lacks profile context role octets || comparator_lacks profile role octets
 
--- Whether an element has what isn't known: a command or a test that isn't there or needs it, a tag of theirs that isn't there or does, a capability, or a
--- comparator.
+-- Whether an element has something that isn't known. It is a command or a test that doesn't
+-- exist, needs an unknown capability, or has an unknown tag. Or it is a string that names an
+-- unknown capability or comparator.
 abbrev pub lacks : Profile → Element → Bool
 lacks profile (the_command context name line args ts ending) = command_lacks profile (command_named name) args
 lacks profile (the_test context name line args ts) = test_lacks profile (test_named name) args

@@ -1,6 +1,8 @@
--- Which arguments the reading of a command or a test asks for (RFC 5228, sections 4 and 5; RFC 5229, sections 4 and 5; RFC 5232, sections 3 to
--- 5; RFC 6609, section 3; RFC 5490, section 3; RFC 8579, section 4; RFC 5230, section 4; RFC 5429, section 2; RFC 5260, sections
--- 4 and 5; RFC 5173, section 4).
+-- The arguments that the reading of a command or a test asks for (RFC 5228, sections 4 and 5).
+-- Extensions add variables (RFC 5229, sections 4 and 5) and flags (RFC 5232, sections 3 to 5). They
+-- add `include` (RFC 6609, section 3), mailboxes (RFC 5490, section 3) and special uses (RFC 8579,
+-- section 4). They add `vacation` (RFC 5230, section 4), `reject` and `ereject` (RFC 5429,
+-- section 2). They add dates (RFC 5260, sections 4 and 5) and `body` (RFC 5173, section 4).
 use Rattle.std.specs.Prelude.{◌≡◌, Bool, true, false, not, ◌&&◌, List, [], ◌∷◌, ◌++◌, Option, Some, None}
 use Rattle.std.specs.List.{filter, flat_map, list_all, list_any}
 use denote.Enum.Bare.{sameb}
@@ -20,7 +22,8 @@ use Rattle.sieve_table.specs.declared.table.CommandKind.TheVariants as command
 use Rattle.sieve_table.specs.declared.table.TestKind.{TestKind}
 use Rattle.sieve_table.specs.declared.table.TestKind.TheVariants as test
 
--- what an argument is read as: strings, one string, one that stands for itself, the names of variables, the name of one variable, or a number
+-- The sort of an argument, as it is read. It is strings, one string, one that stands for itself,
+-- names of variables, one such name, or a number.
 pub data Sort : Type 0 where
   texts : Sort
   one_text : Sort
@@ -64,7 +67,8 @@ asked_by_test test.False = []
 asked_by_test test.String = must texts role.Text ∷ comparing
 asked_by_test test.HasFlag = may variables role.NamesToRead ∷ comparing
 asked_by_test test.MailboxExists = must texts role.Mailbox ∷ []
--- by what a message would be known that came before is not asked, since none came (RFC 7352, section 3)
+-- no argument of `duplicate` is asked for, since a bench has seen no message before
+-- (RFC 7352, section 3)
 asked_by_test test.Duplicate = []
 asked_by_test test.Date = must one_text role.FieldNames ∷ must one_text role.DatePart ∷ may one_text role.Zone ∷ comparing
 asked_by_test test.CurrentDate = must one_text role.DatePart ∷ may one_text role.Zone ∷ comparing
@@ -97,7 +101,7 @@ asked_by_command command.Ereject = must one_text role.Text ∷ []
 
 -- THE ROW
 
--- the form in which an argument is written that is read so
+-- the form in which an argument of that sort is written
 abbrev pub form_of : Sort → Form
 form_of texts = form.List
 form_of one_text = form.One
@@ -119,7 +123,7 @@ abbrev pub given_slot : Option Slot → List Slot
 given_slot None = []
 given_slot (Some slot) = slot ∷ []
 
--- all that the arguments of a row can be: the one in front, the positional ones, and what its tags take
+-- all slots of a row: the one in front, the positional ones, and those that its tags take
 abbrev pub slots_of_row : Row → List Slot
 slots_of_row row = given_slot row.front ++ (row.slots ++ flat_map (λ t. given_slot (tag_row t).takes) row.tags)
 
@@ -137,13 +141,15 @@ abbrev pub are_all : Form → List Slot → Bool
 are_all wanted [] = false
 are_all wanted (slot ∷ slots) = list_all (λ s. sameb the_type s.form wanted) (slot ∷ slots)
 
--- What is always there is the one positional argument of the role, which can't be left out. What may be left out isn't positional; of those that have the
--- role, which are of one kind of tags where there are several, one is given.
+-- An argument that is always there has exactly one slot of its role in the row, of that form. It is
+-- among `slots`, so it can't be left out. One that may be left out has one slot or more of its
+-- role, each of that form. None is among `slots`: each is in front, or taken by a tag. The
+-- definition doesn't say that at most one of these is given.
 abbrev pub gives_slot : Row → Role → Form → Presence → Bool
 gives_slot row role wanted always = is_one wanted (filter (is_in_role role) (slots_of_row row)) && list_any (is_in_role role) row.slots
 gives_slot row role wanted perhaps = are_all wanted (filter (is_in_role role) (slots_of_row row)) && not (list_any (is_in_role role) row.slots)
 
--- a row gives what is asked for
+-- a row gives the argument that is asked for
 abbrev pub gives : Row → Asked → Bool
 gives row asked = gives_slot row asked.role (form_of asked.sort) asked.presence && is_cut_so asked.sort asked.role
 
@@ -152,7 +158,7 @@ gives_all row asked = list_all (gives row) asked
 
 -- ARGUMENTS THAT ARE READ ALIKE
 
--- arguments, there or not, that are the same as what they are read as
+-- two arguments, there or not, that are read as the same
 abbrev pub ReadsSame : Sort → Presence → (argument other : Option CutArgument) → Type 0
 ReadsSame texts always argument other = texts_in argument ≡ texts_in other
 ReadsSame texts perhaps argument other = given_texts argument ≡ given_texts other

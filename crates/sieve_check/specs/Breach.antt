@@ -1,4 +1,5 @@
--- The breaches of the validator's rules in a script, in the order of the text and then of the rules.
+-- The breaches of the validator's rules in a script, in the order of the text and
+-- then of the rules.
 use Rattle.std.specs.Prelude.{◌≡◌, ℕ, Bool, true, false, not, ◌&&◌, ◌||◌, List, [], ◌∷◌, ◌++◌, Option, Some, None, is_none, length, slice_get, nat_lt, if◌then◌else◌}
 use Rattle.std.specs.List.{flat_map}
 use Rattle.sieve_profile.specs.Profile.{Profile}
@@ -36,27 +37,30 @@ pub record Breach : Type 0 where
   pub line : ℕ
   pub rule : Rule
 
--- WHAT BREAKS WHICH RULE
+-- RULES THAT ARE BROKEN
 
--- What isn't required that a command or test of a row needs, itself, by its arguments, or by a comparator that these name (RFC 5228, section 2.10.5)
+-- a row, an argument or a named comparator needs a capability that isn't required
+-- (RFC 5228, section 2.10.5)
 abbrev pub use_lacks : Profile → Required → Row → List Argument → Bool
 use_lacks profile required row args = lacks_required required row (known_labels profile row args) || arguments_lack profile required (known_labels profile row args) args
 
--- a command or test of a row, by the shapes of its arguments, and by whether it needs what isn't required (RFC 5228, sections 2.5, 2.6, 2.8, 2.9 and 2.10.5)
+-- A use of a row, by the shapes of its arguments (RFC 5228, sections 2.5, 2.6, 2.8 and 2.9).
+-- `lacking` says whether it needs a capability that isn't required (RFC 5228, section 2.10.5).
 abbrev pub row_breaks : (lacking : Bool) → Row → List Shape → Tests → (ends_by_block : Bool) → Rule → Bool
 row_breaks lacking row shapes ts ends_by_block NotRequired = lacking
 row_breaks lacking row shapes ts ends_by_block BadTag = has_bad_tag (labels_of row shapes)
 row_breaks lacking row shapes ts ends_by_block BadArguments = has_bad_arguments row shapes ts ends_by_block
 row_breaks lacking row shapes ts ends_by_block rule = false
 
--- a command of a row: `misplaced` says whether it is a `require` in a wrong place, and `alone` whether it continues an `if` that isn't there
--- (RFC 5228, sections 3.1 and 3.2)
+-- A command of a row. `misplaced` says whether it is a `require` in a wrong place (RFC 5228,
+-- section 3.2). `alone` says whether it is an `elsif` or `else` that follows no `if` or `elsif`
+-- (RFC 5228, section 3.1).
 abbrev pub kind_breaks : (misplaced alone lacking : Bool) → Row → List Shape → Tests → (ends_by_block : Bool) → Rule → Bool
 kind_breaks misplaced alone lacking row shapes ts ends_by_block RequirePlace = misplaced
 kind_breaks misplaced alone lacking row shapes ts ends_by_block ElsePlace = alone
 kind_breaks misplaced alone lacking row shapes ts ends_by_block rule = row_breaks lacking row shapes ts ends_by_block rule
 
--- a command or a test that there isn't, or that isn't known (RFC 5228, section 2.10.5)
+-- a command or a test that doesn't exist, or that isn't known (RFC 5228, section 2.10.5)
 abbrev pub unknown_breaks : Rule → Bool
 unknown_breaks UnknownCommand = true
 unknown_breaks rule = false
@@ -70,29 +74,33 @@ abbrev pub test_breaks : Context → Option TestKind → List Argument → Tests
 test_breaks context None args ts rule = unknown_breaks rule
 test_breaks context (Some kind) args ts rule = row_breaks (use_lacks context.profile context.required (test_row kind) args) (test_row kind) (known_shapes context.profile (test_row kind).tags args) ts false rule
 
--- a string that has no reference in it is known before the script runs (RFC 5229, section 3)
+-- a string in which no reference stands for a value is known before the script runs
+-- (RFC 5229, section 3)
 abbrev pub is_known : Required → Option Role → List ℕ → Bool
 is_known required role octets = not (takes_references required role && has_reference octets)
 
--- What names no variable that may be set: neither one of the script nor one that scripts share. So no match variable is set, and
--- nothing in another namespace (RFC 5229, section 4). Those that are read are named alike (RFC 5232, section 4).
+-- Octets that name no variable that may be set: neither one of the script nor one that scripts
+-- share. So no match variable is set, and none in another namespace (RFC 5229, section 4).
+-- Variables that are read are named alike (RFC 5232, section 4).
 abbrev pub is_bad_name : List ℕ → Bool
 is_bad_name octets = not (is_identifier octets) && not (is_global_name octets)
 
--- what can't be declared: only a name without a namespace can (RFC 6609, section 3.4.1)
+-- a string that is to be declared, but is no identifier (RFC 6609, section 3.4.1)
 abbrev pub is_no_declaration : Option Role → List ℕ → Bool
 is_no_declaration role octets = has_role NamesToDeclare role && not (is_identifier octets)
 
--- a reference in a namespace that there isn't; that of the variables that scripts share is there where scripts can be included
--- (RFC 6609, section 3.4.2)
+-- A reference in an unknown namespace. That of the variables that scripts share is known where
+-- `include` is required (RFC 6609, section 3.4.2).
 abbrev pub has_unknown_namespace : Required → List ℕ → Bool
 has_unknown_namespace required octets = if is_required required Include then has_foreign_namespace octets else has_namespace octets
 
--- a variable in a namespace that there isn't: one that is named (RFC 5229, section 4), or one that is referred to (section 3)
+-- a variable in an unknown namespace: one named (RFC 5229, section 4), or one referred to
+-- (RFC 5229, section 3)
 abbrev pub names_namespace : Required → Option Role → List ℕ → Bool
 names_namespace required role octets = (names_variable role && (is_global_name octets && not (is_required required Include))) || (takes_references required role && has_unknown_namespace required octets)
 
--- a string that names no part of a date (RFC 5260, section 4.2), whatever the case of its letters, and is known before the script runs
+-- A string that is to name a part of a date, and names none (RFC 5260, section 4.2). The case of
+-- its letters doesn't matter. Only a string that is known before the script runs breaks this rule.
 abbrev pub is_bad_date_part : Required → Option Role → List ℕ → Bool
 is_bad_date_part required role octets = has_role DatePart role && (is_none (part_named octets) && is_known required role octets)
 
@@ -100,10 +108,13 @@ is_bad_date_part required role octets = has_role DatePart role && (is_none (part
 abbrev pub is_past_locals : List ℕ → Scope → Bool
 is_past_locals octets scope = is_new_local octets scope && not (nat_lt (length scope.assigned) local_limit)
 
--- a string: that of a leading `require` (RFC 5228, section 3.2), of a comparator (section 2.7.3), a part of an envelope (section
--- 5.4), a field that holds addresses (section 5.1), the name of a variable (RFC 5229, section 4; RFC 5232, sections 3 and 4; RFC
--- 6609, section 3.4.1), one with references to variables (RFC 5229, sections 3 and 6), a relation (RFC 5231, section 4), a comparator in a
--- test that finds parts of values (RFC 4790, section 9.1), or a part of a date (RFC 5260, section 4.2)
+-- The rules that a string breaks by the octets that it says. They are about a leading `require`
+-- (RFC 5228, section 3.2), and comparators (RFC 5228, section 2.7.3). They are about parts of an
+-- envelope (RFC 5228, section 5.4), and fields with addresses (RFC 5228, section 5.1). They are
+-- about names of variables (RFC 5229, section 4; RFC 5232, sections 3 and 4; RFC 6609,
+-- section 3.4.1). They are about references to variables (RFC 5229, sections 3 and 6), and
+-- relations (RFC 5231, section 4). They are about comparators in a test that finds parts of values
+-- (RFC 4790, section 9.1). They are about parts of a date (RFC 5260, section 4.2).
 abbrev pub text_breaks : Context → Option Role → List ℕ → Rule → Bool
 text_breaks context role octets UnknownCapability = has_role Capabilities role && (context.leads && not (may_be_required context.profile octets))
 text_breaks context role octets UnknownComparator = has_role ComparatorName role && is_none (known_collation context.profile octets)
@@ -124,8 +135,8 @@ abbrev pub character_breaks : Rule → Bool
 character_breaks BadCharacter = true
 character_breaks rule = false
 
--- A string that says something breaks what that does; any other has a sequence that stands for no character, and breaks no other rule (RFC 5228, section
--- 2.4.2.4).
+-- A string that says something breaks the rules that its octets break. Any other has a sequence
+-- that stands for no character, and breaks no other rule (RFC 5228, section 2.4.2.4).
 abbrev pub said_breaks : Context → Option Role → Option (List ℕ) → Rule → Bool
 said_breaks context role None rule = character_breaks rule
 said_breaks context role (Some octets) rule = text_breaks context role octets rule
@@ -173,7 +184,8 @@ breaches_of profile tree = breaches_in (elements_of profile tree)
 abbrev pub first_breach : Profile → List Node → Option Breach
 first_breach profile tree = slice_get (breaches_of profile tree) 0
 
--- A breach of one of these in the order of the text: nothing before it breaks a rule, and it breaks none before this one.
+-- A breach of one of these elements, in the order of the text. No element before it breaks a rule,
+-- and it breaks no rule before this one.
 pub record IsLeast (elements : List Element) (breach : Breach) : Type 0 where
   pub before : List Element
   pub broken : Element

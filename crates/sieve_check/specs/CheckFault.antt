@@ -1,4 +1,4 @@
--- What a refusal of the validator says.
+-- The breach that a refusal of the validator reports.
 use Rattle.std.specs.Prelude.{◌≡◌, ⊤, List, Some, slice_get}
 use Rattle.sieve_check.specs.Breach.{Breach}
 use Rattle.sieve_check.specs.declared.validator.CheckFault.{CheckFault}

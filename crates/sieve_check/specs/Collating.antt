@@ -40,7 +40,7 @@ abbrev pub collation_lacks : Required → Option Collation → Bool
 collation_lacks required None = false
 collation_lacks required (Some collation) = is_lacking required (needed_for collation)
 
--- what a string says, if it says something, names one
+-- the octets that a string says, if it says any, name such a comparator
 abbrev pub name_lacks : Profile → Required → Option (List ℕ) → Bool
 name_lacks profile required None = false
 name_lacks profile required (Some name) = collation_lacks required (known_collation profile name)
@@ -53,7 +53,7 @@ argument_lacks profile required role (strings items bracketed) = has_role Compar
 argument_lacks profile required role (number value line) = false
 argument_lacks profile required role (tag name line) = false
 
--- some argument, each by its label, names one
+-- some argument, each by its label, names such a comparator
 abbrev pub arguments_lack : Profile → Required → List Label → List Argument → Bool
 arguments_lack profile required labels [] = false
 arguments_lack profile required labels (a ∷ args) = argument_lacks profile required (first_role labels) a || arguments_lack profile required (drop 1 labels) args

@@ -1,4 +1,4 @@
--- What stands before a command in its text, as far as rules ask.
+-- The context of a command: the text before it, as far as rules ask.
 use Rattle.std.specs.Prelude.{Bool, true, false, ◌&&◌, ◌||◌, List, [], ◌∷◌, Option, Some, None, if◌then◌else◌}
 use Rattle.sieve_syntax.specs.Tree.{Node, node, Nodes, end_nodes, more_nodes, Block, no_block, block, Text, Argument, strings, number, tag}
 use Rattle.sieve_table.specs.Role.{is_expanded}
@@ -20,7 +20,7 @@ abbrev pub takes_references : Required → Option Role → Bool
 takes_references required None = false
 takes_references required (Some role) = is_expanded role && is_required required Variables
 
--- what is required with what strings name, and the strings of arguments
+-- the required capabilities, with those that strings name, and the strings of arguments
 abbrev pub requiring_texts : Required → List Text → Required
 requiring_texts required [] = required
 requiring_texts required (t ∷ ts) = requiring_texts (requiring required t.string) ts
@@ -35,16 +35,18 @@ requiring_arguments required [] = required
 requiring_arguments required (a ∷ args) = requiring_arguments (requiring_argument required a) args
 
 pub record Context : Type 0 where
-  -- what is known beyond what always is; it is the same for a whole script
+  -- the extensions that are known beyond those that always are; they are the same
+  -- for a whole script
   pub profile : Profile
-  -- only requires stand before it in the script (RFC 5228, section 3.2)
+  -- whether only `require` commands stand before it in the script (RFC 5228, section 3.2)
   pub leads : Bool
-  -- an `if` or `elsif` stands directly before it in its block (RFC 5228, section 3.1)
+  -- whether an `if` or `elsif` stands directly before it in its block (RFC 5228, section 3.1)
   pub follows_if : Bool
-  -- what the requires at the top of the script name that stand before it; after them that is all that is required (RFC 5228,
-  -- section 3.2)
+  -- The capabilities named by the `require` commands at the top that stand before it. After these
+  -- commands no others are required (RFC 5228, section 3.2).
   pub required : Required
-  -- it is a string of a test that finds parts of values, by `:contains` or `:matches` (RFC 5228, section 2.7.1)
+  -- Whether it is a string of a test with `:contains` or `:matches` (RFC 5228, section 2.7.1). Such
+  -- a test finds parts of values.
   pub finds_parts : Bool
   -- the names of variables in the text before it (RFC 5229, section 4; RFC 6609, section 3.4.1)
   pub scope : Scope
@@ -60,19 +62,20 @@ script_start profile = record { profile = profile; leads = true; follows_if = fa
 abbrev pub is_require : CommandKind → Bool
 is_require kind = same_command kind Require
 
--- an elsif or else may follow if and elsif
+-- whether an `elsif` or `else` may follow a command: it is an `if` or `elsif`
 abbrev pub allows_else : CommandKind → Bool
 allows_else kind = same_command kind If || same_command kind Elsif
 
--- elsif and else continue with what an if began
+-- whether a command is an `elsif` or `else`, which goes on with an `if`
 abbrev pub continues_if : CommandKind → Bool
 continues_if kind = same_command kind Elsif || same_command kind Else
 
--- what is required after a command with such arguments: a `require` at the top adds what it names
+-- The required capabilities after a command with such arguments. A `require` at the top adds
+-- those that it names.
 abbrev pub required_after : Context → CommandKind → List Argument → Required
 required_after context kind args = if context.leads && is_require kind then requiring_arguments context.required args else context.required
 
--- the names of a scope after the arguments of a command, by what their strings say
+-- the names of a scope after the arguments of a command, by the octets that their strings say
 abbrev pub naming_said : Required → Scope → List Label → List Argument → Scope
 naming_said required scope labels args = naming_arguments scope labels (said_arguments required labels args)
 

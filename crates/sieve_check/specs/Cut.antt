@@ -1,8 +1,9 @@
--- The arguments of a text with what their strings say cut into parts (RFC 5229, section 3). How a
--- string is cut goes by its role: one that names a variable is that variable; any other is one
--- literal where `variables` isn't required. A name that the text before a command declares is that
--- of a variable that scripts share (RFC 6609, section 3.4.1). What stands before a command is the
--- context under which it is judged.
+-- The arguments of a text, with the octets that their strings say cut into parts (RFC 5229,
+-- section 3). A string is cut by its role. One that names a variable is that variable. Any other is
+-- one literal where `variables` isn't required, or where its role is never expanded. So is one
+-- without a role. References in all others stand for values. A name that the text before a command
+-- declares names a variable that scripts share (RFC 6609, section 3.4.1). The context under which a
+-- command is judged stands for the text before it.
 use Rattle.std.specs.Prelude.{ℕ, List, [], ◌∷◌, Option, map, drop, if◌then◌else◌}
 use Rattle.sieve_syntax.specs.Tree.{Argument, strings, number, tag}
 use Rattle.sieve_script.specs.CutArgument.{CutArgument, cut_strings, cut_number, cut_tag}
@@ -18,8 +19,9 @@ use Rattle.sieve_variables.specs.Part.{Part, literal, variable_part, scoped_part
 use Rattle.sieve_variables.specs.Scan.{parts_of_text}
 use Rattle.sieve_variables.specs.Variable.{scoped, variable_named}
 
--- The parts of a string: where it names a variable, that variable; where references stand for values, the octets and references
--- in it; else its octets.
+-- The parts of a string. Where it names a variable, they are that variable. Where
+-- references stand for values, they are the octets and references in it. Otherwise they are
+-- its octets, as one literal.
 abbrev pub parts_in : Context → Option Role → List ℕ → List Part
 parts_in context role octets =
     if names_variable role then variable_part (scoped context.scope.declared (variable_named octets)) ∷ [] else
@@ -36,7 +38,7 @@ abbrev pub cut_labelled : Context → List Label → List Argument → List CutA
 cut_labelled context labels [] = []
 cut_labelled context labels (a ∷ args) = cut_argument context (first_role labels) a ∷ cut_labelled context (drop 1 labels) args
 
--- the same, by what their strings say
+-- the same, by the octets that their strings say
 abbrev pub cut_said : Context → List Label → List Argument → List CutArgument
 cut_said context labels args = cut_labelled context labels (said_arguments context.required labels args)
 

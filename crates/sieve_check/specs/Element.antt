@@ -1,5 +1,5 @@
--- The elements of a script, of which rules speak: its commands, tests, strings and numbers, in the order in which its text
--- writes them, each with what stands before it.
+-- The elements of a script, which rules are about: its commands, tests, strings and numbers. They
+-- are in the order in which its text writes them, each with its context.
 use Rattle.std.specs.Prelude.{ℕ, Bool, true, false, List, [], ◌∷◌, ◌++◌, ◌||◌, Option, Some, None, drop}
 use Rattle.std.specs.List.{list_any}
 use Rattle.sieve_syntax.specs.Tree.{Node, node, Nodes, end_nodes, more_nodes, nodes, Block, no_block, block, Test, test, Tests, no_tests, one_test, test_list, TestList, end_tests, more_tests, Text, Argument, strings, number, tag}
@@ -17,8 +17,9 @@ use Rattle.sieve_table.specs.declared.table.CommandKind.{CommandKind}
 use Rattle.sieve_table.specs.declared.table.Tag.TheVariants.{Contains, Matches}
 use Rattle.sieve_table.specs.declared.table.TestKind.{TestKind}
 
--- a command, a test, a string in its role, or a number. A string has no role where its argument isn't what some slot or tag
--- takes, or where its command or test isn't used as its row says, so that the string isn't judged.
+-- A command, a test, a string in its role, or a number. A string has no role where no slot or tag
+-- takes its argument. Nor has it one where its command or test isn't known, or isn't used as its
+-- row says. Such a string isn't judged.
 pub data Element : Type 0 where
   the_command : (context : Context) (name : List ℕ) (line : ℕ) (args : List Argument) (ts : Tests) (ending : Block) → Element
   the_test : (context : Context) (name : List ℕ) (line : ℕ) (args : List Argument) (ts : Tests) → Element
@@ -41,7 +42,7 @@ abbrev pub labelled_elements : Context → List Label → List Argument → List
 labelled_elements context labels [] = []
 labelled_elements context labels (a ∷ args) = argument_elements context (first_role labels) a ++ labelled_elements context (drop 1 labels) args
 
--- the labels by which arguments are judged: strings are judged only where all is as the row says
+-- the labels by which arguments are judged; strings are judged only where all is as the row says
 abbrev pub judged_labels : Bool → List Label → List Label
 judged_labels true labels = labels
 judged_labels false labels = []

@@ -1,4 +1,5 @@
--- What a script's text is to a bench of a profile: the abstract script, where it has no fault, or the line and kind of the first fault.
+-- The judgement of a script's text by a bench of a profile. It is the abstract script where the
+-- text has no fault, or the line and kind of the first fault.
 use Rattle.std.specs.Prelude.{ℕ, List, codes, Option, None, Some, Result, Ok, Err}
 use Rattle.sieve_profile.specs.Profile.{Profile}
 use Rattle.sieve_syntax.specs.Tree as syntax

@@ -1,6 +1,9 @@
--- What a script does, in the order of its text: as marks of the abstract script, and as marks of the text's tree. Where they are the same,
--- nothing of the tree vanishes from what a run goes by: each command that stops, returns or acts is there once, each test with what it
--- joins, and each block in its branch.
+-- The marks of a script, in the order of its text. An abstract script has marks, and so has a
+-- text's tree. They show commands, tests and branches, and which tests are negated or joined.
+-- Where both have the same marks, each command that stops, returns or acts is in the abstract
+-- script once. Each test is there with the tests in it, and each block in its branch. No mark
+-- shows that an argument is kept. On both sides a command or a test is marked by its reading,
+-- which may leave arguments out.
 use Rattle.std.specs.Prelude.{◌≡◌, ℕ, Bool, true, false, List, [], ◌∷◌, ◌++◌, Option, Some, None}
 use Rattle.sieve_script.specs.Reading as reading
 use Rattle.sieve_script.specs.Reading.{Ask, TestReading, CommandReading, Leaf}
@@ -11,9 +14,13 @@ use Rattle.sieve_profile.specs.Profile.{Profile}
 use Rattle.sieve_table.specs.Known.{known_command, known_test}
 use Rattle.sieve_syntax.specs.Tree.{Test, test, Tests, no_tests, one_test, test_list, TestList, end_tests, more_tests, Node, node, Block, no_block, block, Nodes, end_nodes, more_nodes, nodes}
 
--- A command that stops, one that returns, or one that acts, with its line; where a branch with a test begins, and where an `else` does; where
--- the block of a branch ends; and where an `if` has no further branches. In tests: what holds always, never, or is asked; where a test begins
--- that joins others, and where it ends.
+-- `stop_mark`, `return_mark` and `act_mark` are commands that stop, return or act; `act_mark` has
+-- the line too. `test_mark` begins a branch with a test, and `else_mark` an `else`. `block_end`
+-- ends the block of a branch, and `choice_end` the branches of an `if`. In tests, `always_mark` is
+-- `true` (RFC 5228, section 5.10), and `never_mark` is `false` (RFC 5228, section 5.6). `ask_mark`
+-- is a question. `not_mark` begins a `not`, which negates the test in it (RFC 5228, section 5.8).
+-- `all_mark` begins an `allof` (RFC 5228, section 5.2), and `any_mark` an `anyof` (RFC 5228,
+-- section 5.3). These join the tests in them. `join_end` ends each of these, a `not` too.
 pub data Mark : Type 0 where
   stop_mark : Mark
   return_mark : Mark
@@ -64,7 +71,10 @@ unfoldable mutual
 
 -- THE MARKS OF A TREE'S TESTS
 
--- what a test is before the tests in it (RFC 5228, section 5)
+-- The mark of a test before the tests in it. It is that of `true` or `false` (RFC 5228,
+-- sections 5.10 and 5.6), or of a question. Or it begins an `allof`, `anyof` or `not`
+-- (RFC 5228, sections 5.2, 5.3 and 5.8). A test without a reading, which no script without a
+-- breach has, has no mark.
 abbrev pub test_opening : Option TestReading → List Mark
 test_opening None = []
 test_opening (Some reading.reads_always) = always_mark ∷ []
@@ -74,7 +84,7 @@ test_opening (Some reading.reads_all) = all_mark ∷ []
 test_opening (Some reading.reads_any) = any_mark ∷ []
 test_opening (Some reading.reads_not) = not_mark ∷ []
 
--- what is after them
+-- the mark of a test after the tests in it
 abbrev pub test_closing : Option TestReading → List Mark
 test_closing (Some reading.reads_all) = join_end ∷ []
 test_closing (Some reading.reads_any) = join_end ∷ []
@@ -82,7 +92,7 @@ test_closing (Some reading.reads_not) = join_end ∷ []
 test_closing other = []
 
 unfoldable mutual
-  -- of a test: its own, and between them those of the tests in it
+  -- of a test: its own marks, and between them those of the tests in it
   pub test_marks : Context → Test → List Mark
   test_marks context (test name line args ts) =
       test_opening (test_reading context (known_test context.profile name) args) ++ (tests_marks context ts ++ test_closing (test_reading context (known_test context.profile name) args))
@@ -98,13 +108,15 @@ unfoldable mutual
 
 -- THE MARKS OF A TREE'S COMMANDS
 
--- whether a command is an `elsif` or `else`, which goes on with the branches before it (RFC 5228, section 3.1)
+-- whether a command is an `elsif` or `else`, which goes on with the branches before it
+-- (RFC 5228, section 3.1)
 abbrev pub continues : Option CommandReading → Bool
 continues (Some reading.reads_elsif) = true
 continues (Some reading.reads_else) = true
 continues other = false
 
--- what a command is before its tests and its block
+-- The mark of a command before its tests and its block. A command without a reading, which no
+-- script without a breach has, has no mark. Nor has a command that does nothing.
 abbrev pub opening : Option CommandReading → ℕ → List Mark
 opening None line = []
 opening (Some reading.reads_if) line = test_mark ∷ []
@@ -115,7 +127,8 @@ opening (Some reading.reads_return) line = return_mark ∷ []
 opening (Some reading.reads_nothing) line = []
 opening (Some (reading.reads_act leaf)) line = act_mark leaf line ∷ []
 
--- after the block of a branch: its end, and where the next command isn't an `elsif` or `else`, the end of the `if`'s branches
+-- After the block of a branch comes its end. Where the next command isn't an `elsif` or `else`, the
+-- end of the `if`'s branches follows.
 abbrev pub branch_closing : (continued : Bool) → List Mark
 branch_closing true = block_end ∷ []
 branch_closing false = block_end ∷ choice_end ∷ []
@@ -132,8 +145,8 @@ begins_continued context end_nodes = false
 begins_continued context (more_nodes n ns) = continues (node_reading context n)
 
 unfoldable mutual
-  -- of a command: its own, those of its tests and its block, and what ends there; an `if` goes on with each `elsif` and the `else` right
-  -- after it
+  -- Of a command: its own mark, those of its tests and its block, and those that end there. An `if`
+  -- goes on with each `elsif` and the `else` right after it.
   pub node_marks : Context → Node → (continued : Bool) → List Mark
   node_marks context (node name line args ts ending) continued =
       opening (command_reading context (known_command context.profile name) args) line
@@ -147,6 +160,6 @@ unfoldable mutual
   nodes_marks context end_nodes = []
   nodes_marks context (more_nodes n ns) = node_marks context n (begins_continued (after context n) ns) ++ nodes_marks (after context n) ns
 
--- the abstract script of a tree does what the tree's commands and tests say, each once and in the order of the text, and each block in its branch
+-- the abstract script of a tree has the same marks as the tree, in the order of its text
 abbrev pub DoesAll : Profile → List Node → Type 0
 DoesAll profile tree = marks (script_of profile tree) ≡ nodes_marks (script_start profile) (nodes tree)

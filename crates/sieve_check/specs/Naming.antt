@@ -1,5 +1,6 @@
--- The names of variables that a script's text writes, in order, and those of them that are set (RFC 5229, section 4; RFC 6609, section
--- 3.4.1): found from the names that are written, all of them, and not from those that are set so far.
+-- The names of variables that a script's text writes, in order (RFC 5229, section 4; RFC 6609,
+-- section 3.4.1). Those that are set are found from all names that are written, not from those that
+-- are set so far.
 use Rattle.std.specs.Prelude.{◌≡◌, ⊤, ℕ, Bool, true, false, not, List, [], ◌∷◌, ◌++◌, map, drop, Option, Some, None, if◌then◌else◌}
 use Rattle.std.specs.List.{before_last, filter, flat_map}
 use Rattle.std.specs.Str.{str_eq_ignore_ascii_case}
@@ -41,7 +42,7 @@ names_in_role wanted labels (a ∷ args) = (if has_role wanted (first_role label
 abbrev pub label_mentions : List Label → List Argument → List Mention
 label_mentions labels args = map sets (names_in_role NameToSet labels args) ++ map declares (names_in_role NamesToDeclare labels args)
 
--- the names that a command writes, by what its strings say
+-- the names that a command writes, by the octets that its strings say
 abbrev pub command_mentions : Profile → Required → Option CommandKind → List Argument → List Mention
 command_mentions profile required None args = []
 command_mentions profile required (Some kind) args = label_mentions (known_labels profile (command_row kind) args) (said_arguments required (known_labels profile (command_row kind) args) args)
@@ -52,8 +53,9 @@ command_mentions profile required (Some kind) args = label_mentions (known_label
 abbrev pub without_name : List ℕ → List (List ℕ) → List (List ℕ)
 without_name name names = filter (λ other. not (str_eq_ignore_ascii_case name other)) names
 
--- The variables of the script that such mentions set, as they are first written. An identifier that is written to be set is one of them,
--- and then come those that the rest sets, but for it. After a declaration come those that the rest sets, but for what is declared.
+-- The variables of the script that such mentions set, as they are first written. An identifier that
+-- is written to be set is one of them. After it come those that the rest sets, without this name.
+-- After a declaration come those that the rest sets, without the declared name.
 abbrev pub set_by : List Mention → List (List ℕ)
 set_by [] = []
 set_by (sets name ∷ rest) = if is_identifier name then name ∷ without_name name (set_by rest) else set_by rest
@@ -75,8 +77,9 @@ is_command other = false
 
 -- BEFORE A PLACE
 
--- Where a command stands after these elements, and where its tests and strings do, those variables are set that are by the names written
--- before the command. So what the command names itself counts after it alone.
+-- Where a command stands after these elements, exactly the variables are set that the names written
+-- before it set. The same holds where its tests and strings stand. So the names that the command
+-- writes itself count only after it.
 abbrev pub HasSetBefore : (before : List Element) → Element → Type 0
 HasSetBefore before (the_command context name line args ts ending) = context.scope.assigned ≡ set_by (mentions_in before)
 HasSetBefore before (the_test context name line args ts) = context.scope.assigned ≡ set_by (mentions_in (before_last is_command before))

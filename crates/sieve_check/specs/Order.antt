@@ -1,4 +1,5 @@
--- The order of a script's elements is that of its text: they are its identifiers, strings and numbers, one by one.
+-- The elements of a script are in the order of its text. They are its identifiers, strings and
+-- numbers, one by one.
 use Rattle.std.specs.Prelude.{◌≡◌, ℕ, Bool, true, false, List, [], ◌∷◌, map, filter, All}
 use Rattle.std.specs.List.{flat_map}
 use Rattle.std.specs.List.Sorted.{IsNonDecreasing}
@@ -10,7 +11,8 @@ use Rattle.sieve_syntax.specs.declared.token.Token.{Token}
 use Rattle.sieve_check.specs.Breach.{line_of}
 use Rattle.sieve_check.specs.Element.{Element, the_command, the_test, the_text, the_number, elements_of}
 
--- the word that an element is written by: a command or test by its identifier (RFC 5228, sections 2.4 and 8.2)
+-- the word by which an element is written: its identifier, string or number (RFC 5228,
+-- sections 2.4 and 8.2)
 abbrev pub written_by : Element → Symbol
 written_by (the_command context name line args ts ending) = identifier name line
 written_by (the_test context name line args ts) = identifier name line
@@ -37,9 +39,11 @@ writes_element bad = false
 abbrev pub StandApart : List Token → Type 0
 StandApart tokens = IsNonDecreasing (flat_map (λ token. token.start ∷ token.end ∷ []) tokens)
 
--- The elements of a tree that writes these tokens of a text are, one by one and in order, the identifiers, strings and numbers
--- among them. The tokens aren't empty, and stand apart and in order in the text, and the lines of the elements never fall. By
--- this nothing of a text is left out or judged out of its place; what an element carries beside its word says `elements_of`.
+-- A tree that writes these tokens of a text has as elements the identifiers, strings and numbers
+-- among them. They come one by one and in order. The tokens aren't empty, and stand apart and in
+-- order in the text. The lines of the elements never fall. So no identifier, string or number of
+-- a text is left out, or judged out of its place. `elements_of` says which data an element
+-- carries beside its word.
 pub record IsInTextOrder (profile : Profile) (tree : List Node) (text : List ℕ) (tokens : List Token) : Type 0 where
   pub elements : map written_by (elements_of profile tree) ≡ map (symbol_of text) (filter (λ token. writes_element (symbol_of text token)) tokens)
   pub inside : All (IsInside text) tokens

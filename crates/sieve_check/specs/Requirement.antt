@@ -1,4 +1,5 @@
--- What is required where an element of a script is judged (RFC 5228, section 3.2).
+-- The capabilities that are required where an element of a script is judged
+-- (RFC 5228, section 3.2).
 use Rattle.std.specs.Prelude.{◌≡◌, ⊤, Bool, false, List, [], ◌∷◌, ◌++◌, Option, Some, None}
 use Rattle.std.specs.List.{All, take_while}
 use Rattle.sieve_profile.specs.Profile.{Profile}
@@ -21,7 +22,7 @@ is_require_command profile (node name line args ts ending) = requires_kind (know
 abbrev pub leading_requires : Profile → List Node → List Node
 leading_requires profile tree = take_while (is_require_command profile) tree
 
--- what is required with what the strings of commands name
+-- the required capabilities, with those that the strings of commands name
 abbrev pub requiring_command : Required → Node → Required
 requiring_command required (node name line args ts ending) = requiring_arguments required args
 
@@ -29,15 +30,17 @@ abbrev pub requiring_commands : Required → List Node → Required
 requiring_commands required [] = required
 requiring_commands required (n ∷ ns) = requiring_commands (requiring_command required n) ns
 
--- The capabilities that are required where a command, a test or a string is judged. A number is judged alike everywhere.
+-- The capabilities that are required where a command, a test or a string is judged. A number
+-- is judged alike everywhere.
 abbrev pub IsJudgedUnder : Required → Element → Type 0
 IsJudgedUnder required (the_command context name line args ts ending) = context.required ≡ required
 IsJudgedUnder required (the_test context name line args ts) = context.required ≡ required
 IsJudgedUnder required (the_text context role text) = context.required ≡ required
 IsJudgedUnder required (the_number value line) = ⊤
 
--- The elements of a script are those of the `require` commands at its top, and then others; at each of these, what is required is exactly
--- what those commands name.
+-- The elements of a script are those of the `require` commands at its top, and then others.
+-- At each command, test and string of the others, exactly the capabilities that those
+-- commands name are required.
 pub record JudgesAfterRequires (profile : Profile) (tree : List Node) : Type 0 where
   pub rest : List Element
   pub split : elements_of profile tree ≡ elements_of profile (leading_requires profile tree) ++ rest

@@ -1,5 +1,7 @@
--- What strings say. Where `encoded-character` is required, the sequences in a string stand for characters before anything else is judged of it, but
--- for the strings of `require` (RFC 5228, section 2.4.2.4).
+-- The octets that strings say. Where `encoded-character` is required, the sequences in a string
+-- stand for characters (RFC 5228, section 2.4.2.4). They are replaced before anything else is
+-- judged of the string. That the strings of `require` are left out is this project's choice. A
+-- string without a role stays as it is written; it isn't judged.
 use Rattle.std.specs.Prelude.{ℕ, Bool, false, not, ◌&&◌, List, [], ◌∷◌, Option, Some, None, map, drop, if◌then◌else◌}
 use Rattle.encoded_characters.specs.Scan.{characters_replaced}
 use Rattle.sieve_syntax.specs.Tree.{Text, Argument, strings, number, tag}
@@ -16,17 +18,17 @@ abbrev pub takes_sequences : Required → Option Role → Bool
 takes_sequences required None = false
 takes_sequences required (Some role) = is_required required EncodedCharacter && not (same_role Capabilities role)
 
--- what a string says; nothing where one of its sequences stands for no character
+-- the octets that a string says; none where one of its sequences stands for no character
 abbrev pub said : Required → Option Role → List ℕ → Option (List ℕ)
 said required role octets = if takes_sequences required role then characters_replaced octets else Some octets
 
--- the one that is there, or the other
+-- the octets that a string says, or else those that are written
 abbrev pub said_or : List ℕ → Option (List ℕ) → List ℕ
 said_or written None = written
 said_or written (Some octets) = octets
 
--- A string as what it says. One that says nothing stays as it is written: it is a breach, and names
--- nothing that a variable can be called, since no name has a `$`.
+-- A string with the octets that it says. One that says nothing stays as it is written, which is a
+-- breach. It names no variable, since no name has a `$`.
 abbrev pub said_text : Required → Option Role → Text → Text
 said_text required role t = record { string = said_or t.string (said required role t.string); line = t.line }
 

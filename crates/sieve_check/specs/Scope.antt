@@ -1,5 +1,5 @@
--- The names of variables in a script's text up to a place: those of its own that it sets (RFC 5229, section 4), and those that it
--- declares to be shared (RFC 6609, section 3.4.1).
+-- The names of variables in a script's text up to a place. Its own are set (RFC 5229, section 4),
+-- and others are declared to be shared (RFC 6609, section 3.4.1).
 use Rattle.octets.specs.Octet.{is_among}
 use Rattle.std.specs.Prelude.{ℕ, Bool, not, ◌&&◌, List, [], ◌∷◌, ◌++◌, Option, drop, if◌then◌else◌}
 use Rattle.std.specs.List.{list_any}
@@ -24,27 +24,28 @@ abbrev pub no_names : Scope
 no_names = record { assigned = []; declared = [] }
 
 -- NAMES THAT ARE DECLARED
--- A declaration counts from its place in the text to the end of its script, whether its command runs or not.
 
--- the declared names with those that strings name
+-- The declared names, with those in strings. A declaration counts from its place in the text to the
+-- end of its script. It counts whether its command runs or not.
 abbrev pub declaring_texts : List (List ℕ) → List Text → List (List ℕ)
 declaring_texts declared [] = declared
 declaring_texts declared (t ∷ ts) = declaring_texts (with_name (folded_name t.string) declared) ts
 
--- the declared names with those of an argument in its role
+-- the declared names, with those in an argument whose role is to declare them
 abbrev pub declaring_argument : List (List ℕ) → Option Role → Argument → List (List ℕ)
 declaring_argument declared role (strings items bracketed) = if has_role NamesToDeclare role then declaring_texts declared items else declared
 declaring_argument declared role (number value line) = declared
 declaring_argument declared role (tag name line) = declared
 
--- the declared names with those of arguments, each by its label
+-- the declared names, with those in arguments, each by its label
 abbrev pub declaring_arguments : List (List ℕ) → List Label → List Argument → List (List ℕ)
 declaring_arguments declared labels [] = declared
 declaring_arguments declared labels (a ∷ args) = declaring_arguments (declaring_argument declared (first_role labels) a) (drop 1 labels) args
 
 -- VARIABLES THAT ARE SET
 
--- whether the script sets a variable of its own under a name; names ignore the case of ASCII (RFC 5229, section 3)
+-- Whether the script sets a variable of its own under a name. Names ignore the case of ASCII
+-- (RFC 5229, section 3).
 abbrev pub is_assigned : List ℕ → Scope → Bool
 is_assigned name scope = list_any (str_eq_ignore_ascii_case name) scope.assigned
 
@@ -52,22 +53,22 @@ is_assigned name scope = list_any (str_eq_ignore_ascii_case name) scope.assigned
 abbrev pub is_new_local : List ℕ → Scope → Bool
 is_new_local name scope = is_identifier name && (not (is_among (folded_name name) scope.declared) && not (is_assigned name scope))
 
--- the names of a scope with the variable that a string names where one is set
+-- the names of a scope, with a name that is to be set, where it is a new variable's
 unfoldable pub assigning : Scope → List ℕ → Scope
 assigning scope name = if is_new_local name scope then record scope { assigned = scope.assigned ++ name ∷ [] } else scope
 
--- the names of a scope with the variables that strings name
+-- the names of a scope, with those in strings that are to be set
 abbrev pub assigning_texts : Scope → List Text → Scope
 assigning_texts scope [] = scope
 assigning_texts scope (t ∷ ts) = assigning_texts (assigning scope t.string) ts
 
--- the names of a scope with the variables that an argument in its role names
+-- the names of a scope, with those in an argument whose role is to set them
 abbrev pub assigning_argument : Scope → Option Role → Argument → Scope
 assigning_argument scope role (strings items bracketed) = if has_role NameToSet role then assigning_texts scope items else scope
 assigning_argument scope role (number value line) = scope
 assigning_argument scope role (tag name line) = scope
 
--- the names of a scope with the variables that arguments name, each by its label
+-- the names of a scope, with those that arguments set, each by its label
 abbrev pub assigning_arguments : Scope → List Label → List Argument → Scope
 assigning_arguments scope labels [] = scope
 assigning_arguments scope labels (a ∷ args) = assigning_arguments (assigning_argument scope (first_role labels) a) (drop 1 labels) args

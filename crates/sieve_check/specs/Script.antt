@@ -1,5 +1,5 @@
 -- The abstract script of a text's tree. A command and a test are read by the labels by which they
--- are judged, and with their strings cut by what stands before them.
+-- are judged. Their strings are cut by the context before them.
 use Rattle.std.specs.Prelude.{List, Option}
 use Rattle.std.specs.Option.{option_map}
 use Rattle.sieve_profile.specs.Profile.{Profile}
@@ -16,14 +16,14 @@ use Rattle.sieve_table.specs.Table.{command_row, test_row}
 use Rattle.sieve_table.specs.declared.table.CommandKind.{CommandKind}
 use Rattle.sieve_table.specs.declared.table.TestKind.{TestKind}
 
--- what a test and a command of a kind are read as
+-- the readings of a test and of a command of a kind
 abbrev pub test_kind_reading : Context → TestKind → List Argument → TestReading
 test_kind_reading context kind args = test_reading_by kind (known_labels context.profile (test_row kind) args) (cut_row context (test_row kind) args)
 
 abbrev pub command_kind_reading : Context → CommandKind → List Argument → CommandReading
 command_kind_reading context kind args = command_reading_by kind (known_labels context.profile (command_row kind) args) (cut_row context (command_row kind) args)
 
--- the same, where they are of a kind that is known
+-- the same, where they are of a kind that is known; otherwise there is none
 abbrev pub test_reading : Context → Option TestKind → List Argument → Option TestReading
 test_reading context kind args = option_map (λ k. test_kind_reading context k args) kind
 
@@ -47,7 +47,7 @@ unfoldable mutual
 
 -- COMMANDS
 
--- what a command is read as
+-- the reading of a command
 abbrev pub node_reading : Context → Node → Option CommandReading
 node_reading context (node name line args ts ending) = command_reading context (known_command context.profile name) args
 

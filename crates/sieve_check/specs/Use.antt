@@ -17,7 +17,7 @@ use Rattle.sieve_table.specs.declared.row.Inner.{Inner}
 use Rattle.sieve_table.specs.declared.row.Inner.TheVariants as inner
 use Rattle.sieve_table.specs.declared.row.TagKind.{TagKind}
 
--- WHAT IS NEEDED
+-- NEEDED CAPABILITIES
 
 abbrev pub is_lacking : Required → Capability → Bool
 is_lacking required capability = not (is_required required capability)
@@ -26,7 +26,7 @@ abbrev pub lacks_needed : Required → Option Capability → Bool
 lacks_needed required None = false
 lacks_needed required (Some capability) = is_lacking required capability
 
--- what has to be required for an argument: for a tag, for the argument that a tag takes itself, or for one in a slot
+-- the capability that has to be required for an argument, by its tag or its slot
 abbrev pub needed_by : Label → Option Capability
 needed_by (Tagged taken) = (tag_row taken).needs
 needed_by OtherTag = None
@@ -34,7 +34,7 @@ needed_by (Own slot) = slot.needs
 needed_by (InSlot slot) = slot.needs
 needed_by Unfit = None
 
--- something isn't required that the row needs, or one of the arguments (RFC 5228, section 2.10.5)
+-- the row or an argument needs a capability that isn't required (RFC 5228, section 2.10.5)
 abbrev pub lacks_required : Required → Row → List Label → Bool
 lacks_required required row labels = list_any (is_lacking required) row.needs || list_any (λ label. lacks_needed required (needed_by label)) labels
 
@@ -85,18 +85,18 @@ abbrev pub lacks_own : List Label → Bool
 lacks_own [] = false
 lacks_own (label ∷ labels) = (awaits label && not (begins_own labels)) || lacks_own labels
 
--- no tag of the kind that has to be there is there
+-- the row needs a tag of a kind, and none is there
 abbrev pub lacks_kind : Option TagKind → List Label → Bool
 lacks_kind None labels = false
 lacks_kind (Some k) labels = not (list_any (is_of_kind k) labels)
 
--- which tests there are
+-- how many tests there are: none, one, or a list
 abbrev pub tests_there : Tests → Inner
 tests_there no_tests = inner.None
 tests_there (one_test t) = inner.One
 tests_there (test_list ts) = inner.List
 
--- whether these tests are there
+-- whether the tests are as the row takes them
 abbrev pub tests_fit : Inner → Tests → Bool
 tests_fit taken ts = sameb the_type taken (tests_there ts)
 
@@ -112,7 +112,8 @@ block_fits true false = false
 block_fits false true = false
 block_fits false false = true
 
--- arguments, tests or a block that aren't what is taken, a tag without its own argument, or none of a kind that is needed
+-- The arguments, the tests or the end aren't as the row says. Or a tag lacks its own argument, or a
+-- tag of a needed kind is missing.
 abbrev pub are_bad : (filled : Bool) → Row → List Label → Tests → (ends_by_block : Bool) → Bool
 are_bad filled row labels ts ends_by_block =
     (not filled || (not (tests_fit row.tests ts) || not (block_fits row.has_block ends_by_block))) || (lacks_own labels || lacks_kind row.one_of labels)
@@ -120,6 +121,6 @@ are_bad filled row labels ts ends_by_block =
 abbrev pub has_bad_arguments : Row → List Shape → Tests → (ends_by_block : Bool) → Bool
 has_bad_arguments row shapes ts ends_by_block = are_bad (row_is_filled row shapes) row (labels_of row shapes) ts ends_by_block
 
--- whether all is as the row says
+-- whether the tags, the arguments, the tests and the end are as the row says
 abbrev pub is_well_used : Row → List Shape → Tests → (ends_by_block : Bool) → Bool
 is_well_used row shapes ts ends_by_block = not (has_bad_tag (labels_of row shapes)) && not (has_bad_arguments row shapes ts ends_by_block)

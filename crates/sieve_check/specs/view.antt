@@ -1,4 +1,5 @@
--- What the program's types stand for in contracts, and facts of one function alone. The other files of specs/ restate the subject.
+-- The values that the program's types stand for in contracts, and facts of one function alone. The
+-- other files of specs/ restate the subject.
 pub mod Checked
 pub mod Context
 pub mod Finds

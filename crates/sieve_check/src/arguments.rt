@@ -1,5 +1,5 @@
-//! The breaches in the use of a row and in its arguments: what isn't required, tags and arguments that don't fit, unknown names,
-//! and numbers that are too large.
+//! The breaches in the use of a row and in its arguments. Something needed isn't required, tags or
+//! arguments don't fit, a name is unknown, or a number is too large.
 ghost use Rattle.std.specs.Prelude.{◌≡◌, ◌&&◌, false, find, is_none, map, IfOk};
 ghost use Rattle.sieve_syntax.specs.view.Tree.{argument_of, tests_of, text_of};
 ghost use Rattle.sieve_check.specs.Breach.{breaches_at, has_unknown_namespace, is_bad_date_part, is_bad_name, is_known, is_no_declaration, names_namespace, text_breaks, use_lacks};
@@ -40,22 +40,23 @@ fn is_known(required: Required, role: Option<Role>, octets: &[u8]) -> bool
     !(takes_references(required, role) && references_in(octets).any)
 }
 
-/// Whether a string names no variable that may be set: neither one of the script nor one that scripts share (RFC 5229, section
-/// 4).
+/// Whether a string names no variable that may be set (RFC 5229, section 4). Such a variable is one
+/// of the script, or one that scripts share.
 fn is_bad_name(octets: &[u8]) -> bool
     ensures { result ≡ is_bad_name octets.now }
 {
     !is_identifier(octets) && !is_global_name(octets)
 }
 
-/// Whether a string names what can't be declared (RFC 6609, section 3.4.1).
+/// Whether a string is to be declared, but is no identifier (RFC 6609, section 3.4.1).
 fn is_no_declaration(role: Option<Role>, octets: &[u8]) -> bool
     ensures { result ≡ is_no_declaration role octets.now }
 {
     has_role(Role::NamesToDeclare, role) && !is_identifier(octets)
 }
 
-/// Whether a string has a reference in a namespace that there isn't (RFC 6609, section 3.4.2).
+/// Whether a string has a reference in an unknown namespace (RFC 6609, section 3.4.2). The
+/// namespace `global` is known where `include` is required.
 fn has_unknown_namespace(required: Required, octets: &[u8]) -> bool
     ensures { result ≡ has_unknown_namespace (required_as required) octets.now }
 {
@@ -67,7 +68,8 @@ fn has_unknown_namespace(required: Required, octets: &[u8]) -> bool
     }
 }
 
-/// Whether a string names a variable in a namespace that there isn't, or refers to one (RFC 5229, sections 4 and 3).
+/// Whether a string names or refers to a variable in an unknown namespace (RFC 5229,
+/// sections 3 and 4).
 fn names_namespace(required: Required, role: Option<Role>, octets: &[u8]) -> bool
     ensures { result ≡ names_namespace (required_as required) role octets.now }
 {
@@ -75,14 +77,16 @@ fn names_namespace(required: Required, role: Option<Role>, octets: &[u8]) -> boo
         || (takes_references(required, role) && has_unknown_namespace(required, octets))
 }
 
-/// Whether a string names no comparator that is known (RFC 5228, section 2.7.3).
+/// Whether a string is to name a comparator, and names none that is known
+/// (RFC 5228, section 2.7.3).
 fn is_unknown(context: Context<'_>, role: Option<Role>, octets: &[u8]) -> bool
     ensures { result ≡ text_breaks (context_as context.entry) role octets.now UnknownComparator }
 {
     has_role(Role::ComparatorName, role) && known_collation(context.spot.profile, octets).is_none()
 }
 
-/// Whether a string names no part of an envelope (RFC 5228, section 5.4), and is known before the script runs.
+/// Whether a string is to name a part of an envelope, and names none (RFC 5228, section 5.4). A
+/// string that isn't known before the script runs breaks no rule here.
 fn is_bad_envelope_part(context: Context<'_>, role: Option<Role>, octets: &[u8]) -> bool
     ensures { result ≡ text_breaks (context_as context.entry) role octets.now BadEnvelopePart }
 {
@@ -91,7 +95,8 @@ fn is_bad_envelope_part(context: Context<'_>, role: Option<Role>, octets: &[u8])
         && (!is_envelope_part(octets) && is_known(required, role, octets))
 }
 
-/// Whether a string names a field that holds no addresses (RFC 5228, section 5.1), and is known before the script runs.
+/// Whether a string is to name a field that holds addresses, and names none (RFC 5228,
+/// section 5.1). A string that isn't known before the script runs breaks no rule here.
 fn is_no_address_field(context: Context<'_>, role: Option<Role>, octets: &[u8]) -> bool
     ensures { result ≡ text_breaks (context_as context.entry) role octets.now NotAddressHeader }
 {
@@ -100,7 +105,8 @@ fn is_no_address_field(context: Context<'_>, role: Option<Role>, octets: &[u8]) 
         && (!is_address_field(octets) && is_known(required, role, octets))
 }
 
-/// Whether a string names no part of a date (RFC 5260, section 4.2), and is known before the script runs.
+/// Whether a string is to name a part of a date, and names none (RFC 5260, section 4.2). A string
+/// that isn't known before the script runs breaks no rule here.
 fn is_bad_date_part(required: Required, role: Option<Role>, octets: &[u8]) -> bool
     ensures { result ≡ is_bad_date_part (required_as required) role octets.now }
 {
@@ -108,14 +114,15 @@ fn is_bad_date_part(required: Required, role: Option<Role>, octets: &[u8]) -> bo
         && (DatePart::named(octets).is_none() && is_known(required, role, octets))
 }
 
-/// Whether a string names no relation (RFC 5231, section 4).
+/// Whether a string is to name a relation, and names none (RFC 5231, section 4).
 fn is_bad_relation(role: Option<Role>, octets: &[u8]) -> bool
     ensures { result ≡ (has_role Relation role && is_none (relation_named octets.now)) }
 {
     has_role(Role::Relation, role) && relation_named(octets).is_none()
 }
 
-/// Whether a string names a comparator without substrings in a test that finds parts of values (RFC 4790, section 9.1).
+/// Whether a string names a comparator without substrings in a test that finds parts of values
+/// (RFC 4790, section 9.1).
 fn is_unfit(context: Context<'_>, role: Option<Role>, octets: &[u8]) -> bool
     ensures { result ≡ text_breaks (context_as context.entry) role octets.now UnfitComparator }
 {
@@ -124,7 +131,7 @@ fn is_unfit(context: Context<'_>, role: Option<Role>, octets: &[u8]) -> bool
             && lacks_substrings(known_collation(context.spot.profile, octets)))
 }
 
-/// Whether a string in its role breaks a rule.
+/// Whether a string in its role breaks a rule. The octets are those that it says.
 fn text_breaks(
     alloc: Global,
     context: Context<'_>,
@@ -170,7 +177,7 @@ fn text_breaks(
     Ok(broken)
 }
 
-/// The rules that a string can break, in the order of their numbers.
+/// The rules that a string can break by the octets that it says, in the order of their numbers.
 const TEXT_RULES: [Rule; 12] = [
     Rule::UnknownCapability,
     Rule::UnknownComparator,
@@ -186,7 +193,7 @@ const TEXT_RULES: [Rule; 12] = [
     Rule::BadDatePart,
 ];
 
-/// The first of some rules that a string in its role breaks.
+/// The first of some rules that a string in its role breaks, by the octets that it says.
 fn first_broken(
     alloc: Global,
     rules: &[Rule],
@@ -205,7 +212,8 @@ fn first_broken(
     Ok(None)
 }
 
-/// Checks a string in its role, if it has one.
+/// Checks a string in its role, if it has one. The breach is `BadCharacter`, or the first of
+/// `TEXT_RULES` that it breaks.
 #[tactic(auto, using(crate::proofs::Searches::text_rule_steps))]
 fn check_text(
     alloc: Global,
@@ -218,7 +226,7 @@ fn check_text(
 {
     let line = text.line as u64;
     let Some(said) = said(alloc, context.spot.required, role, text.octets())? else {
-        // what it says isn't known, so no other rule is asked
+        // a string that says nothing breaks no other rule
         let rule = Rule::BadCharacter;
         return Err(CheckFault::Breach { line, rule });
     };
@@ -245,7 +253,8 @@ fn check_texts(
     Ok(())
 }
 
-/// Checks a number.
+/// Checks that a number is within 64 bits (RFC 5228, section 2.4.1). The breach is
+/// `NumberTooLarge`.
 #[tactic(auto, unfolding(crate::specs::Breach::breaches_at))]
 fn check_number(value: Option<u64>, line: u64) -> Result<(), CheckFault>
     ensures { Finds (breaches_at (the_number value line)) result }
@@ -296,8 +305,8 @@ pub(crate) fn check_arguments(
     Ok(())
 }
 
-/// Whether a command or a test of a row, with arguments of these labels, needs what isn't required, itself, by an argument, or by a
-/// comparator that is named (RFC 5228, section 2.10.5).
+/// Whether a use of a row needs a capability that isn't required (RFC 5228, section 2.10.5). The
+/// row itself may need it, an argument, or a comparator that is named.
 fn use_lacks(
     alloc: Global,
     context: Context<'_>,
@@ -317,7 +326,7 @@ fn use_lacks(
     arguments_lack(alloc, context.spot.profile, required, labels, args)
 }
 
-/// A command or a test of a row, apart from the tests and the block of it.
+/// A use of a row: a command or a test, whose inner tests and block are checked elsewhere.
 #[derive(Clone, Copy)]
 pub(crate) struct Use<'a> {
     pub(crate) line: u64,
@@ -325,11 +334,13 @@ pub(crate) struct Use<'a> {
     pub(crate) args: &'a [Argument],
     pub(crate) tests: &'a Tests,
     pub(crate) ends_by_block: bool,
-    /// Whether it follows an `if` that isn't there.
+    /// Whether it is an `elsif` or `else` without an `if` or `elsif` right before it
+    /// (RFC 5228, section 3.1).
     pub(crate) stands_alone: bool,
 }
 
-/// Checks a command or a test of a row, apart from its tests and its block, and from whether a `require` may stand there.
+/// Checks a use of a row and its arguments, but not the tests and the block in it. Returns the
+/// labels of the arguments. Whether a `require` may stand there isn't checked here.
 #[tactic(auto, using(crate::proofs::Uses::use_steps))]
 pub(crate) fn check_use(
     alloc: Global,

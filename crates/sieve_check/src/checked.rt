@@ -15,14 +15,14 @@ pub struct Checked {
 impl Checked {
     ghost use Rattle.sieve_check.specs.view.Checked.{commands_of};
 
-    /// What the script's commands do, the last first, with each string cut into parts. Takes no memory.
+    /// The script's commands, the last first, with each string cut into parts.
     pub fn statements(&self) -> &[Statement]
         ensures { commands_as result.now ≡ commands_of self.now }
     {
         self.statements.as_slice()
     }
 
-    /// What the commands do, the last first, to be kept. Takes no memory.
+    /// The script's commands, the last first, by value.
     pub fn into_statements(self) -> Vec<Statement>
         ensures { commands_as result.items ≡ commands_of self }
     {

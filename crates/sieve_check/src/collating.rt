@@ -25,7 +25,7 @@ fn needed_for(collation: Collation) -> Capability
     }
 }
 
-/// The comparator of a name, where it is known.
+/// The comparator of a name, where a bench of the profile knows it.
 pub(crate) fn known_collation(profile: Profile, name: &[u8]) -> Option<Collation>
     ensures { result ≡ spec.known_collation (profile_as profile) name.now }
 {
@@ -55,7 +55,8 @@ fn collation_lacks(required: Required, collation: Option<Collation>) -> bool
     }
 }
 
-/// Whether what a string says names one that has to be required, and isn't.
+/// Whether a string names a comparator that has to be required, and isn't, by the
+/// octets that it says.
 fn text_lacks(
     alloc: Global,
     profile: Profile,
@@ -75,7 +76,7 @@ fn text_lacks(
     }
 }
 
-/// Whether some string names one.
+/// Whether some string names a comparator that has to be required, and isn't.
 fn texts_lack(
     alloc: Global,
     profile: Profile,
@@ -94,7 +95,8 @@ fn texts_lack(
     Ok(false)
 }
 
-/// Whether a string of an argument in its role names one.
+/// Whether a string of an argument in its role names a comparator that has to
+/// be required, and isn't.
 fn argument_lacks(
     alloc: Global,
     profile: Profile,
@@ -118,7 +120,7 @@ fn argument_lacks(
     }
 }
 
-/// Whether some argument, each by its label, names one.
+/// Whether some argument, each by its label, names a comparator that has to be required, and isn't.
 pub(crate) fn arguments_lack(
     alloc: Global,
     profile: Profile,

@@ -1,4 +1,4 @@
-//! The breaches in commands, and what commands without a breach are read as.
+//! The breaches in commands, and the readings of commands without a breach.
 ghost use Rattle.std.specs.Prelude.{◌≡◌, ◌&&◌, not, map, Some, IfOk, OnOk};
 ghost use Rattle.sieve_syntax.specs.Tree.{nodes};
 ghost use Rattle.sieve_syntax.specs.view.Tree as seen;
@@ -36,21 +36,25 @@ use sieve_syntax::{Argument, Command, Tests};
 use sieve_table::{CommandKind, Rule, known_command};
 use std::alloc::{AllocError, Global};
 
-/// Whether a `require` of this kind stands where none may.
+/// Whether a command of this kind is a `require` where none may stand (RFC 5228, section 3.2).
 fn is_misplaced(context: Context<'_>, kind: CommandKind) -> bool
     ensures { result ≡ (is_require kind && not (context_as context.entry).leads) }
 {
     is_require(kind) && !context.spot.leads
 }
 
-/// Whether an `elsif` or `else` continues with nothing.
+/// Whether a command is an `elsif` or `else` without an `if` or `elsif` right before it
+/// (RFC 5228, section 3.1).
 fn stands_alone(context: Context<'_>, kind: CommandKind) -> bool
     ensures { result ≡ (continues_if kind && not (context_as context.entry).follows_if) }
 {
     continues_if(kind) && !context.spot.follows_if
 }
 
-/// Checks where a command of this kind stands, and then its use and its arguments. Answers the labels of its arguments.
+/// Checks a command of a kind, but not the tests and the block in it. Returns the labels of its
+/// arguments. The rule `RequirePlace` is checked here: a `require` stands only at the top
+/// (RFC 5228, section 3.2). `check_use` then checks `NotRequired`, `ElsePlace`, `BadTag`,
+/// `BadArguments`, and the rules of strings and numbers.
 #[tactic(auto, using(crate::proofs::Heads::kind_steps))]
 fn check_kind(
     alloc: Global,
@@ -87,14 +91,15 @@ fn kind_of(profile: Profile, command: &Command) -> Option<CommandKind>
     known_command(profile, command.name.kind())
 }
 
-/// A command's kind, and the labels of its arguments.
+/// The kind of a command, and the labels of its arguments.
 #[derive(Drop)]
 struct Head {
     kind: CommandKind,
     labels: Vec<Label>,
 }
 
-/// Checks a command of some kind apart from its tests and its block.
+/// Checks a command, but not the tests and the block in it. One of an
+/// unknown name breaks `UnknownCommand`.
 fn check_command_head(
     alloc: Global,
     context: Context<'_>,
@@ -119,7 +124,8 @@ fn check_command_head(
     }
 }
 
-/// Cuts what the strings of arguments say by what stands before their command, and goes on after them.
+/// Cuts the strings of arguments into parts, by the octets that they say and the context before
+/// their command. Then adds the names that the arguments set or declare to the scope.
 fn cut_and_name(
     alloc: Global,
     spot: Spot,
@@ -143,7 +149,7 @@ fn cut_and_name(
     Ok(cut)
 }
 
-/// A command before its block: what stands before that, what the command is read as, and the
+/// A command before its block: the spot there, the reading of the command, and the
 /// condition of its test.
 #[derive(Drop)]
 struct Front {
@@ -152,7 +158,10 @@ struct Front {
     condition: Condition,
 }
 
-/// Checks the tests of a command of a kind whose arguments are checked, and cuts its strings.
+/// Checks the tests of a command, and then reads the command by its arguments, which are
+/// checked already. Returns the spot before its block, its reading, and the condition of
+/// its first test. Only the rules of the tests are checked here. The scope then has the
+/// names of the command's arguments.
 fn check_front(
     alloc: Global,
     spot: Spot,
@@ -187,8 +196,8 @@ fn check_front(
     })
 }
 
-/// A command without a breach: what stands after it, what it is read as, its line, and its branch,
-/// which is the condition of its test with its block.
+/// A command without a breach: the spot after it, its reading, its line, and its branch. The branch
+/// is the condition of its test, with its block.
 #[derive(Drop)]
 struct Passed {
     next: Spot,
@@ -197,7 +206,7 @@ struct Passed {
     branch: Branch,
 }
 
-/// Checks a command with its tests and its block.
+/// Checks a command with its tests and its block. The scope then has the names of all of it.
 #[cycle(check_commands)]
 #[tactic(auto, using(crate::proofs::Walk::command_steps))]
 fn check_command(
@@ -244,7 +253,8 @@ fn check_command(
     })
 }
 
-/// Checks commands, before the first of which this stands. Answers what they do, the last first.
+/// Checks commands, where `start` and the scope are the context before the first. Returns the
+/// statements of the commands, the last first.
 #[cycle(check_commands)]
 pub(crate) fn check_commands(
     alloc: Global,

@@ -1,4 +1,4 @@
-//! What stands before a command in its text, as far as rules ask.
+//! The context of a command: the text before it, as far as rules ask.
 ghost use Rattle.std.specs.Prelude.{◌≡◌, ◌&&◌, Some, map};
 ghost use Rattle.std.specs.List.{list_any};
 ghost use Rattle.sieve_syntax.specs.view.Tree.{argument_of, text_of};
@@ -18,7 +18,7 @@ use sieve_script::Label;
 use sieve_syntax::{Argument, Text};
 use sieve_table::{Capability, CommandKind, Required, Role, Tag, is_expanded, same_tag};
 
-/// What is required with what strings name.
+/// The required capabilities, with those that strings name.
 fn requiring_texts(required: Required, texts: &[Text]) -> Required
     ensures { required_as result
         ≡ spec.requiring_texts (required_as required) (map text_of texts.now) }
@@ -30,7 +30,7 @@ fn requiring_texts(required: Required, texts: &[Text]) -> Required
     required
 }
 
-/// What is required with what the strings of an argument name.
+/// The required capabilities, with those that the strings of an argument name.
 fn requiring_argument(required: Required, argument: &Argument) -> Required
     ensures { required_as result
         ≡ spec.requiring_argument (required_as required) (argument_of argument.now) }
@@ -42,7 +42,7 @@ fn requiring_argument(required: Required, argument: &Argument) -> Required
     }
 }
 
-/// What is required with what the strings of arguments name.
+/// The required capabilities, with those that the strings of arguments name.
 fn requiring_arguments(required: Required, args: &[Argument]) -> Required
     ensures { required_as result
         ≡ spec.requiring_arguments (required_as required) (map argument_of args.now) }
@@ -54,7 +54,8 @@ fn requiring_arguments(required: Required, args: &[Argument]) -> Required
     required
 }
 
-/// Whether references in a string stand for values, by its role, if it has one (RFC 5229, section 3).
+/// Whether references in a string stand for values, by its role, if it has one
+/// (RFC 5229, section 3).
 pub(crate) fn takes_references(required: Required, role: Option<Role>) -> bool
     ensures { result ≡ spec.takes_references (required_as required) role }
 {
@@ -64,22 +65,23 @@ pub(crate) fn takes_references(required: Required, role: Option<Role>) -> bool
     }
 }
 
-/// What stands before a command in its text, apart from the names of variables.
+/// The context of a command, without the names of variables.
 #[derive(Clone, Copy)]
 pub(crate) struct Spot {
-    /// What is known beyond what always is.
+    /// The extensions that are known beyond those that always are.
     pub(crate) profile: Profile,
-    /// Only requires stand before it in the script (RFC 5228, section 3.2).
+    /// Whether only `require` commands stand before it in the script (RFC 5228, section 3.2).
     pub(crate) leads: bool,
-    /// An `if` or `elsif` stands directly before it in its block (RFC 5228, section 3.1).
+    /// Whether an `if` or `elsif` stands directly before it in its block (RFC 5228, section 3.1).
     pub(crate) follows_if: bool,
-    /// What the requires at the top of the script name that stand before it (RFC 5228, section 3.2).
+    /// The capabilities named by the `require` commands at the top that stand before it
+    /// (RFC 5228, section 3.2).
     pub(crate) required: Required,
-    /// It is a string of a test that finds parts of values (RFC 5228, section 2.7.1).
+    /// Whether it is a string of a test that finds parts of values (RFC 5228, section 2.7.1).
     pub(crate) finds_parts: bool,
 }
 
-/// What stands before a command in its text.
+/// The context of a command.
 #[derive(Clone, Copy)]
 pub(crate) struct Context<'a> {
     pub(crate) spot: Spot,
@@ -88,7 +90,7 @@ pub(crate) struct Context<'a> {
 }
 
 impl<'a> Context<'a> {
-    /// Among the strings of arguments of these labels.
+    /// The context of the strings among arguments of these labels.
     pub(crate) fn among(self, labels: &[Label]) -> Context<'a>
         ensures { context_as result ≡ among (context_as self.entry) labels.now }
     {
@@ -112,7 +114,7 @@ fn finds_parts(label: Label) -> bool
     }
 }
 
-/// Whether some argument is one.
+/// Whether some argument is a tag by which parts of values are found.
 fn find_parts(labels: &[Label]) -> bool
     ensures { result ≡ list_any finds_parts labels.now }
 {
@@ -126,21 +128,21 @@ pub(crate) fn is_require(kind: CommandKind) -> bool
     kind == CommandKind::Require
 }
 
-/// Whether a command continues with what an `if` began.
+/// Whether a command is an `elsif` or `else`.
 pub(crate) fn continues_if(kind: CommandKind) -> bool
     ensures { result ≡ spec.continues_if kind }
 {
     kind == CommandKind::Elsif || kind == CommandKind::Else
 }
 
-/// Whether an `elsif` or `else` may follow.
+/// Whether an `elsif` or `else` may follow a command.
 fn allows_else(kind: CommandKind) -> bool
     ensures { result ≡ spec.allows_else kind }
 {
     kind == CommandKind::If || kind == CommandKind::Elsif
 }
 
-/// Whether only requires stand after a command of this kind, where only requires stand before it or others too.
+/// Whether only `require` commands stand before the next command. `leads` says so of this one.
 fn leads_after(leads: bool, kind: CommandKind) -> bool
     ensures { result ≡ (leads && spec.is_require kind) }
 {
@@ -148,7 +150,7 @@ fn leads_after(leads: bool, kind: CommandKind) -> bool
 }
 
 impl Spot {
-    /// At the start of a script.
+    /// The spot at the start of a script.
     pub(crate) fn script_start(profile: Profile) -> Spot
         ensures { at_spot result no_names ≡ spec.script_start (profile_as profile) }
     {
@@ -161,7 +163,7 @@ impl Spot {
         }
     }
 
-    /// At the start of a block after this.
+    /// The spot at the start of a block that stands here.
     pub(crate) fn inside(self) -> Spot
         ensures { (scope : ScopeState) → at_spot result scope ≡ spec.inside (at_spot self scope) }
     {
@@ -172,7 +174,7 @@ impl Spot {
         }
     }
 
-    /// What is required after a command of this kind with these arguments.
+    /// The required capabilities after a command of this kind with these arguments.
     fn required_after(self, kind: CommandKind, args: &[Argument]) -> Required
         ensures { (scope : ScopeState) → required_as result
             ≡ spec.required_after (at_spot self scope) kind (map argument_of args.now) }
@@ -184,7 +186,7 @@ impl Spot {
         }
     }
 
-    /// After a command of this kind with these arguments.
+    /// The spot after a command of this kind with these arguments, and before its block.
     pub(crate) fn after_kind(self, kind: CommandKind, args: &[Argument]) -> Spot
         ensures { (scope : ScopeState) → at_spot result (spec.naming_said
             (required_as self.required) scope (known_labels (profile_as self.profile)

@@ -25,7 +25,8 @@ fn literal_parts(alloc: Global, octets: &[u8]) -> Result<Parts, AllocError>
     Ok(Parts::one(Part::literal(alloc, octets)?))
 }
 
-/// The variable that a string names.
+/// The parts of a string that names a variable: that variable, shared by scripts
+/// where it is declared.
 fn variable_parts(alloc: Global, declared: &Names, name: &[u8]) -> Result<Parts, AllocError>
     ensures { IfOk result
         (λ parts. parts ≡ variable_part (scoped declared.now (variable_named name.now)) ∷ []) }
@@ -34,7 +35,7 @@ fn variable_parts(alloc: Global, declared: &Names, name: &[u8]) -> Result<Parts,
     Ok(Parts::one(Part::variable(variable)))
 }
 
-/// The octets and references in a string.
+/// The parts of a string in which references stand for values: its octets and its references.
 fn reference_parts(alloc: Global, declared: &Names, octets: &[u8]) -> Result<Parts, AllocError>
     ensures { IfOk result
         (λ parts. parts ≡ map (scoped_part declared.now) (parts_of_text octets.now)) }
@@ -127,7 +128,7 @@ pub(crate) fn cut_arguments(
     Ok(cut)
 }
 
-/// Arguments with what their strings say cut, each by its label.
+/// Arguments with their strings cut, by the octets that these say, each by its label.
 pub(crate) fn say_and_cut(
     alloc: Global,
     context: Context<'_>,

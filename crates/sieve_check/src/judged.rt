@@ -1,4 +1,4 @@
-//! What a text is: a checked script, or its first fault.
+//! The judgement of a text: a checked script, or its first fault.
 ghost use Rattle.std.specs.Prelude.{◌≡◌, ◌<◌, ◌↔◌, length, IfOk, IsErrOf};
 ghost use Rattle.sieve_limits.specs.Limits.{text_limit};
 ghost use Rattle.sieve_check.specs.Judgement.{judgement_of, fault_word};
@@ -11,7 +11,7 @@ use sieve_syntax::{SyntaxFault, parse};
 use std::alloc::Global;
 use thiserror::Error;
 
-/// What is wrong with a script's text.
+/// The kind of a fault in a script's text.
 #[derive(Clone, Copy, PartialEq, Eq)]
 pub enum FaultKind {
     /// No script is written so (RFC 5228, section 8).
@@ -32,7 +32,7 @@ impl FaultKind {
     }
 }
 
-/// What a script's text is.
+/// The judgement of a script's text.
 #[derive(Drop)]
 pub enum Judged {
     /// A script without a fault.
@@ -52,9 +52,10 @@ pub enum JudgeFault {
     NoMemory = 2,
 }
 
-/// Reads a script's text, and checks it by what a bench of a profile knows.
+/// Reads a script's text, and checks it by the extensions that a bench of a profile knows.
 ///
-/// `TooLarge` is the answer exactly where the text has more than 1,048,576 octets, and `NoMemory` where memory runs out.
+/// The error is `TooLarge` exactly where the text has more than 1,048,576 octets. It is `NoMemory`
+/// where memory runs out.
 #[tactic(auto, unfolding(crate::specs::Judgement::judgement_of))]
 pub fn judge(alloc: Global, profile: Profile, text: &[u8]) -> Result<Judged, JudgeFault>
     ensures large { IsErrOf result JudgeFault.TooLarge ↔ text_limit < length text.now }

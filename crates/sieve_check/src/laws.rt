@@ -42,8 +42,9 @@ ghost use Rattle.sieve_variables.specs.Part.{grouped, literal, scoped_part, vari
 ghost use Rattle.sieve_variables.specs.Reference.{Cuts, TextPiece};
 ghost use Rattle.sieve_variables.specs.Variable.{scoped, variable_named};
 
-/// The breaches of a script are those of its elements (its commands, tests, strings and numbers in the order of the text),
-/// each with the rules that it breaks in the order of their numbers, which is the one written here. So the first breach is the least.
+/// The breaches of a script are those of its elements: commands, tests, strings and numbers in text
+/// order. Those of one element are in the order of the rules' numbers, which is written here. So
+/// the first breach is the least.
 #[tactic(auto, using(crate::proofs::Least::least))]
 pub fn first_breach_is_least()
     ensures rules { all_rules ≡ RequirePlace ∷ UnknownCapability ∷ UnknownCommand ∷ NotRequired
@@ -56,10 +57,12 @@ pub fn first_breach_is_least()
         → first_breach profile tree ≡ Some breach → IsLeastBreach profile tree breach }
 {}
 
-/// How a string is cut into parts goes by its role. One whose references stand for values has the parts that its one cut makes (RFC
-/// 5229, section 3), in which names that are declared become those of variables that scripts share (RFC 6609, section 3.4.1); the
-/// name of a variable is that variable alone (RFC 5229, section 4; RFC 5232, sections 3 and 4); and any other stands for
-/// itself.
+/// A string is cut into parts by its role. Its octets here are those that it says, with encoded
+/// characters replaced (RFC 5228, section 2.4.2.4). Where its references stand for values, its
+/// parts are those of its one cut (RFC 5229, section 3). The name of a variable is that variable
+/// alone (RFC 5229, section 4; RFC 5232, sections 3 and 4). In both, names that are declared
+/// become those of variables that scripts share (RFC 6609, section 3.4.1). Any other string is one
+/// literal of its octets.
 pub fn parts_go_by_the_role()
     ensures expanded { (context : Context) (role : Option Role) (octets : List ℕ)
         → takes_references context.required role ≡ true
@@ -73,17 +76,19 @@ pub fn parts_go_by_the_role()
         → parts_in context role octets ≡ literal octets ∷ [] }
 {}
 
-/// After the `require` commands at the top of a script, what is required where a command, a test or a string is judged is all that these
-/// name, and nothing else (RFC 5228, section 3.2).
+/// After the `require` commands at the top of a script, exactly the capabilities that these
+/// name are required. Each command, test and string after them is judged by these
+/// (RFC 5228, section 3.2).
 #[tactic(auto, using(crate::proofs::Requirement::judged_after))]
 pub fn what_is_required_is_named_at_the_top()
     ensures { (profile : Profile) (tree : List Node) → JudgesAfterRequires profile tree }
 {}
 
-/// The variables that a text sets are the identifiers that it writes to set them, each once and as it is first written, but for those that
-/// it declares before: names ignore the case of ASCII (RFC 5229, sections 3 and 4; RFC 6609, section 3.4.1). So it is after a
-/// text, and before each command, test and string of a script, wherever it stands: there those variables are set that are by the commands
-/// before its own.
+/// The variables that a text sets are the identifiers that it writes to set them (RFC 5229,
+/// section 4). Each comes once, as it is first written; names ignore the case of ASCII (RFC 5229,
+/// section 3). Those that the text declares before are left out (RFC 6609, section 3.4.1). So it is
+/// after a text, and before each command, test and string of a script. There, exactly the variables
+/// are set that the commands before the element's own command set.
 pub fn what_is_written_to_be_set_is_set()
     ensures after { (profile : Profile) (commands : Nodes)
         → (after_nodes (script_start profile) commands).scope.assigned
@@ -93,9 +98,11 @@ pub fn what_is_written_to_be_set_is_set()
         → HasSetBefore (take place (elements_of profile tree)) element }
 {}
 
-/// The abstract script of a text without a breach does what the text's commands and tests say, each once and in the order of the text: each
-/// command that stops, returns or acts, and each branch with its condition, in which all tests are joined as they are written, and with its
-/// block. The branches of an `if` are its own, each `elsif` and the `else` right after it. So no block stands in another branch.
+/// The abstract script of a tree without a breach has the same marks as the tree, in text order.
+/// Marks show each command that stops, returns or acts, and each branch with its condition and its
+/// block. They show each test in a condition, and which tests are negated or joined. The branches
+/// of an `if` are its own: each `elsif` and the `else` right after it. So no block stands in
+/// another branch. No mark shows that an argument is kept: both sides have the same readings.
 #[tactic(auto, using(crate::proofs::Marks::marks_kept))]
 pub fn a_faultless_script_does_all()
     ensures { (profile : Profile) (tree : List Node)
@@ -109,16 +116,18 @@ pub fn without_a_breach_no_rule_is_broken()
         → All (λ e. (rule : Rule) → breaks e rule ≡ false) (elements_of profile tree) }
 {}
 
-/// A script without a breach has no command, test, tag or comparator that isn't known by the profile, be it known by another or by none, and no leading
-/// `require` names what may not be required. So by the empty profile it has only what each bench knows.
+/// A script without a breach has no command, test, tag or comparator that the profile doesn't
+/// know. It doesn't matter whether another profile knows it, or none. No leading `require`
+/// names a capability that may not be required. So by the empty profile a script has only
+/// things that each bench knows.
 pub fn what_is_not_known_is_in_no_script()
     ensures { (profile : Profile) (tree : List Node) → breaches_of profile tree ≡ []
         → All (λ e. lacks profile e ≡ false) (elements_of profile tree) }
 {}
 
-/// A text without a fault has none with `unused` either, and is the same script then, so its code
-/// is the same. Whatever the tree, it makes the same script, and the strings of all arguments are
-/// cut alike.
+/// A text without a fault has none with `unused` either. It is the same script then, so its code is
+/// the same. Any tree makes the same script with `unused` as without. The arguments of every row
+/// are cut alike too.
 pub fn unused_changes_no_sound_script()
     ensures sound { (profile : Profile) (text : List ℕ) (script : Commands)
         → judgement_of profile text ≡ sound script
@@ -130,11 +139,13 @@ pub fn unused_changes_no_sound_script()
         ≡ cut_row (under profile context) row args }
 {}
 
-/// Each argument that the reading of a command or a test asks for is in its row: one there is of the role, and it is written as it is read; it
-/// can't be left out exactly where the reading wants it always; and its strings are cut as the reading needs them. Where it may be left out, more
-/// than one may be of the role, each taken by a tag. What
-/// these arguments are read as, with the tags, is all that a command or a test is read by. The tags of `size` are `:over` and `:under`, of
-/// which a script without a breach gives one.
+/// The row of a command or a test gives each argument that the reading asks for. One that is always
+/// there has exactly one slot of its role in the row. This is a positional one other than the one
+/// in front, so it can't be left out. One that may be left out has one slot or more of its role, in
+/// front or taken by tags. These slots have the form of the argument as it is read. Its strings are
+/// cut as the reading needs them. These arguments, as they are read, and the tags are all that a
+/// command or a test is read by. The tags of `size` are `:over` and `:under`, of which a script
+/// without a breach gives one.
 pub fn rows_give_what_readings_ask_for()
     ensures tests { (kind : TestKind) → gives_all (test_row kind) (asked_by_test kind) ≡ true }
     ensures commands { (kind : CommandKind)
@@ -151,8 +162,9 @@ pub fn rows_give_what_readings_ask_for()
     ensures bound { (test_row Size).one_of ≡ Some Bound }
 {}
 
-/// The elements of a tree that writes a text are, one by one and in order, the text's identifiers, strings and numbers. These
-/// aren't empty, they stand apart and in order in the text, and the lines of the elements never fall.
+/// A tree that writes a text has its identifiers, strings and numbers as elements, one by one
+/// in order. Its tokens aren't empty, and stand apart and in order in the text. The lines of
+/// the elements never fall.
 pub fn elements_are_in_text_order()
     ensures { (profile : Profile) (tree : List Node) (text : List ℕ) (tokens : List Token)
         → Spells tokens text → WritesSymbols test_depth block_room tree (symbols_of text tokens)

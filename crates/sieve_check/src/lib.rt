@@ -1,4 +1,4 @@
-//! The validator of Sieve scripts (RFC 5228): what a script's text is, a faultless script or its first fault.
+//! The validator of Sieve scripts (RFC 5228): a text is a faultless script, or has a first fault.
 #![tactic(auto)]
 
 mod arguments;

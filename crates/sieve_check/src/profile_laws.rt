@@ -1,4 +1,5 @@
-//! Laws of what is asked for by name. Each of these functions does nothing: its contract is the law.
+//! Laws about capabilities that are asked for by name. Each of these functions does nothing: its
+//! contract is the law.
 ghost use Rattle.std.specs.Prelude.{◌≡◌, ◌∷◌, Some, [], filter};
 ghost use Rattle.std.specs.List.{filter_map};
 ghost use Rattle.sieve_profile.specs.Extension.{extension_name, extensions};
@@ -14,7 +15,8 @@ ghost use Rattle.sieve_table.specs.declared.table.CommandKind.TheVariants as com
 ghost use Rattle.sieve_table.specs.declared.table.Tag.TheVariants as tag;
 ghost use Rattle.sieve_table.specs.declared.table.TestKind.TheVariants as test;
 
-/// By the empty profile these are known, of what there is, and nothing else: what each bench knows.
+/// By the empty profile exactly these capabilities, commands, tests and tags are known: those
+/// that each bench knows.
 pub fn the_empty_profile_knows_what_each_bench_does()
     ensures capabilities { filter (is_known empty_profile) capabilities ≡ capability.Fileinto
         ∷ capability.Envelope ∷ capability.Variables ∷ capability.Imap4flags ∷ capability.Include
@@ -33,8 +35,9 @@ pub fn the_empty_profile_knows_what_each_bench_does()
         ∷ tag.Flags ∷ tag.Personal ∷ tag.Global ∷ tag.Once ∷ tag.Optional ∷ tag.Copy ∷ [] }
 {}
 
-/// The names of a profile stand in this order, that of their letters. A capability that needs one has its name; these twelve do, and the other names are of no
-/// capability.
+/// The names of a profile stand in this order, that of their letters. A capability that needs one
+/// has its name. The last list has the names of these capabilities, in the order of the
+/// capabilities. All other names are of no capability.
 #[tactic(auto, using(crate::proofs::Asking::named_alike))]
 pub fn capabilities_are_asked_for_by_their_names()
     ensures order { extensions

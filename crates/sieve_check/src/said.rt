@@ -1,5 +1,5 @@
-//! What strings say: where `encoded-character` is required, the sequences in a string stand for characters (RFC 5228, section
-//! 2.4.2.4).
+//! The octets that strings say. Where `encoded-character` is required, the sequences in a string
+//! stand for characters (RFC 5228, section 2.4.2.4).
 ghost use Rattle.std.specs.Prelude.{◌≡◌, map, IfOk, OnOk};
 ghost use Rattle.encoded_characters.specs.view.Sequence.{octets_shown};
 ghost use Rattle.sieve_check.specs.Said as spec;
@@ -15,7 +15,8 @@ use std::alloc::{AllocError, Global};
 use std::borrow::CowSlice;
 use std::mem;
 
-/// Whether the sequences in a string stand for characters, by its role, if it has one.
+/// Whether the sequences in a string stand for characters, by its role, if it has one. Those in the
+/// strings of `require` don't, by this project's choice.
 fn takes_sequences(required: Required, role: Option<Role>) -> bool
     ensures { result ≡ spec.takes_sequences (required_as required) role }
 {
@@ -27,7 +28,7 @@ fn takes_sequences(required: Required, role: Option<Role>) -> bool
     }
 }
 
-/// What a string says; nothing where one of its sequences stands for no character.
+/// The octets that a string says; `None` where one of its sequences stands for no character.
 pub(crate) fn said(
     alloc: Global,
     required: Required,
@@ -44,7 +45,7 @@ pub(crate) fn said(
     }
 }
 
-/// A string as what it says.
+/// A string with the octets that it says. One that says nothing stays as it is written.
 fn said_string(
     alloc: Global,
     required: Required,
@@ -63,7 +64,7 @@ fn said_string(
     }
 }
 
-/// Makes a string what it says.
+/// Replaces a string by the octets that it says. One that says nothing stays as it is written.
 fn say_text(
     alloc: Global,
     required: Required,
@@ -78,7 +79,7 @@ fn say_text(
     Ok(())
 }
 
-/// Makes strings what they say.
+/// Replaces strings by the octets that they say.
 fn say_texts(
     alloc: Global,
     required: Required,
@@ -94,7 +95,7 @@ fn say_texts(
     Ok(())
 }
 
-/// Makes the strings of an argument what they say.
+/// Replaces the strings of an argument by the octets that they say.
 fn say_argument(
     alloc: Global,
     required: Required,
@@ -111,7 +112,7 @@ fn say_argument(
     }
 }
 
-/// Makes the strings of arguments what they say, each by its label.
+/// Replaces the strings of arguments by the octets that they say, each by its label.
 pub(crate) fn say_arguments(
     alloc: Global,
     required: Required,

@@ -1,4 +1,5 @@
-//! The names of variables in a script's text up to a place (RFC 5229, section 4; RFC 6609, section 3.4.1).
+//! The names of variables in a script's text up to a place (RFC 5229, section 4;
+//! RFC 6609, section 3.4.1).
 ghost use Rattle.octets.specs.Octet.{is_among};
 ghost use Rattle.std.specs.Prelude.{◌≡◌, map, IfOk, OnOk};
 ghost use Rattle.sieve_syntax.specs.view.Tree.{argument_of, text_of};
@@ -16,8 +17,9 @@ use sieve_variables::{Names, folded, is_identifier};
 use std::alloc::{AllocError, Global};
 use std::marker::Model;
 
-/// The names of the variables that are set, each once, as they were first written, and those that are declared to be shared, in
-/// lower case. Contracts see the names.
+/// The names of variables in the text up to a place. `assigned` are those that are set, each once,
+/// as they were first written. `declared` are those that are declared to be shared, in lower case.
+/// Contracts see the names.
 #[derive(Drop)]
 pub(crate) struct Scope {
     assigned: Vec<Octets>,
@@ -40,7 +42,7 @@ pub(crate) fn is_declared(alloc: Global, name: &[u8], declared: &Names) -> Resul
     Ok(declared.has(name.as_slice()))
 }
 
-/// Declares a name.
+/// Declares a name, in lower case.
 fn declare(alloc: Global, declared: &mut Names, name: &[u8]) -> Result<(), AllocError>
     ensures { OnOk result (declared.new ≡ with_name (folded_name name.now) declared.old) }
 {
@@ -48,7 +50,7 @@ fn declare(alloc: Global, declared: &mut Names, name: &[u8]) -> Result<(), Alloc
     declared.add(alloc, name.as_slice())
 }
 
-/// Declares those that strings name.
+/// Declares the name in each string.
 fn declare_texts(alloc: Global, declared: &mut Names, texts: &[Text]) -> Result<(), AllocError>
     ensures { OnOk result
         (declared.new ≡ spec.declaring_texts declared.old (map text_of texts.now)) }
@@ -59,7 +61,7 @@ fn declare_texts(alloc: Global, declared: &mut Names, texts: &[Text]) -> Result<
     Ok(())
 }
 
-/// Declares those that an argument in a role names.
+/// Declares the names in an argument, where its role is to declare them.
 fn declare_argument(
     alloc: Global,
     declared: &mut Names,
@@ -82,7 +84,7 @@ fn declare_argument(
     }
 }
 
-/// Declares those that arguments name, each by its label.
+/// Declares the names in arguments, each by its label.
 fn declare_arguments(
     alloc: Global,
     declared: &mut Names,
@@ -101,7 +103,7 @@ fn declare_arguments(
 }
 
 impl Scope {
-    /// No names.
+    /// A scope without names.
     pub(crate) fn new(alloc: Global) -> Scope
         ensures { result ≡ spec.no_names }
     {
@@ -111,7 +113,8 @@ impl Scope {
         }
     }
 
-    /// Whether the script sets a variable of its own under a name. Case doesn't matter.
+    /// Whether the script sets a variable of its own under a name. The case
+    /// of letters doesn't matter.
     pub(crate) fn is_assigned(&self, name: &[u8]) -> bool
         ensures { result ≡ spec.is_assigned name.now self.now }
     {
@@ -142,7 +145,7 @@ impl Scope {
         }
     }
 
-    /// Adds the variable that a string names where one is set.
+    /// Adds a name that is to be set, where it is that of a new variable of the script.
     #[tactic(auto, unfolding(crate::specs::Scope::assigning))]
     fn assign(&mut self, alloc: Global, name: &[u8]) -> Result<(), AllocError>
         ensures { OnOk result (self.new ≡ spec.assigning self.old name.now) }
@@ -154,7 +157,7 @@ impl Scope {
         Ok(())
     }
 
-    /// Adds those that strings name.
+    /// Adds the name in each string, as `assign` does.
     fn assign_texts(&mut self, alloc: Global, texts: &[Text]) -> Result<(), AllocError>
         ensures { OnOk result (self.new ≡ spec.assigning_texts self.old (map text_of texts.now)) }
     {
@@ -164,7 +167,7 @@ impl Scope {
         Ok(())
     }
 
-    /// Adds those that an argument in a role names.
+    /// Adds the names in an argument, where its role is to set them.
     fn assign_argument(
         &mut self,
         alloc: Global,
@@ -187,7 +190,7 @@ impl Scope {
         }
     }
 
-    /// Adds those that arguments name, each by its label.
+    /// Adds the names that arguments set, each by its label.
     fn assign_arguments(
         &mut self,
         alloc: Global,
@@ -205,14 +208,14 @@ impl Scope {
         Ok(())
     }
 
-    /// The names that are declared. Takes no memory.
+    /// The names that are declared, in lower case.
     pub(crate) fn declared(&self) -> &Names
         ensures { result.now ≡ self.now.declared }
     {
         &self.declared
     }
 
-    /// Adds those that arguments set, and declares those that they name, each by its label.
+    /// Adds the names that arguments set, and declares those that they declare, each by its label.
     pub(crate) fn name_arguments(
         &mut self,
         alloc: Global,

@@ -1,4 +1,4 @@
-//! The breaches in tests, and what tests without a breach are read as.
+//! The breaches in tests, and the readings of tests without a breach.
 ghost use Rattle.std.specs.Prelude.{◌≡◌, Some, map, IfOk};
 ghost use Rattle.sieve_syntax.specs.Tree.{tests};
 ghost use Rattle.sieve_syntax.specs.view.Tree as seen;
@@ -33,14 +33,14 @@ fn kind_of(profile: Profile, test: &Test) -> Option<TestKind>
     known_test(profile, test.name.kind())
 }
 
-/// A test's kind, and the labels of its arguments.
+/// The kind of a test, and the labels of its arguments.
 #[derive(Drop)]
 struct TestHead {
     kind: TestKind,
     labels: Vec<Label>,
 }
 
-/// Checks a test of some kind apart from the tests in it.
+/// Checks a test, but not the tests in it. One of an unknown name breaks `UnknownCommand`.
 fn check_test_head(alloc: Global, context: Context<'_>, test: &Test) -> Result<TestHead, CheckFault>
     ensures found { FindsIn (test_head (context_as context.entry) test.now) result }
     ensures kind { IfOk result (λ head. spec.known_test (context_as context.entry).profile
@@ -71,7 +71,7 @@ fn check_test_head(alloc: Global, context: Context<'_>, test: &Test) -> Result<T
     }
 }
 
-/// What a test of a kind is read as, with what its strings say cut.
+/// Reads a test of a kind, with its strings cut by the octets that they say.
 fn cut_and_read(
     alloc: Global,
     context: Context<'_>,
@@ -88,7 +88,7 @@ fn cut_and_read(
     Ok(read_test(alloc, kind, &labels, cut))
 }
 
-/// Checks a test and the tests in it. Answers its condition.
+/// Checks a test and the tests in it. Returns its condition.
 #[cycle(check_tests)]
 #[tactic(auto, using(crate::proofs::Walk::test_steps))]
 fn check_test(alloc: Global, context: Context<'_>, test: Test) -> Result<Condition, CheckFault>
@@ -104,7 +104,7 @@ fn check_test(alloc: Global, context: Context<'_>, test: Test) -> Result<Conditi
     Ok(joined(alloc, reading, inner)?)
 }
 
-/// Checks the tests after arguments. Answers their conditions in order.
+/// Checks the tests after arguments. Returns their conditions in order.
 #[cycle(check_tests)]
 #[tactic(auto, unfolding(crate::specs::Element::tests_elements))]
 pub(crate) fn check_tests(
@@ -128,7 +128,7 @@ pub(crate) fn check_tests(
     }
 }
 
-/// Checks a list of tests. Answers their conditions in order.
+/// Checks a list of tests. Returns their conditions in order.
 #[cycle(check_tests)]
 fn check_test_list(
     alloc: Global,

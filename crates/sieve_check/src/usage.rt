@@ -19,7 +19,7 @@ fn is_lacking(required: Required, capability: Capability) -> bool
     !required.has(capability)
 }
 
-/// What has to be required for an argument.
+/// The capability that has to be required for an argument, if there is one.
 fn needed_by(label: Label) -> Option<Capability>
     ensures { result ≡ spec.needed_by label }
 {
@@ -32,7 +32,7 @@ fn needed_by(label: Label) -> Option<Capability>
     }
 }
 
-/// Whether an argument needs what isn't required.
+/// Whether an argument needs a capability that isn't required.
 fn lacks_needed(required: Required, label: Label) -> bool
     ensures { result ≡ spec.lacks_needed (required_as required) (spec.needed_by label) }
 {
@@ -42,7 +42,7 @@ fn lacks_needed(required: Required, label: Label) -> bool
     }
 }
 
-/// Whether some of these has to be required and isn't.
+/// Whether one of these capabilities has to be required and isn't.
 fn has_lacking(required: Required, needs: &[Capability]) -> bool
     ensures { result ≡ list_any (spec.is_lacking (required_as required)) needs.now }
 {
@@ -51,7 +51,7 @@ fn has_lacking(required: Required, needs: &[Capability]) -> bool
         .any(|capability| is_lacking(required, *capability))
 }
 
-/// Whether some argument needs what isn't required.
+/// Whether some argument needs a capability that isn't required.
 fn has_needy(required: Required, labels: &[Label]) -> bool
     ensures { result ≡ list_any
         (λ label. spec.lacks_needed (required_as required) (spec.needed_by label)) labels.now }
@@ -59,7 +59,7 @@ fn has_needy(required: Required, labels: &[Label]) -> bool
     labels.iter().any(|label| lacks_needed(required, *label))
 }
 
-/// Whether a command or a test of a row, with arguments of these labels, needs what isn't required (RFC 5228, section 2.10.5).
+/// Whether a row or an argument needs a capability that isn't required (RFC 5228, section 2.10.5).
 pub(crate) fn lacks_required(required: Required, row: &Row, labels: &[Label]) -> bool
     ensures { result ≡ spec.lacks_required (required_as required) (row_as row.now) labels.now }
 {
@@ -96,14 +96,14 @@ fn is_positional(label: Label) -> bool
     }
 }
 
-/// Whether a tag is among them.
+/// Whether a tag is among the arguments.
 fn has_some_tag(labels: &[Label]) -> bool
     ensures { result ≡ list_any spec.is_tag labels.now }
 {
     labels.iter().any(|label| is_tag(*label))
 }
 
-/// Whether a tag that isn't taken is among them.
+/// Whether a tag that isn't taken is among the arguments.
 fn has_other_tag(labels: &[Label]) -> bool
     ensures { result ≡ list_any spec.is_other_tag labels.now }
 {
@@ -134,7 +134,7 @@ fn is_of_kind(kind: TagKind, label: Label) -> bool
     }
 }
 
-/// Whether a tag of that kind is among them.
+/// Whether a tag of that kind is among the arguments.
 fn has_kind(kind: TagKind, labels: &[Label]) -> bool
     ensures { result ≡ list_any (is_of_kind kind) labels.now }
 {
@@ -206,7 +206,7 @@ fn lacks_own(labels: &[Label]) -> bool
     false
 }
 
-/// Whether no tag of the kind that has to be there is there.
+/// Whether the row needs a tag of a kind, and none is there.
 fn lacks_kind(kind: Option<TagKind>, labels: &[Label]) -> bool
     ensures { result ≡ spec.lacks_kind kind labels.now }
 {
@@ -216,7 +216,7 @@ fn lacks_kind(kind: Option<TagKind>, labels: &[Label]) -> bool
     }
 }
 
-/// Whether the tests are those.
+/// Whether the tests are as a row takes them: none, one, or a list.
 fn tests_fit(inner: Inner, tests: &Tests) -> bool
     ensures { result ≡ spec.tests_fit inner (tests_of tests.now) }
 {
@@ -228,8 +228,9 @@ fn tests_fit(inner: Inner, tests: &Tests) -> bool
     }
 }
 
-/// Whether arguments of these labels, tests or the end aren't what is taken, a tag lacks its own argument, or none is there
-/// of a kind that is needed. `filled` says whether the positional arguments are there and no others.
+/// Whether arguments of these labels, tests or the end aren't as the row says. It is so too where a
+/// tag lacks its own argument, or a tag of a needed kind is missing. `filled` says whether the
+/// positional arguments are there and no others.
 pub(crate) fn has_bad_arguments(
     filled: bool,
     row: &Row,

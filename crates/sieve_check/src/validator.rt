@@ -1,4 +1,4 @@
-//! The validator.
+//! The validator of scripts.
 ghost use Rattle.std.specs.Prelude.{◌≡◌, [], MatchResult};
 ghost use Rattle.sieve_profile.specs.view.Profile.{profile_as};
 ghost use Rattle.sieve_syntax.specs.view.Script.{nodes_of};
@@ -21,8 +21,8 @@ use thiserror::Error;
 /// Why a script isn't checked.
 #[derive(Clone, Copy, Debug, PartialEq, Eq, Error)]
 pub enum CheckFault {
-    /// 1: the script breaks a rule on a line. It is the first breach by its place in the text, and then by the rule's
-    /// number.
+    /// 1: the script breaks a rule on a line. It is the first breach by its place in the text, and
+    /// then by the rule's number.
     #[error("line {line}: a rule is broken")]
     Breach { line: u64, rule: Rule },
     /// 2: memory ran out.
@@ -38,8 +38,9 @@ impl From<AllocError> for CheckFault {
     }
 }
 
-/// Checks a script by what a bench of a profile knows: the least breach of a rule, or, where there
-/// is none, the checked script, which is the abstract script of the same tree.
+/// Checks a script by the extensions that a bench of a profile knows. Where no rule is broken, the
+/// result is the checked script: the abstract script of the same tree. Otherwise the error is the
+/// least breach of a rule. It is `NoMemory` where memory runs out.
 pub fn check(alloc: Global, profile: Profile, script: ParsedScript) -> Result<Checked, CheckFault>
     ensures { MatchResult result (λ checked. (breaches_of (profile_as profile) (nodes_of script)
         ≡ []) × (commands_of checked ≡ script_of (profile_as profile) (nodes_of script)))

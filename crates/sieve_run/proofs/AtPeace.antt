@@ -1,4 +1,4 @@
--- No two actions of a run stand in each other's way.
+-- No two actions of a run conflict.
 use Rattle.std.proofs.Common.{◌≡◌, ◌≤◌, suc, Bool, true, false, not, ◌||◌, cond, Option, None, Some, List, [], ◌∷◌, ◌++◌, filter, length, map, refl, sym, ap, subst, ◌∙◌, arith}
 use Rattle.std.specs.Prelude.{⊤, if◌then◌else◌}
 use Rattle.std.specs.List.{AllByRecursion, list_any}
@@ -16,11 +16,11 @@ use Rattle.sieve_run.specs.Run.{verdict_of}
 use Rattle.sieve_verdict.specs.Verdict.{actions_of}
 use Rattle.sieve_run.proofs.Bounds.{IsKept, of_actions, verdict_holds}
 
--- two actions of which the second is performed where the first is there, and nothing is in its way
+-- the second of two actions can be performed if the first is there, since they don't conflict
 abbrev GoesAfter : (there performed : Action) → Type 0
 GoesAfter there performed = conflict_of performed there ≡ None
 
--- each action was performed where those before it were there
+-- each action can be performed after those before it
 abbrev AreAtPeace : List Action → Type 0
 AreAtPeace [] = ⊤
 AreAtPeace (action ∷ actions) = AllByRecursion (GoesAfter action) actions × AreAtPeace actions
@@ -106,7 +106,7 @@ few_responses (a ∷ actions) peace = by (is_response a) refl (few_responses act
     by true is rest = subst (λ (l : List Action). suc (length l) ≤ 1) (sym (no_more_responses a actions is peace.0)) (omega arith)
     by false is rest = rest
 
--- a verdict has one response at most
+-- a verdict has at most one response
 pub verdict_responses : (find : ScriptName → Lookup) (main : Option ScriptName) (arrival : Arrival) → length (filter is_response (actions_of (verdict_of find main arrival))) ≤ 1
 verdict_responses find main arrival = few_responses (actions_of (verdict_of find main arrival)) (verdict_peace find main arrival)
 
@@ -150,7 +150,7 @@ one_rejection (a ∷ actions) peace any = by (is_rejection a) refl any (one_reje
     by true is any rest = ap (λ t. length (cond t (a ∷ others) others)) (rejection_alone a is) ∙ ap (λ (l : List Action). suc (length l)) (all_go_after a actions is peace.0)
     by false is any rest = ap (λ t. length (cond (not t) (a ∷ others) others)) (goes_before_all a actions peace.0 any) ∙ rest any
 
--- a verdict that rejects the message does nothing else than discard it, and rejects it once
+-- a verdict that rejects the message does so once, and its other actions discard the message
 pub verdict_rejections : (find : ScriptName → Lookup) (main : Option ScriptName) (arrival : Arrival) → list_any is_rejection (actions_of (verdict_of find main arrival)) ≡ true
     → length (filter (λ a. not (goes_with_rejections a)) (actions_of (verdict_of find main arrival))) ≡ 1
 verdict_rejections find main arrival any = one_rejection (actions_of (verdict_of find main arrival)) (verdict_peace find main arrival) any

@@ -1,4 +1,5 @@
--- What holds of the state of a run from its start to its end: it has no more actions, and no more scripts were entered, than there may be.
+-- Facts on the state of a run that hold from its start to its end. It has no more actions than it
+-- may have, and no more scripts were entered than may be.
 use Rattle.std.proofs.Common.{◌≡◌, inl, inr, ℕ, zero, suc, ◌≤◌, Bool, true, false, ◌&&◌, Option, None, Some, List, [], ◌∷◌, ◌++◌, length, map, nat_lt, refl, ap, subst, sym, ◌∙◌, append-nil, append_assoc, arith}
 use Rattle.std.proofs.lemmas.Bool.Decides.{nat_tests}
 use Rattle.std.proofs.lemmas.List.{length_push, length-map, map-append}
@@ -42,10 +43,11 @@ use Rattle.sieve_variables.specs.Variable.{Variable}
 use Rattle.match_text.specs.Flags.{flag_list}
 use Rattle.sieve_run.proofs.Performing.{does_walk}
 
--- A fact on the state of a run holds where an action is performed if it holds where the action joins others and where it is entered, for a
--- refused one leaves the state. Nothing stands in the way of one that is not refused, and one that is entered is not there and has room.
+-- A fact on the state of a run holds after an action is performed, if it holds in two cases. In one
+-- the action joins others, and in the other it is entered. A refused action leaves the state. An
+-- action that isn't refused conflicts with no other. An entered one isn't there yet and has room.
 module _ (Holds : RunState → Type 0) (delivery : Delivery) (line : ℕ) (deed : Deed) (s : RunState) where
-  -- the fact holds where this became of the actions
+  -- the fact holds after this result of performing an action
   abbrev Becomes : Performed → Type 0
   Becomes performed = Holds (state_after (ends_with delivery line deed performed s))
 
@@ -66,8 +68,9 @@ module _ (Holds : RunState → Type 0) (delivery : Delivery) (line : ℕ) (deed 
       by None false true joins enters = enters refl refl refl
       by None false false joins enters = h
 
--- What has to keep a fact on the state of a run for the fact to hold throughout: a change of variables, of the internal flags or of the names
--- looked up, performing an action, and entering a script where there is room for one more.
+-- The changes that have to keep a fact on the state of a run, so that it holds throughout.
+-- Variables, internal flags or looked-up names change. An action is performed. A script is entered
+-- where there is room for one more.
 pub record IsKept (Holds : RunState → Type 0) : Type 0 where
   pub values : (s : RunState) (values : Values) → Holds s → Holds (record s { values = values })
   pub flags : (s : RunState) (flags : List (List ℕ)) → Holds s → Holds (record s { flags = flags })
@@ -151,7 +154,7 @@ module _ (Holds : RunState → Type 0) (kept : IsKept Holds) where
   after_holds (stopped s) next h goes = h
   after_holds (failed error s) next h goes = h
 
-  -- doing a walk keeps the fact where the commands that act keep it
+  -- doing a walk keeps the fact if the commands that act keep it
   walk_holds : (act : Acts) → ((leaf : Leaf) (line : ℕ) (s : RunState) → Holds s → Ends (act leaf line s)) → (delivery : Delivery) (w : Walk) (s : RunState) → Holds s → Ends (doing act delivery w s)
   unfolding perform
   walk_holds act acts delivery at_end s h = h
@@ -203,7 +206,7 @@ module _ (Holds : RunState → Type 0) (kept : IsKept Holds) where
 
 -- VERDICTS
 
--- what holds of no actions, and of the actions throughout a run, holds of those of a verdict
+-- a fact that holds of no actions, and of the actions throughout a run, holds of those of a verdict
 module _ (Holds : List Action → Type 0) (none : Holds []) (kept : IsKept (λ s. Holds (actions_in s.entries))) where
   verdict_holds : (e : Ending) → Holds (actions_in (state_after e).entries) → Holds (actions_of (verdict_after e))
   verdict_holds (goes_on s) h = h
@@ -231,7 +234,7 @@ joined_actions action (entry ∷ entries) = ap (λ l. joined_with action entry.a
 entered_actions : (entries : List Entered) (entry : Entered) → actions_in (entries ++ entry ∷ []) ≡ actions_in entries ++ entry.action ∷ []
 entered_actions entries entry = map-append (λ (e : Entered). e.action) entries (entry ∷ [])
 
--- a fact on the actions is kept where joining and entering an action keep it
+-- a fact on the actions is kept if joining and entering an action keep it
 pub of_actions : (Holds : List Action → Type 0)
     → ((action : Action) (actions : List Action) → Holds actions → Holds (map (joined_with action) actions))
     → ((action : Action) (actions : List Action) → conflict_among action actions ≡ None → list_any (same_action action) actions ≡ false → nat_lt (length actions) action_limit ≡ true → Holds actions → Holds (actions ++ action ∷ []))
@@ -247,7 +250,7 @@ of_actions Holds joins enters = record {
   enters = λ name s few h. h;
 }
 
--- no more actions than there may be
+-- no more actions than a run may have
 abbrev AreFew : List Action → Type 0
 AreFew actions = length actions ≤ action_limit
 
@@ -267,7 +270,7 @@ ending_state ending.Returned s = refl
 ending_state ending.Stopped s = refl
 ending_state (ending.Failed error) s = refl
 
--- the interpreter ends a walk that it begins without an action in a state with no more actions than it may have
+-- If a run of a walk begins without actions, it ends with no more actions than a run may have.
 pub run_bounded : (find : ScriptName → Lookup) (depth : ℕ) (delivery : Delivery) (w : Walk) (f : endings.Ending) (old new : RunState) → old.entries ≡ [] → doing (act_of find depth delivery) delivery w old ≡ ending_by f new → length new.entries ≤ action_limit
 run_bounded find depth delivery w f old new none does =
     few_entries new.entries
@@ -278,16 +281,17 @@ run_bounded find depth delivery w f old new none does =
 pub verdict_bounded : (find : ScriptName → Lookup) (main : Option ScriptName) (arrival : Arrival) → length (verdict_of find main arrival).entries ≤ action_limit
 verdict_bounded find main arrival = few_entries (verdict_of find main arrival).entries (verdict_holds AreFew (omega arith) bounded find main arrival)
 
--- WHO ENTERED THEM
+-- THE COMMANDS THAT ENTERED ACTIONS
 
--- Where a command performs an action, there is then what there was, or that with the action joined to it, or that and the action with its command.
+-- After a command performed an action, the entries are the old ones, or the old ones joined with
+-- the action. Or they are the old ones and then the action with its command.
 pub performed_entries : (delivery : Delivery) (line : ℕ) (deed : Deed) (s : RunState) → ComesOf delivery line deed s.entries (state_after (performs delivery line deed s)).entries
 performed_entries delivery line deed s =
     performed_holds (λ t. ComesOf delivery line deed s.entries t.entries) delivery line deed s (inl refl) (λ none. inr (inl refl)) (λ none apart room. inr (inr refl))
 
 -- INCLUDES
 
--- no more scripts were entered than the main one and so many others
+-- no more scripts were entered than the main one and 256 others
 abbrev pub IsShort : RunState → Type 0
 IsShort state = length state.entered ≤ suc include_limit
 
@@ -306,7 +310,7 @@ short = record {
   enters = λ name s few h. one_more name s few;
 }
 
--- a run enters the main script and so many others at most
+-- a run enters the main script and at most 256 others
 pub run_short : (find : ScriptName → Lookup) (arrival : Arrival) (main : ScriptName) (program : Commands) → length (state_after (run_of find arrival main program)).entered ≤ suc include_limit
 run_short find arrival main program = running_holds IsShort short find include_depth (delivery_to arrival main) program (begun main) (omega arith)
 
@@ -323,6 +327,6 @@ keeping front = record {
   enters = λ name s few h. (h.0 ++ name ∷ [], ap (λ (entered : List ScriptName). entered ++ name ∷ []) h.1 ∙ append_assoc front h.0 (name ∷ []));
 }
 
--- the scripts that were entered before a script runs are still the first ones when it has run
+-- the scripts that were entered before a script ran are still the first ones after it
 pub run_keeps : (find : ScriptName → Lookup) (depth : ℕ) (delivery : Delivery) (program : Commands) (state : RunState) → Keeps state.entered (state_after (running find depth delivery program state))
 run_keeps find depth delivery program state = running_holds (Keeps state.entered) (keeping state.entered) find depth delivery program state ([], sym (append-nil state.entered))

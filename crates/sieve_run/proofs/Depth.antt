@@ -1,4 +1,4 @@
--- How deep scripts include one another, counted by those that include the running one.
+-- How deep scripts include one another: the number of scripts that include the running one.
 use Rattle.std.proofs.Common.{◌≡◌, ℕ, zero, suc, ◌+◌, ◌-◌, ◌≤◌, Bool, true, false, ◌&&◌, Option, None, Some, length, nat_lt, refl, ap, ◌∙◌, arith}
 use Rattle.std.proofs.lemmas.Bool.Decides.{nat_tests}
 use Rattle.std.proofs.lemmas.List.{length_push}
@@ -18,7 +18,8 @@ use Rattle.script_names.specs.declared.name.ScriptName.{ScriptName}
 pub main_first : (find : ScriptName → Lookup) (arrival : Arrival) (main : ScriptName) (program : Commands) → run_of find arrival main program ≡ running find (depth_left (delivery_to arrival main)) (delivery_to arrival main) program (begun main)
 main_first find arrival main program = refl
 
--- with one more script that includes the running one, one level less is left; where as many include it as may, none is left
+-- With one more script that includes the running one, one level less is left. If as many include it
+-- as may, none is left.
 one_less : (n m : ℕ) → m ≡ n + 1 → nat_lt n include_depth ≡ true → include_depth - n ≡ suc (include_depth - m)
 one_less n m next room = grind (arith, nat_tests)
 
@@ -26,11 +27,11 @@ none_left : (n : ℕ) → nat_lt n include_depth ≡ false → include_depth - n
 none_left n full = grind (arith, nat_tests)
 
 module _ (find : ScriptName → Lookup) (delivery : Delivery) (name : ScriptName) (once optional : Bool) (line : ℕ) (s : RunState) where
-  -- what the include does, by how a script is entered
+  -- the ending of the include, by how a script is entered
   abbrev done_by : Option (ScriptName → Commands → RunState → Ending) → Ending
   done_by enter = include_of find delivery enter name once optional line s
 
-  -- how a script is entered where scripts may still include one another so deep
+  -- how a script is entered, where so many levels of includes are still allowed
   abbrev entered_at : ℕ → ScriptName → Commands → RunState → Ending
   entered_at depth script = running find depth (inside script delivery)
 
@@ -41,7 +42,7 @@ module _ (find : ScriptName → Lookup) (delivery : Delivery) (name : ScriptName
       ap (λ (depth : ℕ). included find depth delivery name once optional line s) (one_less (length delivery.including) (length (inside name delivery).including) (length_push delivery.including delivery.script) room)
   by_room false full = ap (λ (depth : ℕ). included find depth delivery name once optional line s) (none_left (length delivery.including) full)
 
-  -- what an include does with the depth that is left is what it does by the number of scripts that include the running one
+  -- an include with the levels that are left ends as it does by the number of including scripts
   pub by_stack : included find (depth_left delivery) delivery name once optional line s ≡ done_by (entered_within find delivery)
   by_stack = by_room (nat_lt (length delivery.including) include_depth) refl
 
@@ -53,7 +54,7 @@ module _ (find : ScriptName → Lookup) (delivery : Delivery) (name : ScriptName
   full_of : IsDeepest delivery → nat_lt (length delivery.including) include_depth ≡ false
   full_of deep = grind (arith, nat_tests, deep)
 
-  -- an include enters no script where as many scripts include the running one as may
+  -- if as many scripts include the running one as may, an include enters no script
   pub none_deeper : IsDeepest delivery → (state_after (included find (depth_left delivery) delivery name once optional line s)).entered ≡ s.entered
   none_deeper deep =
       ap (λ e. (state_after e).entered) (by_room false (full_of deep))
@@ -62,7 +63,7 @@ module _ (find : ScriptName → Lookup) (delivery : Delivery) (name : ScriptName
 -- A RUN THAT IS WATCHED
 
 module _ (beyond : Delivery → Commands → RunState → Ending) (find : ScriptName → Lookup) where
-  -- watched includes do what includes do in a script
+  -- in a script, watched includes do the same as includes
   abbrev DoAlike : ℕ → Delivery → Type 0
   DoAlike depth delivery = (name : ScriptName) (once optional : Bool) (line : ℕ) (s : RunState) → watched_include beyond find depth delivery name once optional line s ≡ included find depth delivery name once optional line s
 
@@ -72,7 +73,7 @@ module _ (beyond : Delivery → Commands → RunState → Ending) (find : Script
   by_depth depth delivery program s false shallow alike =
       ap (λ (include : ScriptName → Bool → Bool → ℕ → RunState → Ending). exec (answer_of delivery) (act_by include delivery) program s) (λ i name once optional line t. alike name once optional line t i)
 
-  -- a script that isn't too deep does where it is watched what it does where it isn't
+  -- a script that isn't too deep does the same if it is watched
   script_alike : (depth : ℕ) (delivery : Delivery) (program : Commands) (s : RunState) → length delivery.including ≤ include_depth → DoAlike depth delivery
       → watched beyond (watched_include beyond find depth delivery) delivery program s ≡ running find depth delivery program s
   script_alike depth delivery program s shallow alike = by_depth depth delivery program s (nat_lt include_depth (length delivery.including)) (grind (arith, nat_tests, shallow)) alike

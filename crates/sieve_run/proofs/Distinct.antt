@@ -49,7 +49,7 @@ same_equiv = record { refl = same_itself; symm = same_back; congr = same_too }
 
 -- ACTIONS THAT ARE JOINED
 
--- an action that another is joined to is one with the actions that it was one with before
+-- an action that another is joined to is one with the same actions as before
 brought_same : (action there a : Action) → same_action a (brought_by action there) ≡ same_action a there
 brought_same (Store mailbox flags filing) (Store other there kept) (Store third more its) = refl
 brought_same (Store mailbox flags filing) (Store other there kept) a = refl

@@ -1,4 +1,5 @@
--- What is done to the entries of a shelf is done to their texts, and all of them stay of the shelf's profile.
+-- A change of the entries of a shelf changes their texts alike. All entries stay of the shelf's
+-- profile.
 use Rattle.std.proofs.Common.{◌≡◌, List, [], ◌∷◌, Bool, true, false, Option, Some, cond, if◌then◌else◌, refl, sym, ap, subst, ◌∙◌}
 use Rattle.std.proofs.lemmas.Map.Made.{lookup-map_values}
 use Rattle.std.specs.Map.{lookup}
@@ -18,13 +19,13 @@ pub texts-lookup : (test : ScriptName → Bool) (es : List (ScriptName × Shelve
 unfolding texts_of
 texts-lookup test es = lookup-map_values _ test es
 
--- the text at a name is that of the entry which is found by the test of the names' type
+-- the text at a name is that of the entry that is found by the test of the names' type
 pub text_found : (es : List (ScriptName × Shelved)) (name : ScriptName) (found : Option Shelved) → found ≡ lookup (equality.eq-value.it name) es → text_on (texts_of es) name ≡ option_map entry_text found
 text_found es name found is =
     texts-lookup (name_eq name) es
     ∙ ap (option_map entry_text) (sym (is ∙ ap (λ (test : ScriptName → Bool). lookup test es) (λ i other. names_alike name other i)))
 
--- an entry is put where its text is
+-- an entry is put at the place where its text is put
 pub texts-insert : (eq : ScriptName → ScriptName → Bool) (es : List (ScriptName × Shelved)) (name : ScriptName) (entry : Shelved)
     → texts_of (ordered.insert_entry eq es name entry) ≡ ordered.insert_entry eq (texts_of es) name (entry_text entry)
 unfolding texts_of
@@ -37,7 +38,7 @@ texts-insert eq ((other, old) ∷ es) name entry = by (eq name other) (texts-ins
     by true rest = refl
     by false rest = ap (λ l. (other, entry_text old) ∷ l) rest
 
--- entries of a profile stay so where one of it is put among them
+-- entries of a profile stay so if an entry of the profile is put among them
 pub are-insert : (profile : Profile) (eq : ScriptName → ScriptName → Bool) (es : List (ScriptName × Shelved)) (name : ScriptName) (entry : Shelved)
     → AreEntries profile es → IsEntry profile entry → AreEntries profile (ordered.insert_entry eq es name entry)
 unfolding AreEntries

@@ -1,4 +1,4 @@
--- A verdict depends on no more of a library than the names that it looked up.
+-- A verdict depends on no more of a library than the texts at the names that it looked up.
 use Rattle.std.proofs.Common.{◌≡◌, ℕ, zero, suc, Bool, true, false, ◌&&◌, ◌||◌, Option, None, Some, List, [], ◌∷◌, ◌++◌, length, nat_lt, nat_eq, refl, subst, sym, ap, ◌∙◌, arith}
 use Rattle.std.proofs.lemmas.Bool.Decides.{nat_tests}
 use Rattle.std.specs.Prelude.{if◌then◌else◌}
@@ -100,7 +100,7 @@ Grows s t = (name : ScriptName) → is_looked_up name s.lookups ≡ true → is_
 lookups_stay : (s t : RunState) → t.lookups ≡ s.lookups → Grows s t
 lookups_stay s t same name r = subst (λ lookups. is_looked_up name lookups ≡ true) (sym same) r
 
--- WHAT COMMANDS READ THAT INCLUDE NOTHING
+-- COMMANDS THAT INCLUDE NOTHING
 
 performs_lookups : (delivery : Delivery) (line : ℕ) (deed : Deed) (s : RunState) → (state_after (performs delivery line deed s)).lookups ≡ s.lookups
 performs_lookups delivery line deed s = performed_holds (λ t. t.lookups ≡ s.lookups) delivery line deed s refl (λ none. refl) (λ none apart room. refl)
@@ -135,13 +135,13 @@ module _ (find other : ScriptName → Lookup) where
   abbrev AgreeOn : List (ScriptName × Bool) → Type 0
   AgreeOn lookups = (name : ScriptName) → is_looked_up name lookups ≡ true → find name ≡ other name
 
-  -- `f` over the first library keeps the names that were read, and `g` over the other does the same as `f` wherever the libraries agree on
-  -- what `f` has read
+  -- `f` over the first library keeps the names that were read. `g` over the other library does the
+  -- same as `f` if the libraries agree on the names that `f` has read.
   record Frames (f g : RunState → Ending) : Type 0 where
     grows : (s : RunState) → Grows s (state_after (f s))
     same : (s : RunState) → AgreeOn (state_after (f s)).lookups → g s ≡ f s
 
-  -- what reads no name does the same over both libraries
+  -- a command that reads no name does the same over both libraries
   own_frames : (f : RunState → Ending) → ((s : RunState) → (state_after (f s)).lookups ≡ s.lookups) → Frames f f
   own_frames f stay = record { grows = λ s. lookups_stay s (state_after (f s)) (stay s); same = λ s agree. refl }
 
@@ -229,7 +229,7 @@ module _ (find other : ScriptName → Lookup) where
     found_same frames (present program) t agree =
         ap (resumed t.values) ((frames program).same (entering name t) (λ n r. agree n (lookups_stay (state_after (enter program (entering name t))) (state_after (resumed t.values (enter program (entering name t)))) (resumed_lookups t.values (enter program (entering name t))) n r)))
 
-    -- what is found at a name is the same where the libraries agree on it
+    -- if the libraries agree on a name, they find the same script at it
     same_found : find name ≡ other name → found_at find name ≡ found_at other name
     same_found is = ap (λ lookup. if nat_lt name_limit (length name.name) then missing else lookup) is
 
@@ -247,7 +247,8 @@ module _ (find other : ScriptName → Lookup) where
           ∙ found_same frames (found_at find name) (looked_up name (found_at find name) s) agree;
     }
 
-  -- where two ways do the same over both libraries, so does the choice between them by a test on the state
+  -- If two commands each do the same over both libraries, a choice between them does too. The
+  -- choice is by a test on the state.
   if_frames : (test : RunState → Bool) (f g h k : RunState → Ending) → Frames f g → Frames h k → Frames (λ s. if test s then f s else h s) (λ s. if test s then g s else k s)
   if_frames test f g h k first second = record {
     grows = λ s. by_grows (test s) s;
@@ -343,7 +344,8 @@ module _ (find other : ScriptName → Lookup) where
       ap (λ lookup. verdict_at other arrival main (if nat_lt name_limit (length main.name) then missing else lookup)) (sym (agree main (main_lookup arrival main (found_at find main))))
       ∙ verdict_same arrival main (found_at find main) agree
 
--- the verdict over a library is the verdict over another that has the same at each name that was looked up
+-- the verdict over a library is that over another one, if both have the same at each name that was
+-- looked up
 pub frame : (texts others : LibraryTexts) (main : Option ScriptName) (arrival : Arrival) → Agree texts others (verdict_over texts main arrival).lookups → verdict_over others main arrival ≡ verdict_over texts main arrival
 frame texts others main arrival agree =
     verdict_same (library_of arrival.profile texts) (library_of arrival.profile others) main arrival (λ name r. ap (lookup_of arrival.profile) (agree name r))

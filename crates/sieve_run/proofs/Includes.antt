@@ -1,4 +1,4 @@
--- What an include does, by what it looks at.
+-- The ending of an include, by its checks in turn.
 use Rattle.std.proofs.Common.{◌≡◌, ℕ, zero, suc, Bool, true, false, ◌&&◌, Option, None, Some, List, ◌-◌, nat_lt, length, refl, sym, ap, ◌∙◌, arith}
 use Rattle.std.specs.Prelude.{if◌then◌else◌}
 use Rattle.sieve_limits.specs.Limits.{include_limit}
@@ -25,7 +25,7 @@ abbrev Enter : Type 0
 Enter = Option (ScriptName → Commands → RunState → Ending)
 
 module _ (find : ScriptName → Lookup) (delivery : Delivery) (name : ScriptName) (once optional : Bool) (line : ℕ) (s : RunState) where
-  -- what an include does whatever runs a script, it does at each depth
+  -- If an include ends so however scripts are run, it does at each depth.
   at_depth : (depth : ℕ) (e : Ending) → ((enter : Enter) → e ≡ include_of find delivery enter name once optional line s) → e ≡ included find depth delivery name once optional line s
   unfolding included
   at_depth zero e does = does None
@@ -57,7 +57,7 @@ module _ (find : ScriptName → Lookup) (delivery : Delivery) (name : ScriptName
   fails_deep zero first second none = at_running None false first second
   fails_deep (suc depth) first second none = absurd cc
 
-  -- an include too many is an error
+  -- one include too many is an error
   pub fails_many : (depth : ℕ) → (once && is_script name s.entered) ≡ false → is_running name delivery ≡ false → (depth ≡ 0 → ⊥) → nat_lt include_limit (length s.entered) ≡ true → fails_at delivery line IncludeCount s ≡ included find depth delivery name once optional line s
   unfolding included
   fails_many zero first second deep many = absurd (deep refl)
@@ -74,7 +74,7 @@ module _ (find : ScriptName → Lookup) (delivery : Delivery) (name : ScriptName
       ∙ sym (ap (λ b. if b then fails_at delivery line IncludeCount s else looks_up find depth delivery name optional line s) few)
       ∙ at_running (Some (λ script program. exec (answer_of (inside script delivery)) (act_of find depth (inside script delivery)) program)) false first second
 
--- an include isn't skipped without `:once`, nor where its script wasn't entered
+-- an include isn't skipped without `:once`, nor if its script wasn't entered
 pub not_once : (once : Bool) (name : ScriptName) (entered : List ScriptName) → once ≡ false → (once && is_script name entered) ≡ false
 not_once once name entered is = ap (λ b. b && is_script name entered) is
 
@@ -85,7 +85,7 @@ not_entered once found name entered names are says is = by once (sym (says ∙ a
     by true is = is
     by false is = refl
 
--- WHAT IS FOUND
+-- FOUND SCRIPTS
 
 has_text : (lookup : Lookup) (ops : List Operation) → HasCode lookup ops → is_there lookup ≡ true
 has_text missing ops has = absurd has
@@ -99,14 +99,14 @@ looks_present find depth delivery name optional line ops old new there has is no
     ap (enters find depth delivery name ops) (noted ∙ ap (λ b. record old { lookups = with_lookup name b old.lookups }) (is ∙ sym (has_text (found_at find name) ops has)))
     ∙ by_found_code find depth delivery name optional line (found_at find name) ops (looked_up name (found_at find name) old) has
 
--- how the including script goes on after the included one, by how that ended
+-- how the including script goes on after the included one, by how the included one ended
 pub resumes : (before : Values) (ending : endings.Ending) (s : RunState) → ending_by (resumed_by ending) (resuming before s) ≡ resumed before (ending_by ending s)
 resumes before GoesOn s = refl
 resumes before Returned s = refl
 resumes before Stopped s = refl
 resumes before (Failed error) s = refl
 
--- running the code of an included script and going on after it is what entering it does
+-- entering an included script is running its code, and then going on after it
 pub enters_by : (find : ScriptName → Lookup) (depth : ℕ) (delivery : Delivery) (name : ScriptName) (ops : List Operation) (old begun ended after : RunState) (ending back : endings.Ending) → begun ≡ entering name old
     → doing (act_of find depth (inside name delivery)) (inside name delivery) (code_walk ops (length ops)) begun ≡ ending_by ending ended → back ≡ resumed_by ending → after ≡ resuming old.values ended → ending_by back after ≡ enters find depth delivery name ops old
 enters_by find depth delivery name ops old begun ended after ending back is_begun runs is_back is_after =

@@ -11,7 +11,7 @@ use Rattle.script_names.specs.contracts.name.ScriptNamePartialEq.TheImpl as equa
 pub names_alike : (a b : ScriptName) → equality.eq-value.it a b ≡ name_eq a b
 names_alike a b = search rules
 
--- a name is found where it was looked up
+-- a name is found exactly if it was looked up
 pub found_is_looked_up : (is : ScriptName → Bool) (name : ScriptName) (lookups : List (ScriptName × Bool)) → ((other : ScriptName) → is other ≡ name_eq name other) → is_some (lookup is lookups) ≡ is_looked_up name lookups
 found_is_looked_up is name [] same = refl
 found_is_looked_up is name ((other, there) ∷ lookups) same =
@@ -31,11 +31,11 @@ insert_lookup eq name there ((other, old) ∷ lookups) none = by (eq name other)
     by true none rest = absurd cc
     by false none rest = ap (λ entries. (other, old) ∷ entries) (rest none)
 
--- the names that were looked up stay as they are where one of them is looked up again
+-- if one of the names that were looked up is looked up again, they stay as they are
 pub lookup_stays : (name : ScriptName) (there : Bool) (lookups : List (ScriptName × Bool)) → is_looked_up name lookups ≡ true → lookups ≡ with_lookup name there lookups
 lookup_stays name there lookups is = sym (ap (λ b. if b then lookups else lookups ++ (name, there) ∷ []) is)
 
--- a look-up of a name that wasn't looked up is recorded
+-- a lookup of a name that wasn't looked up is recorded
 pub lookup_is_new : (eq : ScriptName → ScriptName → Bool) (name other : ScriptName) (there : Bool) (lookups new : List (ScriptName × Bool)) → is_some (lookup (eq name) lookups) ≡ false → is_looked_up name lookups ≡ false → other ≡ name
     → new ≡ ordered.insert_entry eq lookups other there → new ≡ with_lookup name there lookups
 lookup_is_new eq name other there lookups new none is same made =

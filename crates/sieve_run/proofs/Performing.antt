@@ -1,4 +1,4 @@
--- Doing the leaves of a script's walk is what running the script is.
+-- Doing the leaves of a script's walk is running the script.
 use Rattle.std.proofs.Common.{◌≡◌, ℕ, Bool, true, false, not, List, ◌∷◌, length, refl, ap, sym, ◌∙◌}
 use Rattle.sieve_script.specs.Reading.{Ask, Leaf}
 use Rattle.sieve_script.specs.Script.{Condition, always, never, asks, negated, all_hold, any_holds, Conditions, no_conditions, one_condition, Commands, no_commands, stops, returns, acts, chooses, Branches, no_branches, else_branch, test_branch}
@@ -23,7 +23,8 @@ module _ (ask : Ask → RunState → Answer) (act : Leaf → ℕ → RunState �
   other_way true f g s = refl
   other_way false f g s = refl
 
-  -- where `first` is `f` or `g` by the truth of `second`, choosing `first` by another truth is choosing `f` or `g` by both truths together
+  -- Let `first` be `f` or `g`, by the truth of `second`. A choice of `first` by another truth is a
+  -- choice of `f` or `g` by both truths together.
   both_by : (second : RunState → Answer) (first f g : RunState → Ending) → ((s : RunState) → first s ≡ chosen (second s).truth f g (second s).state) → (truth : Bool) (s : RunState) → chosen truth first g s ≡ chosen (also truth second s).truth f g (also truth second s).state
   both_by second first f g is true s = is s
   both_by second first f g is false s = refl
@@ -109,7 +110,7 @@ module _ (ask : Ask → RunState → Answer) (act : Leaf → ℕ → RunState �
   by_leaf leaf line next s after (stopped t) = refl
   by_leaf leaf line next s after (failed error t) = refl
 
-  -- doing a walk is doing what is met on it with the truths of its tests for answers
+  -- doing a walk is doing what is met on it with the truths of its tests as answers
   does_gone : (w : Walk) (s : RunState) → perform ask act w s ≡ do_gone ask act (gone w (answers_of ask act w s)) s
   unfolding perform gone answers_of do_met
   does_gone at_end s = refl

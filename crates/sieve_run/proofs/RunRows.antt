@@ -1,5 +1,5 @@
--- Worked rows of what no run of the program shows: runs that are watched, libraries that have scripts of too long names, and what the laws
--- say of actions.
+-- Worked rows of facts that no run of the program shows. They are of watched runs, of libraries
+-- with scripts of too long names, and of laws about actions.
 use Rattle.std.proofs.Common.{◌≡◌, true, false, List, [], ◌∷◌, length, nat_lt, if◌then◌else◌, None, Some, refl, ap, codes}
 use Rattle.std.specs.List.{IsDistinct}
 use Rattle.sieve_script.specs.Script.{Commands, no_commands}
@@ -43,14 +43,14 @@ having name program asked = if name_eq name asked then present program else miss
 abbrev entered_a : RunState
 entered_a = record { entries = []; cancelled = false; lookups = (main, true) ∷ (script_a, true) ∷ []; entered = main ∷ script_a ∷ []; values = no_values; flags = [] }
 
--- a delivery in a script that these scripts include
+-- a delivery in a script that is included by these scripts
 abbrev under : List ScriptName → Delivery
 under including = record { arrival = record { message = []; envelope = envelope; own = None; profile = empty_profile }; script = main; including = including }
 
 abbrev nine : List ScriptName
 nine = script_b ∷ script_b ∷ script_b ∷ script_b ∷ script_b ∷ script_b ∷ script_b ∷ script_b ∷ script_b ∷ []
 
--- where a run is watched, a script that ten include is run, and one that eleven include isn't
+-- in a watched run, a script that 10 scripts include is run, and one that 11 scripts include isn't
 watched_row : (beyond : Delivery → Commands → RunState → Ending) → watched_include beyond (having script_a no_commands) 1 (under nine) script_a false false 2 (begun main) ≡ goes_on entered_a
 unfolding exec included watched_include
 watched_row beyond = refl
@@ -72,11 +72,11 @@ long_name_row find name arrival is = ap (λ n. verdict_at find arrival name (if 
 
 -- DISTINCT ACTIONS
 
--- a store that asks for nothing beside
+-- a store without settings beside its mailbox
 abbrev plain : Filing
 plain = record { create = false; special_use = None }
 
--- two stores into one mailbox are one action, whatever their flags, wherever they stand
+-- Two stores into one mailbox are one action. Their flags and their places don't matter.
 one_store_row : AreDistinctActions (Store (codes "a") [] plain ∷ Discard ∷ Store (codes "a") (codes "\\Seen" ∷ []) plain ∷ []) → ⊥
 unfolding IsDistinct
 one_store_row distinct = let e = distinct.0.1.0 in absurd cc

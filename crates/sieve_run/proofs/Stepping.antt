@@ -1,4 +1,4 @@
--- What single operations do of what is left to do.
+-- The effect of single operations on the rest of a run.
 use Rattle.std.proofs.Common.{◌≡◌, ℕ, ◌+◌, ◌<◌, ◌≤◌, ◌-◌, zero, suc, Bool, true, false, Option, Some, None, Result, IfOk, List, length, refl, ap, sym, ◌∙◌, arith, subst}
 use Rattle.std.proofs.lemmas.Option.{slice_get_past}
 use Rattle.std.proofs.lemmas.Result.{IfOk-at_ok, IfOk-weaker}
@@ -28,7 +28,8 @@ one_more : {n turn : ℕ} → turn < n → n - turn ≡ suc (n - (turn + 1))
 one_more below = omega arith
 
 module _ (act : Acts) (delivery : Delivery) where
-  -- going on at the place after an operation is going on at the next place, with the same truth in the register
+  -- going on at the place after an operation is going on at the next place, with the same truth in
+  -- the register
   on_after : (go : ℕ → Bool → Walk) (truth : Bool) (after place : ℕ) (s : RunState) → after ≡ place + 1 → doing act delivery (go (place + 1) truth) s ≡ doing act delivery (go after truth) s
   on_after go truth after place s is = ap (λ b. doing act delivery (go b truth) s) (sym is)
 
@@ -36,7 +37,8 @@ module _ (act : Acts) (delivery : Delivery) where
   by_answer true f s = refl
   by_answer false f s = refl
 
-  -- a test that comes to a truth, and leaves a state, goes on at the place after with that truth in the register
+  -- After a test that gives a truth and a state, the run goes on at the place after it. The truth
+  -- is in the register.
   pub asks_steps : (ask : Ask) (truth : Bool) (after : ℕ) (register : Bool) (old new : RunState) → truth ≡ truth_of delivery old ask → new ≡ after_test delivery ask old → StepsTo act delivery (test_op ask) after register old (Next after truth) new
   unfolding perform
   asks_steps ask truth after register old new is moves = record {
@@ -47,7 +49,7 @@ module _ (act : Acts) (delivery : Delivery) where
         ∙ on_after go truth after place new at;
   }
 
-  -- what follows a command, by how the command ended
+  -- the rest of a run after a command, by how the command ended
   by_ending : (ending : endings.Ending) (go : ℕ → Bool → Walk) (after place : ℕ) (register : Bool) (new : RunState) → after ≡ place + 1 → and_then (ending_by ending new) (doing act delivery (go (place + 1) register)) ≡ doing_after act delivery go (step_after ending after register) new
   by_ending GoesOn go after place register new at = on_after go register after place new at
   by_ending ending.Returned go after place register new at = refl

@@ -1,4 +1,4 @@
--- Laws of what tests and commands do to the state of a run.
+-- Laws about the changes that tests and commands make to the state of a run.
 use Rattle.std.proofs.Common.{◌≡◌, ℕ, Bool, true, false, List, Option, None, Some, refl, ap, ◌∙◌}
 use Rattle.std.specs.Prelude.{if◌then◌else◌}
 use Rattle.sieve_script.specs.Reading.{Ask, Leaf, compares, exists_ask, over_ask, under_ask, mailboxes_ask, duplicate_ask}
@@ -12,12 +12,13 @@ use Rattle.sieve_run.specs.Run.{SetsMatched, Answer, and_then, answer_of, also, 
 use Rattle.sieve_delivery.specs.State.{RunState}
 use Rattle.sieve_variables.specs.Value.{with_matched}
 
--- a state after two matches in turn is the one before them but for what a match gave
+-- after two matches in turn, a state is the one before them but for what a match gave
 again : (state between next : RunState) → SetsMatched state between → SetsMatched between next → SetsMatched state next
 again state between next first second =
     (second.0, second.1 ∙ ap {A = RunState} (λ s. record s { values = with_matched second.0 s.values }) first.1)
 
--- two tests of which each sets match variables at most do so together, whether the second is asked or not
+-- Two tests together set match variables at most, if each of them does. It doesn't matter whether
+-- the second is asked.
 also_keeps : (truth : Bool) (second : RunState → Answer) (state between : RunState) → ((s : RunState) → SetsMatched s (second s).state) → SetsMatched state between → SetsMatched state (also truth second between).state
 also_keeps true second state between keeps same = again state between (second between).state same (keeps between)
 also_keeps false second state between keeps same = same
@@ -26,7 +27,7 @@ or_else_keeps : (truth : Bool) (second : RunState → Answer) (state between : R
 or_else_keeps true second state between keeps same = same
 or_else_keeps false second state between keeps same = again state between (second between).state same (keeps between)
 
--- what a test finds sets match variables or nothing
+-- the values that a test finds set match variables or nothing
 found_keeps : (match_type : MatchType) (found : Option (List (List ℕ))) (state : RunState) → SetsMatched state (record state { values = with_found match_type found state.values })
 found_keeps Matches (Some matched) state = (matched, refl)
 found_keeps Matches None state = (state.values.matched, refl)
@@ -35,7 +36,7 @@ found_keeps Contains found state = (state.values.matched, refl)
 found_keeps (Value relation) found state = (state.values.matched, refl)
 found_keeps (Count relation) found state = (state.values.matched, refl)
 
--- and one whose match variables stay sets nothing
+-- if match variables are to stay, a test sets nothing
 found_in_keeps : (sets : Bool) (match_type : MatchType) (found : Option (List (List ℕ))) (state : RunState) → SetsMatched state (record state { values = if sets then with_found match_type found state.values else state.values })
 found_in_keeps true match_type found state = found_keeps match_type found state
 found_in_keeps false match_type found state = (state.values.matched, refl)
@@ -71,12 +72,12 @@ mutual
   any_keeps delivery (one_condition c cs) state =
       or_else_keeps (decide (answer_of delivery) c state).truth (decide_any (answer_of delivery) cs) state (decide (answer_of delivery) c state).state (any_keeps delivery cs) (decide_keeps delivery c state)
 
--- nothing after a stop is run
+-- no command after a stop is run
 pub stop_ends : (ask : Ask → RunState → Answer) (act : Leaf → ℕ → RunState → Ending) (rest : Commands) (after : RunState → Ending) (state : RunState) → and_then (exec ask act (stops rest) state) after ≡ stopped state
 unfolding exec
 stop_ends ask act rest after state = refl
 
--- nothing after a return is run
+-- no command after a return is run
 pub return_ends : (ask : Ask → RunState → Answer) (act : Leaf → ℕ → RunState → Ending) (rest : Commands) (after : RunState → Ending) (state : RunState) → and_then (exec ask act (returns rest) state) after ≡ returned state
 unfolding exec
 return_ends ask act rest after state = refl

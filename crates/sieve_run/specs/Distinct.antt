@@ -1,4 +1,4 @@
--- Actions of which no two are one (RFC 5228, section 2.10.3).
+-- Actions of which no two are one (RFC 5228, 2.10.3).
 use Rattle.std.specs.Prelude.{List}
 use Rattle.std.specs.List.{IsDistinct}
 use Rattle.sieve_delivery.specs.declared.action.Action.{Action}

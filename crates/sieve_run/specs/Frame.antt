@@ -1,5 +1,5 @@
--- What a verdict depends on: of a library of a profile, the texts at the names that it looked up, and that there are none at those that were
--- missing.
+-- The part of a library of a profile that a verdict depends on. It is the texts at the names that
+-- it looked up, and that there are none at the missing ones.
 use Rattle.std.specs.Prelude.{◌≡◌, ℕ, Bool, true, List, Option}
 use Rattle.sieve_delivery.specs.Delivery.{Arrival}
 use Rattle.sieve_run.specs.Library.{library_of}
@@ -7,7 +7,7 @@ use Rattle.sieve_run.specs.Run.{is_looked_up, verdict_of}
 use Rattle.sieve_verdict.specs.Verdict.{Verdict}
 use Rattle.script_names.specs.declared.name.ScriptName.{ScriptName}
 
--- the texts of a library: at each name one, or none
+-- the texts of a library: one at each name, or none
 abbrev pub LibraryTexts : Type 0
 LibraryTexts = ScriptName → Option (List ℕ)
 

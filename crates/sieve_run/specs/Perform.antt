@@ -1,4 +1,4 @@
--- What doing the leaves of a walk in turn gives, up to the first that ends the run.
+-- The leaves of a walk, done in turn up to the first that ends the run.
 use Rattle.std.specs.Prelude.{ℕ, Bool, true, false, List, [], ◌∷◌}
 use Rattle.sieve_script.specs.Reading.{Ask, Leaf}
 use Rattle.sieve_code.specs.Walk.{Walk, at_end, by_stop, by_return, cut_off, asked, acted, Met, met_ask, met_leaf, WalkEnd, ended, unanswered, unfinished, Gone, gone}
@@ -7,8 +7,8 @@ use Rattle.sieve_delivery.specs.Ending.{Ending, goes_on, returned, stopped, fail
 use Rattle.sieve_run.specs.Run.{Answer, and_then, chosen}
 use Rattle.sieve_delivery.specs.State.{RunState}
 
--- `ask` says what tests ask, whose truth is the walk's next answer, and `act` what commands do that act; no walk of a script is
--- cut off
+-- `ask` answers tests, and the truth of a test is the walk's next answer. `act` carries out
+-- commands that act. No walk of a script is cut off.
 unfoldable pub perform : (Ask → RunState → Answer) → (Leaf → ℕ → RunState → Ending) → Walk → RunState → Ending
 perform ask act at_end state = goes_on state
 perform ask act by_stop state = stopped state
@@ -19,7 +19,8 @@ perform ask act (acted leaf line next) state = and_then (act leaf line state) (p
 
 -- WITH A LIST OF ANSWERS
 
--- the answers from one of two walks, and those after a command that didn't end the run
+-- The answers on one of two walks, by a truth. Then the answers after a command, if it didn't end
+-- the run.
 abbrev pub chosen_answers : Bool → (RunState → List Bool) → (RunState → List Bool) → RunState → List Bool
 chosen_answers true held otherwise state = held state
 chosen_answers false held otherwise state = otherwise state
@@ -39,13 +40,13 @@ answers_of ask act cut_off state = []
 answers_of ask act (asked a so otherwise) state = (ask a state).truth ∷ chosen_answers (ask a state).truth (answers_of ask act so) (answers_of ask act otherwise) (ask a state).state
 answers_of ask act (acted leaf line next) state = answers_after (act leaf line state) (answers_of ask act next)
 
--- doing what was met in turn, up to the first that ends the run
+-- the tests and commands that were met, done in turn up to the first that ends the run
 unfoldable pub do_met : (Ask → RunState → Answer) → (Leaf → ℕ → RunState → Ending) → List Met → RunState → Ending
 do_met ask act [] state = goes_on state
 do_met ask act (met_ask a ∷ met) state = do_met ask act met (ask a state).state
 do_met ask act (met_leaf leaf line ∷ met) state = and_then (act leaf line state) (do_met ask act met)
 
--- how the run ends then
+-- the ending of the run after them, by the end of the walk
 abbrev pub end_of : WalkEnd → RunState → Ending
 end_of ended state = goes_on state
 end_of walk.stopped state = stopped state

@@ -1,4 +1,4 @@
--- A script that is kept: its text, and the profile under which it is read and checked.
+-- A script that is kept: its text, and the profile under which the text is read and checked.
 use Rattle.std.specs.Prelude.{ℕ, List}
 use Rattle.sieve_profile.specs.Profile.{Profile}
 

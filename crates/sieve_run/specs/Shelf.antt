@@ -11,10 +11,10 @@ pub record ShelfState : Type 0 where
   -- the names with their texts
   pub scripts : List (ScriptName × List ℕ)
 
--- the text of the script of that name
+-- the text of the script of a name
 abbrev pub text_on : List (ScriptName × List ℕ) → ScriptName → Option (List ℕ)
 text_on scripts name = lookup (name_eq name) scripts
 
--- the scripts with this text at the name: in the place of the one there, or last
+-- The scripts with this text at the name. It takes the place of the text there, or is last.
 abbrev pub with_text : ScriptName → List ℕ → List (ScriptName × List ℕ) → List (ScriptName × List ℕ)
 with_text name text scripts = ordered.insert_entry name_eq scripts name text

@@ -1,4 +1,4 @@
-//! What an include looks at and looks up (RFC 6609, section 3).
+//! The checks of an include, and how its script is looked up and entered (RFC 6609, 3).
 ghost use Rattle.std.specs.Prelude.{◌≡◌, ◌++◌, [], ◌∷◌, map, IfOk, OnOk};
 ghost use Rattle.sieve_run.specs.Library.{found_at, library_of};
 ghost use Rattle.sieve_run.specs.Run.{entering, is_running, is_script};
@@ -15,7 +15,8 @@ use sieve_limits::MAX_NAME;
 use sieve_variables::Own;
 use std::alloc::{AllocError, Global};
 
-/// What an `include` of a name finds in a library: a name of more than 1,024 octets is that of no script. Takes no memory.
+/// Looks a name up in a library, as an `include` does (RFC 6609, 3). A name of more than 1,024
+/// octets is that of no script.
 pub fn find<'a, L: Library>(lib: &'a L, name: &ScriptName) -> Found<'a>
     ensures { FoundAs result
         (found_at (library_of (L.profile lib.now) (L.texts lib.now)) name.now) }
@@ -27,14 +28,14 @@ pub fn find<'a, L: Library>(lib: &'a L, name: &ScriptName) -> Found<'a>
     }
 }
 
-/// Whether a script is among some.
+/// Whether a name is one of some names of scripts.
 pub(crate) fn is_script(name: &ScriptName, names: &[ScriptName]) -> bool
     ensures { result ≡ is_script name.now names.now }
 {
     names.iter().any(|other| *name == *other)
 }
 
-/// Whether a script is among those that include others.
+/// Whether a name is one of the names of scripts that include others.
 fn is_including(name: &ScriptName, names: &[&ScriptName]) -> bool
     ensures { result ≡ is_script name.now (map (λ other. other.now) names.now) }
 {
@@ -46,14 +47,15 @@ fn is_including(name: &ScriptName, names: &[&ScriptName]) -> bool
     false
 }
 
-/// Whether a script runs: it is the running one, or one that includes it.
+/// Whether a script runs. It does if it is the running one, or one that includes it.
 pub(crate) fn is_running(name: &ScriptName, delivery: &Delivery<'_>) -> bool
     ensures { result ≡ is_running name.now (delivery_as delivery.now) }
 {
     *name == *delivery.script || is_including(name, delivery.including)
 }
 
-/// The scripts that include one that the running one includes.
+/// The scripts that include a script that the running one includes. They are those that include the
+/// running one, and then the running one.
 pub(crate) fn including_next<'a>(delivery: &Delivery<'a>) -> Result<Vec<&'a ScriptName>, AllocError>
     ensures { IfOk result (λ names. map (λ name. name.now) names.items
         ≡ (delivery_as delivery.now).including ++ (delivery_as delivery.now).script ∷ []) }
@@ -66,7 +68,8 @@ pub(crate) fn including_next<'a>(delivery: &Delivery<'a>) -> Result<Vec<&'a Scri
     Ok(names)
 }
 
-/// Enters a script that another one includes: it is noted, and has no variables of its own. Answers what the other one has.
+/// Enters a script that another one includes. It is noted, and has no variables of its own. Returns
+/// the variables of the including script.
 pub(crate) fn begin_included(
     alloc: Global,
     name: &ScriptName,
@@ -90,7 +93,7 @@ pub(crate) fn is_there(found: &Found<'_>) -> bool
     }
 }
 
-/// How the including script goes on after one that ended so.
+/// How an `include` ends in the including script, by how the included script ended.
 pub(crate) fn resumed(ending: Ending) -> Ending
     ensures { result ≡ resumed_by ending }
 {

@@ -30,8 +30,8 @@ use sieve_variables::Values;
 use sieve_verdict::Verdict;
 use std::alloc::{AllocError, Global};
 
-/// The verdict of an error: no action is performed, and the implicit keep stands, without flags (RFC
-/// 5228, 2.10.6).
+/// The verdict of an error. No action is performed, and the implicit keep stands, without flags
+/// (RFC 5228, 2.10.6).
 fn failed(alloc: Global, error: RunError, lookups: IndexMap<ScriptName, bool>) -> Verdict
     ensures { result ≡ record {
       entries = [];
@@ -48,7 +48,7 @@ fn failed(alloc: Global, error: RunError, lookups: IndexMap<ScriptName, bool>) -
     )
 }
 
-/// The verdict where the main script itself can't run: the implicit keep stands.
+/// The verdict if the main script itself can't run. The implicit keep stands.
 fn failed_at_main(
     alloc: Global,
     main: &ScriptName,
@@ -72,7 +72,7 @@ fn failed_at_main(
     Ok(failed(alloc, error, lookups))
 }
 
-/// The record of lookups after that of the main script.
+/// The lookups of a run that has looked up the main script alone.
 fn first_lookup(
     alloc: Global,
     main: &ScriptName,
@@ -85,14 +85,14 @@ fn first_lookup(
     Ok(lookups)
 }
 
-/// The flags of the implicit keep, where no action cancelled it.
+/// The flags of the implicit keep if no action cancelled it, or none.
 fn kept(cancelled: bool, flags: FlagList) -> Option<FlagList>
     ensures { result ≡ if cancelled then None else Some flags }
 {
     if cancelled { None } else { Some(flags) }
 }
 
-/// The verdict of a run of the main script that ended so.
+/// The verdict of a run of the main script, by how the run ended.
 fn ended(alloc: Global, ending: Ending, state: RunState) -> Verdict
     requires { length state.actions.entries ≤ action_limit }
     ensures { result ≡ verdict_after (ending_by ending (state_of state)) }
@@ -130,7 +130,7 @@ fn begun(alloc: Global, main: &ScriptName) -> Result<RunState, AllocError>
     })
 }
 
-/// Runs the main script's code from the start.
+/// Runs the code of the main script from its start.
 fn run_main<L: Library>(
     alloc: Global,
     lib: &L,
@@ -161,7 +161,7 @@ fn run_main<L: Library>(
     Ok(ended(alloc, ending, state))
 }
 
-/// The verdict where there is no main script: the implicit keep, and nothing is looked up.
+/// The verdict if there is no main script. The implicit keep stands, and nothing is looked up.
 fn no_main(alloc: Global) -> Verdict
     ensures { result
         ≡ record { entries = []; implicit = Some []; error = None; lookups = [] } }
@@ -174,7 +174,9 @@ fn no_main(alloc: Global) -> Verdict
     )
 }
 
-/// Runs the main script on a message, under the library's profile. A message's own addresses stand in place of those of the envelope. The meter counts the run, also where memory runs out.
+/// Runs the main script on a message, under the library's profile. If there is none, the implicit
+/// keep stands. A message's own addresses take the place of those of the envelope. The meter counts
+/// the run, even if memory runs out. An error is out of memory.
 #[tactic(auto, using(crate::proofs::Performing::by_code), unfolding(crate::specs::Run::verdict_of))]
 pub fn run<L: Library>(
     alloc: Global,

@@ -1,4 +1,4 @@
-//! Laws over the definitions. Each of these functions does nothing: its contract is the law.
+//! Laws about the definitions. Each of these functions does nothing: its contract is the law.
 
 ghost use Rattle.std.specs.Prelude.{◌≡◌, ◌≤◌, ◌++◌, ℕ, suc, Bool, true, not, List, Option, filter, length};
 ghost use Rattle.std.specs.List.{list_any};
@@ -22,8 +22,8 @@ ghost use Rattle.sieve_verdict.specs.Verdict.{actions_of};
 ghost use Rattle.sieve_delivery.specs.State.{RunState};
 ghost use Rattle.script_names.specs.declared.name.ScriptName as names;
 
-/// Commands after a `stop` change nothing, whatever they are, whatever tests ask and whatever commands that act do, be they after it in
-/// its own block or after that (RFC 5228, section 3.3).
+/// Commands after a `stop` change nothing, in its own block or after that block (RFC 5228, 3.3).
+/// This holds for all such commands, whatever tests ask and whatever commands that act do.
 #[tactic(auto, using(crate::proofs::Unchanged::stop_ends))]
 pub fn stop_ends_the_commands()
     ensures { (ask : Ask → RunState → spec.Answer) (act : Leaf → ℕ → RunState → Ending)
@@ -31,7 +31,7 @@ pub fn stop_ends_the_commands()
         → spec.and_then (spec.exec ask act (stops rest) state) after ≡ stopped state }
 {}
 
-/// Commands after a `return` change nothing either (RFC 6609, section 3.3).
+/// Commands after a `return` change nothing either (RFC 6609, 3.3).
 #[tactic(auto, using(crate::proofs::Unchanged::return_ends))]
 pub fn return_ends_the_commands()
     ensures { (ask : Ask → RunState → spec.Answer) (act : Leaf → ℕ → RunState → Ending)
@@ -39,7 +39,8 @@ pub fn return_ends_the_commands()
         → spec.and_then (spec.exec ask act (returns rest) state) after ≡ returned state }
 {}
 
-/// A run enters at most 256 scripts beside the main one. A script that was entered stays among those that were, whatever is done then.
+/// A run enters at most 256 scripts beside the main one. Running a script only adds to the end of
+/// the list of entered scripts.
 pub fn a_run_enters_so_many_scripts()
     ensures many { (find : names.ScriptName → Lookup) (arrival : Arrival) (main : names.ScriptName)
         (program : Commands)
@@ -49,8 +50,9 @@ pub fn a_run_enters_so_many_scripts()
         (spec.running find depth delivery program state)).entered ≡ state.entered ++ more) }
 {}
 
-/// Scripts include one another 10 deep at most, counted by those that include the running one: the main script runs with none
-/// above it; an include runs its script with one more above it, and enters none where 10 are.
+/// Scripts include one another at most 10 deep. The depth is the number of scripts that include the
+/// running one. The main script runs at depth 0, and an include runs its script at a depth of one
+/// more. At depth 10 an include enters no script.
 pub fn scripts_include_one_another_so_deep()
     ensures main { (find : names.ScriptName → Lookup) (arrival : Arrival) (main : names.ScriptName)
         (program : Commands) → spec.run_of find arrival main program ≡ spec.running find (depth_left
@@ -66,16 +68,16 @@ pub fn scripts_include_one_another_so_deep()
         (depth_left delivery) delivery name once optional line state)).entered ≡ state.entered }
 {}
 
-/// At no moment of a run do more than 10 scripts run below the main one (RFC 6609, section 3.1): whatever is done in place of a
-/// script that more include, the run is the same.
+/// At no moment of a run do more than 10 scripts run below the main one (RFC 6609, 3.1). A run is
+/// the same whatever is done in place of a script that more scripts include.
 pub fn no_run_comes_to_a_deeper_script()
     ensures { (beyond : Delivery → Commands → RunState → Ending) (find : names.ScriptName → Lookup)
         (arrival : Arrival) (main : names.ScriptName) (program : Commands)
         → watched_run beyond find arrival main program ≡ spec.run_of find arrival main program }
 {}
 
-/// The frame: a verdict, with the names that it looked up, is the same over each library of the same profile that has the same text,
-/// or none, at each of these names.
+/// A verdict, with the names that it looked up, is the same over two libraries of one profile that
+/// agree at these names. They agree at a name if both have the same text there, or both have none.
 #[tactic(auto, using(crate::proofs::Frame::frame))]
 pub fn a_verdict_depends_on_what_it_looked_up()
     ensures { (texts others : LibraryTexts) (main : Option names.ScriptName) (arrival : Arrival)
@@ -83,17 +85,19 @@ pub fn a_verdict_depends_on_what_it_looked_up()
         → verdict_over others main arrival ≡ verdict_over texts main arrival }
 {}
 
-/// Tests set match variables at most (RFC 5229, section 3.2): neither the actions of a run nor whether the implicit keep is
-/// cancelled, neither the names looked up nor the variables that are set.
+/// Tests set match variables at most (RFC 5229, 3.2). They change neither the actions of a run nor
+/// whether the implicit keep is cancelled. They change neither the names looked up nor the
+/// variables that are set.
 #[tactic(auto, using(crate::proofs::Unchanged::decide_keeps))]
 pub fn tests_set_match_variables_at_most()
     ensures state { (delivery : Delivery) (condition : Condition) (state : RunState)
         → spec.SetsMatched state (spec.decide (spec.answer_of delivery) condition state).state }
 {}
 
-/// What running a script's commands does is what doing the leaves of its walk in turn gives, up to the first that ends
-/// the run, the answers being what tests ask; whatever tests ask, and whatever commands that act do.
-/// The same comes of the list of answers that the tests give: what the walk meets with them is done in turn.
+/// Running a script's commands gives the same as doing the leaves of its walk in turn, up to the
+/// first that ends the run. The walk goes by the answers of the tests. Doing in turn what the walk
+/// meets with the list of these answers gives the same too. This holds whatever tests ask, and
+/// whatever commands that act do.
 #[tactic(auto, using(crate::proofs::Performing::walking))]
 pub fn a_run_does_its_walk()
     ensures same { (ask : Ask → RunState → spec.Answer) (act : Leaf → ℕ → RunState → Ending)
@@ -104,31 +108,34 @@ pub fn a_run_does_its_walk()
         ask act (gone (script_walk program) (answers_of ask act (script_walk program) state)) state }
 {}
 
-/// Whatever the scripts, the message, the envelope and the profile: no verdict has more actions than a run may perform (RFC 5228, section 2.10.4).
+/// No verdict has more actions than a run may perform (RFC 5228, 2.10.4). This holds for all
+/// scripts, messages, envelopes and profiles.
 #[tactic(auto, using(crate::proofs::Bounds::verdict_bounded))]
 pub fn no_run_acts_too_often()
     ensures { (find : names.ScriptName → Lookup) (main : Option names.ScriptName)
         (arrival : Arrival) → length (spec.verdict_of find main arrival).entries ≤ action_limit }
 {}
 
-/// Each action has the command that entered it, in one record: where a command performs an action, those that were there keep theirs, joined or
-/// not, and one that is new has this command.
+/// Each action is kept in one record with the command that entered it. If a command performs an
+/// action, the actions that were there keep their commands, joined or not. A new action has this
+/// command.
 #[tactic(auto, using(crate::proofs::Bounds::performed_entries))]
 pub fn each_action_has_its_origin()
     ensures { (delivery : Delivery) (line : ℕ) (deed : Deed) (state : RunState) → ComesOf delivery
         line deed state.entries (state_after (performs delivery line deed state)).entries }
 {}
 
-/// No two actions of a verdict are one: it has no two stores into one mailbox, no two redirects to one address, and no two discards (RFC
-/// 5228, section 2.10.3), nor two responses or two rejections.
+/// No two actions of a verdict are one. It has no two stores into one mailbox, no two redirects to
+/// one address, and no two discards (RFC 5228, 2.10.3). It also has no two responses and no two
+/// rejections.
 #[tactic(auto, using(crate::proofs::Distinct::verdict_distinct))]
 pub fn no_run_acts_twice_alike()
     ensures { (find : names.ScriptName → Lookup) (main : Option names.ScriptName)
         (arrival : Arrival) → AreDistinctActions (actions_of (spec.verdict_of find main arrival)) }
 {}
 
-/// No verdict acts against itself: it answers the sender once at most (RFC 5230, section 4.7), and where it rejects the message it does that
-/// once, and does nothing else than discard it (RFC 5429, section 2.4).
+/// A verdict answers the sender at most once (RFC 5230, 4.7). If it rejects the message, it does so
+/// once, and its other actions discard the message (RFC 5429, 2.4).
 #[tactic(auto, using(crate::proofs::AtPeace::verdict_responses, crate::proofs::AtPeace::verdict_rejections))]
 pub fn no_run_acts_against_itself()
     ensures responses { (find : names.ScriptName → Lookup) (main : Option names.ScriptName)

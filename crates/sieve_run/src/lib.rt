@@ -1,5 +1,5 @@
-//! Runs checked Sieve scripts against a message (RFC 5228): what the message would suffer, and which scripts that
-//! verdict looked at.
+//! Runs checked Sieve scripts on a message (RFC 5228, 2.10 and 4). The verdict says what becomes of
+//! the message, and which scripts it looked up.
 #![tactic(auto)]
 
 mod including;

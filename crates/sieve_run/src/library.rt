@@ -7,7 +7,7 @@ use script_names::ScriptName;
 use sieve_code::Code;
 use sieve_profile::Profile;
 
-/// What a library has at a name.
+/// The answer of a library for a name.
 #[derive(Drop)]
 pub enum Found<'a> {
     /// No script.
@@ -18,13 +18,13 @@ pub enum Found<'a> {
     Present(&'a Code),
 }
 
-/// Where a run finds scripts by their names: what is there is by the texts and the profile.
+/// Where a run finds scripts by their names. The texts and the profile decide what is found.
 pub trait Library {
     ghost use Rattle.std.specs.Prelude.{◌≡◌, ℕ, List, Option};
     ghost use Rattle.script_names.specs.declared.name.ScriptName.{ScriptName};
     ghost use Rattle.sieve_profile.specs.Profile as profiles;
 
-    /// What is known beyond what always is.
+    /// The extensions that are known beside those that always are.
     ghost profile: { Self → profiles.Profile };
 
     /// The text at each name.
@@ -34,7 +34,7 @@ pub trait Library {
     fn profile(&self) -> Profile
         ensures { profile_as result ≡ profile self.now };
 
-    /// What there is at a name. Takes no memory.
+    /// The script at a name: its code, that it is invalid, or that there is none.
     fn find(&self, name: &ScriptName) -> Found<'_>
         ensures { FoundAs result (lookup_of (profile self.now) (texts self.now name.now)) };
 }

@@ -6,7 +6,8 @@ use indexmap::IndexMap;
 use script_names::ScriptName;
 use std::alloc::{AllocError, Global};
 
-/// Notes that a name was looked up, and whether there was a text, where it isn't noted yet.
+/// Notes that a name was looked up, and whether there was a text. A name that is noted already
+/// stays as it is.
 pub(crate) fn note_lookup(
     alloc: Global,
     lookups: &mut IndexMap<ScriptName, bool>,

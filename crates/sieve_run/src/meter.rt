@@ -19,14 +19,14 @@ impl Model for Meter {
 }
 
 impl Meter {
-    /// A meter of no runs. Takes no memory.
+    /// Makes a meter that has counted no runs.
     pub fn new() -> Meter
         ensures { result ≡ 0 }
     {
         Meter { runs: 0 }
     }
 
-    /// How many runs there were. Takes no memory.
+    /// The number of runs that were counted.
     pub fn runs(&self) -> u64
         ensures { result ≡ self.now }
     {

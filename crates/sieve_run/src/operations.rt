@@ -1,4 +1,4 @@
-//! What a test of code finds.
+//! The tests of code.
 ghost use Rattle.std.specs.Prelude.{◌≡◌, IfOk};
 ghost use Rattle.sieve_delivery.specs.view.Delivery.{delivery_as};
 ghost use Rattle.sieve_delivery.specs.view.State.{state_of};
@@ -12,7 +12,7 @@ use sieve_delivery::{Delivery, RunState};
 use sieve_script::Ask;
 use std::alloc::AllocError;
 
-/// Whether what a test asks holds. No message came before, so none is a duplicate.
+/// Whether a test holds. No message came before, so none is a duplicate.
 #[tactic(auto, unfolding(sieve_conditions::specs::Matching::truth_of, sieve_conditions::specs::Matching::values_after))]
 pub(crate) fn ask(
     delivery: &Delivery<'_>,

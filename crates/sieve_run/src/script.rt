@@ -16,16 +16,17 @@ use sieve_profile::Profile;
 use std::alloc::{AllocError, Global};
 use std::marker::Model;
 
-/// What is kept of a text's judgement.
+/// The part of a text's judgement that is kept.
 #[derive(Drop)]
 enum Compiled {
     /// The code of a text without a fault.
     Sound(Code),
-    /// The first fault of another.
+    /// The first fault of another text.
     Faulty { line: u64, kind: FaultKind },
 }
 
-/// What is kept of a judgement: a checked script is compiled, and its statements go.
+/// The part of a judgement that is kept. A checked script is compiled, and its statements are
+/// dropped.
 fn kept_of(alloc: Global, judged: Judged) -> Result<Compiled, AllocError>
     ensures { IfOk result (λ compiled. CompiledFrom compiled (judged_as judged)) }
 {
@@ -35,7 +36,8 @@ fn kept_of(alloc: Global, judged: Judged) -> Result<Compiled, AllocError>
     }
 }
 
-/// A script's text with its code or its first fault, which are found once, under a profile. Contracts see the profile and the text.
+/// A script's text with its code or its first fault, under a profile. The code or the fault is
+/// found once. Contracts see the profile and the text.
 #[derive(Drop)]
 pub struct Script {
     profile: Profile,
@@ -59,7 +61,8 @@ impl Model for Script {
 }
 
 impl Script {
-    /// Reads and checks a text, which isn't copied, under a profile. Refused for memory alone.
+    /// Reads and checks a text of at most 1,048,576 octets, under a profile. The text isn't copied.
+    /// An error is out of memory.
     pub fn new(alloc: Global, profile: Profile, text: Octets) -> Result<Script, AllocError>
         requires { length text ≤ text_limit }
         ensures { IfOk result
@@ -76,7 +79,7 @@ impl Script {
         }
     }
 
-    /// A copy, which is read and checked again under the same profile. Refused for memory alone.
+    /// A copy, which is read and checked again under the same profile. An error is out of memory.
     pub fn copy(&self, alloc: Global) -> Result<Script, AllocError>
         ensures { IfOk result (λ script. script ≡ self.now) }
     {
@@ -91,7 +94,7 @@ impl Script {
         self.text.as_slice()
     }
 
-    /// The line and the kind of the text's first fault.
+    /// The line and the kind of the text's first fault, or none if it has no fault.
     pub fn fault(&self) -> Option<(u64, FaultKind)>
         ensures { result ≡ fault_of (judgement_of self.now.profile self.now.text) }
     {
@@ -101,7 +104,7 @@ impl Script {
         }
     }
 
-    /// What a run finds here.
+    /// The answer of a library that has this script at a name.
     pub fn found(&self) -> Found<'_>
         ensures { FoundAs result (lookup_of self.now.profile (Some self.now.text)) }
     {

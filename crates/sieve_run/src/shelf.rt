@@ -17,7 +17,7 @@ use sieve_profile::Profile;
 use std::alloc::{AllocError, Global};
 use std::marker::Model;
 
-/// What stands at a name.
+/// An entry of a shelf.
 #[derive(Drop)]
 enum Shelved {
     Script(Script),
@@ -26,7 +26,8 @@ enum Shelved {
 }
 
 impl Shelved {
-    /// Reads and checks a text of any length, where it isn't too long.
+    /// Makes an entry of a text of any length. The text is read and checked if it isn't too long
+    /// for a script.
     fn new(alloc: Global, profile: Profile, text: &[u8]) -> Result<Shelved, AllocError>
         ensures entry { IfOk result (λ entry. IsEntry (profile_as profile) entry) }
         ensures text { IfOk result (λ entry. entry_text entry ≡ text.now) }
@@ -39,7 +40,7 @@ impl Shelved {
         }
     }
 
-    /// What a run finds here.
+    /// The answer of a library that has this entry.
     fn found(&self) -> Found<'_>
         ensures { (profile : profiles.Profile) → IsEntry profile self.now
             → FoundAs result (lookup_of profile (Some (entry_text self.now))) }
@@ -51,7 +52,8 @@ impl Shelved {
     }
 }
 
-/// Scripts by their names, all under one profile. Contracts see the profile and the names, each with its text.
+/// Scripts by their names, all under one profile. Contracts see the profile and the names, each
+/// with its text.
 #[derive(Drop)]
 pub struct Shelf {
     alloc: Global,
@@ -75,7 +77,7 @@ impl Shelf {
     ghost use Rattle.std.specs.Prelude.{[], OnErr, OnOk};
     ghost use Rattle.sieve_run.specs.Shelf.{with_text};
 
-    /// A shelf of a profile without scripts. Takes no memory.
+    /// Makes a shelf without scripts, under a profile.
     pub fn new(alloc: Global, profile: Profile) -> Shelf
         ensures { result ≡ record { profile = profile_as profile; scripts = [] } }
     {
@@ -86,7 +88,8 @@ impl Shelf {
         }
     }
 
-    /// Keeps an entry at a name, in place of the one there, which is given back. An error changes nothing.
+    /// Keeps an entry at a name, in place of the entry there. Returns the entry that was there. An
+    /// error changes nothing.
     fn replace(&mut self, name: ScriptName, entry: Shelved) -> Result<Option<Shelved>, AllocError>
         requires { IsEntry self.old.profile entry }
         ensures ok { OnOk result (self.new
@@ -96,8 +99,8 @@ impl Shelf {
         Ok(self.scripts.insert(name, entry)?)
     }
 
-    /// Puts a text of any length at a name of at most 1,024 octets, in place of the one there. An error, which is a lack
-    /// of memory, changes nothing.
+    /// Puts a text of any length at a name of at most 1,024 octets, in place of the text there. An
+    /// error is out of memory, and changes nothing.
     pub fn add(&mut self, name: &ScriptName, text: &[u8]) -> Result<(), AllocError>
         requires { length name.now.name ≤ name_limit }
         ensures ok { OnOk result (self.new

@@ -32,31 +32,32 @@ use sieve_script::Leaf;
 use sieve_variables::Literal;
 use std::alloc::AllocError;
 
-/// What an `include` says beside its script (RFC 6609, section 3.2).
+/// The settings of an `include` beside its script (RFC 6609, 3.2).
 #[derive(Clone, Copy)]
 struct Inclusion {
-    /// Whether the script runs only where it hasn't run yet.
+    /// Whether the script runs only if it wasn't entered before.
     once: bool,
     /// Whether the script may be missing.
     optional: bool,
-    /// The command's line.
+    /// The line of the command.
     line: u32,
 }
 
 /// A script that runs.
 #[derive(Drop)]
 pub(crate) struct Running<'a, L: Library> {
-    /// Where scripts are looked up that it includes.
+    /// The library that its includes look scripts up in.
     pub(crate) lib: &'a L,
-    /// How deep scripts may still include one another.
+    /// The number of levels of includes that are still allowed below it.
     pub(crate) depth: usize,
-    /// What its tests and commands know.
+    /// The facts that its tests and commands use.
     pub(crate) delivery: &'a Delivery<'a>,
     /// Its code.
     pub(crate) code: &'a Code,
 }
 
-/// Carries out the code of a script. Its jumps go forward, so it takes no more turns than there are operations.
+/// Carries out the code of a script. Its jumps go forward, so it takes no more turns than there are
+/// operations.
 #[cycle(execute)]
 pub(crate) fn execute<L: Library>(
     running: &Running<'_, L>,
@@ -99,7 +100,7 @@ pub(crate) fn execute<L: Library>(
     Ok(Ending::GoesOn)
 }
 
-/// Carries out an operation of code, where this is the place after it.
+/// Carries out an operation of code. `after` is the place after the operation.
 #[cycle(execute)]
 #[tactic(auto, using(crate::proofs::Stepping::stop_steps, crate::proofs::Stepping::return_steps))]
 fn carry_out<L: Library>(
@@ -143,7 +144,7 @@ fn carry_out<L: Library>(
     }
 }
 
-/// Does what the command of a place does.
+/// Carries out the command at a place. If there is none, the message is discarded.
 #[cycle(execute)]
 fn act_at<L: Library>(
     running: &Running<'_, L>,
@@ -165,7 +166,7 @@ fn act_at<L: Library>(
     }
 }
 
-/// Does what a command does.
+/// Carries out a command that acts.
 #[cycle(execute)]
 fn act<L: Library>(
     running: &Running<'_, L>,
@@ -263,7 +264,7 @@ fn include_named<L: Library>(
     include(running, &name, inclusion, fields, state)
 }
 
-/// Runs code in a script that the running one includes.
+/// Runs code as that of a script that the running one includes.
 #[cycle(execute)]
 fn execute_inside<L: Library>(
     running: &Running<'_, L>,
@@ -297,7 +298,8 @@ fn execute_inside<L: Library>(
     execute(&inside, fields, state)
 }
 
-/// Runs the code of a script that is included.
+/// Enters an included script, and runs its code. Then the variables of the including script stand
+/// again.
 #[cycle(execute)]
 fn enter<L: Library>(
     running: &Running<'_, L>,
@@ -318,7 +320,8 @@ fn enter<L: Library>(
     Ok(resumed(ending))
 }
 
-/// Looks a script up, and does what an include does with what is found.
+/// Looks a script up, and enters it. An invalid script is an error. So is a missing one, unless it
+/// may be missing.
 #[cycle(execute)]
 fn look_up<L: Library>(
     running: &Running<'_, L>,
@@ -351,8 +354,8 @@ fn look_up<L: Library>(
     }
 }
 
-/// Includes a script (RFC 6609, section 3.2). What doesn't depend on its text is checked before it is looked up, so a verdict names no script that
-/// can't matter to it.
+/// Includes a script (RFC 6609, 3.2). The checks that don't depend on its text come before its
+/// lookup. So a verdict names no script that can't matter to it.
 #[cycle(execute)]
 fn include<L: Library>(
     running: &Running<'_, L>,
@@ -391,7 +394,7 @@ fn include<L: Library>(
     look_up(&below, name, inclusion, fields, state)
 }
 
-/// One of two places.
+/// The place `there` if the truth holds, or else the other one.
 fn chosen(truth: bool, there: usize, otherwise: usize) -> usize
     ensures { result ≡ if truth then there else otherwise }
 {

@@ -6,23 +6,23 @@ ghost use Rattle.sieve_run.specs.view.Step.{StepFollows, step_after};
 use sieve_delivery::Ending;
 use std::alloc::AllocError;
 
-/// How an operation ended.
+/// The result of carrying out an operation.
 #[derive(Drop)]
 pub(crate) enum Step {
     /// The script goes on at a place, with a truth in the register.
     Next { place: usize, register: bool },
-    /// The script ended so.
+    /// The script ended.
     Ended(Ending),
 }
 
-/// On at a place, with a truth in the register.
+/// The step that goes on at a place, with a truth in the register.
 pub(crate) fn proceed(register: bool, place: usize) -> Step
     ensures { result ≡ Next place register }
 {
     Step::Next { place, register }
 }
 
-/// The step after a command that ended so, where this is the place after its operation's.
+/// The step after a command, by how the command ended. `after` is the place after its operation.
 fn step_after(ending: Ending, after: usize, register: bool) -> Step
     ensures { result ≡ step_after ending after register }
 {
@@ -34,14 +34,14 @@ fn step_after(ending: Ending, after: usize, register: bool) -> Step
     }
 }
 
-/// The step after a test, where its call gave its truth.
+/// The step after a test. It fails if the call of the test failed.
 pub(crate) fn tested(truth: Result<bool, AllocError>, after: usize) -> Result<Step, AllocError>
     ensures { IfOk result (StepFollows truth (λ truth. Next after truth)) }
 {
     Ok(proceed(truth?, after))
 }
 
-/// The step after a command, where its call says how it ended.
+/// The step after a command, by how the command ended. It fails if the call of the command failed.
 pub(crate) fn acted(
     ending: Result<Ending, AllocError>,
     after: usize,

@@ -1,4 +1,4 @@
--- Worked rows of texts about a verdict without lines, which no run comes to.
+-- Worked rows of texts about a verdict without lines. No run has such a verdict.
 use Rattle.std.proofs.Common.{◌≡◌, false, [], None, refl, codes}
 use Rattle.sieve_verdict.specs.Lines.{agrees}
 use Rattle.sieve_verdict.specs.Verdict.{Verdict}
@@ -6,7 +6,7 @@ use Rattle.sieve_verdict.specs.Verdict.{Verdict}
 abbrev no_lines : Verdict
 no_lines = record { entries = []; implicit = None; error = None; lookups = [] }
 
--- the empty text agrees with no verdict, and a lone LF is a line too many for this one
+-- the empty text doesn't agree with this verdict, and a lone LF is one line too many for it
 nothing_row : agrees [] no_lines [] ≡ false
 unfolding agrees
 nothing_row = refl

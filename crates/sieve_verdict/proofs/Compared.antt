@@ -1,4 +1,5 @@
--- What a device has taken that compares what is written to it with a line, and what that says of the line.
+-- The octets that a device takes when it compares a line with them. Also that it then says whether
+-- they are the line.
 use Rattle.std.proofs.Common.{◌≡◌, ℕ, suc, ◌+◌, ◌<◌, ◌≤◌, true, false, not, ◌⊎◌, inl, inr, nat_eq, List, [], ◌∷◌, ◌++◌, length, drop, take, get_or, Option, None, Some, is_some, Result, Ok, Err, refl, sym, ap, ◌∙◌, append_assoc, append-nil, take-append-drop, eq-eqb, eqb-true, arith}
 use Rattle.std.proofs.lemmas.Bool.Decides.{same_from_decides}
 use Rattle.std.proofs.lemmas.List.{append_cancel_left, drop_at, drop_more, length-drop, length-take-le, take_all, take_at, take_more}
@@ -11,12 +12,12 @@ use Rattle.sieve_verdict.specs.view.Comparing.{begins_with, held, is_apart, is_w
 
 -- OCTETS IN TURN
 
--- the first octet of some
+-- the first octet of some octets
 pub first_octet : (bytes : List ℕ) → 0 < length bytes → take 1 bytes ≡ get_or bytes 0 0 ∷ []
 first_octet [] some = absurd (omega arith)
 first_octet (octet ∷ bytes) some = refl
 
--- an octet that the line has next is taken of the line
+-- an octet that is next in the line is taken as an octet of the line
 next_taken : (line : List ℕ) (taken octet : ℕ) → begins_with octet (drop taken line) ≡ true
     → (taken < length line) × (take (taken + 1) line ≡ take taken line ++ octet ∷ [])
 next_taken line taken octet starts = by (drop taken line) refl starts
@@ -38,21 +39,22 @@ taken_more line bytes taken None octet none starts one =
     ∙ sym (append_assoc (length line ∷ line) (take taken line) (take 1 bytes))
 taken_more line bytes taken (Some other) octet none starts one = absurd (let e : true ≡ false = none in cc)
 
--- an octet that the line hasn't next is kept apart
+-- an octet that isn't next in the line is kept apart
 pub other_taken : (line bytes : List ℕ) (taken : ℕ) (other : Option ℕ) (octet : ℕ) → is_some other ≡ false → take 1 bytes ≡ octet ∷ [] → held line taken (Some octet) ≡ held line taken other ++ take 1 bytes
 unfolding held
 other_taken line bytes taken None octet none one =
     ap (λ o. (length line ∷ line) ++ (take taken line ++ o)) (sym one) ∙ sym (append_assoc (length line ∷ line) (take taken line) (take 1 bytes))
 other_taken line bytes taken (Some other) octet none one = absurd (let e : true ≡ false = none in cc)
 
--- WHAT IS WRITTEN
+-- THE WRITTEN TEXT
 
--- two texts of two parts each, of which the first are equally long
+-- two equal texts of two parts each, whose first parts are equally long, have equal parts
 same_parts : (a b s t : List ℕ) → length a ≡ length b → a ++ s ≡ b ++ t → (a ≡ b) × (s ≡ t)
 same_parts a b s t long is =
     (sym (take_at a s (length a) refl) ∙ ap (take (length a)) is ∙ take_at b t (length a) (sym long), sym (drop_at a s (length a) refl) ∙ ap (drop (length a)) is ∙ drop_at b t (length a) (sym long))
 
--- Whether a text was all of a line, by what was written of it and what wasn't: something wasn't only where a write failed.
+-- The device says whether a text is the line. The text is the octets that were written and those
+-- that weren't. If some weren't written, a write failed.
 decided : (line text back : List ℕ) (taken : ℕ) (other : Option ℕ) (faults : ℕ) → taken ≤ length line → is_apart other (drop taken line) faults ≡ true → (back ≡ []) ⊎ (1 ≤ faults)
     → written line taken other ++ back ≡ text → Decides (is_whole line taken other) (line ≡ text)
 decided line text back taken None faults within apart (inl none) is =
@@ -70,7 +72,7 @@ decided line text back taken (Some octet) faults within apart some is = (
       sym (ap not starts) ∙ apart),
 )
 
--- the same of the line that the device had before, which it still has
+-- the same for the line that the device had before, which it still has
 told : (line text back now : List ℕ) (taken : ℕ) (other : Option ℕ) (faults : ℕ) → taken ≤ length now → is_apart other (drop taken now) faults ≡ true → (back ≡ []) ⊎ (1 ≤ faults)
     → held now taken other ++ back ≡ held line 0 None ++ text → is_whole now taken other ≡ pointwise nat_eq line text
 unfolding held
@@ -84,7 +86,8 @@ told line text back now taken other faults within apart some is =
     same_from_decides (is_whole now taken other) (pointwise nat_eq now text) (decided now text back taken other faults within apart some parts.1) (bytes_eq-Decides now text)
     ∙ ap (λ l. pointwise nat_eq l text) same
 
--- after a text was tried on a device that compares with a line, the device tells whether the text is the line
+-- After a text was written to a device that compares a line with it, the device decides. It says
+-- whether the text is the line.
 pub tells : {T E : Type 0} (line text : List ℕ) (answer : Result T E) (old new : Comparing) → held old.line.now old.taken old.other ≡ held line 0 None → old.faults ≡ 0
     → Writes (λ (c : Comparing). Some (held c.line.now c.taken c.other)) (λ (c : Comparing). c.faults) answer old new text
     → is_whole new.line.now new.taken new.other ≡ pointwise nat_eq line text

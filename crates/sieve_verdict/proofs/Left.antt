@@ -1,4 +1,4 @@
--- What the lines of a text say, by its first line and what is left.
+-- Whether a text says lines, by its first line and the rest after it.
 use Rattle.std.proofs.Common.{◌≡◌, ◌↔◌, ℕ, ◌<◌, true, false, not, IsTrue, ◌==◌, ◌&&◌, nat_eq, List, [], ◌∷◌, ◌++◌, length, Option, None, Some, refl, sym, ap, ◌∙◌, arith}
 use Rattle.std.proofs.lemmas.Bool.{ne_eqb}
 use Rattle.std.proofs.lemmas.Slice.Eq.{bytes_eq-Decides, slice_eq-Decides}
@@ -14,7 +14,8 @@ use Rattle.sieve_verdict.specs.view.Left.{left_says}
 first_says : (text line left front : List ℕ) (wanted : List (List ℕ)) → lines text ≡ line ∷ lines left → says text (front ∷ wanted) ≡ (pointwise nat_eq line front && says left wanted)
 first_says text line left front wanted is = ap (λ l. pointwise (pointwise nat_eq) l (front ∷ wanted)) is
 
--- whether a text says lines, by its first line: the first of them, another one, or none
+-- Whether a text says lines. Its first line is the first of them, or it is another line, or there
+-- is none.
 pub line_there : (text line left front : List ℕ) (wanted : List (List ℕ)) → lines text ≡ line ∷ lines left → pointwise nat_eq line front ≡ true → says left wanted ≡ says text (front ∷ wanted)
 line_there text line left front wanted is whole = sym (first_says text line left front wanted is ∙ ap (λ same. same && says left wanted) whole)
 
@@ -30,7 +31,7 @@ says_nothing text none = sym (ap (λ t. says t []) none)
 pub says_something : (text line left : List ℕ) → lines text ≡ line ∷ lines left → false ≡ says text []
 says_something text line left is = sym (ap (λ l. pointwise (pointwise nat_eq) l []) is)
 
--- whether a text says the lines of two parts in turn, by what the first part leaves
+-- whether a text says the lines of two parts in turn, by the text after the first part
 pub part_some : (first rest : List (List ℕ)) (text left : List ℕ) (answer : Option (List ℕ)) → ((wanted : List (List ℕ)) → left_says answer wanted ≡ says text (first ++ wanted)) → answer ≡ Some left → says left rest ≡ says text (first ++ rest)
 part_some first rest text left answer one some = ap (λ a. left_says a rest) (sym some) ∙ one rest
 

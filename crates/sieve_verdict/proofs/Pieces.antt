@@ -12,7 +12,8 @@ pub error_pieces : (error : RunError) (word : List ℕ) → word ≡ error_word 
 unfolding error_line
 error_pieces error word is = rw (is, append-nil (error_word error.kind)) (simp append_assoc)
 
--- the text that is found at a place is the one that is there, and has the word of that one
+-- The text that is found at a place is the text at that place in the list. So both give the same
+-- word after a space.
 pub text_at : (texts : List (List ℕ)) (i : ℕ) (text : List ℕ) → slice_get texts i ≡ Some text → text ≡ get_or texts i text
 text_at [] i text at = cc
 text_at (x ∷ xs) zero text at = cc
@@ -21,7 +22,8 @@ text_at (x ∷ xs) (suc i) text at = text_at xs i text at
 pub text_there : (texts : List (List ℕ)) (i : ℕ) (text : List ℕ) → slice_get texts i ≡ Some text → spaced_word text ≡ spaced_word (get_or texts i text)
 text_there texts i text at = ap spaced_word (text_at texts i text at)
 
--- the words of the texts before a place, and then that of the text there, are the words of the texts before the next place
+-- The words of the texts before a place and the word of the text there, joined. They are the words
+-- of the texts before the next place.
 pub texts_more : (texts : List (List ℕ)) (i : ℕ) (text : List ℕ) → i < length texts → slice_get texts i ≡ Some text → spaced_words (take i texts) ++ spaced_word text ≡ spaced_words (take (i + 1) texts)
 texts_more texts i text below at =
     ap (λ t. spaced_words (take i texts) ++ t) (text_there texts i text at)

@@ -1,4 +1,4 @@
--- The lines of a verdict, each without what stands before and after it in a report.
+-- The lines of a verdict, each without the spaces before it and the line end after it in a report.
 use Rattle.std.specs.Prelude.{ℕ, Bool, true, false, List, [], ◌∷◌, ◌++◌, map, nat_eq, Option, None, Some, codes, decimal}
 use Rattle.std.specs.List.{flat_map}
 use Rattle.std.specs.Str.Lines.{lines}
@@ -15,14 +15,14 @@ use Rattle.sieve_delivery.specs.declared.response.Response.{Response}
 use Rattle.sieve_script.specs.Reading.{rejection_word}
 use Rattle.sieve_verdict.specs.Verdict.{Verdict, actions_of}
 
--- a text after a space, and texts so
+-- a text after a space, and several texts, each after a space
 abbrev pub spaced_word : List ℕ → List ℕ
 spaced_word text = codes " " ++ quoted text
 
 abbrev pub spaced_words : List (List ℕ) → List ℕ
 spaced_words texts = flat_map spaced_word texts
 
--- a text after a word, where it is given
+-- a word and a text, if the text is given
 abbrev pub given_words : List ℕ → Option (List ℕ) → List ℕ
 given_words word None = []
 given_words word (Some text) = word ++ quoted text
@@ -39,8 +39,9 @@ worded_texts word texts = word ++ spaced_words texts
 unfoldable pub mailbox_line : List ℕ → List ℕ → List (List ℕ) → List ℕ
 mailbox_line word mailbox flags = worded_text word mailbox ++ spaced_words flags
 
--- what a store asks for beside: that its mailbox is made where it isn't there (RFC 5490, section 3.2), and the use of the mailbox to store into where
--- there is one of that use (RFC 8579, section 4)
+-- The settings of a store beside its mailbox and its flags. One says that its mailbox is made if it
+-- isn't there (RFC 5490, 3.2). The other names the use of a mailbox. If there is one of that use,
+-- the message is stored into it (RFC 8579, 4).
 abbrev pub create_word : Bool → List ℕ
 create_word false = []
 create_word true = codes " create"
@@ -48,29 +49,30 @@ create_word true = codes " create"
 unfoldable pub filing_words : Filing → List ℕ
 filing_words filing = create_word filing.create ++ given_words (codes " special-use ") filing.special_use
 
--- for how many days a sender gets no other response (RFC 5230, section 4.1), where that is said
+-- for how many days a sender gets no other response (RFC 5230, 4.1), if that is said
 abbrev pub days_words : Option ℕ → List ℕ
 days_words None = []
 days_words (Some days) = codes " days " ++ decimal days
 
--- further addresses of the user (RFC 5230, section 4.5), where they are given
+-- further addresses of the user (RFC 5230, 4.5), if they are given
 abbrev pub addresses_words : Option (List (List ℕ)) → List ℕ
 addresses_words None = []
 addresses_words (Some addresses) = worded_texts (codes " addresses") addresses
 
--- the word of a response whose text is a MIME entity (RFC 5230, section 4.4)
+-- the word of a response whose text is a MIME entity (RFC 5230, 4.4)
 abbrev pub mime_word : Bool → List ℕ
 mime_word false = []
 mime_word true = codes " mime"
 
--- what is given of a response beside its text: how often a sender gets one, its subject and whom it is from, and then the rest
+-- The settings of a response beside its text. First how often a sender gets one, its subject and
+-- its sender. Then the others.
 unfoldable pub sending_words : Response → List ℕ
 sending_words response = days_words response.days ++ given_words (codes " subject ") response.subject ++ given_words (codes " from ") response.from
 
 unfoldable pub further_words : Response → List ℕ
 further_words response = addresses_words response.addresses ++ mime_word response.mime ++ given_words (codes " handle ") response.handle
 
--- the line of a response (RFC 5230, section 4)
+-- the line of a response (RFC 5230, 4)
 unfoldable pub response_line : Response → List ℕ
 response_line response = worded_text (codes "vacation ") response.reason ++ sending_words response ++ further_words response
 
@@ -107,7 +109,8 @@ abbrev pub error_lines : Option RunError → List (List ℕ)
 error_lines None = []
 error_lines (Some error) = error_line error ∷ []
 
--- the lines of what becomes of a message: the actions in order, the implicit keep where it stands, and the error where there is one
+-- The lines of a verdict, without those of looked-up names. They are the actions in order, the
+-- implicit keep if there is one, and the error if there is one.
 abbrev pub verdict_lines : (mailbox : List ℕ) → Verdict → List (List ℕ)
 verdict_lines mailbox verdict = map action_line (actions_of verdict) ++ (implicit_lines mailbox verdict.implicit ++ error_lines verdict.error)
 
@@ -115,12 +118,13 @@ verdict_lines mailbox verdict = map action_line (actions_of verdict) ++ (implici
 abbrev pub lookup_lines : Verdict → List (List ℕ)
 lookup_lines verdict = map lookup_line verdict.lookups
 
--- Whether a text has these lines and no others. A line of a text ends before an LF and a CR directly before that; nothing after the last LF is
--- no line.
+-- Whether a text has these lines and no others. A line of a text ends at an LF. A CR directly
+-- before the LF is no part of the line. After the last LF there is a line only if octets follow it.
 abbrev pub says : List ℕ → List (List ℕ) → Bool
 says text wanted = pointwise (pointwise nat_eq) (lines text) wanted
 
--- whether a text says what becomes of a message, line by line, whatever names were looked up; the empty text says nothing
+-- Whether a text says what becomes of a message, line by line, whatever names were looked up. The
+-- empty text says nothing.
 unfoldable pub agrees : (mailbox : List ℕ) → Verdict → (text : List ℕ) → Bool
 agrees mailbox verdict [] = false
 agrees mailbox verdict (octet ∷ text) = says (octet ∷ text) (verdict_lines mailbox verdict)

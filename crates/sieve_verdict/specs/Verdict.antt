@@ -1,12 +1,12 @@
--- What a run answers.
+-- The verdict of a run.
 use Rattle.std.specs.Prelude.{ℕ, List, Bool, Option}
 use Rattle.script_names.specs.declared.name.ScriptName.{ScriptName}
 use Rattle.sieve_delivery.specs.State.{Entered, actions_in}
 use Rattle.sieve_delivery.specs.declared.action.Action.{Action}
 use Rattle.sieve_delivery.specs.declared.error.RunError.{RunError}
 
--- the actions in order, each with the command that entered it first, the flags of the implicit keep where it stands, the error, and the names
--- looked up, each present or missing
+-- The actions in order, each with the command that entered it first. Then the flags of the implicit
+-- keep if there is one, and the error. Then the names that were looked up, each present or missing.
 pub record Verdict : Type 0 where
   pub entries : List Entered
   pub implicit : Option (List (List ℕ))

@@ -1,4 +1,5 @@
-//! Whether a text says what becomes of a message: it is read from its front, and none of it is copied.
+//! Whether a text says what becomes of a message. The text is read from its front, and none of it
+//! is copied.
 ghost use Rattle.std.specs.Prelude.{◌≡◌, ℕ, List, ◌∷◌, ◌++◌, [], map, nat_eq};
 ghost use lib.Pointwise.{pointwise};
 ghost use Rattle.std.specs.Option.{option_copied};
@@ -27,7 +28,7 @@ enum WantedLine<'a> {
     Error(&'a RunError),
 }
 
-/// Writes the line.
+/// Writes the wanted line.
 fn write_wanted<W: Sink>(wanted: &WantedLine<'_>, writer: &mut W) -> Result<(), WriteFault>
     ensures { Writes W.contents W.fault_count result writer.old writer.new
         (wanted_line wanted.now) }
@@ -39,17 +40,17 @@ fn write_wanted<W: Sink>(wanted: &WantedLine<'_>, writer: &mut W) -> Result<(), 
     }
 }
 
-/// Whether a line is the one that is wanted.
+/// Whether a line is the wanted one.
 fn is_wanted(line: &[u8], wanted: &WantedLine<'_>) -> bool
     ensures { result ≡ pointwise nat_eq line.now (wanted_line wanted.now) }
 {
     let mut written = Comparing::new(line);
-    // A failed write says what the device says too: that the line is another one.
+    // If the write fails, the line is another one. The device knows that too.
     let _ = write_wanted(wanted, &mut written);
     written.is_whole()
 }
 
-/// What follows a line.
+/// The text after its first line if that line is the wanted one, or none.
 #[tactic(auto, using(crate::proofs::Left::saying))]
 fn after_line<'a>(text: &'a [u8], wanted: &WantedLine<'_>) -> Option<&'a [u8]>
     ensures { (others : List (List ℕ)) → left_says (option_copied result) others
@@ -63,7 +64,7 @@ fn after_line<'a>(text: &'a [u8], wanted: &WantedLine<'_>) -> Option<&'a [u8]>
     }
 }
 
-/// What follows the lines of actions.
+/// The text after the lines of the actions if it begins with these lines, or none.
 #[tactic(auto, using(crate::proofs::Left::saying))]
 fn after_actions<'a>(text: &'a [u8], entries: &[Entry]) -> Option<&'a [u8]>
     ensures { (wanted : List (List ℕ)) → left_says (option_copied result) wanted ≡ spec.says
@@ -76,7 +77,8 @@ fn after_actions<'a>(text: &'a [u8], entries: &[Entry]) -> Option<&'a [u8]>
     Some(left)
 }
 
-/// What follows the line of the implicit keep, where it stands.
+/// The text after the line of the implicit keep if it begins with that line, or none. Without an
+/// implicit keep it is the whole text.
 fn after_kept<'a>(text: &'a [u8], mailbox: &[u8], kept: Option<&FlagList>) -> Option<&'a [u8]>
     ensures { (wanted : List (List ℕ)) → left_says (option_copied result) wanted ≡ spec.says
         text.now (spec.implicit_lines mailbox.now (option_copied kept.entry) ++ wanted) }
@@ -87,7 +89,8 @@ fn after_kept<'a>(text: &'a [u8], mailbox: &[u8], kept: Option<&FlagList>) -> Op
     }
 }
 
-/// What follows the line of the error, where there is one.
+/// The text after the line of the error if it begins with that line, or none. Without an error it
+/// is the whole text.
 fn after_failed<'a>(text: &'a [u8], failed: Option<&RunError>) -> Option<&'a [u8]>
     ensures { (wanted : List (List ℕ)) → left_says (option_copied result) wanted
         ≡ spec.says text.now (spec.error_lines (option_copied failed.entry) ++ wanted) }

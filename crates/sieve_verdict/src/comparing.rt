@@ -1,4 +1,4 @@
-//! A device that compares what is written to it with a line. It takes no memory.
+//! A device that compares a line with the octets that are written to it.
 ghost use Rattle.std.specs.Prelude.{◌≡◌, ◌≤◌, drop, length, true, None, Some};
 ghost use Rattle.devices.specs.Devices.{next_count};
 ghost use Rattle.sieve_verdict.specs.view.Comparing.{begins_with, held, is_apart, is_whole};
@@ -6,11 +6,12 @@ ghost use Rattle.sieve_verdict.specs.view.Comparing.{begins_with, held, is_apart
 use devices::{Faults, Sink};
 use std::io;
 
-/// A device that takes the octets of a line, and the first octet that isn't the line's. It refuses all after that one, so that the writing ends.
+/// A device that takes the octets of a line, and then the first octet that isn't the line's. It
+/// refuses all octets after that one, so the writing ends.
 #[derive(Drop)]
 pub(crate) struct Comparing<'a> {
     line: &'a [u8],
-    /// How many octets of the line were written, from the first on.
+    /// The number of octets of the line that were written, from the first on.
     taken: usize,
     /// The first octet that was written and isn't the line's.
     other: Option<u8>,
@@ -29,7 +30,7 @@ fn begins_with(octet: u8, text: &[u8]) -> bool
     }
 }
 
-/// The count after one more fault.
+/// The number of faults after one more, or the greatest number if there are that many.
 fn count_after(count: u64) -> u64
     ensures { result ≡ next_count count }
 {
@@ -37,7 +38,7 @@ fn count_after(count: u64) -> u64
 }
 
 impl<'a> Comparing<'a> {
-    /// Compares with a line what is written from here on.
+    /// A device that compares a line with the octets that are written from here on.
     pub(crate) fn new(line: &'a [u8]) -> Comparing<'a>
         ensures held { held result.line.now result.taken result.other ≡ held line.now 0 None }
         ensures faults { result.faults ≡ 0 }

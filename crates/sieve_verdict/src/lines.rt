@@ -1,4 +1,4 @@
-//! The lines of a verdict: what becomes of a message, and which names were looked up. Writing them takes no memory.
+//! The lines of a verdict. They say what becomes of a message, and which names were looked up.
 ghost use Rattle.devices.specs.Writers.{Writes};
 ghost use Rattle.std.specs.Prelude.{◌++◌, codes};
 ghost use Rattle.sieve_verdict.specs.Lines.{action_line, create_word, error_line, filing_words, given_words, implicit_line, mailbox_line, origin_line, lookup_line, spaced_word, spaced_words, worded_text};
@@ -57,7 +57,7 @@ fn write_mailbox_line<W: Sink>(
     write_flags(flags, writer)
 }
 
-/// Writes what a store asks for beside its mailbox.
+/// Writes the settings of a store beside its mailbox and its flags.
 #[tactic(auto, using(devices::proofs::Writing::writing), unfolding(crate::specs::Lines::filing_words))]
 fn write_filing<W: Sink>(filing: &Filing, writer: &mut W) -> Result<(), WriteFault>
     ensures { Writes W.contents W.fault_count result writer.old writer.new
@@ -67,7 +67,7 @@ fn write_filing<W: Sink>(filing: &Filing, writer: &mut W) -> Result<(), WriteFau
     write_given(b" special-use ", &filing.special_use, writer)
 }
 
-/// Writes that a store asks for its mailbox to be made, where it does.
+/// Writes that a store asks for its mailbox to be made, if it does.
 fn write_create<W: Sink>(create: bool, writer: &mut W) -> Result<(), WriteFault>
     ensures { Writes W.contents W.fault_count result writer.old writer.new (create_word create) }
 {
@@ -75,7 +75,7 @@ fn write_create<W: Sink>(create: bool, writer: &mut W) -> Result<(), WriteFault>
     write_out(word, writer)
 }
 
-/// Writes a text after a word, where it is given.
+/// Writes a word and a text, if the text is given.
 pub(crate) fn write_given<W: Sink>(
     word: &[u8],
     text: &Option<Octets>,
@@ -105,7 +105,8 @@ fn write_store<W: Sink>(
     write_filing(filing, writer)
 }
 
-/// Writes the line of an action, without what stands before and after it in a report. An error comes from the writer alone.
+/// Writes the line of an action, without the spaces before it and the line end after it in a
+/// report. An error comes from the writer alone.
 #[tactic(auto, unfolding(crate::specs::Lines::action_line))]
 pub fn write_action<W: Sink>(action: &Action, writer: &mut W) -> Result<(), WriteFault>
     ensures { Writes W.contents W.fault_count result writer.old writer.new
@@ -127,8 +128,8 @@ pub fn write_action<W: Sink>(action: &Action, writer: &mut W) -> Result<(), Writ
     }
 }
 
-/// Writes the line of the implicit keep with its flags, without what stands before and after it in a report. An error comes from the
-/// writer alone.
+/// Writes the line of the implicit keep with its flags. The spaces before it and the line end after
+/// it in a report aren't written. An error comes from the writer alone.
 #[tactic(auto, unfolding(crate::specs::Lines::implicit_line))]
 pub fn write_implicit<W: Sink>(
     mailbox: &[u8],
@@ -141,7 +142,8 @@ pub fn write_implicit<W: Sink>(
     write_mailbox_line(b"implicit ", mailbox, flags, writer)
 }
 
-/// Writes the line of an error, without what stands before and after it in a report. An error comes from the writer alone.
+/// Writes the line of an error, without the spaces before it and the line end after it in a report.
+/// An error comes from the writer alone.
 #[tactic(auto, unfolding(crate::specs::Lines::error_line))]
 pub fn write_error<W: Sink>(error: &RunError, writer: &mut W) -> Result<(), WriteFault>
     ensures { Writes W.contents W.fault_count result writer.old writer.new (error_line error.now) }
@@ -159,8 +161,8 @@ pub fn write_error<W: Sink>(error: &RunError, writer: &mut W) -> Result<(), Writ
     )
 }
 
-/// Writes the line of the command that entered an action, without what stands before and after it in a report. An error comes from the writer
-/// alone.
+/// Writes the line of the command that entered an action. The spaces before it and the line end
+/// after it in a report aren't written. An error comes from the writer alone.
 #[tactic(auto, unfolding(crate::specs::Lines::origin_line))]
 pub fn write_origin<W: Sink>(origin: &Origin, writer: &mut W) -> Result<(), WriteFault>
     ensures { Writes W.contents W.fault_count result writer.old writer.new
@@ -177,7 +179,8 @@ pub fn write_origin<W: Sink>(origin: &Origin, writer: &mut W) -> Result<(), Writ
     )
 }
 
-/// Writes the line of a looked-up name, without what stands before and after it in a report. An error comes from the writer alone.
+/// Writes the line of a looked-up name. The spaces before it and the line end after it in a report
+/// aren't written. An error comes from the writer alone.
 #[tactic(auto, unfolding(crate::specs::Lines::lookup_line))]
 pub fn write_lookup<W: Sink>(
     name: &ScriptName,

@@ -1,4 +1,4 @@
-//! The lines of responses (RFC 5230) and rejections (RFC 5429).
+//! The lines of responses (RFC 5230, 4) and rejections (RFC 5429, 2).
 ghost use Rattle.devices.specs.Writers.{Writes};
 ghost use Rattle.std.specs.Prelude.{◌++◌};
 ghost use Rattle.sieve_script.specs.Reading.{rejection_word};
@@ -9,7 +9,7 @@ use devices::{Piece, Sink, WriteFault, write_out, write_pieces};
 use sieve_delivery::{Response, Texts};
 use sieve_script::Rejection;
 
-/// Writes for how many days a sender gets no other response, where that is said.
+/// Writes for how many days a sender gets no other response, if that is said.
 fn write_days<W: Sink>(days: Option<u64>, writer: &mut W) -> Result<(), WriteFault>
     ensures { Writes W.contents W.fault_count result writer.old writer.new (days_words days) }
 {
@@ -41,7 +41,7 @@ fn write_worded_texts<W: Sink>(word: &[u8], texts: &Texts, writer: &mut W) -> Re
     write_texts(texts, writer)
 }
 
-/// Writes further addresses of the user, where they are given.
+/// Writes further addresses of the user, if they are given.
 fn write_addresses<W: Sink>(addresses: &Option<Texts>, writer: &mut W) -> Result<(), WriteFault>
     ensures { Writes W.contents W.fault_count result writer.old writer.new
         (addresses_words addresses.now) }
@@ -52,7 +52,7 @@ fn write_addresses<W: Sink>(addresses: &Option<Texts>, writer: &mut W) -> Result
     }
 }
 
-/// Writes that a response is a MIME entity, where it is one.
+/// Writes that a response is a MIME entity, if it is one.
 fn write_mime<W: Sink>(mime: bool, writer: &mut W) -> Result<(), WriteFault>
     ensures { Writes W.contents W.fault_count result writer.old writer.new (mime_word mime) }
 {
@@ -60,7 +60,7 @@ fn write_mime<W: Sink>(mime: bool, writer: &mut W) -> Result<(), WriteFault>
     write_out(word, writer)
 }
 
-/// Writes how often a sender gets a response, its subject and whom it is from, where they are given.
+/// Writes how often a sender gets a response, its subject and its sender, each if it is given.
 #[tactic(auto, using(devices::proofs::Writing::writing), unfolding(crate::specs::Lines::sending_words))]
 fn write_sending<W: Sink>(response: &Response, writer: &mut W) -> Result<(), WriteFault>
     ensures { Writes W.contents W.fault_count result writer.old writer.new
@@ -71,7 +71,7 @@ fn write_sending<W: Sink>(response: &Response, writer: &mut W) -> Result<(), Wri
     write_given(b" from ", &response.from, writer)
 }
 
-/// Writes what else is given of a response beside its text.
+/// Writes the further addresses, the mark of a MIME entity and the handle, each if it is given.
 #[tactic(auto, using(devices::proofs::Writing::writing, devices::proofs::Writing::middle_failed), unfolding(crate::specs::Lines::further_words))]
 fn write_further<W: Sink>(response: &Response, writer: &mut W) -> Result<(), WriteFault>
     ensures { Writes W.contents W.fault_count result writer.old writer.new

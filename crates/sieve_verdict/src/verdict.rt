@@ -59,7 +59,8 @@ impl Verdict {
         }
     }
 
-    /// The actions in order, 32 at most (RFC 5228, section 2.10.4), each with the command that entered it first. Takes no memory.
+    /// The actions in order, 32 at most (RFC 5228, 2.10.4), each with the command that entered it
+    /// first.
     pub fn entries(&self) -> &[Entry]
         ensures entries { entries_as result.now ≡ self.now.entries }
         ensures limit { length result.now ≤ action_limit }
@@ -67,32 +68,35 @@ impl Verdict {
         self.entries.as_slice()
     }
 
-    /// The flags of the implicit keep, where it stands (RFC 5228, section 2.10.2; RFC 5232, section 5). Takes no memory.
+    /// The flags of the implicit keep (RFC 5228, 2.10.2; RFC 5232, 5), or none if there is no
+    /// implicit keep.
     pub fn implicit(&self) -> Option<&FlagList>
         ensures { option_copied result ≡ self.now.implicit }
     {
         self.implicit.as_ref()
     }
 
-    /// The error that ended the run, if there was one. Takes no memory.
+    /// The error that ended the run, if there was one.
     pub fn error(&self) -> Option<&RunError>
         ensures { option_copied result ≡ self.now.error }
     {
         self.error.as_ref()
     }
 
-    /// The names that were looked up, in the order of their first lookups, and whether each was there. Takes no
-    /// memory.
+    /// The names that were looked up, in the order of their first lookups, and whether each was
+    /// there.
     pub fn lookups(&self) -> &IndexMap<ScriptName, bool>
         ensures { result.now.entries ≡ self.now.lookups }
     {
         &self.lookups
     }
 
-    /// Whether a text says what becomes of the message where mail is kept in `mailbox`: whether its lines are those of the verdict, each without the
-    /// spaces before it in a report, and without the names that were looked up. A line of the text ends at an LF, and a CR directly before that is no
-    /// part of it; the end of the text ends its last line. The empty text says nothing. The time is linear in the text and in the first line of the
-    /// verdict that it doesn't have. Takes no memory.
+    /// Whether a text says what becomes of the message if `keep` stores into `mailbox`. It does if
+    /// it isn't empty and its lines are those of the verdict. The text has neither the spaces
+    /// before these lines in a report nor the names that were looked up. A line of the text ends at
+    /// an LF. A CR directly before the LF is no part of the line. The end of the text ends its last
+    /// line. The time is linear in the text and in the first line of the verdict that the text
+    /// doesn't have.
     pub fn agrees(&self, mailbox: &[u8], text: &[u8]) -> bool
         ensures value { result ≡ agrees mailbox.now self.now text.now }
         ensures lines { IsTrue result

@@ -1,4 +1,4 @@
--- What a search for breaches answers.
+-- The result of a search for breaches.
 use Rattle.std.specs.Prelude.{◌≡◌, List, [], Result, Ok, Err}
 use Rattle.sieve_check.specs.Breach.{Breach, breaches_in}
 use Rattle.sieve_check.specs.CheckFault.{IsFirst}
@@ -10,6 +10,6 @@ abbrev pub Finds : {A : Type 0} → List Breach → Result A CheckFault → Type
 Finds breaches (Ok answer) = breaches ≡ []
 Finds breaches (Err fault) = IsFirst breaches fault
 
--- what `Finds` says, of the breaches of elements in turn
+-- the same as `Finds`, of the breaches of elements in turn
 abbrev pub FindsIn : {A : Type 0} → List Element → Result A CheckFault → Type 0
 FindsIn elements answer = Finds (breaches_in elements) answer

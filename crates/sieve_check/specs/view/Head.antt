@@ -1,4 +1,4 @@
--- What commands and tests of the program's tree have before their tests.
+-- The heads of commands and tests of the program's tree: the element itself, and its arguments.
 use Rattle.std.specs.Prelude.{map, List, ◌∷◌, ◌++◌, Some}
 use Rattle.sieve_syntax.specs.view.Tree.{argument_of, block_of, tests_of}
 use Rattle.sieve_syntax.specs.declared.tree.Command as commands

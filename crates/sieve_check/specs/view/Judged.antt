@@ -1,4 +1,4 @@
--- What the program judged a text to be.
+-- The program's judgement of a text.
 use Rattle.sieve_check.specs.Judgement.{Judgement, sound, faulty}
 use Rattle.sieve_check.specs.view.Checked.{commands_of}
 use Rattle.sieve_check.specs.declared.judged.Judged.{Judged}

@@ -1,4 +1,4 @@
--- What is kept of a text's judgement.
+-- The part of a text's judgement that is kept.
 use Rattle.std.specs.Prelude.{◌≡◌, List}
 use Rattle.sieve_check.specs.Judgement.{Judgement, sound, faulty}
 use Rattle.sieve_code.specs.Compiles.{Compiles}

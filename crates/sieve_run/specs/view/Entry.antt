@@ -1,4 +1,4 @@
--- What a shelf has at a name.
+-- The entries of a shelf.
 use Rattle.std.specs.Prelude.{◌≡◌, ⊤, ℕ, ◌<◌, List, [], ◌∷◌, length, map}
 use Rattle.sieve_limits.specs.Limits.{text_limit}
 use Rattle.script_names.specs.declared.name.ScriptName.{ScriptName}
@@ -11,7 +11,7 @@ abbrev pub entry_text : Shelved → List ℕ
 entry_text (Script script) = script.text
 entry_text (TooLong text) = text
 
--- a script is of the profile, and a text that isn't a script's is past the limit
+-- A script is of the profile. A text that isn't a script's is past the limit.
 abbrev pub IsEntry : Profile → Shelved → Type 0
 IsEntry profile (Script script) = script.profile ≡ profile
 IsEntry profile (TooLong text) = text_limit < length text

@@ -1,4 +1,4 @@
--- What a library answers.
+-- The answer of a library.
 use Rattle.std.specs.Prelude.{◌≡◌}
 use Rattle.sieve_code.specs.view.Code.{ops_of}
 use Rattle.sieve_run.specs.Library.{Lookup, HasCode, missing, invalid}

@@ -1,4 +1,4 @@
--- What the interpreter does where a script is included.
+-- The steps of the interpreter when a script is included.
 use Rattle.std.specs.Prelude.{ℕ, Bool, true, false, List, length}
 use Rattle.sieve_code.specs.Operation.{Operation}
 use Rattle.sieve_code.specs.Walk.{code_walk}
@@ -25,7 +25,8 @@ resumed_by Returned = GoesOn
 resumed_by Stopped = Stopped
 resumed_by (Failed error) = Failed error
 
--- running these operations of an included script, where scripts may include one another so deep in it
+-- running these operations of an included script, where so many levels of includes are still
+-- allowed in it
 abbrev pub enters : (ScriptName → Lookup) → (depth : ℕ) → Delivery → ScriptName → List Operation → RunState → Ending
 enters find depth delivery name ops state = resumed state.values (doing (act_of find depth (inside name delivery)) (inside name delivery) (code_walk ops (length ops)) (entering name state))
 

@@ -49,7 +49,7 @@ source_by names list given_list string (source.CurrentDate zone part) = reading.
 source_by names list given_list string (source.Body transform) = reading.body_values (body_by list transform)
 
 -- The settings of a `fileinto`, and the arguments of a `vacation`. The functions give the values of
--- lists and strings that may be left out, and of the text of a `vacation`.
+-- lists and strings that may be left out, and of the text.
 abbrev pub filed_by : {L S : Type 0} → (Option L → Option (List (List Part))) → (Option S → Option (List Part)) → settings.Settings L S → reading.Settings
 filed_by given_list given_string s = record { flags = given_list s.flags; copy = s.copy; create = s.create; special_use = given_string s.special_use }
 

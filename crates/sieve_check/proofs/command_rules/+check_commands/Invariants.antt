@@ -9,9 +9,9 @@ use Rattle.sieve_check.specs.view.Context.{at_spot}
 use Rattle.sieve_script.specs.view.Script.{script_before}
 use Rattle.sieve_check.proofs.command_rules.+check_commands.Given as goal
 
--- The breaches of the commands that are left are all that there are, and the context after these
--- commands is the context after all. What is read, followed by the chain of what is left, is the
--- chain of all.
+-- The breaches of the commands that are left are all that there are. The context after these
+-- commands is the context after all. The commands that are read, before the chain of those that are
+-- left, are the chain of all.
 abbrev pub invariant-check_commands-loop-command : goal.invariant-check_commands-loop-command
 invariant-check_commands-loop-command l = record {
   found : breaches_in (nodes_elements (at_spot l.spot l.scope) (nodes (map node_of l.command-iterator.rest.items))) ≡ breaches_in (nodes_elements (at_spot l.fn.start l.fn.scope) (nodes (map node_of l.fn.commands.items)));

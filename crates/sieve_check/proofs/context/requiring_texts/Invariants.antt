@@ -4,6 +4,7 @@ use Rattle.sieve_check.specs.Context.{requiring_texts}
 use Rattle.sieve_table.specs.view.Required.{required_as}
 use Rattle.sieve_check.proofs.context.requiring_texts.Given as goal
 
--- what is required so far, with what the strings that are left name, is what is required at the start with what all strings name
+-- the capabilities required so far, and those that the rest of the strings name, are
+-- those after all strings
 abbrev pub invariant-loop-text : goal.invariant-loop-text
 invariant-loop-text l = requiring_texts (required_as l.required) (map text_of (drop l.text-index l.texts)) ≡ requiring_texts (required_as l.fn.required) (map text_of l.texts)

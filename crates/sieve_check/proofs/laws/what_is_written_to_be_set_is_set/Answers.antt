@@ -1,4 +1,5 @@
--- Which variables are set after commands is said by the lemma `names_set`, and which are set before an element by the lemma `set_before`.
+-- The lemma `names_set` says which variables are set after commands. The lemma `set_before` says
+-- which are set before an element.
 use Rattle.sieve_check.proofs.NamedBefore.{set_before}
 use Rattle.sieve_check.proofs.Naming.{names_set}
 use Rattle.sieve_check.proofs.laws.what_is_written_to_be_set_is_set.Goals as goal

@@ -8,8 +8,8 @@ use Rattle.sieve_check.specs.view.Context.{context_as}
 use Rattle.sieve_script.specs.view.Script.{conditions_before}
 use Rattle.sieve_check.proofs.test_rules.+check_tests.Given as goal
 
--- the breaches of the tests that are left are all that there are; and the conditions that are read,
--- before those of the tests that are left, are all conditions
+-- The breaches of the tests that are left are all that there are. The conditions that are read,
+-- before those of the tests that are left, are all conditions.
 abbrev pub invariant-check_test_list-loop-test : goal.invariant-check_test_list-loop-test
 invariant-check_test_list-loop-test l = record {
   found : breaches_in (test_list_elements (context_as l.context) (tests (map test_of l.test-iterator.rest.items))) ≡ breaches_in (test_list_elements (context_as l.context) (tests (map test_of l.fn.list.items)));

@@ -8,7 +8,8 @@ use Rattle.sieve_delivery.specs.view.State.{state_of}
 use Rattle.sieve_run.specs.view.Step.{doing}
 use Rattle.sieve_run.proofs.steps.+execute.Given as goal
 
--- the message stays, and what is left to do from the place, in the turns that are left, gives what all of it gives
+-- The message stays. The walk from the place, in the turns that are left, gives what the whole walk
+-- gives.
 abbrev pub invariant-execute-loop-turn : goal.invariant-execute-loop-turn
 invariant-execute-loop-turn g l =
     let running = l.running in
@@ -17,7 +18,8 @@ invariant-execute-loop-turn g l =
     let act = act_of (library_of (g.L.Library.profile running.lib.now) (g.L.Library.texts running.lib.now)) running.depth d in
     (l.fields ≡ l.initial.fields) × (doing act d (walk_from ops (length ops - l._turn) l.place l.register) (state_of l.state) ≡ doing act d (code_walk ops (length ops)) (state_of l.fn.state))
 
--- how deep scripts may still be included, and within one depth the way from a script's code to the script that it includes
+-- The number of levels of includes that are still allowed. Within one level, the distance from a
+-- script's code to a script that it includes.
 abbrev pub decreases-execute : goal.decreases-execute
 decreases-execute g l = 9 * l.running.now.depth + 6
 
