@@ -65,9 +65,36 @@ class OneName(Reading):
         return found + ([] if uses else ["no file brings a definition"])
 
 
+class OneType(Reading):
+    """No two crates have a type of one name. Where a type of code and one of a definition have one, they stand in one crate and mean one thing.
+    Crates of tests have types of their own, and so have proofs."""
+
+    title = "a name of a type is one within the repository"
+    command = "sources and specs of all crates"
+    tests = {"bench_tests", "library_tests", "one_call", "text_tests"}
+    told = {
+        "rt": re.compile(r"^\s*(?:pub(?:\(\w+\))? )?(?:struct|enum|trait|type) ([A-Z]\w*)", re.M),
+        "antt": re.compile(r"^\s*(?:(?:pub )?(?:data|record) ([A-Z]\w*)|(?:abbrev |unfoldable )?pub ([A-Z]\w*) : .*Type 0$)", re.M),
+    }
+    # Types that a trait of the toolchain names.
+    named = {"Err", "Item"}
+
+    def found(self, path):
+        """The names that two crates have."""
+        places = {}
+        for crate in sorted(it for it in (TOP / "crates").iterdir() if it.name not in self.tests):
+            for folder, kind in (("src", "rt"), ("specs", "antt")):
+                for file in sorted((crate / folder).rglob(f"*.{kind}")):
+                    for it in self.told[kind].finditer(file.read_text(encoding="utf-8")):
+                        places.setdefault(next(name for name in it.groups() if name), set()).add(crate.name)
+        self.looked = len(places)
+        return [f"{name} stands in {' and '.join(sorted(where))}" for name, where in sorted(places.items()) if len(where) > 1 and name not in self.named]
+
+
 def of_libraries():
     """Reports and sessions count their runs with the meter that they are handed, and nothing evaluates but `run`: no library above it makes a
     meter, looks at an operation, or names what operations do, outside of contracts. And a session reads by `session_text` alone."""
     yield Without("no library runs by itself", ["bench", "session_server", "session_text", "command_line"], {r"Meter::new": "one_call", r"\.op\(": "sieve_run", r"^(?!ghost ).*\b(?:packed_strings|sieve_delivery|sieve_conditions)::": "sieve_run"})
     yield Without("no library reads by itself", ["bench", "session_server", "command_line"], {r"\bread_some\(": "session_text"})
     yield OneName()
+    yield OneType()

@@ -18,12 +18,10 @@ the file. Code is in `src/`: a function, a type or a variant, or `file.rt` if th
 files of `examples/rows`. The row "whole" is for comments that name an RFC and no section. `tools/audit NAME` prints a definition with all that it
 stands on. `LANGUAGE.md` lists the differences from the standards.
 """
-# Whether a section is only of an RFC that its own comment names before it. If not, it may be of the last that any comment of that thing names.
-EACH_COMMENT_NAMES = False
 NUMBER = r"(?:[A-Z]\.)?\d+(?:\.\d+)*"
 LIST = rf"{NUMBER}(?:(?:, and |, | and | or | to ){NUMBER})*"
 CITED = re.compile(
-    rf"RFC (?P<rfc>\d+)(?:, (?P<bare>\d+(?:\.\d+)+))?|\b(?:section|appendix) (?P<one>{NUMBER})|\b(?:sections|appendices) (?P<many>{LIST})"
+    rf"RFC (?P<rfc>\d+)(?:, (?P<bare>{LIST})(?![\w.]*\w))?|\b(?:section|appendix) (?P<one>{NUMBER})|\b(?:sections|appendices) (?P<many>{LIST})"
 )
 # Comments of code, definitions and rows.
 MARKED = {".rt": re.compile(r"\s*(///?!?)\s?"), ".antt": re.compile(r"\s*(--)\s?")}
@@ -65,14 +63,15 @@ def comments(path, lines, marked):
 
 
 def sections(text, rfc=None):
-    """The sections that a text names, each with its RFC, and an RFC of which it names none. A section is of the RFC before it."""
+    """The sections that a text names, each with its RFC, and an RFC of which it names none. A section is of the RFC before it, which may stand
+    before the text."""
     whole = False
     for it in CITED.finditer(text):
         if it["rfc"]:
             if whole:
                 yield rfc, ""
             rfc, whole = int(it["rfc"]), not it["bare"]
-        for section in [it["bare"]] if it["bare"] else spread(it["one"] or it["many"] or ""):
+        for section in spread(it["bare"] or it["one"] or it["many"] or ""):
             whole = False
             yield rfc, section
     if whole:
@@ -90,17 +89,14 @@ def spread(text):
 
 
 def cited(found, places, kind, crate, file):
-    """What the comments of a file name, each by the thing at which it stands. A section alone is of the RFC named before it: in its comment, or
-    at that thing."""
-    starts, last = [it[0] for it in places], {}
+    """What the comments of a file name, each by the thing at which it stands. A section alone is of the RFC named before it in its comment."""
+    starts = [it[0] for it in places]
     for it in found:
         at = bisect.bisect_right(starts, it.line) - 1
-        name, whose = places[at][1:] if at >= 0 else (file, None)
-        rfc = None if EACH_COMMENT_NAMES else last.get(whose)
+        name, rfc = places[at][1] if at >= 0 else file, None
         for sentence in SENTENCES.split(it.text):
             named = list(sections(sentence, rfc))
             for rfc, section in named:
-                last[whose] = rfc
                 yield Cited(rfc, section, it, kind, crate, name, BESIDE.sub("", sentence).rstrip(".;:"), len(named))
 
 

@@ -155,11 +155,11 @@ not_answering name other answers =
     let is_help : codes "help" ≡ name = (bytes_eq-Decides (codes "help") name).0 (or_false _ answers) in
     false≢true (sym other ∙ ap (λ n. bytes_eq n (codes "help")) (sym is_help))
 
--- the three subcommands are named `session`, `dump` and `test`
+-- the subcommands are named `session`, `dump` and `test`
 abbrev AreNamed : Shape → Shape → Shape → Type 0
 AreNamed first second third = (first.name ≡ codes "session") × (second.name ≡ codes "dump") × (third.name ≡ codes "test")
 
--- the subcommand of four that answers, with what it makes of the words
+-- the subcommand that answers, with its rows of the words
 abbrev one_of_four : Bool → Bool → Bool → Bool → Shape → Shape → Shape → Shape → List Text → Option (Text × List Row)
 one_of_four x y z w first second third fourth rest =
     option_map (λ s. rows_at s rest) (cond x (Some first) (cond y (Some second) (cond z (Some third) (cond w (Some fourth) None))))
@@ -167,7 +167,7 @@ one_of_four x y z w first second third fourth rest =
 job_at : (name : Text) (rows : List Row) (wanted : Text) → name ≡ wanted → is_some (job_named wanted rows) ≡ true → is_some (job_named name rows) ≡ true
 job_at name rows wanted is named = ap (λ n. is_some (job_named n rows)) is ∙ named
 
--- of four subcommands one of the first three was met, where one was met and not the fourth, and it names a job
+-- Of these subcommands one was met, and not the last. So another was met, and it names a job.
 one_met : (x y z w : Bool) (first second third fourth : Shape) (rest : List Text) → (w ≡ true → ⊥) → AreNamed first second third
     → is_some (one_of_four x y z w first second third fourth rest) ≡ true → is_some (job_of (one_of_four x y z w first second third fourth rest)) ≡ true
 one_met true y z w first second third fourth rest other named met = job_at first.name (rows_at first rest).1 (codes "session") named.0 refl
@@ -176,7 +176,7 @@ one_met false false true w first second third fourth rest other named met = job_
 one_met false false false true first second third fourth rest other named met = absurd (other refl)
 one_met false false false false first second third fourth rest other named met = absurd (cc)
 
--- a program that has these four subcommands
+-- a program that has these subcommands
 abbrev four : Shape → Shape → Shape → Shape → Shape → App
 four top first second third fourth = record { top = top; subs = first ∷ second ∷ third ∷ fourth ∷ [] }
 
@@ -190,7 +190,8 @@ job_met first second third fourth top (Some p) named is_fourth no_alias elsewher
     (λ answers. not_answering p.0 elsewhere (sym (ap₂ (λ (n : Text) (alias : List Text). answers_to p.0 (n, alias)) is_fourth no_alias) ∙ answers))
     named met
 
--- the words of a program that has these four subcommands name one of the first three, where one is met and the walk stops elsewhere than at `help`
+-- The words of a program that has these subcommands name one but the last. One must be met, and the
+-- walk must stop elsewhere than at `help`.
 job_in : (a : App) (first second third fourth : Shape) (stop : Option (Text × List Text)) → a.subs ≡ first ∷ second ∷ third ∷ fourth ∷ []
     → AreNamed first second third → fourth.name ≡ codes "help" → fourth.aliases ≡ [] → StopsElsewhere stop → is_some (entered a stop) ≡ true
     → is_some (job_of (entered a stop)) ≡ true

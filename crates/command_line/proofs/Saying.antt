@@ -4,7 +4,7 @@ use Rattle.clap.specs.Walk.{Text}
 use Rattle.sieve_profile.specs.Profile.{Profile, with_named}
 use Rattle.command_line.specs.Profiles.{where_known, with_names}
 
--- what comes of the names of two lists where the first of them are all known, by a name that comes first
+-- where a name and those of a first list are known, the names of a second list come next
 known_by : (new : Profile) (name : Text) (xs ys : List Text) (o : Option Profile)
     → ((p : Profile) → with_names p xs ≡ Ok new → with_names p (xs ++ ys) ≡ with_names new ys)
     → where_known name o (λ p. with_names p xs) ≡ Ok new
@@ -17,7 +17,7 @@ all_known profile new [] ys is = let same : profile ≡ new = cc in ap (λ (p : 
 all_known profile new (name ∷ xs) ys is =
     known_by new name xs ys (with_named profile name) (λ p. all_known p new xs ys) is
 
--- the same where one of the first is not known
+-- where one of these is unknown, it stays the answer with a second list
 unknown_by : (unknown name : Text) (xs ys : List Text) (o : Option Profile)
     → ((p : Profile) → with_names p xs ≡ Err unknown → with_names p (xs ++ ys) ≡ Err unknown)
     → where_known name o (λ p. with_names p xs) ≡ Err unknown

@@ -1,4 +1,4 @@
--- What the words of a command line ask for.
+-- The words of a command line: the profile, the clock and the job.
 use Rattle.std.specs.Prelude.{◌≡◌, ◌≢◌, ℕ, Bool, true, false, not, ◌&&◌, ◌||◌, ◌==◌, List, [], ◌∷◌, Option, Some, None, is_some, Result, Ok, Err, codes, if◌then◌else◌, take, drop, position, unwrap_or}
 use Prim.Native.Char.{code}
 use Rattle.std.specs.Str.{bytes_eq}
@@ -35,11 +35,12 @@ letter_rule id letter = record (new_rule id) { short = Some letter; value_names 
 unfoldable pub name_rule : Text → Rule
 name_rule name = record (new_rule name) { long = Some name; value_names = 1 }
 
--- an option with one value that may be given any number of times: its name names it, as `--with NAME`
+-- an option with one value that may be given any number of times: its name names it, as
+-- `--with NAME`
 unfoldable pub names_rule : Text → Rule
 names_rule name = record (new_rule name) { long = Some name; action = Some Append; value_names = 1 }
 
--- the option of each subcommand for what a bench knows
+-- the option of each subcommand for a bench's extensions
 abbrev pub profile_rules : List Rule
 profile_rules = names_rule (codes "with") ∷ []
 
@@ -51,7 +52,8 @@ session_shape = record (new_shape (codes "session")) { rules = profile_rules }
 unfoldable pub dump_shape : Shape
 dump_shape = record (new_shape (codes "dump")) { rules = names_rule (codes "with") ∷ path_rule (codes "script") ∷ [] }
 
--- `test [-f ADDRESS] [--to ADDRESS] [-m BOX] [--mailboxes FILE] [--clock TIME] [--personal DIR] [--global DIR] [--with NAME].. SCRIPT MAIL`
+-- `test [-f ADDRESS] [--to ADDRESS] [-m BOX] [--mailboxes FILE] [--clock TIME]`, and then
+-- `[--personal DIR] [--global DIR] [--with NAME].. SCRIPT MAIL`
 unfoldable pub test_shape : Shape
 test_shape = record (new_shape (codes "test")) {
   rules = letter_rule (codes "from") (code "f") ∷ name_rule (codes "to") ∷ letter_rule (codes "mailbox") (code "m")
@@ -88,7 +90,7 @@ with_rules app (rule ∷ rules) = with_rules (with_rule app rule) rules
 abbrev pub HasMore : Command → List Rule → Command → Type 0
 HasMore old rules new = (app_of new ≡ with_rules (app_of old) rules) × ((out-Command new).has_globals ≡ (out-Command old).has_globals)
 
--- the program, which wants a subcommand and has a version
+-- the program, which requires a subcommand and has a version
 unfoldable pub top_app : App
 top_app = on_top (λ s. record s { has_version = true; subcommand_required = true; arg_required_else_help = true }) (new_app (codes "sievebench"))
 
@@ -96,7 +98,8 @@ top_app = on_top (λ s. record s { has_version = true; subcommand_required = tru
 unfoldable pub the_app : App
 the_app = with_subcommand (with_subcommand (with_subcommand top_app session_shape) dump_shape) test_shape
 
--- the value of an argument that must be there: where nothing is wrong it has one, and the empty text stands for none
+-- The value of an argument that must be there. Where nothing is wrong it has one, and the empty
+-- text stands for none.
 abbrev pub value_in : List Row → Text → Text
 value_in rows argument = unwrap_or (first_of argument rows) []
 
@@ -136,7 +139,7 @@ where_taken (fault ∷ faults) job = None
 unfoldable pub named_job : List Text → Option Job
 named_job words = where_taken (fault_of the_app words) (job_of (subcommand_of the_app words))
 
--- the profile that the words say, or the first name by which nothing is known
+-- the profile that the words say, or the first unknown name
 abbrev pub profile_met : Option (Text × List Row) → Result Profile Text
 profile_met None = Ok empty_profile
 profile_met (Some (name, rows)) = profile_in rows
@@ -144,7 +147,8 @@ profile_met (Some (name, rows)) = profile_in rows
 unfoldable pub said_profile : List Text → Result Profile Text
 said_profile words = profile_met (subcommand_of the_app words)
 
--- whether a job needs a name: a test with a list of mailboxes needs `mailbox`, and one with a clock `date`
+-- Whether a job needs a name. A test with a list of mailboxes needs `mailbox`, and one with a clock
+-- needs `date`.
 abbrev pub name_needed : Job → Extension → Bool
 name_needed (job.Test words) extension.Mailbox = is_some words.mailboxes
 name_needed (job.Test words) extension.Date = is_some words.clock
@@ -195,13 +199,13 @@ clock_said job.Session = Ok None
 clock_said (job.Dump script) = Ok None
 clock_said (job.Test words) = clock_in words.clock
 
--- the profile that is said has each name that the job needs, and this word of the job names no clock
+-- The profile that is said has each name that the job needs. This word of the job names no clock.
 abbrev pub HasBadClock : Result Profile Text → Option Job → Text → Type 0
 HasBadClock (Ok profile) (Some asked) word = (allows profile asked ≡ true) × (clock_said asked ≡ Err word)
 HasBadClock (Ok profile) None word = ⊥
 HasBadClock (Err unknown) asked word = ⊥
 
--- whether an answer of this kind is what was asked for, and no mistake
+-- whether an answer of this kind is the help or the version that was asked for, and no mistake
 abbrev pub is_help : ErrorKind → Bool
 is_help DisplayHelp = true
 is_help DisplayVersion = true
@@ -213,8 +217,9 @@ IsFaultFor kind NoMemory = Unit {0}
 IsFaultFor kind (Usage help text) = (kind ≢ OutOfMemory) × (help ≡ is_help kind)
 IsFaultFor kind other = ⊥
 
--- The refusal is for one of these mistakes, or is the help that was asked for. Where there is none, it is for the name that is said in place of a
--- profile; and where one is said, because it lacks a name that the job needs, or for the word that names no clock.
+-- The refusal is for one of these mistakes, or is the help that was asked for. Without a mistake,
+-- it is for the name that is said in place of a profile. Where a profile is said, it lacks a name
+-- that the job needs, or a word names no clock.
 abbrev pub IsRefusalFor : Kinds → Result Profile Text → Option Job → UsageFault → Type 0
 IsRefusalFor kinds said asked NoMemory = Unit {0}
 IsRefusalFor kinds said asked (UnknownName name) = (kinds ≡ []) × (said ≡ Err name)
@@ -223,11 +228,11 @@ IsRefusalFor kinds said asked NeedsDate = (kinds ≡ []) × Lacks extension.Date
 IsRefusalFor kinds said asked (BadClock word) = (kinds ≡ []) × HasBadClock said asked word
 IsRefusalFor kinds said asked (Usage help text) = (kind : ErrorKind) × IsAmong kind kinds × (help ≡ is_help kind)
 
--- the fault for a name by which nothing is known
-abbrev pub IsUnknown : Text → UsageFault → Type 0
-IsUnknown unknown NoMemory = Unit {0}
-IsUnknown unknown (UnknownName name) = name ≡ unknown
-IsUnknown unknown other = ⊥
+-- the fault for an unknown name
+abbrev pub NamesUnknown : Text → UsageFault → Type 0
+NamesUnknown unknown NoMemory = Unit {0}
+NamesUnknown unknown (UnknownName name) = name ≡ unknown
+NamesUnknown unknown other = ⊥
 
 -- the fault for a word that names no clock
 abbrev pub IsBadClock : Text → UsageFault → Type 0
@@ -242,8 +247,9 @@ SaysClock said (Err NoMemory) = Unit {0}
 SaysClock said (Err (BadClock word)) = said ≡ Err word
 SaysClock said (Err other) = ⊥
 
--- the answer has the profile that is said, which has each name that the job needs, and the clock that the job says; or is for the name that is said
--- in place of a profile, for one that it lacks, or for the word that names no clock
+-- The answer has the profile that is said and the clock of the job. The profile has each name that
+-- the job needs. Or the answer is for the name that is said in place of a profile, or for a lacking
+-- name. Or it is for the word that names no clock.
 abbrev pub SaysOf : Result Profile Text → Job → Result CommandLine UsageFault → Type 0
 SaysOf said asked (Ok line) = (said ≡ Ok (profile_as line.profile)) × (allows (profile_as line.profile) asked ≡ true) × (clock_said asked ≡ Ok line.clock)
 SaysOf said asked (Err NoMemory) = Unit {0}

@@ -1,4 +1,4 @@
--- Which profile the words of a command line say.
+-- The profile that the words of a command line name.
 use Rattle.std.specs.Prelude.{◌≡◌, ◌==◌, List, [], ◌∷◌, Option, Some, None, Result, Ok, Err, codes, flat_map, unwrap_or}
 use Prim.Native.Char.{code}
 use Rattle.std.specs.Borrow.{Bor}
@@ -16,17 +16,17 @@ parts_of word = slice_split (λ c. c == code ",") word
 abbrev pub names_in : List Text → List Text
 names_in words = flat_map parts_of words
 
--- what comes of a profile, or the name where it asks for nothing
+-- the result with a profile, or the name where it asks for nothing
 abbrev pub where_known : Text → Option Profile → (Profile → Result Profile Text) → Result Profile Text
 where_known name None known = Err name
 where_known name (Some profile) known = known profile
 
--- a profile with what these names ask for, or the first of them that asks for nothing
+-- a profile with the extensions that these names ask for, or the first name that asks for none
 abbrev pub with_names : Profile → List Text → Result Profile Text
 with_names profile [] = Ok profile
 with_names profile (name ∷ names) = where_known name (with_named profile name) (λ more. with_names more names)
 
--- the profile that a subcommand's matches say, or the first name that asks for nothing
+-- the profile that a subcommand's matches name, or the first name that asks for no extension
 abbrev pub profile_in : List Row → Result Profile Text
 profile_in rows = with_names empty_profile (names_in (unwrap_or (all_of (codes "with") rows) []))
 

@@ -7,11 +7,11 @@ use std::marker::Model;
 
 /// A value that the command line gives. Contracts see its octets.
 #[derive(Debug, Drop)]
-pub struct Argument {
+pub struct CommandWord {
     text: String,
 }
 
-impl Model for Argument {
+impl Model for CommandWord {
     ghost use Rattle.std.specs.Prelude.{ℕ, List, string_bytes};
 
     ghost Value = { List ℕ };
@@ -19,17 +19,17 @@ impl Model for Argument {
     ghost view = { λ a. string_bytes a.text };
 }
 
-impl Argument {
-    /// A copy of a text.
-    pub fn copied(alloc: Global, text: &str) -> Result<Argument, AllocError>
+impl CommandWord {
+    /// A copy of a text. An error is out of memory.
+    pub fn copied(alloc: Global, text: &str) -> Result<CommandWord, AllocError>
         ensures { IfOk result (λ argument. argument ≡ text.now) }
     {
-        Ok(Argument {
+        Ok(CommandWord {
             text: String::from_str(alloc, text)?,
         })
     }
 
-    /// The text. Takes no memory.
+    /// The value as text.
     pub fn as_str(&self) -> &str
         ensures { result.now ≡ self.now }
     {
@@ -37,7 +37,7 @@ impl Argument {
     }
 }
 
-impl fmt::Display for Argument {
+impl fmt::Display for CommandWord {
     fn fmt<W: fmt::Write>(&self, f: &mut fmt::Formatter<W>) -> fmt::Result {
         f.write_str(self.as_str())
     }

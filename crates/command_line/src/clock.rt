@@ -1,8 +1,8 @@
-//! What the words of a command line say of the clock.
+//! The clock in the words of a command line.
 ghost use Rattle.std.specs.Prelude.{◌≡◌, ◌≤◌, IfSome, length, position};
 ghost use Rattle.command_line.specs.CommandLine.{IsBadClock, SaysClock, clock_in, clock_of, clock_said, is_sign};
 
-use crate::argument::Argument;
+use crate::argument::CommandWord;
 use crate::words::{Job, UsageFault};
 use date_text::{Clock, clock_named};
 use std::alloc::Global;
@@ -14,7 +14,7 @@ fn is_sign(octet: u8) -> bool
     octet == b'+' || octet == b'-'
 }
 
-/// Where the zone of a word begins.
+/// The place where the zone of a word begins.
 fn zone_place(word: &[u8]) -> Option<usize>
     ensures is { result ≡ position is_sign word.now }
     ensures within { IfSome result (λ place. place ≤ length word.now) }
@@ -39,14 +39,14 @@ fn clock_of(word: &[u8]) -> Option<Clock>
 fn bad_clock(alloc: Global, word: &str) -> UsageFault
     ensures { IsBadClock word.now result }
 {
-    match Argument::copied(alloc, word) {
+    match CommandWord::copied(alloc, word) {
         Ok(word) => UsageFault::BadClock { word },
         Err(_) => UsageFault::NoMemory,
     }
 }
 
 /// The clock of an option's word, where it is given.
-fn clock_in(alloc: Global, word: &Option<Argument>) -> Result<Option<Clock>, UsageFault>
+fn clock_in(alloc: Global, word: &Option<CommandWord>) -> Result<Option<Clock>, UsageFault>
     ensures { SaysClock (clock_in word.now) result }
 {
     let Some(word) = word else {

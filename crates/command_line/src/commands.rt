@@ -64,7 +64,7 @@ fn names_option<'a>(alloc: Global, name: &'a str, value: &'a str, help: &'a str)
         .help(help)
 }
 
-/// The command with the option for what a bench knows, whose help lists the names.
+/// The command with the option for a bench's extensions, whose help lists their names.
 fn with_profile<'a>(
     alloc: Global,
     command: Command<'a>,
@@ -197,7 +197,7 @@ fn bare_top_command<'a>(alloc: Global) -> Command<'a>
         .after_help(help::of_program())
 }
 
-/// The program, which wants a subcommand. Its usage has this name, whatever its file is called.
+/// The program, which requires a subcommand. Its usage has this name, whatever its file is called.
 fn top_command<'a>(alloc: Global) -> Result<Command<'a>, AllocError>
     ensures { IfOk result (λ command. app_of command ≡ spec.top_app) }
 {

@@ -1,7 +1,7 @@
-//! What help says after the usage and the options, so that the program alone is enough to go by.
+//! The text of help after the usage and the options, so that the program alone is enough to go by.
 //! Functions give the texts, so that no proof has to read them.
 
-/// After the program's commands: its statuses, and what it says on standard error.
+/// Help after the program's commands: its statuses, and its messages on standard error.
 pub(crate) fn of_program() -> &'static str {
     "\
 Exit status:
@@ -29,7 +29,7 @@ each octet outside 32 to 126.
 reports, the dumps, the sessions and the limits in full."
 }
 
-/// After the usage of `session`: its lines and their replies.
+/// Help after the usage of `session`: its lines and their replies.
 pub(crate) fn of_session() -> &'static str {
     "\
 A line of the input is a command; each is answered by a reply:
@@ -76,7 +76,7 @@ expected, or on a reply no, where INPUT writes a session that ends by a report:
 docs/FORMATS.md of the project has all of this in full."
 }
 
-/// After the usage of `dump`: what its lines are.
+/// Help after the usage of `dump`: its lines.
 pub(crate) fn of_dump() -> &'static str {
     "\
 Standard output is the script's code, one operation a line: its place from 0, then \": \" and the
@@ -90,7 +90,7 @@ Exit status: 0 done, 1 the script has a fault, 2 a mistake in the command line o
 4 out of memory. docs/FORMATS.md of the project has the operations."
 }
 
-/// After the usage of `test`: what is read, and the lines of the report.
+/// Help after the usage of `test`: the files that it reads, and the lines of the report.
 pub(crate) fn of_test() -> &'static str {
     "\
 Each plain file NAME.sieve of a folder is the script NAME; other files are passed over. SCRIPT is

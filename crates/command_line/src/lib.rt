@@ -1,4 +1,4 @@
-//! What the words of the program's command line ask for.
+//! The words of the program's command line: the profile, the clock and the job.
 #![tactic(auto)]
 
 mod argument;
@@ -8,5 +8,5 @@ mod help;
 mod profile;
 mod words;
 
-pub use argument::Argument;
+pub use argument::CommandWord;
 pub use words::{CommandLine, Job, TestWords, UsageFault, command_of};

@@ -1,4 +1,4 @@
-//! What the words of a command line say of a profile.
+//! The profile in the words of a command line.
 ghost use Rattle.std.specs.Prelude.{map};
 ghost use Rattle.clap.specs.Words.{rows_of};
 ghost use Rattle.clap.specs.Matches.{found_of};
@@ -11,10 +11,10 @@ use sieve_profile::{ALL, EXTENSIONS, Extension, PIGEONHOLE, Profile};
 use std::alloc::{AllocError, Global};
 use std::fmt;
 
-/// The names that there are, as they are listed where a word is none of them.
-pub(crate) struct Names;
+/// The known names, as they are listed where a word is none of them.
+pub(crate) struct ProfileNames;
 
-impl fmt::Display for Names {
+impl fmt::Display for ProfileNames {
     fn fmt<W: fmt::Write>(&self, f: &mut fmt::Formatter<W>) -> fmt::Result {
         for extension in EXTENSIONS.iter().copied() {
             let name = text_of(extension.name());
@@ -31,7 +31,7 @@ fn text_of(name: &'static [u8]) -> &'static str {
     std::str::from_utf8(name).unwrap_or("")
 }
 
-/// What an extension brings, in a few words for help.
+/// The use of an extension, in a few words for help.
 fn brings(extension: Extension) -> &'static str {
     match extension {
         Extension::Body => "the test body, of what a message is made of (RFC 5173)",
@@ -64,7 +64,7 @@ fn push_name(
     text.push_str(format!(in alloc; "\n  {name:<26}  {few_words}")?.as_str())
 }
 
-/// What help says of the option: a line for each name.
+/// Help on the option `--with`: a line for each name.
 pub(crate) fn names_help(alloc: Global) -> Result<String, AllocError> {
     let mut text = String::from_str(
         alloc,
@@ -83,7 +83,7 @@ pub(crate) fn names_help(alloc: Global) -> Result<String, AllocError> {
     Ok(text)
 }
 
-/// A profile with what the names in a word ask for, or the first of them that asks for nothing.
+/// A profile with the extensions that a word's names ask for, or the first name that asks for none.
 fn with_word<'a>(before: Profile, word: &'a str) -> Result<Profile, &'a str>
     ensures { Says (with_names (profile_as before) (parts_of word.now)) result }
 {
@@ -97,7 +97,7 @@ fn with_word<'a>(before: Profile, word: &'a str) -> Result<Profile, &'a str>
     Ok(profile)
 }
 
-/// The profile that the words of all `--with` say, or the first name that asks for nothing.
+/// The profile that the words of all `--with` name, or the first name that asks for no extension.
 fn profile_by<'a>(words: &[&'a str]) -> Result<Profile, &'a str>
     ensures { Says (with_names empty_profile (names_in (map (λ word. word.now) words.now))) result }
 {
@@ -111,7 +111,7 @@ fn profile_by<'a>(words: &[&'a str]) -> Result<Profile, &'a str>
     Ok(profile)
 }
 
-/// The profile that a subcommand's matches say, or the first name that asks for nothing.
+/// The profile that a subcommand's matches name, or the first name that asks for no extension.
 pub(crate) fn profile_in<'a>(matches: &ArgMatches<'a>) -> Result<Profile, &'a str>
     ensures { Says (profile_in (rows_of (found_of matches.now))) result }
 {

@@ -1,17 +1,17 @@
-//! What the words of a command line ask for.
+//! The words of a command line: the profile, the clock and the job.
 ghost use Rattle.std.specs.Prelude.{◌≡◌, ◌↔◌, IfOk, IfErr, IsOk, Ok, Option, Some, false, true, map, IsSome, IsOkUnless};
 ghost use Rattle.clap.specs.Words.{fault_of, first_of, kind_of, rows_of, subcommand_rows_of};
 ghost use Rattle.clap.specs.Matches.{found_of};
-ghost use Rattle.command_line.specs.CommandLine.{allows, clock_said, the_app, is_lacking, job_named, job_of, name_needed, named_job, profile_met, said_profile, test_words, value_in, IsFaultFor, IsRefusalFor, IsUnknown, SaysOf};
+ghost use Rattle.command_line.specs.CommandLine.{allows, clock_said, the_app, is_lacking, job_named, job_of, name_needed, named_job, profile_met, said_profile, test_words, value_in, IsFaultFor, IsRefusalFor, NamesUnknown, SaysOf};
 ghost use Rattle.date_text.specs.Clock as clocks;
 ghost use Rattle.command_line.specs.Profiles.{Says};
 ghost use Rattle.sieve_profile.specs.Profile.{Profile};
 ghost use Rattle.sieve_profile.specs.view.Profile.{profile_as};
 
-use crate::argument::Argument;
+use crate::argument::CommandWord;
 use crate::clock::clock_said;
 use crate::commands::program;
-use crate::profile::{Names, names_help, profile_in};
+use crate::profile::{ProfileNames, names_help, profile_in};
 use clap::error::ErrorKind;
 use clap::{ArgMatches, Error};
 use date_text::Clock;
@@ -19,18 +19,18 @@ use sieve_profile::{Extension, Profile};
 use std::alloc::{AllocError, Global};
 use std::convert::AsStr;
 
-/// What the words of a command line ask for.
+/// A command line: the profile, the clock and the job that its words name.
 #[derive(Drop)]
 pub struct CommandLine {
-    /// What is known beyond what always is.
+    /// The extensions that are known beyond those that always are.
     pub profile: Profile,
-    /// What time it is, where a test's words say so (RFC 5260).
+    /// The time and its zone, where a test's words give them (RFC 5260, sections 4.1 and 5).
     pub clock: Option<Clock>,
-    /// What the program is to do.
+    /// The job of the program.
     pub job: Job,
 }
 
-/// What the program is to do.
+/// The job of the program.
 #[derive(Drop)]
 pub enum Job {
     /// To read a session from standard input and write its replies to standard output.
@@ -38,7 +38,7 @@ pub enum Job {
     /// To print the code of the script in a file.
     Dump {
         /// The file's path.
-        script: Argument,
+        script: CommandWord,
     },
     /// To print the report of a script and a message in files.
     Test(TestWords),
@@ -48,23 +48,25 @@ pub enum Job {
 #[derive(Drop)]
 pub struct TestWords {
     /// The sender's address in the envelope (RFC 5228, 5.4).
-    pub from: Option<Argument>,
+    pub from: Option<CommandWord>,
     /// The recipient's address in the envelope.
-    pub to: Option<Argument>,
+    pub to: Option<CommandWord>,
     /// The mailbox that mail is kept in.
-    pub mailbox: Option<Argument>,
-    /// The path of the list of mailboxes, a name a line (RFC 5490). Needs `mailbox`.
-    pub mailboxes: Option<Argument>,
-    /// What time it is: the seconds since 1970-01-01 00:00 UTC in digits, and maybe a zone as `+0200` (RFC 5260). Needs `date`.
-    pub clock: Option<Argument>,
+    pub mailbox: Option<CommandWord>,
+    /// The path of the list of mailboxes, with a name on each line (RFC 5490, 3.1). Needs
+    /// `mailbox`.
+    pub mailboxes: Option<CommandWord>,
+    /// The time: the seconds since 1970-01-01 00:00 UTC in digits, and maybe a zone as `+0200` (RFC
+    /// 5260, section 5). Needs `date`.
+    pub clock: Option<CommandWord>,
     /// The path of a folder of personal scripts (RFC 6609, 3.2).
-    pub personal: Option<Argument>,
+    pub personal: Option<CommandWord>,
     /// The path of a folder of global scripts.
-    pub global: Option<Argument>,
+    pub global: Option<CommandWord>,
     /// The path of the main script.
-    pub script: Argument,
+    pub script: CommandWord,
     /// The path of the message.
-    pub mail: Argument,
+    pub mail: CommandWord,
 }
 
 /// Why a command line names no job.
@@ -74,21 +76,21 @@ pub enum UsageFault {
     /// user: help goes to standard output, and else the text goes to standard error.
     #[error("{text}")]
     Usage { help: bool, text: String },
-    /// Memory ran out.
+    /// Out of memory.
     #[error("out of memory")]
     NoMemory,
-    /// A name in the words of `--with` is none of those that there are.
-    #[error("error: invalid value '{name}' for '--with <NAME>'\n  [possible values: {}]\n\nFor more information, try '--help'.\n", Names)]
-    UnknownName { name: Argument },
+    /// A name in the words of `--with` is none of the known names.
+    #[error("error: invalid value '{name}' for '--with <NAME>'\n  [possible values: {}]\n\nFor more information, try '--help'.\n", ProfileNames)]
+    UnknownName { name: CommandWord },
     /// A list of mailboxes is given, and `mailbox` isn't among the names of `--with`.
     #[error("error: '--mailboxes <FILE>' needs '--with mailbox'\n\nFor more information, try '--help'.\n")]
     NeedsMailbox,
     /// A clock is given, and `date` isn't among the names of `--with`.
     #[error("error: '--clock <TIME>' needs '--with date'\n\nFor more information, try '--help'.\n")]
     NeedsDate,
-    /// The word of `--clock` isn't digits up to 253402300799 and a zone, or none.
+    /// The word of `--clock` isn't digits up to 253402300799 with a zone or without one.
     #[error("error: invalid value '{word}' for '--clock <TIME>'\n\nFor more information, try '--help'.\n")]
-    BadClock { word: Argument },
+    BadClock { word: CommandWord },
 }
 
 impl From<AllocError> for UsageFault {
@@ -101,7 +103,7 @@ impl From<AllocError> for UsageFault {
     }
 }
 
-/// What `clap` answers in place of matches, for the user.
+/// The fault for an error of `clap`, for the user.
 fn usage_fault(alloc: Global, error: &Error) -> UsageFault
     ensures memory { kind_of error.now ≡ ErrorKind.OutOfMemory → result ≡ UsageFault.NoMemory }
     ensures usage { IsFaultFor (kind_of error.now) result }
@@ -119,10 +121,10 @@ fn usage_fault(alloc: Global, error: &Error) -> UsageFault
 }
 
 /// The value of an argument that a subcommand requires.
-fn required_in(alloc: Global, matches: &ArgMatches<'_>, id: &str) -> Result<Argument, AllocError>
+fn required_in(alloc: Global, matches: &ArgMatches<'_>, id: &str) -> Result<CommandWord, AllocError>
     ensures { IfOk result (λ value. value ≡ value_in (rows_of (found_of matches.now)) id.now) }
 {
-    Argument::copied(alloc, matches.get_str(id).unwrap_or(""))
+    CommandWord::copied(alloc, matches.get_str(id).unwrap_or(""))
 }
 
 /// The value of an option, where it is given.
@@ -130,11 +132,11 @@ fn option_in(
     alloc: Global,
     matches: &ArgMatches<'_>,
     id: &str,
-) -> Result<Option<Argument>, AllocError>
+) -> Result<Option<CommandWord>, AllocError>
     ensures { IfOk result (λ value. value ≡ first_of id.now (rows_of (found_of matches.now))) }
 {
     match matches.get_str(id) {
-        Some(text) => Ok(Some(Argument::copied(alloc, text)?)),
+        Some(text) => Ok(Some(CommandWord::copied(alloc, text)?)),
         None => Ok(None),
     }
 }
@@ -201,7 +203,7 @@ fn is_lacking(profile: Profile, job: &Job, name: Extension) -> bool
     name_needed(job, name) && !profile.has(name)
 }
 
-/// What is asked for by a job and a profile which has each name that the job needs.
+/// The command line of a job and a profile which has each name that the job needs.
 fn with_clock(alloc: Global, profile: Profile, job: Job) -> Result<CommandLine, UsageFault>
     requires { allows (profile_as profile) job ≡ true }
     ensures job { IfOk result (λ line. line.job ≡ job) }
@@ -217,7 +219,7 @@ fn with_clock(alloc: Global, profile: Profile, job: Job) -> Result<CommandLine, 
     }
 }
 
-/// What is asked for by a job and a profile, which must have each name that the job needs.
+/// The command line of a job and a profile, which must have each name that the job needs.
 fn where_allowed(alloc: Global, profile: Profile, job: Job) -> Result<CommandLine, UsageFault>
     ensures job { IfOk result (λ line. line.job ≡ job) }
     ensures profile { SaysOf (Ok (profile_as profile)) job result }
@@ -231,7 +233,7 @@ fn where_allowed(alloc: Global, profile: Profile, job: Job) -> Result<CommandLin
     }
 }
 
-/// What is asked for by a job and the profile of the subcommand that was met.
+/// The command line of a job and the profile of the subcommand that was met.
 fn with_profile(
     alloc: Global,
     matches: &ArgMatches<'_>,
@@ -246,11 +248,11 @@ fn with_profile(
     }
 }
 
-/// The fault of a name by which nothing is known.
+/// The fault of an unknown name.
 fn unknown_name(alloc: Global, name: &str) -> UsageFault
-    ensures { IsUnknown name.now result }
+    ensures { NamesUnknown name.now result }
 {
-    match Argument::copied(alloc, name) {
+    match CommandWord::copied(alloc, name) {
         Ok(name) => UsageFault::UnknownName { name },
         Err(_) => UsageFault::NoMemory,
     }
@@ -266,10 +268,16 @@ fn profile_met<'a>(matches: &'a ArgMatches<'_>) -> Result<Profile, &'a str>
     }
 }
 
-/// What the words ask for. The first word is the program's name, as in `std::env::args`.
-/// `Usage` is for a mistake in the words, or for the help that they ask for; `UnknownName` is for the first name of a `--with` by which nothing
-/// is known, where there is no other mistake; where there is none else, `NeedsMailbox` is for a list of mailboxes without the name `mailbox`, then
-/// `NeedsDate` for a clock without the name `date`, and then `BadClock` for the word of a clock that isn't one; `NoMemory` is when out of memory.
+/// The command line of some words. The first word is the program's name, as in `std::env::args`. An
+/// error is the first of these:
+///
+/// - `Usage`: a mistake in the words, or a request for help.
+/// - `UnknownName`: the first unknown name of a `--with`.
+/// - `NeedsMailbox`: a list of mailboxes without the name `mailbox`.
+/// - `NeedsDate`: a clock without the name `date`.
+/// - `BadClock`: the word of a clock that isn't one.
+///
+/// Or it is `NoMemory` when out of memory.
 pub fn command_of<'a, S: AsStr>(alloc: Global, words: &'a [S]) -> Result<CommandLine, UsageFault>
     // The job is the one that the words name.
     ensures ok { IfOk result (λ line. named_job (map S.text words.entry.now) ≡ Some line.job) }
@@ -280,13 +288,14 @@ pub fn command_of<'a, S: AsStr>(alloc: Global, words: &'a [S]) -> Result<Command
     ensures allowed { IfOk result (λ line. allows (profile_as line.profile) line.job ≡ true) }
     // The clock is the one that the job says.
     ensures clock { IfOk result (λ line. clock_said line.job ≡ Ok line.clock) }
-    // Words that name a job which says no bad clock, and say a profile which has each name that the job needs, are refused only when out of memory.
+    // The words name a job without a bad clock, and a profile which has each name that the job
+    // needs. Then they are refused only when out of memory.
     ensures named { (asked : Job) (profile : Profile) (clock : Option clocks.Clock)
         → named_job (map S.text words.entry.now) ≡ Some asked
         → said_profile (map S.text words.entry.now) ≡ Ok profile → allows profile asked ≡ true
         → clock_said asked ≡ Ok clock → IsOkUnless result UsageFault.NoMemory }
-    // Any other refusal is for a mistake in the words, for a name by which nothing is known, for one that is lacking, or for the word of a clock that
-    // isn't one, or it is the help that they ask for.
+    // Any other refusal is for a mistake in the words, or is the help that they ask for. Or it is
+    // for an unknown name, a lacking name, or a clock's word that isn't one.
     ensures refused { IfErr result (IsRefusalFor (fault_of the_app (map S.text words.entry.now))
         (said_profile (map S.text words.entry.now)) (named_job (map S.text words.entry.now))) }
 {

@@ -7,7 +7,7 @@ use Rattle.octets.specs.Octet.{is_digit, octet_of}
 use Rattle.date_text.specs.Number.{digit, four_digits, two_digits}
 use Rattle.date_text.specs.Reading.{is_weekday, month_number}
 use Rattle.date_text.specs.Shown.{month_name, weekday_name}
-use Rattle.date_text.specs.Words.{Word, is_joined_to, is_letter, words_of}
+use Rattle.date_text.specs.Words.{DateWord, is_joined_to, is_letter, words_of}
 use Rattle.date_text.specs.Zone.{Zone, zone_named, zone_of_sign, zone_sign, zone_text}
 use Rattle.date_text.proofs.WordLemmas.{words_alone, words_joined, words_white}
 use Rattle.date_text.proofs.PlainLemmas.{digit_apart, digit_is, digit_not_white, digit_plain, digits_joined, is_plain, letter_apart, letter_not_white, letter_plain, letters_joined, plain_append}
@@ -162,7 +162,7 @@ abbrev pub line : (weekday month : List ℕ) (d y h m s : ℕ) (zone : List ℕ)
 line weekday month d y h m s zone =
     (weekday ++ codes ", " ++ two_digits d ++ codes " " ++ month ++ codes " " ++ four_digits y) ++ codes " " ++ (two_digits h ++ codes ":" ++ two_digits m ++ codes ":" ++ two_digits s) ++ codes " " ++ zone
 
-abbrev pub line_words : (weekday month : List ℕ) (d y h m s : ℕ) (zone : List Word) → List Word
+abbrev pub line_words : (weekday month : List ℕ) (d y h m s : ℕ) (zone : List DateWord) → List DateWord
 line_words weekday month d y h m s zone =
     weekday ∷ codes "," ∷ two_digits d ∷ month ∷ four_digits y ∷ two_digits h ∷ codes ":" ∷ two_digits m ∷ codes ":" ∷ two_digits s ∷ zone
 

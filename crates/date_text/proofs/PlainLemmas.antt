@@ -10,7 +10,7 @@ use Rattle.octets.specs.Octet.{is_digit, is_white, octet_of}
 use Rattle.date_text.specs.Number.{digit}
 use Rattle.date_text.specs.Reading.{date_in, moment_read}
 use Rattle.date_text.specs.Words.{is_closed, is_joined, is_letter, kept, without_comments}
-use Rattle.date_text.specs.declared.spot.Spot.TheVariants.{Outside}
+use Rattle.date_text.specs.declared.spot.CommentSpot.TheVariants.{Outside}
 use Rattle.date_text.proofs.WordLemmas.{closed_word, kept_word, no_white, not_both, of_word}
 
 -- TEXTS

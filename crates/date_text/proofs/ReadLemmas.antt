@@ -9,7 +9,7 @@ use Rattle.date_text.specs.Number.{four_digits, two_digits}
 use Rattle.date_text.specs.Reading.{DateWords, after_weekday, date_in, date_of_words, date_words, day_of_word, is_weekday, minute_of_words, moment_of_words, month_number, pair_of_word, second_of_word, year_of_word}
 use Rattle.date_text.specs.Shown.{local, month_name, part_text, shown, weekday_name}
 use Rattle.date_text.specs.declared.part.DatePart.TheVariants.{Std11}
-use Rattle.date_text.specs.Words.{Word}
+use Rattle.date_text.specs.Words.{DateWord}
 use Rattle.date_text.specs.Zone.{Zone, zone_of_words, zone_sign, zone_text}
 use Rattle.date_text.proofs.DayLemmas.{date_at_is}
 use Rattle.date_text.proofs.MomentLemmas.{same_moment, shifted}
@@ -19,10 +19,10 @@ use Rattle.date_text.proofs.LineLemmas.{AreShort, line, line_plain, line_words, 
 
 -- WHAT THE WORDS STAND FOR
 
-abbrev pub words_as : (month : List ℕ) (d y h m s : ℕ) (zone : List Word) → DateWords
+abbrev pub words_as : (month : List ℕ) (d y h m s : ℕ) (zone : List DateWord) → DateWords
 words_as month d y h m s zone = record { day = two_digits d; month = month; year = four_digits y; hour = two_digits h; minute = two_digits m; second = Some (two_digits s); zone = zone }
 
-pub date_words-line : (weekday month : List ℕ) (d y h m s : ℕ) (zone : List Word) → is_weekday weekday ≡ true → date_words (after_weekday (line_words weekday month d y h m s zone)) ≡ Some (words_as month d y h m s zone)
+pub date_words-line : (weekday month : List ℕ) (d y h m s : ℕ) (zone : List DateWord) → is_weekday weekday ≡ true → date_words (after_weekday (line_words weekday month d y h m s zone)) ≡ Some (words_as month d y h m s zone)
 date_words-line weekday month d y h m s zone is =
     let words = two_digits d ∷ month ∷ four_digits y ∷ two_digits h ∷ codes ":" ∷ two_digits m ∷ codes ":" ∷ two_digits s ∷ zone in
     ap (λ b. date_words (cond (b && true) words (weekday ∷ codes "," ∷ words))) is

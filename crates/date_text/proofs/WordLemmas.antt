@@ -8,8 +8,8 @@ use Rattle.std.proofs.lemmas.List.Sums.{prefix_len-le-length}
 use Rattle.std.specs.List.{onto_first, prefix_len}
 use Rattle.octets.specs.Octet.{is_digit, is_white, octet_of}
 use Rattle.date_text.specs.Words.{after_octet, is_closed, is_joined, is_joined_to, is_letter, is_outside, kept, words_of}
-use Rattle.date_text.specs.declared.spot.Spot.{Spot}
-use Rattle.date_text.specs.declared.spot.Spot.TheVariants.{Escaped, Inside, Outside}
+use Rattle.date_text.specs.declared.spot.CommentSpot.{CommentSpot}
+use Rattle.date_text.specs.declared.spot.CommentSpot.TheVariants.{Escaped, Inside, Outside}
 use Rattle.date_text.specs.view.Words.{begins_word, closes, is_of_word, is_word_at, words_from, words_in}
 
 -- the words of a text by its first octet
@@ -42,25 +42,25 @@ passed_outside c rest true is fails = sym (words_white (octet_of " ") (kept (Ins
 passed_outside c rest false is fails = sym (words_white c (kept Outside rest) (white_of (is_white c) (c == octet_of "(") is fails))
 
 -- an octet that is of no word changes no words
-pub passed_words : (spot : Spot) (c : ℕ) (rest : List ℕ) → is_word_at spot c ≡ false → words_from (after_octet spot c) rest ≡ words_from spot (c ∷ rest)
+pub passed_words : (spot : CommentSpot) (c : ℕ) (rest : List ℕ) → is_word_at spot c ≡ false → words_from (after_octet spot c) rest ≡ words_from spot (c ∷ rest)
 unfolding kept
 passed_words Outside c rest fails = passed_outside c rest (c == octet_of "(") refl fails
 passed_words (Inside others) c rest fails = refl
 passed_words (Escaped others) c rest fails = refl
 
-pub passed_closed : (spot : Spot) (c : ℕ) (rest : List ℕ) → is_closed (after_octet spot c) rest ≡ is_closed spot (c ∷ rest)
+pub passed_closed : (spot : CommentSpot) (c : ℕ) (rest : List ℕ) → is_closed (after_octet spot c) rest ≡ is_closed spot (c ∷ rest)
 unfolding is_closed
 passed_closed spot c rest = refl
 
 -- at the end of a text whose comments are closed nothing is open
-pub ended_outside : (spot : Spot) (text : List ℕ) → length text ≡ 0 → is_closed spot text ≡ true → (spot ≡ Outside) × (begins_word text ≡ true)
+pub ended_outside : (spot : CommentSpot) (text : List ℕ) → length text ≡ 0 → is_closed spot text ≡ true → (spot ≡ Outside) × (begins_word text ≡ true)
 unfolding is_closed
 ended_outside Outside [] none closed = (refl, refl)
 ended_outside (Inside others) [] none closed = absurd cc
 ended_outside (Escaped others) [] none closed = absurd cc
 ended_outside spot (c ∷ rest) none closed = absurd (omega arith)
 
-pub outside_is : (spot : Spot) (c : ℕ) → is_word_at spot c ≡ true → (spot ≡ Outside) × (is_of_word c ≡ true)
+pub outside_is : (spot : CommentSpot) (c : ℕ) → is_word_at spot c ≡ true → (spot ≡ Outside) × (is_of_word c ≡ true)
 outside_is Outside c is = (refl, is)
 outside_is (Inside others) c is = absurd cc
 outside_is (Escaped others) c is = absurd cc
@@ -190,10 +190,10 @@ no_words (c ∷ rest) none = absurd (omega arith)
 
 -- a text by its octets from a place on
 
-pub closed_step : (spot : Spot) (text : List ℕ) (i : ℕ) → i < length text → is_closed (after_octet spot (get_or text i 0)) (drop (i + 1) text) ≡ is_closed spot (drop i text)
+pub closed_step : (spot : CommentSpot) (text : List ℕ) (i : ℕ) → i < length text → is_closed (after_octet spot (get_or text i 0)) (drop (i + 1) text) ≡ is_closed spot (drop i text)
 closed_step spot text i h = rw (add-one, drop-cons text i 0) (passed_closed spot (get_or text i 0) (drop (suc i) text))
 
-pub closed_end : (spot : Spot) (text : List ℕ) (i : ℕ) → length text ≤ i → is_closed spot (drop i text) ≡ is_outside spot
+pub closed_end : (spot : CommentSpot) (text : List ℕ) (i : ℕ) → length text ≤ i → is_closed spot (drop i text) ≡ is_outside spot
 unfolding is_closed
 closed_end spot text i h = let none : drop i text ≡ [] = grind (arith, common_steps) in rw none refl
 

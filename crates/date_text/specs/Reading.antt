@@ -6,7 +6,7 @@ use Rattle.octets.specs.Octet.{octet_of}
 use Rattle.date_text.specs.Calendar.{CivilDate, date_of, day_number}
 use Rattle.date_text.specs.Moment.{Moment, moment_at}
 use Rattle.date_text.specs.Number.{digit_number, four_number, pair_number, up_to}
-use Rattle.date_text.specs.Words.{Word, without_comments, words_of}
+use Rattle.date_text.specs.Words.{DateWord, without_comments, words_of}
 use Rattle.date_text.specs.Zone.{is_same_name, zone_of_words}
 
 -- NAMES
@@ -20,51 +20,51 @@ month_names =
     ∷ codes "Jul" ∷ codes "Aug" ∷ codes "Sep" ∷ codes "Oct" ∷ codes "Nov" ∷ codes "Dec" ∷ []
 
 -- a word that is the name of a weekday, in any case of letters
-abbrev pub is_weekday : Word → Bool
+abbrev pub is_weekday : DateWord → Bool
 is_weekday word = list_any (is_same_name word) weekday_names
 
 -- the number of a month by its name, from 1
-abbrev pub month_number : Word → Option ℕ
+abbrev pub month_number : DateWord → Option ℕ
 month_number word = option_map (λ place. place + 1) (position (is_same_name word) month_names)
 
 -- THE WORDS OF A DATE
 
 -- a word that is one such octet
-abbrev pub is_sign : ℕ → Word → Bool
+abbrev pub is_sign : ℕ → DateWord → Bool
 is_sign sign [] = false
 is_sign sign (c ∷ []) = c == sign
 is_sign sign (c ∷ d ∷ rest) = false
 
 -- what stands after a weekday and a comma, if they are there
-abbrev pub after_weekday : List Word → List Word
+abbrev pub after_weekday : List DateWord → List DateWord
 after_weekday [] = []
 after_weekday (word ∷ []) = word ∷ []
 after_weekday (word ∷ comma ∷ words) = if is_weekday word && is_sign (octet_of ",") comma then words else word ∷ comma ∷ words
 
 -- the second with a `:` before it, if they are there
-abbrev pub second_word : List Word → Option Word
+abbrev pub second_word : List DateWord → Option DateWord
 second_word [] = None
 second_word (word ∷ []) = None
 second_word (colon ∷ second ∷ words) = if is_sign (octet_of ":") colon then Some second else None
 
 -- what stands after them
-abbrev pub after_second : List Word → List Word
+abbrev pub after_second : List DateWord → List DateWord
 after_second [] = []
 after_second (word ∷ []) = word ∷ []
 after_second (colon ∷ second ∷ words) = if is_sign (octet_of ":") colon then words else colon ∷ second ∷ words
 
 -- the words of a date and a time, by what they stand for
 pub record DateWords : Type 0 where
-  pub day : Word
-  pub month : Word
-  pub year : Word
-  pub hour : Word
-  pub minute : Word
-  pub second : Option Word
-  pub zone : List Word
+  pub day : DateWord
+  pub month : DateWord
+  pub year : DateWord
+  pub hour : DateWord
+  pub minute : DateWord
+  pub second : Option DateWord
+  pub zone : List DateWord
 
 -- day, month, year, hour, `:`, minute, maybe `:` and second, and the zone
-abbrev pub date_words : List Word → Option DateWords
+abbrev pub date_words : List DateWord → Option DateWords
 date_words (day ∷ month ∷ year ∷ hour ∷ colon ∷ minute ∷ words) =
     if is_sign (octet_of ":") colon
     then Some (record { day = day; month = month; year = year; hour = hour; minute = minute; second = second_word words; zone = after_second words })
@@ -74,7 +74,7 @@ date_words words = None
 -- WHAT THEY STAND FOR
 
 -- the number of a day: one digit or two
-abbrev pub day_of_word : Word → Option ℕ
+abbrev pub day_of_word : DateWord → Option ℕ
 day_of_word (c ∷ []) = digit_number c
 day_of_word (c ∷ d ∷ []) = pair_number c d
 day_of_word word = None
@@ -88,14 +88,14 @@ abbrev pub if_late : ℕ → Option ℕ
 if_late year = if nat_le 1900 year then Some year else None
 
 -- the year of four digits, of three, which are added to 1900, or of two
-abbrev pub year_of_word : Word → Option ℕ
+abbrev pub year_of_word : DateWord → Option ℕ
 year_of_word (c ∷ d ∷ []) = option_map year_of_pair (pair_number c d)
 year_of_word (b ∷ c ∷ d ∷ []) = option_map (λ n. 1900 + n) (four_number (octet_of "0") b c d)
 year_of_word (a ∷ b ∷ c ∷ d ∷ []) = option_and_then if_late (four_number a b c d)
 year_of_word word = None
 
 -- the number of two digits up to a limit
-abbrev pub pair_of_word : (limit : ℕ) → Word → Option ℕ
+abbrev pub pair_of_word : (limit : ℕ) → DateWord → Option ℕ
 pair_of_word limit (c ∷ d ∷ []) = up_to limit (pair_number c d)
 pair_of_word limit word = None
 
@@ -108,7 +108,7 @@ abbrev pub minute_of_words : DateWords → Option ℕ
 minute_of_words w = option_and_then (λ hour. option_map (λ minute. 60 * hour + minute) (pair_of_word 59 w.minute)) (pair_of_word 23 w.hour)
 
 -- the second, which is 0 where none is written
-abbrev pub second_of_word : Option Word → Option ℕ
+abbrev pub second_of_word : Option DateWord → Option ℕ
 second_of_word None = Some 0
 second_of_word (Some word) = pair_of_word 60 word
 

@@ -2,14 +2,14 @@
 use Rattle.std.specs.Prelude.{ℕ, ◌+◌, ◌-◌, Bool, true, false, ◌&&◌, ◌||◌, ◌==◌, List, [], ◌∷◌, ◌++◌, Option, Some, None, if◌then◌else◌}
 use Rattle.std.specs.List.{onto_first}
 use Rattle.octets.specs.Octet.{is_between, is_digit, is_white, octet_of}
-use Rattle.date_text.specs.declared.spot.Spot.{Spot}
-use Rattle.date_text.specs.declared.spot.Spot.TheVariants.{Escaped, Inside, Outside}
+use Rattle.date_text.specs.declared.spot.CommentSpot.{CommentSpot}
+use Rattle.date_text.specs.declared.spot.CommentSpot.TheVariants.{Escaped, Inside, Outside}
 
 -- COMMENTS
 
 -- An octet stands outside comments, or in a comment with so many others round it, or after a `\` there. Where the next octet
 -- stands: comments nest, and a `\` in one protects the octet after it.
-abbrev pub after_octet : Spot → ℕ → Spot
+abbrev pub after_octet : CommentSpot → ℕ → CommentSpot
 after_octet Outside c = if c == octet_of "(" then Inside 0 else Outside
 after_octet (Inside others) c =
     if c == octet_of "(" then Inside (others + 1)
@@ -19,23 +19,23 @@ after_octet (Inside others) c =
 after_octet (Escaped others) c = Inside others
 
 -- what stays of an octet: outside comments itself, and of a comment a space
-abbrev pub kept_of : Spot → ℕ → List ℕ
+abbrev pub kept_of : CommentSpot → ℕ → List ℕ
 kept_of Outside c = (if c == octet_of "(" then octet_of " " else c) ∷ []
 kept_of (Inside others) c = []
 kept_of (Escaped others) c = []
 
 -- what stays of a text from such a spot on
-unfoldable pub kept : Spot → List ℕ → List ℕ
+unfoldable pub kept : CommentSpot → List ℕ → List ℕ
 kept spot [] = []
 kept spot (c ∷ rest) = kept_of spot c ++ kept (after_octet spot c) rest
 
-abbrev pub is_outside : Spot → Bool
+abbrev pub is_outside : CommentSpot → Bool
 is_outside Outside = true
 is_outside (Inside others) = false
 is_outside (Escaped others) = false
 
 -- whether each comment of a text is closed
-unfoldable pub is_closed : Spot → List ℕ → Bool
+unfoldable pub is_closed : CommentSpot → List ℕ → Bool
 is_closed spot [] = is_outside spot
 is_closed spot (c ∷ rest) = is_closed (after_octet spot c) rest
 
@@ -45,8 +45,8 @@ without_comments text = if is_closed Outside text then Some (kept Outside text) 
 
 -- WORDS
 
-abbrev pub Word : Type 0
-Word = List ℕ
+abbrev pub DateWord : Type 0
+DateWord = List ℕ
 
 -- a letter: ALPHA (RFC 5234, appendix B.1)
 abbrev pub is_letter : ℕ → Bool
@@ -61,13 +61,13 @@ is_joined_to c [] = false
 is_joined_to c (d ∷ rest) = is_joined c d
 
 -- an octet before the words of what stands after it
-abbrev pub word_before : ℕ → (joined : Bool) → List Word → List Word
+abbrev pub word_before : ℕ → (joined : Bool) → List DateWord → List DateWord
 word_before c joined words =
     if is_white c then words
     else if joined then onto_first c words
     else (c ∷ []) ∷ words
 
 -- words: runs of letters, runs of digits, and each other octet but white space
-unfoldable pub words_of : List ℕ → List Word
+unfoldable pub words_of : List ℕ → List DateWord
 words_of [] = []
 words_of (c ∷ rest) = word_before c (is_joined_to c rest) (words_of rest)

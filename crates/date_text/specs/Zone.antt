@@ -5,7 +5,7 @@ use Rattle.std.specs.Option.{option_and_then, option_map}
 use Rattle.std.specs.Str.{str_eq_ignore_ascii_case}
 use Rattle.octets.specs.Octet.{octet_of}
 use Rattle.date_text.specs.Number.{pair_number, two_digits, up_to}
-use Rattle.date_text.specs.Words.{Word, is_letter}
+use Rattle.date_text.specs.Words.{DateWord, is_letter}
 
 -- How many minutes the clocks of a zone go before those of UTC, or after them where it lies to the west. West with none is
 -- `-0000`: nothing is said of the zone.
@@ -42,11 +42,11 @@ abbrev pub zone_named : List ℕ → Option Zone
 zone_named [] = None
 zone_named (sign ∷ digits) = zone_of_sign sign digits
 
-abbrev pub is_same_name : Word → List ℕ → Bool
+abbrev pub is_same_name : DateWord → List ℕ → Bool
 is_same_name word name = str_eq_ignore_ascii_case name word
 
 -- the zone of letters (RFC 5322, section 4.3): all but these say nothing
-abbrev pub zone_of_letters : Word → Zone
+abbrev pub zone_of_letters : DateWord → Zone
 zone_of_letters word =
     if is_same_name word (codes "UT") || is_same_name word (codes "GMT") then east 0
     else if is_same_name word (codes "EST") || is_same_name word (codes "CDT") then west (5 * 60)
@@ -57,17 +57,17 @@ zone_of_letters word =
     else west 0
 
 -- the zone of one word
-abbrev pub zone_of_word : Word → Option Zone
+abbrev pub zone_of_word : DateWord → Option Zone
 zone_of_word word = if list_all is_letter word then Some (zone_of_letters word) else None
 
 -- the zone of a word of one octet and another
-abbrev pub zone_of_two : (sign digits : Word) → Option Zone
+abbrev pub zone_of_two : (sign digits : DateWord) → Option Zone
 zone_of_two [] digits = None
 zone_of_two (sign ∷ []) digits = zone_of_sign sign digits
 zone_of_two (sign ∷ more ∷ rest) digits = None
 
 -- the zone of words: none, letters, or a sign and four digits
-abbrev pub zone_of_words : List Word → Option Zone
+abbrev pub zone_of_words : List DateWord → Option Zone
 zone_of_words [] = Some (west 0)
 zone_of_words (word ∷ []) = zone_of_word word
 zone_of_words (sign ∷ digits ∷ []) = zone_of_two sign digits

@@ -2,12 +2,12 @@
 ghost use Rattle.std.specs.Prelude.{◌≡◌, ◌+◌, ◌<◌, ◌≤◌, ◌^◌};
 ghost use Rattle.octets.specs.Octet.{octet_of};
 ghost use Rattle.date_text.specs.Words.{after_octet, is_closed, is_outside};
-ghost use Rattle.date_text.specs.declared.spot.Spot.TheVariants.{Inside, Outside};
+ghost use Rattle.date_text.specs.declared.spot.CommentSpot.TheVariants.{Inside, Outside};
 ghost use Rattle.date_text.specs.view.Words.{depth_of};
 
 /// Where an octet stands.
 #[derive(Clone, Copy)]
-pub(crate) enum Spot {
+pub(crate) enum CommentSpot {
     /// Outside comments.
     Outside,
     /// In a comment with so many others round it.
@@ -17,48 +17,48 @@ pub(crate) enum Spot {
 }
 
 /// Where what stands after a comment stands.
-fn after_comment(others: usize) -> Spot
+fn after_comment(others: usize) -> CommentSpot
     ensures is { result ≡ after_octet (Inside others) (octet_of ")") }
     ensures depth { depth_of result ≤ others }
 {
     if others == 0 {
-        Spot::Outside
+        CommentSpot::Outside
     } else {
-        Spot::Inside(others - 1)
+        CommentSpot::Inside(others - 1)
     }
 }
 
 /// Where what stands after an octet of a comment stands.
-fn after_inner(others: usize, octet: u8) -> Spot
+fn after_inner(others: usize, octet: u8) -> CommentSpot
     requires { others + 1 < 2 ^ 63 }
     ensures is { result ≡ after_octet (Inside others) octet }
     ensures depth { depth_of result ≤ others + 2 }
 {
     match octet {
-        b'(' => Spot::Inside(others + 1),
+        b'(' => CommentSpot::Inside(others + 1),
         b')' => after_comment(others),
-        b'\\' => Spot::Escaped(others),
-        _ => Spot::Inside(others),
+        b'\\' => CommentSpot::Escaped(others),
+        _ => CommentSpot::Inside(others),
     }
 }
 
-impl Spot {
+impl CommentSpot {
     /// Where the next octet stands.
-    pub(crate) fn after(self, octet: u8) -> Spot
+    pub(crate) fn after(self, octet: u8) -> CommentSpot
         requires { depth_of self < 2 ^ 63 }
         ensures is { result ≡ after_octet self octet }
         ensures depth { depth_of result ≤ depth_of self + 1 }
     {
         match self {
-            Spot::Outside => {
+            CommentSpot::Outside => {
                 if octet == b'(' {
-                    Spot::Inside(0)
+                    CommentSpot::Inside(0)
                 } else {
-                    Spot::Outside
+                    CommentSpot::Outside
                 }
             }
-            Spot::Inside(others) => after_inner(others, octet),
-            Spot::Escaped(others) => Spot::Inside(others),
+            CommentSpot::Inside(others) => after_inner(others, octet),
+            CommentSpot::Escaped(others) => CommentSpot::Inside(others),
         }
     }
 
@@ -66,7 +66,7 @@ impl Spot {
     pub(crate) fn is_outside(self) -> bool
         ensures { result ≡ is_outside self }
     {
-        matches!(self, Spot::Outside)
+        matches!(self, CommentSpot::Outside)
     }
 }
 
@@ -74,7 +74,7 @@ impl Spot {
 pub(crate) fn is_closed(text: &[u8]) -> bool
     ensures { result ≡ is_closed Outside text.now }
 {
-    let mut spot = Spot::Outside;
+    let mut spot = CommentSpot::Outside;
     for octet in text {
         spot = spot.after(*octet);
     }

@@ -2,10 +2,10 @@
 ghost use Rattle.std.specs.Prelude.{◌≡◌, ◌+◌, ◌<◌, ◌≤◌, ◌^◌, [], ◌∷◌, true, IfSome, MatchOption, length, ⊤};
 ghost use Rattle.std.specs.List.{list_all, prefix_len};
 ghost use Rattle.date_text.specs.Words.{is_closed, is_joined, is_letter};
-ghost use Rattle.date_text.specs.declared.spot.Spot.TheVariants.{Outside};
+ghost use Rattle.date_text.specs.declared.spot.CommentSpot.TheVariants.{Outside};
 ghost use Rattle.date_text.specs.view.Words.{begins_word, closes, depth_of, is_of_word, is_word_at, words_from, words_in};
 
-use crate::spot::Spot;
+use crate::spot::CommentSpot;
 use octets::{is_digit, is_white};
 
 /// A letter (RFC 5234, appendix B.1: ALPHA).
@@ -46,14 +46,14 @@ fn is_of_word(octet: u8) -> bool
 }
 
 /// Whether an octet that stands there is one of a word.
-fn is_word_at(spot: Spot, octet: u8) -> bool
+fn is_word_at(spot: CommentSpot, octet: u8) -> bool
     ensures { result ≡ is_word_at spot octet }
 {
     spot.is_outside() && is_of_word(octet)
 }
 
 /// What stands after the first octet of a text, if it is no octet of a word, and where that stands.
-fn after_blank(spot: Spot, text: &[u8]) -> Option<(Spot, &[u8])>
+fn after_blank(spot: CommentSpot, text: &[u8]) -> Option<(CommentSpot, &[u8])>
     requires { depth_of spot < 2 ^ 63 }
     ensures words { IfSome result
         (λ found. words_from found.0 found.1.now ≡ words_from spot text.now) }
@@ -80,7 +80,7 @@ fn without_blanks(text: &[u8]) -> &[u8]
     ensures words { words_in result.now ≡ words_in text.now }
     ensures begins { begins_word result.now ≡ true }
 {
-    let mut spot = Spot::Outside;
+    let mut spot = CommentSpot::Outside;
     let mut left = text;
     while let Some((after, rest)) = after_blank(spot, left) {
         spot = after;

@@ -10,10 +10,10 @@ use Rattle.std.specs.Str.{bytes_eq}
 use lib.Pointwise.{bytes_decides}
 use Rattle.octets.proofs.Both.{both, first_of_both, last_of_both}
 use Rattle.octets.specs.Octet.{is_blank, is_filled, octet_of}
-use Rattle.text_cut.specs.Scan.{Finds}
-use Rattle.encoded_characters.specs.Cut.{IsLegal}
+use Rattle.text_cut.specs.Scan.{FindsSequences}
+use Rattle.encoded_characters.specs.Cut.{IsLegalEncoded}
 use Rattle.encoded_characters.specs.Scan.{before_brace, after_run, after_word, by_word, further, inside_of, may_stand, run, sequence_at, word_at}
-use Rattle.encoded_characters.specs.Sequence.{Inside, Item, Sequence, are_blanks, are_digits, are_items, inside_written, is_hex, is_hex_digit, is_inside, is_item, is_legal, is_unicode, item_written, written}
+use Rattle.encoded_characters.specs.Sequence.{InsideSequence, Item, EncodedSequence, are_blanks, are_digits, are_items, inside_written, is_hex, is_hex_digit, is_inside, is_item, is_legal, is_unicode, item_written, written}
 use Rattle.encoded_characters.specs.view.Sequence.{item_before}
 use Rattle.encoded_characters.proofs.Items.{item_run, last_run, no_digit, not_hex, written_again}
 
@@ -124,7 +124,7 @@ parts_read hex (item ∷ items) last legal =
     let after = last_of_both (is_item hex item) (list_all (is_further hex) items) are in
     one_item hex item items last (first_of_both (is_item hex item) (list_all (is_further hex) items) are) after blank (further_items hex items last after blank)
 
-inside_read : (hex : Bool) (inside : Inside) → is_inside hex inside ≡ true → inside_of (inside_written inside) ≡ inside
+inside_read : (hex : Bool) (inside : InsideSequence) → is_inside hex inside ≡ true → inside_of (inside_written inside) ≡ inside
 inside_read hex inside legal = parts_read hex inside.items inside.last legal
 
 item_stands : (hex : Bool) (item : Item) → is_item hex item ≡ true → list_all may_stand (item_written item) ≡ true
@@ -147,7 +147,7 @@ items_stand hex (item ∷ items) are =
     ∙ both (list_all may_stand (item_written item)) (list_all may_stand (flat_map item_written items)) (item_stands hex item (first_of_both (is_item hex item) (list_all (is_further hex) items) are))
     (further_stand hex items (last_of_both (is_item hex item) (list_all (is_further hex) items) are))
 
-inside_stands : (hex : Bool) (inside : Inside) → is_inside hex inside ≡ true → list_all may_stand (inside_written inside) ≡ true
+inside_stands : (hex : Bool) (inside : InsideSequence) → is_inside hex inside ≡ true → list_all may_stand (inside_written inside) ≡ true
 inside_stands hex inside legal =
     list_all-append may_stand (flat_map item_written inside.items) inside.last
     ∙ both (list_all may_stand (flat_map item_written inside.items)) (list_all may_stand inside.last)
@@ -212,17 +212,17 @@ word_at-is word rest is = word_step word rest (is_hex word) refl is
 
 -- a sequence as it is written is found
 
-written-is : (s : Sequence) (rest : List ℕ) → written s ++ rest ≡ octet_of "$" ∷ octet_of "{" ∷ (s.word ++ octet_of ":" ∷ (inside_written s.inside ++ octet_of "}" ∷ rest))
+written-is : (s : EncodedSequence) (rest : List ℕ) → written s ++ rest ≡ octet_of "$" ∷ octet_of "{" ∷ (s.word ++ octet_of ":" ∷ (inside_written s.inside ++ octet_of "}" ∷ rest))
 written-is s rest =
     ap (λ octets. octet_of "$" ∷ octet_of "{" ∷ octets)
     (append_assoc (s.word ++ octet_of ":" ∷ inside_written s.inside) (octet_of "}" ∷ []) rest ∙ append_assoc s.word (octet_of ":" ∷ inside_written s.inside) (octet_of "}" ∷ rest))
 
-brace_found : (s : Sequence) (rest : List ℕ) → is_inside (is_hex s.word) s.inside ≡ true → before_brace s.word (inside_written s.inside) (octet_of "}" ∷ rest) ≡ Some s
+brace_found : (s : EncodedSequence) (rest : List ℕ) → is_inside (is_hex s.word) s.inside ≡ true → before_brace s.word (inside_written s.inside) (octet_of "}" ∷ rest) ≡ Some s
 brace_found s rest legal =
     ap (λ inside. cond (is_inside (is_hex s.word) inside) (Some (record { word = s.word; inside = inside })) None) (inside_read (is_hex s.word) s.inside legal)
     ∙ ap (λ b. cond b (Some s) None) legal
 
-pub sequence_at-written : (s : Sequence) (rest : List ℕ) → is_legal s ≡ true → sequence_at (written s ++ rest) ≡ Some s
+pub sequence_at-written : (s : EncodedSequence) (rest : List ℕ) → is_legal s ≡ true → sequence_at (written s ++ rest) ≡ Some s
 unfolding sequence_at
 sequence_at-written s rest legal =
     let inside = last_of_both (is_word s.word) (is_inside (is_hex s.word) s.inside) legal in
@@ -239,22 +239,22 @@ sequence_at-written s rest legal =
 -- what is found is a sequence as it is written
 
 -- octets that go on after `${` as a sequence does
-record GoesOn (octets : List ℕ) (s : Sequence) : Type 0 where
+record GoesOn (octets : List ℕ) (s : EncodedSequence) : Type 0 where
   pub inside : is_inside (is_hex s.word) s.inside ≡ true
   pub rest : List ℕ
   pub is : octets ≡ octet_of ":" ∷ (inside_written s.inside ++ octet_of "}" ∷ rest)
 
 -- octets after `:`, by the first of them that may stand there
-record EndsIn (word octets after : List ℕ) (s : Sequence) : Type 0 where
+record EndsIn (word octets after : List ℕ) (s : EncodedSequence) : Type 0 where
   pub same : s.word ≡ word
   pub written : inside_written s.inside ≡ octets
   pub inside : is_inside (is_hex s.word) s.inside ≡ true
   pub rest : List ℕ
   pub is : after ≡ octet_of "}" ∷ rest
 
-brace_step : (word octets : List ℕ) (c : ℕ) (rest : List ℕ) (s : Sequence) (b : Bool) → (c == octet_of "}" && is_inside (is_hex word) (inside_of octets)) ≡ b → cond b (Some (record { word = word; inside = inside_of octets })) None ≡ Some s → EndsIn word octets (c ∷ rest) s
+brace_step : (word octets : List ℕ) (c : ℕ) (rest : List ℕ) (s : EncodedSequence) (b : Bool) → (c == octet_of "}" && is_inside (is_hex word) (inside_of octets)) ≡ b → cond b (Some (record { word = word; inside = inside_of octets })) None ≡ Some s → EndsIn word octets (c ∷ rest) s
 brace_step word octets c rest s true signs is =
-    let made : Sequence = record { word = word; inside = inside_of octets } in
+    let made : EncodedSequence = record { word = word; inside = inside_of octets } in
     let same : made ≡ s = cc in
     subst (EndsIn word octets (c ∷ rest)) same (record {
       same = refl;
@@ -265,11 +265,11 @@ brace_step word octets c rest s true signs is =
     })
 brace_step word octets c rest s false signs is = absurd cc
 
-brace_ends : (word octets after : List ℕ) (s : Sequence) → before_brace word octets after ≡ Some s → EndsIn word octets after s
+brace_ends : (word octets after : List ℕ) (s : EncodedSequence) → before_brace word octets after ≡ Some s → EndsIn word octets after s
 brace_ends word octets [] s is = absurd cc
 brace_ends word octets (c ∷ rest) s is = brace_step word octets c rest s (c == octet_of "}" && is_inside (is_hex word) (inside_of octets)) refl is
 
-sign_step : (word : List ℕ) (c : ℕ) (rest : List ℕ) (s : Sequence) (b : Bool) → (c == octet_of ":") ≡ b → cond b (before_brace word (run rest) (after_run rest)) None ≡ Some s → (s.word ≡ word) × GoesOn (c ∷ rest) s
+sign_step : (word : List ℕ) (c : ℕ) (rest : List ℕ) (s : EncodedSequence) (b : Bool) → (c == octet_of ":") ≡ b → cond b (before_brace word (run rest) (after_run rest)) None ≡ Some s → (s.word ≡ word) × GoesOn (c ∷ rest) s
 sign_step word c rest s true sign is =
     let ends = brace_ends word (run rest) (after_run rest) s is in
     let whole : inside_written s.inside ++ octet_of "}" ∷ ends.rest ≡ rest =
@@ -283,7 +283,7 @@ sign_step word c rest s true sign is =
     )
 sign_step word c rest s false sign is = absurd cc
 
-after_word-is : (word octets : List ℕ) (s : Sequence) → after_word word octets ≡ Some s → (s.word ≡ word) × GoesOn octets s
+after_word-is : (word octets : List ℕ) (s : EncodedSequence) → after_word word octets ≡ Some s → (s.word ≡ word) × GoesOn octets s
 after_word-is word [] s is = absurd cc
 after_word-is word (c ∷ rest) s is = sign_step word c rest s (c == octet_of ":") refl is
 
@@ -315,12 +315,12 @@ word_begins : (octets word : List ℕ) → word_at octets ≡ Some word → Begi
 word_begins octets word is = word_choice octets word (is_hex (take 3 octets)) (is_unicode (take 7 octets)) refl refl is
 
 -- octets that begin with a sequence after `${`
-record Starts (octets : List ℕ) (s : Sequence) : Type 0 where
+record Starts (octets : List ℕ) (s : EncodedSequence) : Type 0 where
   pub legal : is_legal s ≡ true
   pub rest : List ℕ
   pub is : octets ≡ s.word ++ octet_of ":" ∷ (inside_written s.inside ++ octet_of "}" ∷ rest)
 
-word_starts : (octets : List ℕ) (s : Sequence) (found : Option (List ℕ)) → word_at octets ≡ found → by_word found octets ≡ Some s → Starts octets s
+word_starts : (octets : List ℕ) (s : EncodedSequence) (found : Option (List ℕ)) → word_at octets ≡ found → by_word found octets ≡ Some s → Starts octets s
 word_starts octets s None at is = absurd cc
 word_starts octets s (Some word) at is =
     let begins = word_begins octets word at in
@@ -332,7 +332,7 @@ word_starts octets s (Some word) at is =
       is = begins.is ∙ ap (λ one. word ++ one) goes.is ∙ ap (λ one. one ++ octet_of ":" ∷ (inside_written s.inside ++ octet_of "}" ∷ goes.rest)) (sym after.0);
     }
 
-found_step : (c d : ℕ) (rest : List ℕ) (s : Sequence) (b : Bool) → (c == octet_of "$" && d == octet_of "{") ≡ b → cond b (by_word (word_at rest) rest) None ≡ Some s → (is_legal s ≡ true) × (after : List ℕ) × (c ∷ d ∷ rest ≡ written s ++ after)
+found_step : (c d : ℕ) (rest : List ℕ) (s : EncodedSequence) (b : Bool) → (c == octet_of "$" && d == octet_of "{") ≡ b → cond b (by_word (word_at rest) rest) None ≡ Some s → (is_legal s ≡ true) × (after : List ℕ) × (c ∷ d ∷ rest ≡ written s ++ after)
 found_step c d rest s true signs is =
     let first = eqb-true c (octet_of "$") (first_of_both (c == octet_of "$") (d == octet_of "{") signs) in
     let second = eqb-true d (octet_of "{") (last_of_both (c == octet_of "$") (d == octet_of "{") signs) in
@@ -346,17 +346,17 @@ found_step c d rest s true signs is =
     )
 found_step c d rest s false signs is = absurd cc
 
-pub found_is_written : (text : List ℕ) (s : Sequence) → sequence_at text ≡ Some s → (is_legal s ≡ true) × (rest : List ℕ) × (text ≡ written s ++ rest)
+pub found_is_written : (text : List ℕ) (s : EncodedSequence) → sequence_at text ≡ Some s → (is_legal s ≡ true) × (rest : List ℕ) × (text ≡ written s ++ rest)
 unfolding sequence_at
 found_is_written [] s is = absurd cc
 found_is_written (c ∷ []) s is = absurd cc
 found_is_written (c ∷ d ∷ rest) s is = found_step c d rest s (c == octet_of "$" && d == octet_of "{") refl is
 
-pub length-written : (s : Sequence) → length (written s) ≡ suc (further s)
+pub length-written : (s : EncodedSequence) → length (written s) ≡ suc (further s)
 length-written s = simp length-append (omega arith)
 
 -- exactly the legal sequences are found
-pub finds : Finds written IsLegal sequence_at further
+pub finds : FindsSequences written IsLegalEncoded sequence_at further
 finds = record {
   legal = λ text s is. (found_is_written text s is).0;
   is = λ text s is. ((found_is_written text s is).1, (found_is_written text s is).2);

@@ -8,7 +8,7 @@ use Rattle.std.proofs.lemmas.List.Sums.{take_while-cons}
 use Rattle.octets.proofs.Both.{both, first_of_both, last_of_both}
 use Rattle.octets.specs.Octet.{is_filled}
 use Rattle.encoded_characters.specs.Scan.{blank_before, digit_before, inside_of, octet_onto}
-use Rattle.encoded_characters.specs.Sequence.{Inside, Item, are_blanks, are_items, inside_written, is_hex_digit, is_inside, is_item}
+use Rattle.encoded_characters.specs.Sequence.{InsideSequence, Item, are_blanks, are_items, inside_written, is_hex_digit, is_inside, is_item}
 use Rattle.encoded_characters.specs.view.Sequence.{item_before, last_alone}
 
 -- an octet before others
@@ -16,10 +16,10 @@ use Rattle.encoded_characters.specs.view.Sequence.{item_before, last_alone}
 abbrev pub not_hex : ℕ → Bool
 not_hex c = not (is_hex_digit c)
 
-digit_step : (c : ℕ) (inside : Inside) → is_hex_digit c ≡ true → octet_onto c inside ≡ record { items = digit_before c inside.items; last = inside.last }
+digit_step : (c : ℕ) (inside : InsideSequence) → is_hex_digit c ≡ true → octet_onto c inside ≡ record { items = digit_before c inside.items; last = inside.last }
 digit_step c inside is = ap (λ b. cond b (record { items = digit_before c inside.items; last = inside.last }) (blank_before c inside.items inside.last)) is
 
-gap_step : (c : ℕ) (inside : Inside) → not_hex c ≡ true → octet_onto c inside ≡ blank_before c inside.items inside.last
+gap_step : (c : ℕ) (inside : InsideSequence) → not_hex c ≡ true → octet_onto c inside ≡ blank_before c inside.items inside.last
 gap_step c inside is = ap (λ b. cond b (record { items = digit_before c inside.items; last = inside.last }) (blank_before c inside.items inside.last)) (not-true (is_hex_digit c) is)
 
 -- runs
@@ -41,7 +41,7 @@ first_digit c (b ∷ rest) is apart =
     let after = blank_before b inside.items inside.last in
     let step = gap_step b inside apart in
     digit_step c (octet_onto b inside) is
-    ∙ ap (λ (one : Inside). record { items = digit_before c one.items; last = one.last }) step
+    ∙ ap (λ (one : InsideSequence). record { items = digit_before c one.items; last = one.last }) step
     ∙ ap (λ (items : List Item). record { items = items; last = after.last }) (apart_step c b inside.items inside.last)
     ∙ sym (ap (item_before (record { blanks = []; digits = c ∷ [] })) step)
 
@@ -50,14 +50,14 @@ unfolding inside_of
 digits_run c [] rest is are apart = first_digit c rest is apart
 digits_run c (d ∷ digits) rest is are apart =
     digit_step c (inside_of (d ∷ (digits ++ rest))) is
-    ∙ ap (λ (one : Inside). record { items = digit_before c one.items; last = one.last }) (digits_run d digits rest (first_of_both (is_hex_digit d) (list_all is_hex_digit digits) are) (last_of_both (is_hex_digit d) (list_all is_hex_digit digits) are) apart)
+    ∙ ap (λ (one : InsideSequence). record { items = digit_before c one.items; last = one.last }) (digits_run d digits rest (first_of_both (is_hex_digit d) (list_all is_hex_digit digits) are) (last_of_both (is_hex_digit d) (list_all is_hex_digit digits) are) apart)
 
-gap_run : (gap rest : List ℕ) (item : Item) (inside : Inside) → list_all not_hex gap ≡ true → inside_of rest ≡ item_before item inside → inside_of (gap ++ rest) ≡ item_before (record { blanks = gap ++ item.blanks; digits = item.digits }) inside
+gap_run : (gap rest : List ℕ) (item : Item) (inside : InsideSequence) → list_all not_hex gap ≡ true → inside_of rest ≡ item_before item inside → inside_of (gap ++ rest) ≡ item_before (record { blanks = gap ++ item.blanks; digits = item.digits }) inside
 unfolding inside_of
 gap_run [] rest item inside are is = is
 gap_run (c ∷ gap) rest item inside are is =
     gap_step c (inside_of (gap ++ rest)) (first_of_both (not_hex c) (list_all not_hex gap) are)
-    ∙ ap (λ (one : Inside). blank_before c one.items one.last) (gap_run gap rest item inside (last_of_both (not_hex c) (list_all not_hex gap) are) is)
+    ∙ ap (λ (one : InsideSequence). blank_before c one.items one.last) (gap_run gap rest item inside (last_of_both (not_hex c) (list_all not_hex gap) are) is)
 
 -- octets without digits
 pub last_run : (gap : List ℕ) → list_all not_hex gap ≡ true → inside_of gap ≡ last_alone gap
@@ -65,7 +65,7 @@ unfolding inside_of
 last_run [] are = refl
 last_run (c ∷ gap) are =
     gap_step c (inside_of gap) (first_of_both (not_hex c) (list_all not_hex gap) are)
-    ∙ ap (λ (one : Inside). blank_before c one.items one.last) (last_run gap (last_of_both (not_hex c) (list_all not_hex gap) are))
+    ∙ ap (λ (one : InsideSequence). blank_before c one.items one.last) (last_run gap (last_of_both (not_hex c) (list_all not_hex gap) are))
 
 -- a run of digits, with what stands before it, and what stands after it
 pub item_run : (gap digits rest : List ℕ) → list_all not_hex gap ≡ true → 0 < length digits → list_all is_hex_digit digits ≡ true → no_digit rest ≡ true → inside_of (gap ++ (digits ++ rest)) ≡ item_before (record { blanks = gap; digits = digits }) (inside_of rest)
@@ -173,10 +173,10 @@ abbrev some_items : List Item → Bool
 some_items [] = false
 some_items (item ∷ items) = true
 
-abbrev pub has_items : Inside → Bool
+abbrev pub has_items : InsideSequence → Bool
 has_items inside = some_items inside.items
 
-abbrev pub are_each : (hex : Bool) → Inside → Bool
+abbrev pub are_each : (hex : Bool) → InsideSequence → Bool
 are_each hex inside = list_all (is_item hex) inside.items && are_blanks inside.last
 
 each_apart : (hex : Bool) (items : List Item) → list_all is_apart items ≡ true → list_all (λ further. is_filled further.blanks && is_item hex further) items ≡ list_all (is_item hex) items
@@ -198,10 +198,10 @@ inside_legal hex octets = legal_items hex (inside_of octets).items (inside_of oc
 
 -- an item is followed by the others
 
-each_step : (hex : Bool) (item : Item) (inside : Inside) (b : Bool) → is_item hex item ≡ b → b ≡ false → are_each hex (item_before item inside) ≡ false
+each_step : (hex : Bool) (item : Item) (inside : InsideSequence) (b : Bool) → is_item hex item ≡ b → b ≡ false → are_each hex (item_before item inside) ≡ false
 each_step hex item inside b is none = ap (λ b. (b && list_all (is_item hex) inside.items) && are_blanks inside.last) (is ∙ none)
 
-pub refused : (hex : Bool) (octets left : List ℕ) (item : Item) (inside : Inside) → inside_of left ≡ item_before item inside → is_item hex item ≡ false → are_each hex (inside_of left) ≡ are_each hex (inside_of octets) → false ≡ is_inside hex (inside_of octets)
+pub refused : (hex : Bool) (octets left : List ℕ) (item : Item) (inside : InsideSequence) → inside_of left ≡ item_before item inside → is_item hex item ≡ false → are_each hex (inside_of left) ≡ are_each hex (inside_of octets) → false ≡ is_inside hex (inside_of octets)
 refused hex octets left item inside is none so_far =
     let each : are_each hex (inside_of octets) ≡ false = sym so_far ∙ ap (are_each hex) is ∙ each_step hex item inside (is_item hex item) refl none in
     sym (inside_legal hex octets ∙ ap (λ b. has_items (inside_of octets) && b) each ∙ never (has_items (inside_of octets)))

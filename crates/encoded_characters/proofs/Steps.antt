@@ -9,9 +9,9 @@ use Rattle.text_cut.specs.Scan.{pieces_from}
 use Rattle.encoded_characters.proofs.Found.{finds}
 use Rattle.encoded_characters.proofs.Items.{written_again}
 use Rattle.encoded_characters.proofs.Values.{grown_more, grown_none}
-use Rattle.encoded_characters.specs.Cut.{Cuts, TextPiece, octets_of_pieces}
+use Rattle.encoded_characters.specs.Cut.{CutsEncoded, EncodedPiece, octets_of_pieces}
 use Rattle.encoded_characters.specs.Scan.{characters_replaced, further, has_sequence, inside_of, is_sequence, may_stand, pieces_of, run, sequence_at}
-use Rattle.encoded_characters.specs.Sequence.{Sequence}
+use Rattle.encoded_characters.specs.Sequence.{EncodedSequence}
 use Rattle.encoded_characters.specs.Value.{octets_before, octets_of_sequence}
 use Rattle.encoded_characters.specs.view.Sequence.{grown, if_right}
 
@@ -24,7 +24,7 @@ replaced_octet : (text : List ℕ) → 0 < length text → None ≡ sequence_at 
 replaced_octet [] some none = absurd (omega arith)
 replaced_octet (c ∷ rest) some none = ap octets_of_pieces (pieces-octet sequence_at further c rest (sym none))
 
-replaced_sequence : (text : List ℕ) (s : Sequence) (n : ℕ) → Some s ≡ sequence_at text → n ≡ suc (further s) → characters_replaced text ≡ octets_before (octets_of_sequence s) (characters_replaced (drop n text))
+replaced_sequence : (text : List ℕ) (s : EncodedSequence) (n : ℕ) → Some s ≡ sequence_at text → n ≡ suc (further s) → characters_replaced text ≡ octets_before (octets_of_sequence s) (characters_replaced (drop n text))
 unfolding sequence_at
 replaced_sequence [] s n found count = absurd cc
 replaced_sequence (c ∷ rest) s n found count =
@@ -44,7 +44,7 @@ octet_step done next left after octets whole some none octets_is after_is next_i
 pub sequence_step : (done next left after word octets : List ℕ) (n : ℕ) (pushed : Bool) (whole : Option (List ℕ)) → pushed ≡ true → Some (record { word = word; inside = inside_of octets }) ≡ sequence_at left → n ≡ length word + length octets + 4 → after ≡ drop n left
     → if_right pushed next ≡ grown done (octets_of_sequence (record { word = word; inside = inside_of octets })) → grown done (characters_replaced left) ≡ whole → grown next (characters_replaced after) ≡ whole
 sequence_step done next left after word octets n pushed whole is found count after_is adds so_far =
-    let s : Sequence = record { word = word; inside = inside_of octets } in
+    let s : EncodedSequence = record { word = word; inside = inside_of octets } in
     ap (λ one. grown next (characters_replaced one)) after_is
     ∙ grown_more done next (octets_of_sequence s) (characters_replaced (drop n left)) whole (ap (λ b. cond b (Some next) None) (sym is) ∙ adds)
     (ap (grown done) (sym (replaced_sequence left s n found (count_of word octets n count))) ∙ so_far)
@@ -52,7 +52,7 @@ sequence_step done next left after word octets n pushed whole is found count aft
 pub bad_step : (done next left word octets : List ℕ) (pushed : Bool) (whole : Option (List ℕ)) → pushed ≡ false → Some (record { word = word; inside = inside_of octets }) ≡ sequence_at left
     → if_right pushed next ≡ grown done (octets_of_sequence (record { word = word; inside = inside_of octets })) → grown done (characters_replaced left) ≡ whole → None ≡ whole
 bad_step done next left word octets pushed whole is found adds so_far =
-    let s : Sequence = record { word = word; inside = inside_of octets } in
+    let s : EncodedSequence = record { word = word; inside = inside_of octets } in
     let n = length word + length octets + 4 in
     grown_none done (octets_of_sequence s) (characters_replaced (drop n left)) whole (ap (λ b. cond b (Some next) None) (sym is) ∙ adds)
     (ap (grown done) (sym (replaced_sequence left s n found (count_of word octets n refl))) ∙ so_far)
@@ -72,7 +72,7 @@ passed_octet [] after some none is = absurd (omega arith)
 passed_octet (c ∷ rest) after some none is =
     ap (list_any is_sequence) (pieces-octet sequence_at further c rest (sym none)) ∙ ap has_sequence (sym is)
 
-pub found_sequence : (text : List ℕ) (s : Sequence) → Some s ≡ sequence_at text → has_sequence text ≡ true
+pub found_sequence : (text : List ℕ) (s : EncodedSequence) → Some s ≡ sequence_at text → has_sequence text ≡ true
 unfolding sequence_at
 found_sequence [] s found = absurd cc
 found_sequence (c ∷ rest) s found = ap (list_any is_sequence) (pieces-sequence sequence_at further c rest s (sym found))
@@ -84,7 +84,7 @@ none_at_all (c ∷ rest) ended = absurd (omega arith)
 
 -- a text without sequences stands for itself
 
-unchanged_pieces : (pieces : List TextPiece) (text : List ℕ) → Cuts pieces text → list_any is_sequence pieces ≡ false → octets_of_pieces pieces ≡ Some text
+unchanged_pieces : (pieces : List EncodedPiece) (text : List ℕ) → CutsEncoded pieces text → list_any is_sequence pieces ≡ false → octets_of_pieces pieces ≡ Some text
 unchanged_pieces [] text is none = ap Some (sym is)
 unchanged_pieces (sequence s ∷ pieces) text cut none = absurd cc
 unchanged_pieces (octet c ∷ pieces) text (nowhere, rest, is, cut) none =
@@ -95,10 +95,10 @@ unchanged text none = unchanged_pieces (pieces_of text) text (cuts_from finds 0 
 
 -- whether a sequence is found, by what stands for it in the program
 
-pub some_found : {X : Type 0} (shown : X → Sequence) (found : Option X) (text : List ℕ) → option_map shown found ≡ sequence_at text → is_some found ≡ true → has_sequence text ≡ true
+pub some_found : {X : Type 0} (shown : X → EncodedSequence) (found : Option X) (text : List ℕ) → option_map shown found ≡ sequence_at text → is_some found ≡ true → has_sequence text ≡ true
 some_found shown None text is some = absurd cc
 some_found shown (Some x) text is some = found_sequence text (shown x) is
 
-pub none_found : {X : Type 0} (shown : X → Sequence) (found : Option X) (text : List ℕ) → option_map shown found ≡ sequence_at text → is_some found ≡ false → None ≡ sequence_at text
+pub none_found : {X : Type 0} (shown : X → EncodedSequence) (found : Option X) (text : List ℕ) → option_map shown found ≡ sequence_at text → is_some found ≡ false → None ≡ sequence_at text
 none_found shown None text is none = is
 none_found shown (Some x) text is none = absurd cc

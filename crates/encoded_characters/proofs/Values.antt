@@ -4,12 +4,12 @@ use Rattle.std.specs.Option.{option_and_then, option_map}
 use Rattle.std.proofs.lemmas.Bool.Decides.{nat_tests}
 use Rattle.octets.specs.Hex.{hex_octet, hex_value}
 use Rattle.octets.specs.Octet.{octet_of}
-use Rattle.encoded_characters.specs.Sequence.{Inside}
+use Rattle.encoded_characters.specs.Sequence.{InsideSequence}
 use Rattle.encoded_characters.specs.Value.{character_of, if_character, is_character, joined, number_from, octets_before, octets_of_digits}
 use Rattle.encoded_characters.specs.view.Sequence.{grown}
 
 -- what items stand for
-abbrev pub octets_of_items : (hex : Bool) → Inside → Option (List ℕ)
+abbrev pub octets_of_items : (hex : Bool) → InsideSequence → Option (List ℕ)
 octets_of_items hex inside = joined (λ item. octets_of_digits hex item.digits) inside.items
 
 -- octets of a first one, and then of others

@@ -4,8 +4,8 @@ use Rattle.std.specs.List.{list_any, prefix_len, take_while}
 use Rattle.octets.specs.Octet.{is_white, octet_of}
 use Rattle.text_cut.specs.Cut.{octet, sequence}
 use Rattle.text_cut.specs.Scan as scan
-use Rattle.encoded_characters.specs.Cut.{TextPiece, octets_of_pieces}
-use Rattle.encoded_characters.specs.Sequence.{Inside, Item, Sequence, inside_written, is_hex, is_hex_digit, is_inside, is_unicode}
+use Rattle.encoded_characters.specs.Cut.{EncodedPiece, octets_of_pieces}
+use Rattle.encoded_characters.specs.Sequence.{InsideSequence, Item, EncodedSequence, inside_written, is_hex, is_hex_digit, is_inside, is_unicode}
 
 -- what stands between `:` and `}`, by its octets
 
@@ -19,15 +19,15 @@ digit_before c [] = record { blanks = []; digits = c ∷ [] } ∷ []
 digit_before c (item ∷ items) = digit_to c item.blanks item.digits items
 
 -- another octet before them, and before what stands after the last
-abbrev pub blank_before : ℕ → List Item → (last : List ℕ) → Inside
+abbrev pub blank_before : ℕ → List Item → (last : List ℕ) → InsideSequence
 blank_before c [] last = record { items = []; last = c ∷ last }
 blank_before c (item ∷ items) last = record { items = record { blanks = c ∷ item.blanks; digits = item.digits } ∷ items; last = last }
 
-abbrev pub octet_onto : ℕ → Inside → Inside
+abbrev pub octet_onto : ℕ → InsideSequence → InsideSequence
 octet_onto c inside = if is_hex_digit c then record { items = digit_before c inside.items; last = inside.last } else blank_before c inside.items inside.last
 
 -- octets as runs of digits, each with what stands before it, and what stands after the last
-unfoldable pub inside_of : List ℕ → Inside
+unfoldable pub inside_of : List ℕ → InsideSequence
 inside_of [] = record { items = []; last = [] }
 inside_of (c ∷ rest) = octet_onto c (inside_of rest)
 
@@ -46,13 +46,13 @@ abbrev pub after_run : List ℕ → List ℕ
 after_run octets = drop (prefix_len may_stand octets) octets
 
 -- a sequence, by its word, the octets between `:` and `}`, and what stands after these: `}`
-abbrev pub before_brace : (word octets rest : List ℕ) → Option Sequence
+abbrev pub before_brace : (word octets rest : List ℕ) → Option EncodedSequence
 before_brace word octets [] = None
 before_brace word octets (c ∷ rest) =
     if c == octet_of "}" && is_inside (is_hex word) (inside_of octets) then Some (record { word = word; inside = inside_of octets }) else None
 
 -- a sequence, by its word and what stands after that: `:`, and so on
-abbrev pub after_word : (word rest : List ℕ) → Option Sequence
+abbrev pub after_word : (word rest : List ℕ) → Option EncodedSequence
 after_word word [] = None
 after_word word (c ∷ rest) = if c == octet_of ":" then before_brace word (run rest) (after_run rest) else None
 
@@ -61,22 +61,22 @@ abbrev pub word_at : List ℕ → Option (List ℕ)
 word_at octets = if is_hex (take 3 octets) then Some (take 3 octets) else if is_unicode (take 7 octets) then Some (take 7 octets) else None
 
 -- a sequence, by the word with which octets begin
-abbrev pub by_word : Option (List ℕ) → List ℕ → Option Sequence
+abbrev pub by_word : Option (List ℕ) → List ℕ → Option EncodedSequence
 by_word None octets = None
 by_word (Some word) octets = after_word word (drop (length word) octets)
 
 -- the sequence with which a text begins
-unfoldable pub sequence_at : List ℕ → Option Sequence
+unfoldable pub sequence_at : List ℕ → Option EncodedSequence
 sequence_at [] = None
 sequence_at (c ∷ []) = None
 sequence_at (c ∷ d ∷ rest) = if c == octet_of "$" && d == octet_of "{" then by_word (word_at rest) rest else None
 
 -- how many octets of a sequence stand after its first: `{`, its word, `:`, what stands inside, and `}`
-abbrev pub further : Sequence → ℕ
+abbrev pub further : EncodedSequence → ℕ
 further s = length s.word + length (inside_written s.inside) + 3
 
 -- the pieces of a text
-abbrev pub pieces_of : List ℕ → List TextPiece
+abbrev pub pieces_of : List ℕ → List EncodedPiece
 pieces_of text = scan.pieces_of sequence_at further text
 
 -- a text with its encoded characters replaced, or nothing where one isn't a character (RFC 5228, section 2.4.2.4)
@@ -84,7 +84,7 @@ abbrev pub characters_replaced : List ℕ → Option (List ℕ)
 characters_replaced text = octets_of_pieces (pieces_of text)
 
 -- whether a piece is a sequence
-abbrev pub is_sequence : TextPiece → Bool
+abbrev pub is_sequence : EncodedPiece → Bool
 is_sequence (octet c) = false
 is_sequence (sequence s) = true
 

@@ -12,14 +12,14 @@ pub record Item : Type 0 where
   pub digits : List ℕ
 
 -- what stands between `:` and `}`: digits, each run with the blanks before it, and the blanks after the last
-pub record Inside : Type 0 where
+pub record InsideSequence : Type 0 where
   pub items : List Item
   pub last : List ℕ
 
 -- a sequence, by its word and what stands between `:` and `}`
-pub record Sequence : Type 0 where
+pub record EncodedSequence : Type 0 where
   pub word : List ℕ
-  pub inside : Inside
+  pub inside : InsideSequence
 
 -- the word of sequences that stand for octets
 abbrev pub is_hex : List ℕ → Bool
@@ -53,11 +53,11 @@ are_items hex [] = false
 are_items hex (item ∷ items) = is_item hex item && list_all (λ further. is_filled further.blanks && is_item hex further) items
 
 -- whether what stands between `:` and `}` is that of a sequence
-abbrev pub is_inside : (hex : Bool) → Inside → Bool
+abbrev pub is_inside : (hex : Bool) → InsideSequence → Bool
 is_inside hex inside = are_items hex inside.items && are_blanks inside.last
 
 -- whether parts are those of a sequence
-abbrev pub is_legal : Sequence → Bool
+abbrev pub is_legal : EncodedSequence → Bool
 is_legal s = (is_hex s.word || is_unicode s.word) && is_inside (is_hex s.word) s.inside
 
 -- an item as it is written
@@ -65,9 +65,9 @@ abbrev pub item_written : Item → List ℕ
 item_written item = item.blanks ++ item.digits
 
 -- what stands between `:` and `}`, as it is written
-abbrev pub inside_written : Inside → List ℕ
+abbrev pub inside_written : InsideSequence → List ℕ
 inside_written inside = flat_map item_written inside.items ++ inside.last
 
 -- a sequence as it is written
-abbrev pub written : Sequence → List ℕ
+abbrev pub written : EncodedSequence → List ℕ
 written s = codes "${" ++ s.word ++ octet_of ":" ∷ inside_written s.inside ++ codes "}"

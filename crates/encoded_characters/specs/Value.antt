@@ -3,7 +3,7 @@ use Rattle.std.specs.Prelude.{ℕ, ◌+◌, ◌*◌, Bool, true, false, ◌||◌
 use Rattle.std.specs.Option.{option_and_then, option_map}
 use Rattle.octets.specs.Hex.{hex_octet, hex_value}
 use Rattle.octets.specs.Octet.{is_between}
-use Rattle.encoded_characters.specs.Sequence.{Sequence, is_hex}
+use Rattle.encoded_characters.specs.Sequence.{EncodedSequence, is_hex}
 
 -- octets with what stands before them, if there is both
 abbrev pub octets_before : Option (List ℕ) → Option (List ℕ) → Option (List ℕ)
@@ -44,5 +44,5 @@ octets_of_digits true digits = option_map (λ octet. octet ∷ []) (pair_octet d
 octets_of_digits false digits = option_map encode_utf8 (character_of digits)
 
 -- what a sequence stands for, or nothing where a number isn't that of a character
-abbrev pub octets_of_sequence : Sequence → Option (List ℕ)
+abbrev pub octets_of_sequence : EncodedSequence → Option (List ℕ)
 octets_of_sequence s = joined (λ item. octets_of_digits (is_hex s.word) item.digits) s.inside.items

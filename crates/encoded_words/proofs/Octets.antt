@@ -17,7 +17,8 @@ use Rattle.base64.proofs.Tables.{IsDecodeTable_from, are_tables_inverse}
 use Rattle.octets.proofs.Both.{both, first_of_both, last_of_both}
 use Rattle.octets.specs.Hex.{hex_octet, hex_value}
 use Rattle.octets.specs.Octet.{is_between, is_digit, is_filled, is_visible, octet_of}
-use Rattle.encoded_words.specs.Charset.{octets_in}
+use Rattle.charsets.proofs.Known.{below_at}
+use Rattle.encoded_words.specs.Meaning.{octets_in}
 use Rattle.encoded_words.specs.Encoding.{b_octets, octet_before, plain_octet, q_octets}
 use Rattle.encoded_words.specs.Word.{EncodedWord, is_b, is_legal, is_letter, is_word_octet}
 
@@ -26,12 +27,6 @@ is_octet n = nat_lt n 256
 
 pub octet_from : (n : ℕ) → n < 256 → is_octet n ≡ true
 octet_from n within = grind (arith, nat_tests, within)
-
--- where all numbers are below a limit, so is each
-pub below_at : (limit : ℕ) (numbers : List ℕ) (i : ℕ) → 0 < limit → list_all (λ n. nat_lt n limit) numbers ≡ true → get_or numbers i 0 < limit
-below_at limit [] i some are = some
-below_at limit (n ∷ numbers) zero some are = grind (arith, nat_tests, first_of_both (nat_lt n limit) (list_all (λ n. nat_lt n limit) numbers) are)
-below_at limit (n ∷ numbers) (suc i) some are = below_at limit numbers i some (last_of_both (nat_lt n limit) (list_all (λ n. nat_lt n limit) numbers) are)
 
 appended : (xs ys : List ℕ) → list_all is_octet xs ≡ true → list_all is_octet ys ≡ true → list_all is_octet (xs ++ ys) ≡ true
 appended [] ys first after = after

@@ -2,7 +2,7 @@
 use Rattle.std.specs.Prelude.{◌≡◌, codes, true, false, refl}
 use Rattle.sieve_profile.specs.Profile.{empty_profile, with_extension}
 use Rattle.sieve_profile.specs.declared.extension.Extension.TheVariants.{Charsets}
-use Rattle.encoded_words.specs.Charset.{codepage_named}
+use Rattle.charsets.specs.Charset.{codepage_named}
 use Rattle.encoded_words.specs.Scan.{has_known, word_at}
 
 unknown_row : has_known empty_profile (codes "=?koi8-r?Q?a?=") ≡ false

@@ -14,23 +14,14 @@ use Rattle.encoded_words.specs.Encoding.{octet_before}
 use Rattle.text_cut.proofs.Cut.{cuts_from, pieces-octet, pieces-sequence}
 use Rattle.text_cut.specs.Cut.{octet, sequence}
 use Rattle.text_cut.specs.Scan.{pieces_from}
-use Rattle.encoded_words.specs.Cut.{Cuts, ReplacedWord, ValuePiece, joined, kept, leads_to_word, replaced}
+use Rattle.encoded_words.specs.Cut.{CutsWords, ReplacedWord, ValuePiece, joined, kept, leads_to_word, replaced}
 use Rattle.octets.specs.Octet.{is_blank, octet_of}
-use Rattle.encoded_words.specs.Charset.{charset_named, in_utf8, meaning, octets_in}
-use Rattle.encoded_words.specs.declared.charset.Charset.{Charset}
+use Rattle.charsets.specs.Charset.{charset_named, in_utf8}
+use Rattle.charsets.specs.declared.charset.Charset.{Charset}
+use Rattle.encoded_words.specs.Meaning.{meaning, octets_in}
 use Rattle.encoded_words.specs.Scan.{decoded_of, further, has_word, replaced_at, replaced_of, has_known, is_known, is_word, pieces_of, run, with_meaning, word_at}
 use Rattle.encoded_words.specs.Word.{EncodedWord, is_word_octet}
 use Rattle.encoded_words.proofs.Cut.{finds}
-
-pub utf8_said : (octets : List ℕ) → IsUtf8 octets → is_utf8 octets ≡ true
-utf8_said octets is = is_utf8-from_IsUtf8 octets is
-
-denied_step : (octets : List ℕ) (b : Bool) → is_utf8 octets ≡ b → (IsUtf8 octets → ⊥) → b ≡ false
-denied_step octets true is never = absurd (never (IsUtf8-from_is_utf8 octets is))
-denied_step octets false is never = refl
-
-pub utf8_denied : (octets : List ℕ) → (IsUtf8 octets → ⊥) → is_utf8 octets ≡ false
-utf8_denied octets never = denied_step octets (is_utf8 octets) refl never
 
 pub run_len : (octets : List ℕ) → length (run octets) ≡ prefix_len is_word_octet octets
 run_len octets = length-prefix_len is_word_octet octets
@@ -45,15 +36,6 @@ octet_step done next c (Some more) whole is so_far =
 pub first_and_after : (octets : List ℕ) → 1 ≤ length octets → get_or octets 0 0 ∷ take (length octets - 1) (drop 1 octets) ≡ octets
 first_and_after [] some = absurd (omega arith)
 first_and_after (c ∷ octets) some = ap (λ after. c ∷ after) (take_all (length (c ∷ octets) - 1) octets (omega arith))
-
--- an octet more of ISO 8859-1
-pub latin_step : (octets text next : List ℕ) (i : ℕ) → i < length octets → text ≡ encode_utf8_all (take i octets) → next ≡ text ++ encode_utf8 (get_or octets i 0) → next ≡ encode_utf8_all (take (i + 1) octets)
-latin_step octets text next i within so_far is =
-    is
-    ∙ ap (λ one. one ++ encode_utf8 (get_or octets i 0)) so_far
-    ∙ ap (λ one. encode_utf8_all (take i octets) ++ one) (sym (append-nil (encode_utf8 (get_or octets i 0))))
-    ∙ sym (encodes-append (take i octets) (get_or octets i 0 ∷ []))
-    ∙ ap encode_utf8_all (sym (take_more octets i 0 within))
 
 -- the piece with which a value begins
 
@@ -252,7 +234,7 @@ unknown_means profile rest meant word is means none =
 
 -- values in which no word is replaced, and those in which one is
 
-unchanged_pieces : (profile : Profile) (pieces : List ValuePiece) (value : List ℕ) → Cuts profile pieces value → list_any is_word pieces ≡ false → joined false pieces ≡ value
+unchanged_pieces : (profile : Profile) (pieces : List ValuePiece) (value : List ℕ) → CutsWords profile pieces value → list_any is_word pieces ≡ false → joined false pieces ≡ value
 unchanged_pieces profile [] value is none = sym is
 unchanged_pieces profile (sequence found ∷ pieces) value cut none = absurd cc
 unchanged_pieces profile (octet c ∷ pieces) value (nowhere, rest, is, cut) none =

@@ -3,8 +3,8 @@ use Rattle.std.specs.Prelude.{◌≡◌, ℕ, Bool, true, false, ◌&&◌, List,
 use Rattle.std.specs.List.{list_all}
 use Rattle.sieve_profile.specs.Profile.{Profile}
 use Rattle.text_cut.specs.Cut as cut
-use Rattle.text_cut.specs.Cut.{Piece, octet, sequence}
-use Rattle.encoded_words.specs.Charset.{meaning}
+use Rattle.text_cut.specs.Cut.{TextPiece, octet, sequence}
+use Rattle.encoded_words.specs.Meaning.{meaning}
 use Rattle.octets.specs.Octet.{is_blank}
 use Rattle.encoded_words.specs.Word.{EncodedWord, is_legal, written}
 
@@ -17,20 +17,20 @@ abbrev pub word_written : ReplacedWord → List ℕ
 word_written found = written found.word
 
 -- whether it is a word that can be decoded, and stands for these octets
-abbrev pub IsReplaced : Profile → ReplacedWord → Type 0
-IsReplaced profile found = (is_legal found.word ≡ true) × (meaning profile found.word ≡ Some found.octets)
+abbrev pub IsReplacedWord : Profile → ReplacedWord → Type 0
+IsReplacedWord profile found = (is_legal found.word ≡ true) × (meaning profile found.word ≡ Some found.octets)
 
 -- a piece of a value: a word with the octets that it stands for, or an octet
 abbrev pub ValuePiece : Type 0
-ValuePiece = Piece ReplacedWord
+ValuePiece = TextPiece ReplacedWord
 
 abbrev pub replaced : (word : EncodedWord) (octets : List ℕ) → ValuePiece
 replaced word octets = sequence (record { word = word; octets = octets })
 
 -- A value is cut from the left into words that can be decoded and single octets, and no such word begins where an octet stands
 -- alone. So one is replaced even where it begins inside a word that can't be decoded, which stays as it is written.
-abbrev pub Cuts : Profile → List ValuePiece → List ℕ → Type 0
-Cuts profile pieces value = cut.Cuts word_written (IsReplaced profile) pieces value
+abbrev pub CutsWords : Profile → List ValuePiece → List ℕ → Type 0
+CutsWords profile pieces value = cut.Cuts word_written (IsReplacedWord profile) pieces value
 
 -- whether pieces are spaces and tabs, if any, and then a word
 abbrev pub leads_to_word : List ValuePiece → Bool

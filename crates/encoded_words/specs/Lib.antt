@@ -1,6 +1,6 @@
-pub mod Charset
 pub mod Cut
 pub mod Encoding
+pub mod Meaning
 pub mod Reading
 pub mod Scan
 pub mod Word

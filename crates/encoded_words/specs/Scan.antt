@@ -3,7 +3,8 @@ use Rattle.std.specs.Prelude.{ℕ, ◌+◌, Bool, true, false, ◌==◌, ◌&&�
 use Rattle.std.specs.List.{list_any, prefix_len, take_while}
 use Rattle.std.specs.Option.{option_and_then, option_map}
 use Rattle.sieve_profile.specs.Profile.{Profile}
-use Rattle.encoded_words.specs.Charset.{charset_named, meaning}
+use Rattle.charsets.specs.Charset.{charset_named}
+use Rattle.encoded_words.specs.Meaning.{meaning}
 use Rattle.text_cut.specs.Cut.{octet, sequence}
 use Rattle.text_cut.specs.Scan as scan
 use Rattle.encoded_words.specs.Cut.{ReplacedWord, ValuePiece, joined}

@@ -6,11 +6,11 @@ ghost use Rattle.octets.specs.Octet.{is_blank};
 ghost use Rattle.encoded_words.specs.Scan.{decoded_of, has_known, has_word, pieces_of, replaced_of};
 ghost use Rattle.encoded_words.specs.Cut.{kept};
 ghost use Rattle.text_cut.specs.Cut.{octet};
-ghost use Rattle.encoded_words.specs.view.Word.{octets_of};
+ghost use Rattle.charsets.specs.view.Text.{octets_of};
 ghost use Rattle.sieve_profile.specs.Profile as profiles;
 ghost use Rattle.sieve_profile.specs.view.Profile.{profile_as};
 
-use crate::charset::meaning;
+use crate::meaning::meaning;
 use crate::word::{SIGN_COUNT, word_at};
 use memchr::memchr;
 use octets::is_blank;

@@ -1,7 +1,6 @@
 pub mod Places
 pub mod Letters
 pub mod Deciding
-pub mod Finding
 pub mod Folding
 pub mod LeastFit
 pub mod Greedy
@@ -10,12 +9,7 @@ pub mod Standing
 pub mod Taking
 pub mod Passing
 pub mod Slices
-pub mod FlagLists
-pub mod Pieces
-pub mod Turns
-pub mod Keywords
 pub mod Numerals
 pub mod Ordered
 pub mod Relations
 pub mod Rooms
-mod FlagRows

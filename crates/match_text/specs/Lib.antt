@@ -1,5 +1,4 @@
 pub mod Comparator
-pub mod Flags
 pub mod Order
 pub mod Relation
 pub mod Room

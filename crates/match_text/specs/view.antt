@@ -1,7 +1,5 @@
 -- What the program's types stand for in contracts, and facts of one function alone. The other files of specs/ restate the subject.
 pub mod Digits
-pub mod Hashing
-pub mod Pieces
 pub mod Room
 pub mod Search
 pub mod Segment

@@ -1,13 +1,11 @@
 //! Laws over the definitions. Each of these functions does nothing: its contract is the law.
 ghost use Rattle.std.specs.Prelude.{◌≡◌, ◌∷◌, ◌++◌, ◌<◌, ◌^◌, ◌↔◌, ◌⊎◌, ◌||◌, ℕ, IsSome, List, [], None, Some, decimal, false, length, map, not, true};
 ghost use Rattle.std.specs.Cmp.{IsEquivalence, IsTotalOrder};
-ghost use Rattle.std.specs.List.{All};
 ghost use Rattle.std.specs.Ordering.{nat_cmp};
 ghost use Rattle.std.specs.declared.cmp.Ordering as orderings;
 ghost use Rattle.std.specs.declared.cmp.Ordering.TheVariants.{Equal, Greater, Less};
 ghost use Rattle.octets.specs.Octet.{octet_of};
 ghost use Rattle.match_text.specs.Comparator.{IsPart, Same, ascii_casemap, is_part, octet, same};
-ghost use Rattle.match_text.specs.Flags.{AreDistinct, distinct, flag_list, flag_union, flags_in, flags_of_texts, flags_without, is_flag};
 ghost use Rattle.match_text.specs.Order.{are_equal, first_digits, number_of, order_of};
 ghost use Rattle.match_text.specs.Relation.{is_word_of, relation_named, relation_word, stands_in};
 ghost use Rattle.match_text.specs.Room.{may_match};
@@ -119,45 +117,6 @@ pub fn captures_are_slices()
         → Fits fold items value lengths → TakeInTurn fold items value (taken items lengths value) }
     ensures lengths { (fold : ℕ → ℕ) (items : List Item) (value lengths : List ℕ)
         → Fits fold items value lengths → map length (taken items lengths value) ≡ lengths }
-{}
-
-/// The flags of texts have no two the same (RFC 5232, section 2). Nor has the union of two lists where the first has none,
-/// nor what is left of such a list without others.
-pub fn no_two_flags_are_the_same()
-    ensures list { (text : List ℕ) → AreDistinct (flag_list text) }
-    ensures lists { (texts : List (List ℕ)) → AreDistinct (flags_of_texts texts) }
-    ensures union { (a b : List (List ℕ)) → AreDistinct a → AreDistinct (flag_union a b) }
-    ensures without { (a b : List (List ℕ)) → AreDistinct a → AreDistinct (flags_without a b) }
-{}
-
-/// Each flag of a text is a flag (RFC 5232, section 2).
-pub fn each_of_a_list_is_a_flag()
-    ensures { (text : List ℕ) → All (λ flag. is_flag flag ≡ true) (flag_list text) }
-{}
-
-/// A list with no two the same stays as it is where each flag is taken once, and where it is joined to no flags.
-pub fn distinct_flags_stay()
-    ensures distinct { (flags : List (List ℕ)) → AreDistinct flags → distinct flags ≡ flags }
-    ensures union { (flags : List (List ℕ)) → AreDistinct flags → flag_union [] flags ≡ flags }
-{}
-
-/// To add the flags of some texts, or to take them out, is to do that with the flags of each text in turn (RFC 5232, sections 3.2 and 3.3).
-pub fn texts_are_changed_in_turn()
-    ensures none_added { (flags : List (List ℕ)) → flag_union flags (flags_of_texts []) ≡ flags }
-    ensures added { (flags : List (List ℕ)) (text : List ℕ) (texts : List (List ℕ))
-        → flag_union flags (flags_of_texts (text ∷ texts))
-        ≡ flag_union (flag_union flags (flags_in text)) (flags_of_texts texts) }
-    ensures none_taken { (flags : List (List ℕ)) → flags_without flags (flags_of_texts []) ≡ flags }
-    ensures taken { (flags : List (List ℕ)) (text : List ℕ) (texts : List (List ℕ))
-        → flags_without flags (flags_of_texts (text ∷ texts))
-        ≡ flags_without (flags_without flags (flags_in text)) (flags_of_texts texts) }
-{}
-
-/// To take flags out is to take each of them out in turn (RFC 5232, section 3.3).
-pub fn flags_are_taken_out_in_turn()
-    ensures none { (flags : List (List ℕ)) → flags_without flags [] ≡ flags }
-    ensures more { (flags others : List (List ℕ)) (flag : List ℕ) → flags_without flags
-        (flag ∷ others) ≡ flags_without (flags_without flags (flag ∷ [])) others }
 {}
 
 /// A value that matches a key under a comparator that folds octets has the octets that the key needs (RFC 5228, section 2.7.1): under

@@ -7,8 +7,6 @@
 #![tactic(auto)]
 
 mod comparators;
-mod flag_spelling;
-mod flags;
 pub mod laws;
 mod number;
 mod order;
@@ -16,17 +14,13 @@ mod pattern;
 mod relation;
 mod room;
 mod segments;
-mod sought_flags;
 mod wildcards;
 
 pub use crate::comparators::{
     AsciiCasemap, Collation, Comparator, Octet, SearchedValue, collation_named, contains,
     contains_in, is,
 };
-pub use crate::flag_spelling::{is_keyword, next_flag};
-pub use crate::flags::{FlagList, flag_text, flags_of, flags_of_texts, union, without};
 pub use crate::order::{equals, stands};
 pub use crate::relation::{Relation, relation_named};
 pub use crate::room::{KeyKind, Room};
-pub use crate::sought_flags::{flag_keys, flag_keys_of_texts, next_key};
 pub use crate::wildcards::{Captures, matches};

@@ -3,7 +3,7 @@ use Rattle.std.proofs.Common.{◌≡◌, ℕ, ◌+◌, ◌-◌, ◌<◌, Bool, �
 use Rattle.std.proofs.lemmas.List.{drop_more, length-drop}
 use Rattle.std.proofs.lemmas.Bool.{cases_eq, eq-eqb, ne_eqb}
 use Rattle.message_text.specs.Addresses.{mark_at, marks_from, marks_of, surroundings_after}
-use Rattle.message_text.specs.declared.marks.Mark.{Mark}
+use Rattle.message_text.specs.declared.marks.AddressMark.{AddressMark}
 use Rattle.message_text.specs.declared.marks.Marked.{Marked}
 use Rattle.message_text.specs.declared.marks.Surroundings.{Surroundings}
 
@@ -39,5 +39,5 @@ pub marks_from-nil : (spot : Surroundings) → marks_from spot [] ≡ []
 unfolding marks_from
 marks_from-nil spot = refl
 
-pub marked_by : (spot : Surroundings) (is_last : Bool) (b : ℕ) (m : Mark) → m ≡ mark_at spot is_last b → (let marked : Marked = record { octet = b; mark = m; in_angle = spot.in_angle } in marked) ≡ marked_at spot is_last b
-marked_by spot is_last b m is = ap (λ (one : Mark). let marked : Marked = record { octet = b; mark = one; in_angle = spot.in_angle } in marked) is
+pub marked_by : (spot : Surroundings) (is_last : Bool) (b : ℕ) (m : AddressMark) → m ≡ mark_at spot is_last b → (let marked : Marked = record { octet = b; mark = m; in_angle = spot.in_angle } in marked) ≡ marked_at spot is_last b
+marked_by spot is_last b m is = ap (λ (one : AddressMark). let marked : Marked = record { octet = b; mark = one; in_angle = spot.in_angle } in marked) is

@@ -9,8 +9,8 @@ use Rattle.message_text.specs.declared.addressing.AddressPart.{AddressPart}
 use Rattle.message_text.specs.declared.addressing.AddressPart.TheVariants as part
 use Rattle.message_text.specs.declared.marks.Inside.{Inside}
 use Rattle.message_text.specs.declared.marks.Inside.TheVariants as inside
-use Rattle.message_text.specs.declared.marks.Mark.{Mark}
-use Rattle.message_text.specs.declared.marks.Mark.TheVariants as mark
+use Rattle.message_text.specs.declared.marks.AddressMark.{AddressMark}
+use Rattle.message_text.specs.declared.marks.AddressMark.TheVariants as mark
 use Rattle.message_text.specs.declared.marks.Marked.{Marked}
 use Rattle.message_text.specs.declared.marks.Surroundings.{Surroundings}
 
@@ -48,7 +48,7 @@ value_start = record { inside = inside.Nothing; is_protected = false; in_angle =
 
 -- An octet outside of quoted strings, comments and literals opens one of these, or an angle, or closes the angle, or stands for
 -- itself. In an angle no other opens.
-abbrev pub free_mark : (in_angle : Bool) → ℕ → Mark
+abbrev pub free_mark : (in_angle : Bool) → ℕ → AddressMark
 free_mark in_angle b =
     if b == octet_of "\"" then mark.QuoteSign else
     if b == octet_of "(" then mark.Comment else
@@ -58,20 +58,20 @@ free_mark in_angle b =
 
 -- An octet in a quoted string (RFC 5322, section 3.2.4): the sign that closes it, and a backslash that protects the next octet,
 -- are signs; all others stand for themselves, a backslash at the end of the value too.
-abbrev pub quoted_mark : (is_protected is_last : Bool) → ℕ → Mark
+abbrev pub quoted_mark : (is_protected is_last : Bool) → ℕ → AddressMark
 quoted_mark is_protected is_last b =
     if is_protected then mark.Quoted else
     if b == octet_of "\"" || (b == octet_of "\\" && not is_last) then mark.QuoteSign else mark.Quoted
 
 -- the mark of an octet by what is open before it
-abbrev pub mark_in : Inside → (is_protected in_angle is_last : Bool) → ℕ → Mark
+abbrev pub mark_in : Inside → (is_protected in_angle is_last : Bool) → ℕ → AddressMark
 mark_in inside.Nothing is_protected in_angle is_last b = free_mark in_angle b
 mark_in inside.QuotedString is_protected in_angle is_last b = quoted_mark is_protected is_last b
 mark_in (inside.Comment depth) is_protected in_angle is_last b = mark.Comment
 mark_in inside.DomainLiteral is_protected in_angle is_last b = mark.Literal
 
 -- the mark of the octet at a place
-abbrev pub mark_at : Surroundings → (is_last : Bool) → ℕ → Mark
+abbrev pub mark_at : Surroundings → (is_last : Bool) → ℕ → AddressMark
 mark_at spot is_last b = mark_in spot.inside spot.is_protected spot.in_angle is_last b
 
 -- what is open after an octet that stands outside of these
@@ -124,7 +124,7 @@ marks_of value = marks_from value_start value
 -- STEPS
 
 -- neither in a quoted string, a comment or a literal, nor a sign of one, nor of an angle
-abbrev pub is_mark_plain : Mark → Bool
+abbrev pub is_mark_plain : AddressMark → Bool
 is_mark_plain mark.Plain = true
 is_mark_plain other = false
 
@@ -145,22 +145,22 @@ abbrev pub without_group : List Marked → List Marked
 without_group piece = after_last (is_bare (octet_of ":")) piece
 
 -- not in a comment, nor one of its signs
-abbrev pub is_uncommented : Mark → Bool
+abbrev pub is_uncommented : AddressMark → Bool
 is_uncommented mark.Comment = false
 is_uncommented other = true
 
 abbrev pub without_comments : List Marked → List Marked
 without_comments piece = filter (λ m. is_uncommented m.mark) piece
 
-abbrev pub opens_angle : Mark → Bool
+abbrev pub opens_angle : AddressMark → Bool
 opens_angle mark.AngleOpen = true
 opens_angle other = false
 
-abbrev pub closes_angle : Mark → Bool
+abbrev pub closes_angle : AddressMark → Bool
 closes_angle mark.AngleClose = true
 closes_angle other = false
 
-abbrev pub is_quoted : Mark → Bool
+abbrev pub is_quoted : AddressMark → Bool
 is_quoted mark.Quoted = true
 is_quoted other = false
 
@@ -185,7 +185,7 @@ in_first_angle piece =
     then without_route (before_first (λ m. closes_angle m.mark) (after_first (λ m. opens_angle m.mark) piece))
     else piece
 
-abbrev pub is_sign : Mark → Bool
+abbrev pub is_sign : AddressMark → Bool
 is_sign mark.QuoteSign = true
 is_sign other = false
 

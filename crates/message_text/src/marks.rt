@@ -7,7 +7,7 @@ use std::alloc::{AllocError, Global};
 
 /// What an octet of an address list is, or what it stands in.
 #[derive(Clone, Copy)]
-pub(crate) enum Mark {
+pub(crate) enum AddressMark {
     /// An octet outside of quoted strings, comments and literals that stands for itself.
     Plain,
     /// The sign that opens an angle.
@@ -52,48 +52,48 @@ pub(crate) struct Surroundings {
 #[derive(Clone, Copy)]
 pub(crate) struct Marked {
     pub(crate) octet: u8,
-    pub(crate) mark: Mark,
+    pub(crate) mark: AddressMark,
     /// Whether an angle was open before it.
     pub(crate) in_angle: bool,
 }
 
 /// The mark of an octet outside of quoted strings, comments and literals.
-fn free_mark(in_angle: bool, octet: u8) -> Mark
+fn free_mark(in_angle: bool, octet: u8) -> AddressMark
     ensures { result ≡ spec.free_mark in_angle octet }
 {
     match octet {
-        b'"' => Mark::QuoteSign,
-        b'(' => Mark::Comment,
-        b'[' => Mark::Literal,
-        b'<' if !in_angle => Mark::AngleOpen,
-        b'>' if in_angle => Mark::AngleClose,
-        _ => Mark::Plain,
+        b'"' => AddressMark::QuoteSign,
+        b'(' => AddressMark::Comment,
+        b'[' => AddressMark::Literal,
+        b'<' if !in_angle => AddressMark::AngleOpen,
+        b'>' if in_angle => AddressMark::AngleClose,
+        _ => AddressMark::Plain,
     }
 }
 
 /// The mark of an octet in a quoted string. A backslash that ends the value protects nothing.
-fn quoted_mark(is_protected: bool, is_last: bool, octet: u8) -> Mark
+fn quoted_mark(is_protected: bool, is_last: bool, octet: u8) -> AddressMark
     ensures { result ≡ spec.quoted_mark is_protected is_last octet }
 {
     if is_protected {
-        return Mark::Quoted;
+        return AddressMark::Quoted;
     }
     if octet == b'"' || (octet == b'\\' && !is_last) {
-        Mark::QuoteSign
+        AddressMark::QuoteSign
     } else {
-        Mark::Quoted
+        AddressMark::Quoted
     }
 }
 
 /// The mark of the octet at a place.
-fn mark_at(spot: Surroundings, is_last: bool, octet: u8) -> Mark
+fn mark_at(spot: Surroundings, is_last: bool, octet: u8) -> AddressMark
     ensures { result ≡ spec.mark_at spot is_last octet }
 {
     match spot.inside {
         Inside::Nothing => free_mark(spot.in_angle, octet),
         Inside::QuotedString => quoted_mark(spot.is_protected, is_last, octet),
-        Inside::Comment(_) => Mark::Comment,
-        Inside::DomainLiteral => Mark::Literal,
+        Inside::Comment(_) => AddressMark::Comment,
+        Inside::DomainLiteral => AddressMark::Literal,
     }
 }
 

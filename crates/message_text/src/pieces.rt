@@ -3,7 +3,7 @@ ghost use Rattle.std.specs.Prelude.{◌≡◌, IfOk};
 ghost use Rattle.std.specs.List.{before_first};
 ghost use Rattle.message_text.specs.Addresses as spec;
 
-use crate::marks::{Mark, Marked};
+use crate::marks::{AddressMark, Marked};
 use octets::is_white;
 use std::alloc::{AllocError, Global};
 
@@ -11,7 +11,7 @@ use std::alloc::{AllocError, Global};
 pub(crate) fn is_free(octet: u8, marked: Marked) -> bool
     ensures { result ≡ spec.is_free octet marked }
 {
-    matches!(marked.mark, Mark::Plain) && marked.octet == octet
+    matches!(marked.mark, AddressMark::Plain) && marked.octet == octet
 }
 
 /// Whether a marked octet is this one, outside of angles too.
@@ -45,7 +45,7 @@ fn without_comments(alloc: Global, piece: &[Marked]) -> Result<Vec<Marked>, Allo
     piece
         .iter()
         .copied()
-        .filter(|marked| !matches!(marked.mark, Mark::Comment))
+        .filter(|marked| !matches!(marked.mark, AddressMark::Comment))
         .collect(alloc)
 }
 
@@ -53,7 +53,7 @@ fn without_comments(alloc: Global, piece: &[Marked]) -> Result<Vec<Marked>, Allo
 fn is_gap(marked: Marked) -> bool
     ensures { result ≡ spec.is_gap marked }
 {
-    is_white(marked.octet) && !matches!(marked.mark, Mark::Quoted)
+    is_white(marked.octet) && !matches!(marked.mark, AddressMark::Quoted)
 }
 
 /// Whether the first octet after white space is an `@`.
@@ -85,7 +85,7 @@ fn without_route(inside: &[Marked]) -> &[Marked]
 fn in_first_angle(piece: &[Marked]) -> &[Marked]
     ensures { result.now ≡ spec.in_first_angle piece.now }
 {
-    let opens = |marked: &Marked| matches!(marked.mark, Mark::AngleOpen);
+    let opens = |marked: &Marked| matches!(marked.mark, AddressMark::AngleOpen);
     let Some(open) = piece.iter().position(opens) else {
         return piece;
     };
@@ -96,7 +96,7 @@ fn in_first_angle(piece: &[Marked]) -> &[Marked]
 fn up_to_close(inside: &[Marked]) -> &[Marked]
     ensures { result.now ≡ before_first (λ m. spec.closes_angle m.mark) inside.now }
 {
-    let closes = |marked: &Marked| matches!(marked.mark, Mark::AngleClose);
+    let closes = |marked: &Marked| matches!(marked.mark, AddressMark::AngleClose);
     match inside.iter().position(closes) {
         Some(close) => &inside[..close],
         None => inside,
@@ -107,7 +107,7 @@ fn up_to_close(inside: &[Marked]) -> &[Marked]
 fn stays(marked: Marked) -> bool
     ensures { result ≡ spec.stays marked }
 {
-    !is_gap(marked) && !matches!(marked.mark, Mark::QuoteSign)
+    !is_gap(marked) && !matches!(marked.mark, AddressMark::QuoteSign)
 }
 
 /// The marked octets of the address in a piece.

@@ -9,7 +9,7 @@ use Rattle.text_cut.specs.Cut.{sequence}
 use Rattle.text_cut.specs.Scan.{pieces_from}
 use Rattle.text_cut.proofs.Cut.{pieces-octet, pieces-sequence}
 use Rattle.mime_text.specs.Lines.{end_len}
-use Rattle.mime_text.specs.QuotedPrintable.{Sequence, after_sign, escape, escape_at, further, is_at_end, leads_to_end, octets_of_piece, octets_of_pieces, pieces_of, sequence_at, soft_end, without_padding}
+use Rattle.mime_text.specs.QuotedPrintable.{QuotedSequence, after_sign, escape, escape_at, further, is_at_end, leads_to_end, octets_of_piece, octets_of_pieces, pieces_of, sequence_at, soft_end, without_padding}
 
 -- THE FIRST PIECE
 
@@ -17,7 +17,7 @@ octet_first : (c : ℕ) (rest : List ℕ) → sequence_at (c ∷ rest) ≡ None 
 unfolding octets_of_pieces
 octet_first c rest none = ap octets_of_pieces (pieces-octet sequence_at further c rest none)
 
-sequence_first : (c : ℕ) (rest : List ℕ) (s : Sequence) → sequence_at (c ∷ rest) ≡ Some s → octets_of_pieces (pieces_of (c ∷ rest)) ≡ octets_of_piece (sequence s) ++ octets_of_pieces (pieces_of (drop (further s) rest))
+sequence_first : (c : ℕ) (rest : List ℕ) (s : QuotedSequence) → sequence_at (c ∷ rest) ≡ Some s → octets_of_pieces (pieces_of (c ∷ rest)) ≡ octets_of_piece (sequence s) ++ octets_of_pieces (pieces_of (drop (further s) rest))
 unfolding octets_of_pieces
 sequence_first c rest s found = ap octets_of_pieces (pieces-sequence sequence_at further c rest s found)
 

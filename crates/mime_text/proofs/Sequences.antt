@@ -6,9 +6,9 @@ use Rattle.std.proofs.lemmas.List.{take-append-drop}
 use lib.Pointwise.{pointwise, bytes_decides}
 use Rattle.octets.specs.Hex.{hex_octet}
 use Rattle.octets.specs.Octet.{octet_of}
-use Rattle.text_cut.specs.Scan.{Finds}
+use Rattle.text_cut.specs.Scan.{FindsSequences}
 use Rattle.mime_text.specs.Lines.{end_len, is_line_end}
-use Rattle.mime_text.specs.QuotedPrintable.{IsLegal, Sequence, after_sign, escape, escape_at, further, is_legal, sequence_at, soft_end, written}
+use Rattle.mime_text.specs.QuotedPrintable.{IsLegalQuoted, QuotedSequence, after_sign, escape, escape_at, further, is_legal, sequence_at, soft_end, written}
 
 or_true : (b : Bool) → (b || true) ≡ true
 or_true true = refl
@@ -26,7 +26,7 @@ is_end rest some = end_there rest (starts_with nat_eq rest (codes "\n")) (starts
 
 -- WHAT IS FOUND
 
-escape_legal : (rest : List ℕ) (s : Sequence) → escape_at rest ≡ Some s → is_legal s ≡ true
+escape_legal : (rest : List ℕ) (s : QuotedSequence) → escape_at rest ≡ Some s → is_legal s ≡ true
 escape_legal [] s found = absurd cc
 escape_legal (h ∷ []) s found = absurd cc
 escape_legal (h ∷ l ∷ rest) s found = by_test (is_some (hex_octet h l)) refl found
@@ -35,7 +35,7 @@ escape_legal (h ∷ l ∷ rest) s found = by_test (is_some (hex_octet h l)) refl
     by_test true is found = let same : escape h l ≡ s = cc in ap is_legal (sym same) ∙ is
     by_test false is found = absurd cc
 
-escape_is : (rest : List ℕ) (s : Sequence) → escape_at rest ≡ Some s → (more : List ℕ) × (octet_of "=" ∷ rest ≡ written s ++ more)
+escape_is : (rest : List ℕ) (s : QuotedSequence) → escape_at rest ≡ Some s → (more : List ℕ) × (octet_of "=" ∷ rest ≡ written s ++ more)
 escape_is [] s found = absurd cc
 escape_is (h ∷ []) s found = absurd cc
 escape_is (h ∷ l ∷ rest) s found = by_test (is_some (hex_octet h l)) found
@@ -44,17 +44,17 @@ escape_is (h ∷ l ∷ rest) s found = by_test (is_some (hex_octet h l)) found
     by_test true found = let same : escape h l ≡ s = cc in (rest, ap (λ t. written t ++ rest) same)
     by_test false found = absurd cc
 
-after_legal : (rest : List ℕ) (s : Sequence) (b : Bool) → nat_lt 0 (end_len rest) ≡ b → cond b (Some (soft_end (take (end_len rest) rest))) (escape_at rest) ≡ Some s → is_legal s ≡ true
+after_legal : (rest : List ℕ) (s : QuotedSequence) (b : Bool) → nat_lt 0 (end_len rest) ≡ b → cond b (Some (soft_end (take (end_len rest) rest))) (escape_at rest) ≡ Some s → is_legal s ≡ true
 after_legal rest s true some found = let same : soft_end (take (end_len rest) rest) ≡ s = cc in ap is_legal (sym same) ∙ is_end rest some
 after_legal rest s false some found = escape_legal rest s found
 
-after_is : (rest : List ℕ) (s : Sequence) (b : Bool) → cond b (Some (soft_end (take (end_len rest) rest))) (escape_at rest) ≡ Some s → (more : List ℕ) × (octet_of "=" ∷ rest ≡ written s ++ more)
+after_is : (rest : List ℕ) (s : QuotedSequence) (b : Bool) → cond b (Some (soft_end (take (end_len rest) rest))) (escape_at rest) ≡ Some s → (more : List ℕ) × (octet_of "=" ∷ rest ≡ written s ++ more)
 after_is rest s true found =
     let same : soft_end (take (end_len rest) rest) ≡ s = cc in
     (drop (end_len rest) rest, ap (λ (l : List ℕ). octet_of "=" ∷ l) (sym (take-append-drop (end_len rest) rest)) ∙ ap (λ t. written t ++ drop (end_len rest) rest) same)
 after_is rest s false found = escape_is rest s found
 
-legal : (text : List ℕ) (s : Sequence) → sequence_at text ≡ Some s → IsLegal s
+legal : (text : List ℕ) (s : QuotedSequence) → sequence_at text ≡ Some s → IsLegalQuoted s
 unfolding sequence_at
 legal [] s found = absurd cc
 legal (c ∷ rest) s found = by_test (c == octet_of "=") found
@@ -63,7 +63,7 @@ legal (c ∷ rest) s found = by_test (c == octet_of "=") found
     by_test true found = after_legal rest s (nat_lt 0 (end_len rest)) refl found
     by_test false found = absurd cc
 
-is : (text : List ℕ) (s : Sequence) → sequence_at text ≡ Some s → (rest : List ℕ) × (text ≡ written s ++ rest)
+is : (text : List ℕ) (s : QuotedSequence) → sequence_at text ≡ Some s → (rest : List ℕ) × (text ≡ written s ++ rest)
 unfolding sequence_at
 is [] s found = absurd cc
 is (c ∷ rest) s found = by_test (c == octet_of "=") refl found
@@ -97,14 +97,14 @@ soft_found end rest ends = elim (or_cases (pointwise nat_eq (codes "\n") end) (p
   | inr both ↦ ap (λ e. after_sign (e ++ rest)) (sym ((bytes_decides (codes "\r\n") end).0 both)) ∙ ap (λ e. Some (soft_end e)) ((bytes_decides (codes "\r\n") end).0 both)
 ]
 
-found : (s : Sequence) (rest : List ℕ) → IsLegal s → sequence_at (written s ++ rest) ≡ Some s
+found : (s : QuotedSequence) (rest : List ℕ) → IsLegalQuoted s → sequence_at (written s ++ rest) ≡ Some s
 unfolding sequence_at
 found (escape h l) rest legal = escape_found h l rest legal
 found (soft_end end) rest legal = soft_found end rest legal
 
-count : (s : Sequence) → IsLegal s → length (written s) ≡ suc (further s)
+count : (s : QuotedSequence) → IsLegalQuoted s → length (written s) ≡ suc (further s)
 count (escape h l) legal = refl
 count (soft_end end) legal = refl
 
-pub finds : Finds written IsLegal sequence_at further
+pub finds : FindsSequences written IsLegalQuoted sequence_at further
 finds = record { legal = legal; is = is; found = found; count = count }

@@ -5,8 +5,8 @@ use Rattle.std.proofs.lemmas.List.{append-nil}
 use Rattle.std.proofs.Math.Seq.{take-append_seam}
 use Rattle.octets.specs.Octet.{octet_of}
 use Rattle.mime_text.specs.Lines.{ended_lines, without_end}
-use Rattle.mime_text.specs.Multipart.{Cut, Ending, Line, Part, closed_by, content_cut, cut_of, epilogue_of, epilogue_text, is_closing, is_delimiter, is_padded, nothing_cut, part_texts, prologue_text, stops, text_of, texts_of_parts}
-use Rattle.mime_text.specs.declared.multipart.LineKind.TheVariants as kind
+use Rattle.mime_text.specs.Multipart.{Cut, MultipartEnding, BodyLine, BodyPart, closed_by, content_cut, cut_of, epilogue_of, epilogue_text, is_closing, is_delimiter, is_padded, nothing_cut, part_texts, prologue_text, stops, text_of, texts_of_parts}
+use Rattle.mime_text.specs.declared.multipart.BoundaryKind.TheVariants as kind
 use Rattle.mime_text.proofs.Cutting.{closed, delimited, inner}
 use Rattle.mime_text.specs.view.Cuts.{Follows, IsBoundary, kind_of}
 
@@ -60,7 +60,7 @@ neither true y is = absurd cc
 neither false true is = absurd cc
 neither false false is = (refl, refl)
 
-module _ (boundary delimiter closing : List ℕ) (made : IsBoundary boundary delimiter closing) (line : Line) where
+module _ (boundary delimiter closing : List ℕ) (made : IsBoundary boundary delimiter closing) (line : BodyLine) where
   as_delimiter : is_delimiter boundary line ≡ is_padded delimiter line
   as_delimiter = ap (λ t. is_padded t line) (sym made.0)
 
@@ -93,14 +93,14 @@ module _ (boundary delimiter closing : List ℕ) (made : IsBoundary boundary del
       stretch_before_delimiter is =
           let parts = follows.parts ∙ ap (λ (c : Cut). c.parts) (cut_at_delimiter is) in
           let whole : concat (content_cut boundary text).prologue ≡ front = follows.prologue ∙ ap (λ (c : Cut). front ++ concat c.prologue) (cut_at_delimiter is) ∙ append-nil front in
-          ap without_end (sym whole) ∙ ap (λ (ps : List Part). text_of (stops ps (content_cut boundary text).ending) (content_cut boundary text).prologue) (sym parts)
+          ap without_end (sym whole) ∙ ap (λ (ps : List BodyPart). text_of (stops ps (content_cut boundary text).ending) (content_cut boundary text).prologue) (sym parts)
 
       pub stops_at_delimiter : kind_of delimiter closing line ≡ kind.Delimiter
           → (part_texts (content_cut boundary text) ≡ prologue_text (content_cut boundary after) ∷ part_texts (content_cut boundary after)) × (epilogue_text (content_cut boundary text) ≡ epilogue_text (content_cut boundary after))
       stops_at_delimiter is =
           let parts = follows.parts ∙ ap (λ (c : Cut). c.parts) (cut_at_delimiter is) in
           let ending : (content_cut boundary text).ending ≡ (content_cut boundary after).ending = follows.ending ∙ ap (λ (c : Cut). c.ending) (cut_at_delimiter is) in (
-            ap (λ (ps : List Part). texts_of_parts ps (content_cut boundary text).ending) parts ∙ ap (texts_of_parts (record { delimiter = line; lines = (content_cut boundary after).prologue } ∷ (content_cut boundary after).parts)) ending,
+            ap (λ (ps : List BodyPart). texts_of_parts ps (content_cut boundary text).ending) parts ∙ ap (texts_of_parts (record { delimiter = line; lines = (content_cut boundary after).prologue } ∷ (content_cut boundary after).parts)) ending,
             ap epilogue_of ending,
           )
 
@@ -110,14 +110,14 @@ module _ (boundary delimiter closing : List ℕ) (made : IsBoundary boundary del
           let ending = follows.ending ∙ ap (λ (c : Cut). c.ending) (cut_at_closing is) in
           let whole : concat (content_cut boundary text).prologue ≡ front = follows.prologue ∙ ap (λ (c : Cut). front ++ concat c.prologue) (cut_at_closing is) ∙ append-nil front in
           ap without_end (sym whole)
-          ∙ ap (λ (e : Ending). text_of (stops [] e) (content_cut boundary text).prologue) (sym ending)
-          ∙ ap (λ (ps : List Part). text_of (stops ps (content_cut boundary text).ending) (content_cut boundary text).prologue) (sym parts)
+          ∙ ap (λ (e : MultipartEnding). text_of (stops [] e) (content_cut boundary text).prologue) (sym ending)
+          ∙ ap (λ (ps : List BodyPart). text_of (stops ps (content_cut boundary text).ending) (content_cut boundary text).prologue) (sym parts)
 
       pub stops_at_closing : kind_of delimiter closing line ≡ kind.Closing → (part_texts (content_cut boundary text) ≡ []) × (epilogue_text (content_cut boundary text) ≡ Some after)
       stops_at_closing is =
           let parts = follows.parts ∙ ap (λ (c : Cut). c.parts) (cut_at_closing is) in
           let ending = follows.ending ∙ ap (λ (c : Cut). c.ending) (cut_at_closing is) in (
-            ap (λ (ps : List Part). texts_of_parts ps (content_cut boundary text).ending) parts,
+            ap (λ (ps : List BodyPart). texts_of_parts ps (content_cut boundary text).ending) parts,
             ap epilogue_of ending ∙ ap Some (joined_lines after),
           )
 
@@ -133,13 +133,13 @@ module _ (boundary text : List ℕ) (follows : Follows boundary text text []) wh
       let ending = follows.ending ∙ ap (λ (c : Cut). c.ending) (cut_of_nothing boundary) in
       let whole : concat (content_cut boundary text).prologue ≡ text = follows.prologue ∙ ap (λ (c : Cut). text ++ concat c.prologue) (cut_of_nothing boundary) ∙ append-nil text in
       sym whole
-      ∙ ap (λ (e : Ending). text_of (stops [] e) (content_cut boundary text).prologue) (sym ending)
-      ∙ ap (λ (ps : List Part). text_of (stops ps (content_cut boundary text).ending) (content_cut boundary text).prologue) (sym parts)
+      ∙ ap (λ (e : MultipartEnding). text_of (stops [] e) (content_cut boundary text).prologue) (sym ending)
+      ∙ ap (λ (ps : List BodyPart). text_of (stops ps (content_cut boundary text).ending) (content_cut boundary text).prologue) (sym parts)
 
   pub stops_at_end : (part_texts (content_cut boundary text) ≡ []) × (epilogue_text (content_cut boundary text) ≡ None)
   stops_at_end =
       let parts = follows.parts ∙ ap (λ (c : Cut). c.parts) (cut_of_nothing boundary) in
       let ending = follows.ending ∙ ap (λ (c : Cut). c.ending) (cut_of_nothing boundary) in (
-        ap (λ (ps : List Part). texts_of_parts ps (content_cut boundary text).ending) parts,
+        ap (λ (ps : List BodyPart). texts_of_parts ps (content_cut boundary text).ending) parts,
         ap epilogue_of ending,
       )

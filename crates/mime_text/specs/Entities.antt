@@ -115,18 +115,18 @@ abbrev pub boundary_of : ContentType → Option (List ℕ)
 boundary_of type = option_and_then if_short type.boundary
 
 -- what entities are made of, by their types
-pub data Shape : Type 0 where
-  multipart : (is_digest : Bool) → (boundary : Option (List ℕ)) → Shape
-  message : Shape
-  leaf : Shape
+pub data EntityShape : Type 0 where
+  multipart : (is_digest : Bool) → (boundary : Option (List ℕ)) → EntityShape
+  message : EntityShape
+  leaf : EntityShape
 
-abbrev pub shape_of_type : ContentType → Shape
+abbrev pub shape_of_type : ContentType → EntityShape
 shape_of_type type =
     if is_main (codes "multipart") type then multipart (is_type (codes "multipart") (codes "digest") type) (boundary_of type)
     else if is_type (codes "message") (codes "rfc822") type || is_type (codes "message") (codes "global") type then message
     else leaf
 
-abbrev pub shape_of : Option ContentType → Shape
+abbrev pub shape_of : Option ContentType → EntityShape
 shape_of None = leaf
 shape_of (Some type) = shape_of_type type
 
@@ -134,7 +134,7 @@ abbrev pub given_by_cut : Cut → Given
 given_by_cut cut = around (prologue_text cut) (epilogue_text cut)
 
 -- what an entity of such a shape gives; without a boundary all of a multipart is prologue
-abbrev pub given_by : Shape → TransferEncoding → (octets : List ℕ) → Given
+abbrev pub given_by : EntityShape → TransferEncoding → (octets : List ℕ) → Given
 given_by (multipart is_digest (Some boundary)) encoding octets = given_by_cut (content_cut boundary octets)
 given_by (multipart is_digest None) encoding octets = around octets None
 given_by message encoding octets = header (header_of octets)
@@ -144,14 +144,14 @@ abbrev pub entity_of : (in_digest : Bool) → (text : List ℕ) → Entity
 entity_of in_digest text = record { type = type_of in_digest text; given = given_by (shape_of (type_of in_digest text)) (encoding_of text) (content_of text) }
 
 -- the texts of the entities directly in one (RFC 2046, sections 5.1.1 and 5.2.1)
-abbrev pub inner_texts : Shape → (octets : List ℕ) → List (List ℕ)
+abbrev pub inner_texts : EntityShape → (octets : List ℕ) → List (List ℕ)
 inner_texts (multipart is_digest (Some boundary)) octets = part_texts (content_cut boundary octets)
 inner_texts (multipart is_digest None) octets = []
 inner_texts message octets = octets ∷ []
 inner_texts leaf octets = []
 
 -- whether these are in a digest
-abbrev pub is_digest_of : Shape → Bool
+abbrev pub is_digest_of : EntityShape → Bool
 is_digest_of (multipart is_digest boundary) = is_digest
 is_digest_of message = false
 is_digest_of leaf = false

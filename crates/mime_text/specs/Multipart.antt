@@ -4,72 +4,72 @@ use Rattle.std.specs.List.{All, concat, list_all, starts_with}
 use Rattle.octets.specs.Octet.{is_blank}
 use Rattle.mime_text.specs.Lines.{ended_lines, without_end}
 
-abbrev pub Line : Type 0
-Line = List ℕ
+abbrev pub BodyLine : Type 0
+BodyLine = List ℕ
 
 -- whether a line, its end aside, is a text and then spaces and tabs
-abbrev pub is_padded : (text : List ℕ) → Line → Bool
+abbrev pub is_padded : (text : List ℕ) → BodyLine → Bool
 is_padded text line = starts_with nat_eq (without_end line) text && list_all is_blank (drop (length text) (without_end line))
 
 -- a line `--` boundary, which begins a part
-abbrev pub is_delimiter : (boundary : List ℕ) → Line → Bool
+abbrev pub is_delimiter : (boundary : List ℕ) → BodyLine → Bool
 is_delimiter boundary line = is_padded (codes "--" ++ boundary) line
 
 -- a line `--` boundary `--`, which ends the last part; where no part was there, it ends the prologue
-abbrev pub is_closing : (boundary : List ℕ) → Line → Bool
+abbrev pub is_closing : (boundary : List ℕ) → BodyLine → Bool
 is_closing boundary line = is_padded (codes "--" ++ boundary ++ codes "--") line
 
 -- neither
-abbrev pub is_inner : (boundary : List ℕ) → Line → Bool
+abbrev pub is_inner : (boundary : List ℕ) → BodyLine → Bool
 is_inner boundary line = not (is_delimiter boundary line || is_closing boundary line)
 
 -- a part: its delimiter, and the lines up to the next delimiter or closing line
-pub record Part : Type 0 where
-  pub delimiter : Line
-  pub lines : List Line
+pub record BodyPart : Type 0 where
+  pub delimiter : BodyLine
+  pub lines : List BodyLine
 
 -- how what comes last ends: by the end of the text, or by a closing line, and then lines follow
-pub data Ending : Type 0 where
-  open_end : Ending
-  closed_by : (closing : Line) → (epilogue : List Line) → Ending
+pub data MultipartEnding : Type 0 where
+  open_end : MultipartEnding
+  closed_by : (closing : BodyLine) → (epilogue : List BodyLine) → MultipartEnding
 
 -- the lines before the first delimiter or closing line, the parts, and the ending
 pub record Cut : Type 0 where
-  pub prologue : List Line
-  pub parts : List Part
-  pub ending : Ending
+  pub prologue : List BodyLine
+  pub parts : List BodyPart
+  pub ending : MultipartEnding
 
 -- THE ONE CUT
 
-abbrev pub lines_of_parts : List Part → List Line
+abbrev pub lines_of_parts : List BodyPart → List BodyLine
 lines_of_parts [] = []
 lines_of_parts (part ∷ more) = part.delimiter ∷ (part.lines ++ lines_of_parts more)
 
-abbrev pub lines_of_ending : Ending → List Line
+abbrev pub lines_of_ending : MultipartEnding → List BodyLine
 lines_of_ending open_end = []
 lines_of_ending (closed_by closing epilogue) = closing ∷ epilogue
 
 -- the pieces of a cut, joined by its delimiters
-abbrev pub lines_of : Cut → List Line
+abbrev pub lines_of : Cut → List BodyLine
 lines_of cut = cut.prologue ++ (lines_of_parts cut.parts ++ lines_of_ending cut.ending)
 
 -- no line is a delimiter or a closing one
-abbrev pub AreInner : (boundary : List ℕ) → List Line → Type 0
+abbrev pub AreInner : (boundary : List ℕ) → List BodyLine → Type 0
 AreInner boundary lines = All (λ line. is_inner boundary line ≡ true) lines
 
-abbrev pub IsPart : (boundary : List ℕ) → Part → Type 0
-IsPart boundary part = (is_delimiter boundary part.delimiter ≡ true) × AreInner boundary part.lines
+abbrev pub IsBodyPart : (boundary : List ℕ) → BodyPart → Type 0
+IsBodyPart boundary part = (is_delimiter boundary part.delimiter ≡ true) × AreInner boundary part.lines
 
-abbrev pub IsEnding : (boundary : List ℕ) → Ending → Type 0
+abbrev pub IsEnding : (boundary : List ℕ) → MultipartEnding → Type 0
 IsEnding boundary open_end = Unit {0}
 IsEnding boundary (closed_by closing epilogue) = (is_delimiter boundary closing ≡ false) × (is_closing boundary closing ≡ true)
 
 -- Lines are cut by a boundary: joined, the pieces are these lines, and no line of the prologue, or of a part after its delimiter, is a
 -- delimiter or a closing one. After a closing line each line is of the epilogue.
-pub record IsCut (boundary : List ℕ) (lines : List Line) (cut : Cut) : Type 0 where
+pub record IsCut (boundary : List ℕ) (lines : List BodyLine) (cut : Cut) : Type 0 where
   pub joined : lines_of cut ≡ lines
   pub prologue : AreInner boundary cut.prologue
-  pub parts : All (IsPart boundary) cut.parts
+  pub parts : All (IsBodyPart boundary) cut.parts
   pub ending : IsEnding boundary cut.ending
 
 -- THE SAME, COMPUTED
@@ -78,35 +78,35 @@ abbrev pub nothing_cut : Cut
 nothing_cut = record { prologue = []; parts = []; ending = open_end }
 
 -- a line before the cut of those after it
-abbrev pub with_line : (boundary : List ℕ) → Line → (rest : List Line) → Cut → Cut
+abbrev pub with_line : (boundary : List ℕ) → BodyLine → (rest : List BodyLine) → Cut → Cut
 with_line boundary line rest cut =
     if is_delimiter boundary line then record { prologue = []; parts = record { delimiter = line; lines = cut.prologue } ∷ cut.parts; ending = cut.ending }
     else if is_closing boundary line then record { prologue = []; parts = []; ending = closed_by line rest }
     else record { prologue = line ∷ cut.prologue; parts = cut.parts; ending = cut.ending }
 
-unfoldable pub cut_of : (boundary : List ℕ) → List Line → Cut
+unfoldable pub cut_of : (boundary : List ℕ) → List BodyLine → Cut
 cut_of boundary [] = nothing_cut
 cut_of boundary (line ∷ rest) = with_line boundary line rest (cut_of boundary rest)
 
 -- ITS TEXTS
 
 -- what stands before a delimiter or a closing line is without its last line's end, which belongs to that line
-abbrev pub text_of : (is_stopped : Bool) → List Line → List ℕ
+abbrev pub text_of : (is_stopped : Bool) → List BodyLine → List ℕ
 text_of is_stopped lines = if is_stopped then without_end (concat lines) else concat lines
 
-abbrev pub is_ended : Ending → Bool
+abbrev pub is_ended : MultipartEnding → Bool
 is_ended open_end = false
 is_ended (closed_by closing epilogue) = true
 
 -- whether a delimiter or a closing line comes
-abbrev pub stops : List Part → Ending → Bool
+abbrev pub stops : List BodyPart → MultipartEnding → Bool
 stops [] ending = is_ended ending
 stops (part ∷ more) ending = true
 
 abbrev pub prologue_text : Cut → List ℕ
 prologue_text cut = text_of (stops cut.parts cut.ending) cut.prologue
 
-abbrev pub texts_of_parts : List Part → Ending → List (List ℕ)
+abbrev pub texts_of_parts : List BodyPart → MultipartEnding → List (List ℕ)
 texts_of_parts [] ending = []
 texts_of_parts (part ∷ more) ending = text_of (stops more ending) part.lines ∷ texts_of_parts more ending
 
@@ -115,7 +115,7 @@ abbrev pub part_texts : Cut → List (List ℕ)
 part_texts cut = texts_of_parts cut.parts cut.ending
 
 -- what follows the closing line, if one comes
-abbrev pub epilogue_of : Ending → Option (List ℕ)
+abbrev pub epilogue_of : MultipartEnding → Option (List ℕ)
 epilogue_of open_end = None
 epilogue_of (closed_by closing epilogue) = Some (concat epilogue)
 

@@ -5,7 +5,7 @@ use Rattle.std.specs.List.{prefix_len}
 use Rattle.octets.specs.Hex.{hex_octet}
 use Rattle.octets.specs.Octet.{is_blank, octet_of}
 use Rattle.text_cut.specs.Cut as cut
-use Rattle.text_cut.specs.Cut.{Piece, octet, sequence}
+use Rattle.text_cut.specs.Cut.{TextPiece, octet, sequence}
 use Rattle.text_cut.specs.Scan as scan
 use Rattle.mime_text.specs.Lines.{end_len, is_line_end}
 
@@ -27,61 +27,61 @@ without_padding (c ∷ rest) = if is_blank c && leads_to_end rest then without_p
 -- SEQUENCES
 
 -- an escape by its two digits, or a soft line end by the end that stands there
-pub data Sequence : Type 0 where
-  escape : (high low : ℕ) → Sequence
-  soft_end : (end : List ℕ) → Sequence
+pub data QuotedSequence : Type 0 where
+  escape : (high low : ℕ) → QuotedSequence
+  soft_end : (end : List ℕ) → QuotedSequence
 
 -- a sequence as it is written
-abbrev pub written : Sequence → List ℕ
+abbrev pub written : QuotedSequence → List ℕ
 written (escape high low) = octet_of "=" ∷ high ∷ low ∷ []
 written (soft_end end) = octet_of "=" ∷ end
 
 -- which sequences there are: two hexadecimal digits, in either case, or the end of a line
-abbrev pub is_legal : Sequence → Bool
+abbrev pub is_legal : QuotedSequence → Bool
 is_legal (escape high low) = is_some (hex_octet high low)
 is_legal (soft_end end) = is_line_end end
 
-abbrev pub IsLegal : Sequence → Type 0
-IsLegal s = is_legal s ≡ true
+abbrev pub IsLegalQuoted : QuotedSequence → Type 0
+IsLegalQuoted s = is_legal s ≡ true
 
 -- a text is cut from the left into sequences and single octets, and no sequence begins where an octet stands alone
-abbrev pub Cuts : List (Piece Sequence) → List ℕ → Type 0
-Cuts pieces text = cut.Cuts written IsLegal pieces text
+abbrev pub CutsQuoted : List (TextPiece QuotedSequence) → List ℕ → Type 0
+CutsQuoted pieces text = cut.Cuts written IsLegalQuoted pieces text
 
 -- what a piece stands for: an octet for itself, and a soft line end for nothing
-abbrev pub octets_of_piece : Piece Sequence → List ℕ
+abbrev pub octets_of_piece : TextPiece QuotedSequence → List ℕ
 octets_of_piece (octet c) = c ∷ []
 octets_of_piece (sequence (escape high low)) = option_to_list (hex_octet high low)
 octets_of_piece (sequence (soft_end end)) = []
 
-unfoldable pub octets_of_pieces : List (Piece Sequence) → List ℕ
+unfoldable pub octets_of_pieces : List (TextPiece QuotedSequence) → List ℕ
 octets_of_pieces [] = []
 octets_of_pieces (piece ∷ more) = octets_of_piece piece ++ octets_of_pieces more
 
 -- THE SAME, COMPUTED
 
 -- the escape of an `=` that this text follows
-abbrev pub escape_at : List ℕ → Option Sequence
+abbrev pub escape_at : List ℕ → Option QuotedSequence
 escape_at [] = None
 escape_at (c ∷ []) = None
 escape_at (c ∷ d ∷ rest) = if is_some (hex_octet c d) then Some (escape c d) else None
 
 -- the sequence of an `=` that this text follows
-abbrev pub after_sign : List ℕ → Option Sequence
+abbrev pub after_sign : List ℕ → Option QuotedSequence
 after_sign rest = if nat_lt 0 (end_len rest) then Some (soft_end (take (end_len rest) rest)) else escape_at rest
 
 -- the sequence with which a text begins
-unfoldable pub sequence_at : List ℕ → Option Sequence
+unfoldable pub sequence_at : List ℕ → Option QuotedSequence
 sequence_at [] = None
 sequence_at (c ∷ rest) = if c == octet_of "=" then after_sign rest else None
 
 -- how many octets of a sequence stand after its first
-abbrev pub further : Sequence → ℕ
+abbrev pub further : QuotedSequence → ℕ
 further (escape high low) = 2
 further (soft_end end) = length end
 
 -- the pieces of a text
-abbrev pub pieces_of : List ℕ → List (Piece Sequence)
+abbrev pub pieces_of : List ℕ → List (TextPiece QuotedSequence)
 pieces_of text = scan.pieces_of sequence_at further text
 
 -- the octets of a content in quoted-printable

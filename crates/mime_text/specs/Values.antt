@@ -2,7 +2,7 @@
 -- a held message, as they stand, and any other content decoded, a text in UTF-8.
 use Rattle.std.specs.Prelude.{ℕ, Bool, List, [], ◌∷◌, Option, None, Some, codes, if◌then◌else◌, option_to_list}
 use Rattle.std.specs.List.{flat_map, list_any}
-use Rattle.encoded_words.specs.Charset.{text_in}
+use Rattle.charsets.specs.Charset.{text_in}
 use Rattle.mime_text.specs.ContentType.{ContentType, is_main}
 use Rattle.mime_text.specs.Entities.{Entity, Given, around, content, header}
 use Rattle.mime_text.specs.TransferEncoding.{octets_of}

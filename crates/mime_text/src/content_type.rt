@@ -6,7 +6,7 @@ ghost use Rattle.mime_text.specs.ContentType as spec;
 ghost use Rattle.mime_text.specs.view.ContentTypes.{both_as, named_as, or_else, over, type_as};
 ghost use Rattle.mime_text.specs.view.Marks.{octets_as};
 
-use crate::marks::{Mark, marks_of};
+use crate::marks::{ValueMark, marks_of};
 use octets::{is_visible, is_white};
 use std::alloc::{AllocError, Global};
 
@@ -34,47 +34,47 @@ fn is_special(octet: u8) -> bool
 }
 
 /// An octet of a token, outside of quoted strings.
-fn is_token_mark(mark: Mark) -> bool
+fn is_token_mark(mark: ValueMark) -> bool
     ensures { result ≡ spec.is_token_mark mark }
 {
     match mark {
-        Mark::Plain(octet) => is_token_octet(octet),
-        Mark::Quote | Mark::Quoted(_) => false,
+        ValueMark::Plain(octet) => is_token_octet(octet),
+        ValueMark::Quote | ValueMark::Quoted(_) => false,
     }
 }
 
 /// Whether a mark is this octet, outside of quoted strings.
-fn is_sign(sign: u8, mark: Mark) -> bool
+fn is_sign(sign: u8, mark: ValueMark) -> bool
     ensures { result ≡ spec.is_sign sign mark }
 {
     match mark {
-        Mark::Plain(octet) => octet == sign,
-        Mark::Quote | Mark::Quoted(_) => false,
+        ValueMark::Plain(octet) => octet == sign,
+        ValueMark::Quote | ValueMark::Quoted(_) => false,
     }
 }
 
 /// White space outside of quoted strings.
-fn is_gap(mark: Mark) -> bool
+fn is_gap(mark: ValueMark) -> bool
     ensures { result ≡ spec.is_gap mark }
 {
     match mark {
-        Mark::Plain(octet) => is_white(octet),
-        Mark::Quote | Mark::Quoted(_) => false,
+        ValueMark::Plain(octet) => is_white(octet),
+        ValueMark::Quote | ValueMark::Quoted(_) => false,
     }
 }
 
 /// The octet of a mark.
-fn octet_at(mark: Mark) -> u8
+fn octet_at(mark: ValueMark) -> u8
     ensures { result ≡ spec.octet_at mark }
 {
     match mark {
-        Mark::Plain(octet) | Mark::Quoted(octet) => octet,
-        Mark::Quote => b'"',
+        ValueMark::Plain(octet) | ValueMark::Quoted(octet) => octet,
+        ValueMark::Quote => b'"',
     }
 }
 
 /// The marks without white space in front.
-fn trim_front(marks: &[Mark]) -> &[Mark]
+fn trim_front(marks: &[ValueMark]) -> &[ValueMark]
     ensures { result.now ≡ spec.trim_front marks.now }
 {
     let mut start = 0;
@@ -85,7 +85,7 @@ fn trim_front(marks: &[Mark]) -> &[Mark]
 }
 
 /// The marks without white space at their end.
-fn trim_back(marks: &[Mark]) -> &[Mark]
+fn trim_back(marks: &[ValueMark]) -> &[ValueMark]
     ensures { result.now ≡ spec.trim_back marks.now }
 {
     let mut end = marks.len();
@@ -96,28 +96,28 @@ fn trim_back(marks: &[Mark]) -> &[Mark]
 }
 
 /// The marks without outer white space.
-fn trimmed(marks: &[Mark]) -> &[Mark]
+fn trimmed(marks: &[ValueMark]) -> &[ValueMark]
     ensures { result.now ≡ spec.trimmed marks.now }
 {
     trim_back(trim_front(marks))
 }
 
 /// The octets of marks.
-fn octets_of(alloc: Global, marks: &[Mark]) -> Result<Vec<u8>, AllocError>
+fn octets_of(alloc: Global, marks: &[ValueMark]) -> Result<Vec<u8>, AllocError>
     ensures { IfOk result (λ octets. octets.items ≡ map spec.octet_at marks.now) }
 {
     marks.iter().map(|mark| octet_at(*mark)).collect(alloc)
 }
 
 /// Whether all are of a token.
-fn are_token_marks(marks: &[Mark]) -> bool
+fn are_token_marks(marks: &[ValueMark]) -> bool
     ensures { result ≡ list_all spec.is_token_mark marks.now }
 {
     marks.iter().all(|mark| is_token_mark(*mark))
 }
 
 /// Whether they are a token.
-fn is_token(marks: &[Mark]) -> bool
+fn is_token(marks: &[ValueMark]) -> bool
     ensures { result ≡ spec.is_token marks.now }
 {
     if marks.is_empty() {
@@ -128,7 +128,7 @@ fn is_token(marks: &[Mark]) -> bool
 }
 
 /// A token, if they are one.
-fn token_of(alloc: Global, marks: &[Mark]) -> Result<Option<Vec<u8>>, AllocError>
+fn token_of(alloc: Global, marks: &[ValueMark]) -> Result<Option<Vec<u8>>, AllocError>
     ensures { IfOk result (λ token. octets_as token ≡ spec.token_of marks.now) }
 {
     if !is_token(marks) {
@@ -139,35 +139,35 @@ fn token_of(alloc: Global, marks: &[Mark]) -> Result<Option<Vec<u8>>, AllocError
 }
 
 /// A token with white space and comments round it, if they are one.
-pub(crate) fn token_in(alloc: Global, marks: &[Mark]) -> Result<Option<Vec<u8>>, AllocError>
+pub(crate) fn token_in(alloc: Global, marks: &[ValueMark]) -> Result<Option<Vec<u8>>, AllocError>
     ensures { IfOk result (λ token. octets_as token ≡ spec.token_in marks.now) }
 {
     token_of(alloc, trimmed(marks))
 }
 
 /// A quote.
-fn is_quote(mark: Mark) -> bool
+fn is_quote(mark: ValueMark) -> bool
     ensures { result ≡ spec.is_quote mark }
 {
-    matches!(mark, Mark::Quote)
+    matches!(mark, ValueMark::Quote)
 }
 
 /// An octet of a quoted string.
-fn is_quoted(mark: Mark) -> bool
+fn is_quoted(mark: ValueMark) -> bool
     ensures { result ≡ spec.is_quoted mark }
 {
-    matches!(mark, Mark::Quoted(_))
+    matches!(mark, ValueMark::Quoted(_))
 }
 
 /// Whether all stand in a quoted string.
-fn are_quoted(marks: &[Mark]) -> bool
+fn are_quoted(marks: &[ValueMark]) -> bool
     ensures { result ≡ list_all spec.is_quoted marks.now }
 {
     marks.iter().all(|mark| is_quoted(*mark))
 }
 
 /// The octets before the quote that ends a quoted string, where it stands at the end alone.
-fn before_quote(alloc: Global, marks: &[Mark]) -> Result<Option<Vec<u8>>, AllocError>
+fn before_quote(alloc: Global, marks: &[ValueMark]) -> Result<Option<Vec<u8>>, AllocError>
     ensures { IfOk result (λ octets. octets_as octets ≡ spec.before_quote marks.now) }
 {
     let [inside @ .., last] = marks else {
@@ -181,17 +181,17 @@ fn before_quote(alloc: Global, marks: &[Mark]) -> Result<Option<Vec<u8>>, AllocE
 }
 
 /// The value of a parameter, if they are one.
-fn value_of(alloc: Global, marks: &[Mark]) -> Result<Option<Vec<u8>>, AllocError>
+fn value_of(alloc: Global, marks: &[ValueMark]) -> Result<Option<Vec<u8>>, AllocError>
     ensures { IfOk result (λ value. octets_as value ≡ spec.value_of marks.now) }
 {
     match marks {
-        [Mark::Quote, rest @ ..] => before_quote(alloc, rest),
+        [ValueMark::Quote, rest @ ..] => before_quote(alloc, rest),
         _ => token_of(alloc, marks),
     }
 }
 
 /// What stands before the first such sign, and after it, where there is one.
-fn parted(sign: u8, marks: &[Mark]) -> Option<(&[Mark], &[Mark])>
+fn parted(sign: u8, marks: &[ValueMark]) -> Option<(&[ValueMark], &[ValueMark])>
     ensures none { IfNone result (list_any (spec.is_sign sign) marks.now ≡ false) }
     ensures some { IfSome result (λ _. list_any (spec.is_sign sign) marks.now ≡ true) }
     ensures front { IfSome result (λ two. two.0.now ≡ before_first (spec.is_sign sign) marks.now) }
@@ -214,7 +214,7 @@ fn both(first: Option<Vec<u8>>, second: Option<Vec<u8>>) -> Option<(Vec<u8>, Vec
 }
 
 /// A type and a subtype, if they are such.
-fn type_in(alloc: Global, piece: &[Mark]) -> Result<Option<(Vec<u8>, Vec<u8>)>, AllocError>
+fn type_in(alloc: Global, piece: &[ValueMark]) -> Result<Option<(Vec<u8>, Vec<u8>)>, AllocError>
     ensures { IfOk result (λ names. both_as names ≡ spec.type_in piece.now) }
 {
     let Some((main, sub)) = parted(b'/', piece) else {
@@ -226,7 +226,10 @@ fn type_in(alloc: Global, piece: &[Mark]) -> Result<Option<(Vec<u8>, Vec<u8>)>, 
 }
 
 /// The name of a parameter and its value, if they are such.
-fn parameter_in(alloc: Global, piece: &[Mark]) -> Result<Option<(Vec<u8>, Vec<u8>)>, AllocError>
+fn parameter_in(
+    alloc: Global,
+    piece: &[ValueMark],
+) -> Result<Option<(Vec<u8>, Vec<u8>)>, AllocError>
     ensures { IfOk result (λ parameter. both_as parameter ≡ spec.parameter_in piece.now) }
 {
     let Some((name, value)) = parted(b'=', piece) else {
@@ -279,14 +282,14 @@ impl NamedParameters {
 }
 
 /// Whether a piece is white space alone.
-fn is_blank(piece: &[Mark]) -> bool
+fn is_blank(piece: &[ValueMark]) -> bool
     ensures { result ≡ list_all spec.is_gap piece.now }
 {
     piece.iter().all(|mark| is_gap(*mark))
 }
 
 /// Pieces without a last one that is white space alone.
-fn without_blank_end<'p, 'm>(pieces: &'p [&'m [Mark]]) -> &'p [&'m [Mark]]
+fn without_blank_end<'p, 'm>(pieces: &'p [&'m [ValueMark]]) -> &'p [&'m [ValueMark]]
     ensures { map (λ piece. piece.now) result.now
         ≡ spec.without_blank_end (map (λ piece. piece.now) pieces.now) }
 {
@@ -297,7 +300,7 @@ fn without_blank_end<'p, 'm>(pieces: &'p [&'m [Mark]]) -> &'p [&'m [Mark]]
 }
 
 /// The parameters of pieces, if each is one.
-fn named_of(alloc: Global, pieces: &[&[Mark]]) -> Result<Option<NamedParameters>, AllocError>
+fn named_of(alloc: Global, pieces: &[&[ValueMark]]) -> Result<Option<NamedParameters>, AllocError>
     ensures { IfOk result (λ named. option_map named_as named
         ≡ option_map spec.named_of (spec.parameters_of (map (λ piece. piece.now) pieces.now))) }
 {
@@ -317,7 +320,7 @@ fn named_of(alloc: Global, pieces: &[&[Mark]]) -> Result<Option<NamedParameters>
 }
 
 /// The parameters of pieces, of which the last may be white space alone, if they are parameters.
-fn named_in(alloc: Global, pieces: &[&[Mark]]) -> Result<Option<NamedParameters>, AllocError>
+fn named_in(alloc: Global, pieces: &[&[ValueMark]]) -> Result<Option<NamedParameters>, AllocError>
     ensures { IfOk result
         (λ named. option_map named_as named ≡ spec.named_in (map (λ piece. piece.now) pieces.now)) }
 {
@@ -342,7 +345,10 @@ fn with_type(
 }
 
 /// The type of pieces, if they are a type and parameters.
-fn content_type_of(alloc: Global, pieces: &[&[Mark]]) -> Result<Option<ContentType>, AllocError>
+fn content_type_of(
+    alloc: Global,
+    pieces: &[&[ValueMark]],
+) -> Result<Option<ContentType>, AllocError>
     ensures { IfOk result
         (λ type. type_as type ≡ spec.content_type_of (map (λ piece. piece.now) pieces.now)) }
 {
@@ -364,6 +370,6 @@ pub(crate) fn content_type_in(
     let Some(marks) = marks_of(alloc, value)? else {
         return Ok(None);
     };
-    let pieces: Vec<&[Mark]> = marks.split(|mark| is_sign(b';', *mark)).collect(alloc)?;
+    let pieces: Vec<&[ValueMark]> = marks.split(|mark| is_sign(b';', *mark)).collect(alloc)?;
     content_type_of(alloc, &pieces)
 }

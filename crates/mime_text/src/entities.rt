@@ -6,7 +6,7 @@ ghost use Rattle.message_text.specs.Fields.{fields_of, is_field_named};
 ghost use Rattle.mime_text.specs.ContentType.{is_main, is_type};
 ghost use Rattle.mime_text.specs.Entities as spec;
 ghost use Rattle.mime_text.specs.view.ContentTypes.{content_type_as};
-ghost use Rattle.mime_text.specs.view.Entities.{IsHead, IsInner, entity_as, given_as, shape_as, stated_as};
+ghost use Rattle.mime_text.specs.view.Entities.{IsEntityHead, IsInner, entity_as, given_as, shape_as, stated_as};
 
 use crate::content_type::{ContentType, content_type_in};
 use crate::encoding::{TransferEncoding, encoding_in};
@@ -56,7 +56,7 @@ pub struct Entity<'m> {
 
 /// What an entity is made of.
 #[derive(Clone, Copy)]
-enum Shape<'t> {
+enum EntityShape<'t> {
     Multipart {
         is_digest: bool,
         boundary: Option<&'t [u8]>,
@@ -67,7 +67,7 @@ enum Shape<'t> {
 
 /// What an entity gives, and the texts of the entities directly in it.
 #[derive(Drop)]
-struct Inner<'m> {
+struct InnerTexts<'m> {
     given: Given<'m>,
     is_digest: bool,
     texts: Vec<&'m [u8]>,
@@ -75,7 +75,7 @@ struct Inner<'m> {
 
 /// What the header of an entity says of its content, and that.
 #[derive(Drop)]
-struct Head<'m> {
+struct EntityHead<'m> {
     stated: EntityType,
     encoding: TransferEncoding,
     content: &'m [u8],
@@ -181,8 +181,8 @@ fn header_of(alloc: Global, header: &[u8]) -> Result<Message, AllocError>
 
 /// What the header of a text says of its content, and that. The encoding is looked at first: octets of an unknown one have no type that tells
 /// what they are.
-fn head_of<'m>(alloc: Global, in_digest: bool, text: &'m [u8]) -> Result<Head<'m>, AllocError>
-    ensures { IfOk result (IsHead in_digest text.now) }
+fn head_of<'m>(alloc: Global, in_digest: bool, text: &'m [u8]) -> Result<EntityHead<'m>, AllocError>
+    ensures { IfOk result (IsEntityHead in_digest text.now) }
 {
     let (header, body) = divided(text);
     let content = body.unwrap_or(b"");
@@ -190,13 +190,13 @@ fn head_of<'m>(alloc: Global, in_digest: bool, text: &'m [u8]) -> Result<Head<'m
     match encoding_of(alloc, &header)? {
         Some(encoding) => {
             let stated = type_of(alloc, in_digest, &header)?;
-            Ok(Head {
+            Ok(EntityHead {
                 stated,
                 encoding,
                 content,
             })
         }
-        None => Ok(Head {
+        None => Ok(EntityHead {
             stated: EntityType::Octets,
             encoding: TransferEncoding::Identity,
             content,
@@ -242,31 +242,31 @@ impl ContentType {
     }
 
     /// What an entity of the type is made of.
-    fn shape(&self) -> Shape<'_>
+    fn shape(&self) -> EntityShape<'_>
         ensures { shape_as result ≡ spec.shape_of_type (content_type_as self.now) }
     {
         if self.is_main(b"multipart") {
-            Shape::Multipart {
+            EntityShape::Multipart {
                 is_digest: self.is_type(b"multipart", b"digest"),
                 boundary: self.boundary(),
             }
         } else if self.is_type(b"message", b"rfc822") || self.is_type(b"message", b"global") {
-            Shape::Message
+            EntityShape::Message
         } else {
-            Shape::Leaf
+            EntityShape::Leaf
         }
     }
 }
 
 impl EntityType {
     /// What an entity of the type is made of.
-    fn shape(&self) -> Shape<'_>
+    fn shape(&self) -> EntityShape<'_>
         ensures { shape_as result ≡ spec.shape_of (stated_as self.now) }
     {
         match self {
             EntityType::Stated(stated) => stated.shape(),
-            EntityType::Message => Shape::Message,
-            EntityType::Plain | EntityType::Octets | EntityType::Unread => Shape::Leaf,
+            EntityType::Message => EntityShape::Message,
+            EntityType::Plain | EntityType::Octets | EntityType::Unread => EntityShape::Leaf,
         }
     }
 }
@@ -286,12 +286,12 @@ fn cut_inner<'m>(
     is_digest: bool,
     boundary: &[u8],
     content: &'m [u8],
-) -> Result<Inner<'m>, AllocError>
+) -> Result<InnerTexts<'m>, AllocError>
     ensures { IfOk result (λ inner. (encoding : TransferEncoding)
         → IsInner (spec.multipart is_digest (Some boundary.now)) encoding content.now inner) }
 {
     let pieces = pieces_of(alloc, boundary, content)?;
-    Ok(Inner {
+    Ok(InnerTexts {
         given: Given::Around {
             prologue: pieces.prologue,
             epilogue: pieces.epilogue,
@@ -307,14 +307,14 @@ fn parts_inner<'m>(
     is_digest: bool,
     boundary: Option<&[u8]>,
     content: &'m [u8],
-) -> Result<Inner<'m>, AllocError>
+) -> Result<InnerTexts<'m>, AllocError>
     ensures { IfOk result
         (λ inner. (encoding : TransferEncoding) → IsInner (spec.multipart is_digest
         (option_map (λ boundary. boundary.now) boundary.entry)) encoding content.now inner) }
 {
     match boundary {
         Some(boundary) => cut_inner(alloc, is_digest, boundary, content),
-        None => Ok(Inner {
+        None => Ok(InnerTexts {
             given: Given::Around {
                 prologue: content,
                 epilogue: None,
@@ -328,27 +328,27 @@ fn parts_inner<'m>(
 /// What an entity of a shape gives, and the texts of the entities directly in it.
 fn inner_of<'m>(
     alloc: Global,
-    shape: Shape<'_>,
+    shape: EntityShape<'_>,
     encoding: TransferEncoding,
     content: &'m [u8],
-) -> Result<Inner<'m>, AllocError>
+) -> Result<InnerTexts<'m>, AllocError>
     ensures { IfOk result (IsInner (shape_as shape.entry) encoding content.now) }
 {
     match shape {
-        Shape::Multipart {
+        EntityShape::Multipart {
             is_digest,
             boundary,
         } => parts_inner(alloc, is_digest, boundary, content),
-        Shape::Message => {
+        EntityShape::Message => {
             let (header, _) = divided(content);
             let texts = only(alloc, content)?;
-            Ok(Inner {
+            Ok(InnerTexts {
                 given: Given::Header(header),
                 is_digest: false,
                 texts,
             })
         }
-        Shape::Leaf => Ok(Inner {
+        EntityShape::Leaf => Ok(InnerTexts {
             given: Given::Content(encoding, content),
             is_digest: false,
             texts: Vec::new(alloc),

@@ -2,7 +2,7 @@
 ghost use Rattle.std.specs.Prelude.{◌≡◌, ◌+◌, ◌<◌, ◌≤◌, ◌^◌, ◌++◌, ◌∷◌, [], IfOk, OnOk, Some, length, option_to_list};
 ghost use Rattle.octets.specs.Octet.{octet_of};
 ghost use Rattle.mime_text.specs.Marks.{after_octet, is_outside, marks_at, marks_of};
-ghost use Rattle.mime_text.specs.declared.marks.Spot.TheVariants.{InComment, InString, Outside};
+ghost use Rattle.mime_text.specs.declared.marks.ValueSpot.TheVariants.{InComment, InString, Outside};
 ghost use Rattle.mime_text.specs.view.Marks.{marks_as};
 ghost use Rattle.mime_text.specs.view.Spots.{depth_of};
 
@@ -10,7 +10,7 @@ use std::alloc::{AllocError, Global};
 
 /// What stays of an octet of a value.
 #[derive(Clone, Copy)]
-pub(crate) enum Mark {
+pub(crate) enum ValueMark {
     /// One outside of quoted strings; a comment is a space.
     Plain(u8),
     /// A quote at an end of a quoted string.
@@ -21,7 +21,7 @@ pub(crate) enum Mark {
 
 /// Where an octet stands.
 #[derive(Clone, Copy)]
-pub(crate) enum Spot {
+pub(crate) enum ValueSpot {
     /// Outside of quoted strings and comments.
     Outside,
     /// In a quoted string.
@@ -35,68 +35,68 @@ pub(crate) enum Spot {
 }
 
 /// Where what stands after a comment stands.
-fn after_comment(others: usize) -> Spot
+fn after_comment(others: usize) -> ValueSpot
     ensures is { result ≡ after_octet (InComment others) (octet_of ")") }
     ensures depth { depth_of result ≤ others }
 {
     if others == 0 {
-        Spot::Outside
+        ValueSpot::Outside
     } else {
-        Spot::InComment(others - 1)
+        ValueSpot::InComment(others - 1)
     }
 }
 
 /// Where what stands after an octet of a comment stands.
-fn after_inner(others: usize, octet: u8) -> Spot
+fn after_inner(others: usize, octet: u8) -> ValueSpot
     requires { others + 1 < 2 ^ 63 }
     ensures is { result ≡ after_octet (InComment others) octet }
     ensures depth { depth_of result ≤ others + 2 }
 {
     match octet {
-        b'(' => Spot::InComment(others + 1),
+        b'(' => ValueSpot::InComment(others + 1),
         b')' => after_comment(others),
-        b'\\' => Spot::EscapedInComment(others),
-        _ => Spot::InComment(others),
+        b'\\' => ValueSpot::EscapedInComment(others),
+        _ => ValueSpot::InComment(others),
     }
 }
 
 /// Where what stands after an octet of a quoted string stands.
-fn after_quoted(octet: u8) -> Spot
+fn after_quoted(octet: u8) -> ValueSpot
     ensures is { result ≡ after_octet InString octet }
     ensures depth { depth_of result ≡ 0 }
 {
     match octet {
-        b'"' => Spot::Outside,
-        b'\\' => Spot::EscapedInString,
-        _ => Spot::InString,
+        b'"' => ValueSpot::Outside,
+        b'\\' => ValueSpot::EscapedInString,
+        _ => ValueSpot::InString,
     }
 }
 
 /// Where what stands after an octet outside stands.
-fn after_outer(octet: u8) -> Spot
+fn after_outer(octet: u8) -> ValueSpot
     ensures is { result ≡ after_octet Outside octet }
     ensures depth { depth_of result ≤ 1 }
 {
     match octet {
-        b'"' => Spot::InString,
-        b'(' => Spot::InComment(0),
-        _ => Spot::Outside,
+        b'"' => ValueSpot::InString,
+        b'(' => ValueSpot::InComment(0),
+        _ => ValueSpot::Outside,
     }
 }
 
-impl Spot {
+impl ValueSpot {
     /// Where the next octet stands.
-    fn after(self, octet: u8) -> Spot
+    fn after(self, octet: u8) -> ValueSpot
         requires { depth_of self < 2 ^ 63 }
         ensures is { result ≡ after_octet self octet }
         ensures depth { depth_of result ≤ depth_of self + 1 }
     {
         match self {
-            Spot::Outside => after_outer(octet),
-            Spot::InString => after_quoted(octet),
-            Spot::EscapedInString => Spot::InString,
-            Spot::InComment(others) => after_inner(others, octet),
-            Spot::EscapedInComment(others) => Spot::InComment(others),
+            ValueSpot::Outside => after_outer(octet),
+            ValueSpot::InString => after_quoted(octet),
+            ValueSpot::EscapedInString => ValueSpot::InString,
+            ValueSpot::InComment(others) => after_inner(others, octet),
+            ValueSpot::EscapedInComment(others) => ValueSpot::InComment(others),
         }
     }
 
@@ -104,46 +104,46 @@ impl Spot {
     fn is_outside(self) -> bool
         ensures { result ≡ is_outside self }
     {
-        matches!(self, Spot::Outside)
+        matches!(self, ValueSpot::Outside)
     }
 }
 
 /// The mark of an octet outside.
-fn outer_mark(octet: u8) -> Mark
+fn outer_mark(octet: u8) -> ValueMark
     ensures { marks_at Outside octet ≡ result ∷ [] }
 {
     match octet {
-        b'"' => Mark::Quote,
-        b'(' => Mark::Plain(b' '),
-        _ => Mark::Plain(octet),
+        b'"' => ValueMark::Quote,
+        b'(' => ValueMark::Plain(b' '),
+        _ => ValueMark::Plain(octet),
     }
 }
 
 /// The mark of an octet of a quoted string, if one stays.
-fn quoted_mark(octet: u8) -> Option<Mark>
+fn quoted_mark(octet: u8) -> Option<ValueMark>
     ensures { option_to_list result ≡ marks_at InString octet }
 {
     match octet {
-        b'"' => Some(Mark::Quote),
+        b'"' => Some(ValueMark::Quote),
         b'\\' => None,
-        _ => Some(Mark::Quoted(octet)),
+        _ => Some(ValueMark::Quoted(octet)),
     }
 }
 
 /// The mark of an octet, if one stays.
-fn mark_at(spot: Spot, octet: u8) -> Option<Mark>
+fn mark_at(spot: ValueSpot, octet: u8) -> Option<ValueMark>
     ensures { option_to_list result ≡ marks_at spot octet }
 {
     match spot {
-        Spot::Outside => Some(outer_mark(octet)),
-        Spot::InString => quoted_mark(octet),
-        Spot::EscapedInString => Some(Mark::Quoted(octet)),
-        Spot::InComment(_) | Spot::EscapedInComment(_) => None,
+        ValueSpot::Outside => Some(outer_mark(octet)),
+        ValueSpot::InString => quoted_mark(octet),
+        ValueSpot::EscapedInString => Some(ValueMark::Quoted(octet)),
+        ValueSpot::InComment(_) | ValueSpot::EscapedInComment(_) => None,
     }
 }
 
 /// Adds the mark of an octet, if one stays.
-fn push_mark(marks: &mut Vec<Mark>, spot: Spot, octet: u8) -> Result<(), AllocError>
+fn push_mark(marks: &mut Vec<ValueMark>, spot: ValueSpot, octet: u8) -> Result<(), AllocError>
     ensures { OnOk result (marks.new.items ≡ marks.old.items ++ marks_at spot octet) }
 {
     match mark_at(spot, octet) {
@@ -154,11 +154,11 @@ fn push_mark(marks: &mut Vec<Mark>, spot: Spot, octet: u8) -> Result<(), AllocEr
 
 /// The marks of a value, or nothing where a comment or a quoted string isn't closed. A comment is a space, since it may stand between any two
 /// words. In comments and quoted strings any octet may stand, as mail has it.
-pub(crate) fn marks_of(alloc: Global, text: &[u8]) -> Result<Option<Vec<Mark>>, AllocError>
+pub(crate) fn marks_of(alloc: Global, text: &[u8]) -> Result<Option<Vec<ValueMark>>, AllocError>
     ensures { IfOk result (λ marks. marks_as marks ≡ marks_of text.now) }
 {
     let mut marks = Vec::new(alloc);
-    let mut spot = Spot::Outside;
+    let mut spot = ValueSpot::Outside;
     for octet in text {
         push_mark(&mut marks, spot, *octet)?;
         spot = spot.after(*octet);

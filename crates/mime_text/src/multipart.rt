@@ -22,7 +22,7 @@ struct Boundary {
 
 /// What a line is to a multipart.
 #[derive(Clone, Copy)]
-enum LineKind {
+enum BoundaryKind {
     /// A line that begins a part.
     Delimiter,
     /// A line that ends the last part.
@@ -71,22 +71,22 @@ impl Boundary {
     }
 
     /// What a line is.
-    fn kind_of(&self, line: &[u8]) -> LineKind
+    fn kind_of(&self, line: &[u8]) -> BoundaryKind
         ensures { result ≡ kind_of self.now.delimiter.items self.now.closing.items line.now }
     {
         if is_padded(&self.delimiter, line) {
-            LineKind::Delimiter
+            BoundaryKind::Delimiter
         } else if is_padded(&self.closing, line) {
-            LineKind::Closing
+            BoundaryKind::Closing
         } else {
-            LineKind::Inner
+            BoundaryKind::Inner
         }
     }
 }
 
 /// What ends a stretch of lines.
 #[derive(Clone, Copy)]
-enum Stop<'t> {
+enum PartStop<'t> {
     /// The end of the text.
     End,
     /// A delimiter, and what follows it.
@@ -101,7 +101,7 @@ struct Stretch<'t> {
     /// What stands before it.
     text: &'t [u8],
     /// What ends it.
-    stop: Stop<'t>,
+    stop: PartStop<'t>,
 }
 
 /// What stands in a text before a rest of it, without the end of its last line.
@@ -126,24 +126,24 @@ impl Boundary {
         let mut rest = text;
         while let Some((line, after)) = next_line(rest) {
             match self.kind_of(line) {
-                LineKind::Delimiter => {
+                BoundaryKind::Delimiter => {
                     return Stretch {
                         text: text_before(text, rest),
-                        stop: Stop::Delimiter(after),
+                        stop: PartStop::Delimiter(after),
                     };
                 }
-                LineKind::Closing => {
+                BoundaryKind::Closing => {
                     return Stretch {
                         text: text_before(text, rest),
-                        stop: Stop::Closing(after),
+                        stop: PartStop::Closing(after),
                     };
                 }
-                LineKind::Inner => rest = after,
+                BoundaryKind::Inner => rest = after,
             }
         }
         Stretch {
             text,
-            stop: Stop::End,
+            stop: PartStop::End,
         }
     }
 }
@@ -163,7 +163,7 @@ pub(crate) struct Pieces<'t> {
 fn parts_from<'t>(
     alloc: Global,
     boundary: &Boundary,
-    first: Stop<'t>,
+    first: PartStop<'t>,
 ) -> Result<(Vec<&'t [u8]>, Option<&'t [u8]>), AllocError>
     ensures { IfOk result (λ found. (name : List ℕ)
         → IsBoundary name boundary.now.delimiter.items boundary.now.closing.items
@@ -172,13 +172,13 @@ fn parts_from<'t>(
 {
     let mut parts = Vec::new(alloc);
     let mut stop = first;
-    while let Stop::Delimiter(rest) = stop {
+    while let PartStop::Delimiter(rest) = stop {
         let stretch = boundary.next_stretch(rest);
         parts.push(stretch.text)?;
         stop = stretch.stop;
     }
     match stop {
-        Stop::Closing(epilogue) => Ok((parts, Some(epilogue))),
+        PartStop::Closing(epilogue) => Ok((parts, Some(epilogue))),
         _ => Ok((parts, None)),
     }
 }

@@ -9,7 +9,7 @@ ghost use Rattle.sieve_profile.specs.view.Profile.{profile_as};
 
 use crate::content_type::ContentType;
 use crate::entities::{Entity, EntityType};
-use encoded_words::text_in;
+use charsets::text_in;
 use sieve_profile::Profile;
 use std::alloc::{AllocError, Global};
 use std::borrow::CowSlice;

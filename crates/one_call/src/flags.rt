@@ -1,7 +1,8 @@
 //! Lists of flags.
 
 use crate::telling::{Host, mark, tell_done, tell_octets, tell_refused};
-use match_text::{Collation, FlagList, flags_of, union, without};
+use flag_lists::{FlagList, flags_of, union, without};
+use match_text::Collation;
 use std::alloc::AllocError;
 use std::io;
 

@@ -3,7 +3,7 @@
 use crate::benches::{ID, bench_of, make_verdicts, put_empty, tell_report, tell_reported};
 use crate::runs::tell_found;
 use crate::scripts::tell_end;
-use crate::telling::{Host, mark, personal, prepared, tell_verdict, tell_refused};
+use crate::telling::{Host, mark, personal, prepared, tell_refused, tell_verdict};
 use bench::{Bench, TestJob, TestScript, test_bench};
 use devices::Counted;
 use octets::Octets;

@@ -1,7 +1,7 @@
 //! Runs of scripts on a mail, without a bench.
 
 use crate::entities;
-use crate::telling::{Host, mark, personal, prepared, tell_done, tell_verdict, tell_refused};
+use crate::telling::{Host, mark, personal, prepared, tell_done, tell_refused, tell_verdict};
 use sieve_profile::{Extension, Profile};
 use sieve_run::{
     Envelope, Found, Library, Message, Meter, Octets, ScriptName, Shelf, Verdict, run,

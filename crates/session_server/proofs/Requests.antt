@@ -10,7 +10,7 @@ use Rattle.std.specs.Option.{option_map}
 use Rattle.sieve_limits.specs.Limits.{line_limit}
 use Rattle.sieve_profile.specs.Profile.{Profile}
 use Rattle.bench.specs.Content.{Edit}
-use Rattle.session_text.specs.view.Line.{IsCutOff, IsEnded, IsLine, IsWithin}
+use Rattle.session_text.specs.view.Line.{IsCutOff, IsEnded, IsLine, IsWithinLine}
 use Rattle.session_server.specs.Session.{Demand, asks_question, asks_put, asks_edit, asks_report, demand_at, Request, Served, SessionStep, profile_of, request_after, request_of, request_at, request_by, request_so_far, with_octets, edits, truncated, unreadable}
 use Rattle.session_text.specs.SessionLine.{cut_line, ended_line, first_line, put_before, is_long_so_far, line_from, line_so_far, without_cr}
 use Rattle.session_server.specs.view.Task.{IsFollowedBy}
@@ -118,7 +118,7 @@ Begins profile front ask (Some xs) (Some ys) = (xs ≡ front ++ ys) × (request_
 abbrev pub BeginsAlone : Profile → List ℕ → Option Demand → Type 0
 BeginsAlone profile front ask = (more : List ℕ) → request_so_far profile (front ++ more) ≡ request_by ask more
 
-pub line_begins : (profile : Profile) (unused rest : Option (List ℕ)) (pending : List ℕ) (len skip : ℕ) → Keeps unused (prepend_known pending rest) → IfSome rest (IsLine (Whole len skip) pending) → IsWithin (Whole len skip) pending
+pub line_begins : (profile : Profile) (unused rest : Option (List ℕ)) (pending : List ℕ) (len skip : ℕ) → Keeps unused (prepend_known pending rest) → IfSome rest (IsLine (Whole len skip) pending) → IsWithinLine (Whole len skip) pending
     → Begins profile (take skip pending) (demand_at profile (take len pending)) unused (prepend_known (drop skip pending) rest)
 line_begins profile None rest pending len skip same is within = tt
 line_begins profile (Some xs) None pending len skip same is within = absurd same
@@ -127,7 +127,7 @@ line_begins profile (Some xs) (Some ys) pending len skip same is within =
     let cut : pending ++ ys ≡ take skip pending ++ (drop skip pending ++ ys) = ap (λ l. l ++ ys) (sym (take-append-drop skip pending)) ∙ append_assoc (take skip pending) (drop skip pending) ys in
     rw (← same) (cut, whole_request profile (pending ++ ys) (take len pending) (drop skip pending ++ ys) (omega (arith, within)) is (omega (arith, length-take len pending, within)))
 
-pub line_alone : (profile : Profile) (pending : List ℕ) (len skip : ℕ) → IsEnded (Whole len skip) pending → IsWithin (Whole len skip) pending → BeginsAlone profile (take skip pending) (demand_at profile (take len pending))
+pub line_alone : (profile : Profile) (pending : List ℕ) (len skip : ℕ) → IsEnded (Whole len skip) pending → IsWithinLine (Whole len skip) pending → BeginsAlone profile (take skip pending) (demand_at profile (take len pending))
 unfolding request_so_far
 line_alone profile pending len skip ended within = λ more.
     let few : nat_lt line_limit (length (take len pending)) ≡ false = grind (arith, nat_tests, length-take len pending, within) in

@@ -11,7 +11,7 @@ pub use bench::{
     Bench, EditFault, MessageSetting, ReportFault, Setting, TestEnd, TestJob, TestScript,
     dump_text, test_bench,
 };
-pub use command_line::{Argument, CommandLine, Job, TestWords, UsageFault, command_of};
+pub use command_line::{CommandLine, CommandWord, Job, TestWords, UsageFault, command_of};
 pub use date_text::{Clock, Zone, zone_named};
 pub use devices::{Counted, Faults, Sink, Source};
 pub use octets::Octets;

@@ -9,7 +9,7 @@ use bench::{Bench, EditFault};
 use date_text::Clock;
 use octets::Octets;
 use script_names::{Location, ScriptName};
-use session_text::{SessionCommand, Word, command_of_line};
+use session_text::{SessionCommand, SessionWord, command_of_line};
 use sieve_limits::{MAX_EXPECTED, MAX_ID, MAX_MAILBOXES, MAX_MESSAGE, MAX_TEXT};
 use std::alloc::{AllocError, Global};
 
@@ -48,7 +48,11 @@ pub(crate) enum Task {
 }
 
 /// A script's name with a copy of its octets.
-fn copied_name(alloc: Global, location: Location, name: &Word<'_>) -> Result<ScriptName, AllocError>
+fn copied_name(
+    alloc: Global,
+    location: Location,
+    name: &SessionWord<'_>,
+) -> Result<ScriptName, AllocError>
     ensures { IfOk result (λ copy. copy ≡ record { location = location; name = name.now }) }
 {
     Ok(ScriptName {
@@ -58,7 +62,7 @@ fn copied_name(alloc: Global, location: Location, name: &Word<'_>) -> Result<Scr
 }
 
 /// To put a script.
-fn script_task(alloc: Global, location: Location, name: &Word<'_>, count: u64) -> Task
+fn script_task(alloc: Global, location: Location, name: &SessionWord<'_>, count: u64) -> Task
     ensures { (state : BenchState)
         → Tasks result (Some (demand_of (line.script location name.now count))) state state }
 {
@@ -72,7 +76,7 @@ fn script_task(alloc: Global, location: Location, name: &Word<'_>, count: u64) -
 }
 
 /// To put a message.
-fn message_task(alloc: Global, id: &Word<'_>, count: u64) -> Task
+fn message_task(alloc: Global, id: &SessionWord<'_>, count: u64) -> Task
     ensures { (state : BenchState)
         → Tasks result (Some (demand_of (line.message id.now count))) state state }
 {
@@ -86,7 +90,7 @@ fn message_task(alloc: Global, id: &Word<'_>, count: u64) -> Task
 }
 
 /// To expect a text of a message's verdict.
-fn expect_task(alloc: Global, id: &Word<'_>, count: u64) -> Task
+fn expect_task(alloc: Global, id: &SessionWord<'_>, count: u64) -> Task
     ensures { (state : BenchState)
         → Tasks result (Some (demand_of (line.expect id.now count))) state state }
 {
@@ -100,7 +104,7 @@ fn expect_task(alloc: Global, id: &Word<'_>, count: u64) -> Task
 }
 
 /// To answer with the code of a script.
-fn dump_task(alloc: Global, location: Location, name: &Word<'_>) -> Task
+fn dump_task(alloc: Global, location: Location, name: &SessionWord<'_>) -> Task
     ensures { (state : BenchState)
         → Tasks result (Some (demand_of (line.dump location name.now))) state state }
 {
@@ -114,7 +118,7 @@ fn dump_task(alloc: Global, location: Location, name: &Word<'_>) -> Task
 
 /// Makes a script main.
 #[tactic(auto, using(crate::proofs::Tried::trying))]
-fn set_main(bench: &mut Bench, location: Location, name: &Word<'_>) -> Result<(), EditFault>
+fn set_main(bench: &mut Bench, location: Location, name: &SessionWord<'_>) -> Result<(), EditFault>
     ensures { IsTried (Some (demand_of (line.main location name.now))) result bench.old bench.new }
 {
     let name = copied_name(bench.allocator(), location, name)?;
@@ -135,9 +139,9 @@ fn clear_main(bench: &mut Bench) -> Result<(), EditFault>
 fn rename_script(
     bench: &mut Bench,
     location: Location,
-    name: &Word<'_>,
+    name: &SessionWord<'_>,
     new_location: Location,
-    new_name: &Word<'_>,
+    new_name: &SessionWord<'_>,
 ) -> Result<(), EditFault>
     ensures { IsTried
         (Some (demand_of (line.rename location name.now new_location new_name.now)))
@@ -150,7 +154,11 @@ fn rename_script(
 
 /// Removes a script.
 #[tactic(auto, using(crate::proofs::Tried::trying))]
-fn drop_script(bench: &mut Bench, location: Location, name: &Word<'_>) -> Result<(), EditFault>
+fn drop_script(
+    bench: &mut Bench,
+    location: Location,
+    name: &SessionWord<'_>,
+) -> Result<(), EditFault>
     ensures { IsTried
         (Some (demand_of (line.drop_script location name.now))) result bench.old bench.new }
 {
@@ -160,7 +168,7 @@ fn drop_script(bench: &mut Bench, location: Location, name: &Word<'_>) -> Result
 
 /// Removes a message. An id that is too long for an array isn't one of the bench.
 #[tactic(auto, using(crate::proofs::Tried::trying))]
-fn drop_message(bench: &mut Bench, id: &Word<'_>) -> Result<(), EditFault>
+fn drop_message(bench: &mut Bench, id: &SessionWord<'_>) -> Result<(), EditFault>
     ensures { IsTried (Some (demand_of (line.drop_message id.now))) result bench.old bench.new }
 {
     match id.short::<MAX_ID>() {
@@ -172,7 +180,7 @@ fn drop_message(bench: &mut Bench, id: &Word<'_>) -> Result<(), EditFault>
 /// Expects no text of a message's verdict. An id that is too long for an array isn't one of the
 /// bench.
 #[tactic(auto, using(crate::proofs::Tried::trying))]
-fn clear_expected(bench: &mut Bench, id: &Word<'_>) -> Result<(), EditFault>
+fn clear_expected(bench: &mut Bench, id: &SessionWord<'_>) -> Result<(), EditFault>
     ensures { IsTried (Some (demand_of (line.no_expect id.now))) result bench.old bench.new }
 {
     match id.short::<MAX_ID>() {
@@ -183,7 +191,11 @@ fn clear_expected(bench: &mut Bench, id: &Word<'_>) -> Result<(), EditFault>
 
 /// Sets the envelope's addresses.
 #[tactic(auto, using(crate::proofs::Tried::trying))]
-fn set_envelope(bench: &mut Bench, from: &Word<'_>, to: &Word<'_>) -> Result<(), EditFault>
+fn set_envelope(
+    bench: &mut Bench,
+    from: &SessionWord<'_>,
+    to: &SessionWord<'_>,
+) -> Result<(), EditFault>
     ensures { IsTried
         (Some (demand_of (line.envelope from.now to.now))) result bench.old bench.new }
 {
@@ -194,7 +206,7 @@ fn set_envelope(bench: &mut Bench, from: &Word<'_>, to: &Word<'_>) -> Result<(),
 
 /// Sets the mailbox.
 #[tactic(auto, using(crate::proofs::Tried::trying))]
-fn set_mailbox(bench: &mut Bench, mailbox: &Word<'_>) -> Result<(), EditFault>
+fn set_mailbox(bench: &mut Bench, mailbox: &SessionWord<'_>) -> Result<(), EditFault>
     ensures { IsTried (Some (demand_of (line.mailbox mailbox.now))) result bench.old bench.new }
 {
     let mailbox = mailbox.copied(bench.allocator())?;
@@ -205,9 +217,9 @@ fn set_mailbox(bench: &mut Bench, mailbox: &Word<'_>) -> Result<(), EditFault>
 #[tactic(auto, using(crate::proofs::Tried::trying))]
 fn set_message_envelope(
     bench: &mut Bench,
-    id: &Word<'_>,
-    from: &Word<'_>,
-    to: &Word<'_>,
+    id: &SessionWord<'_>,
+    from: &SessionWord<'_>,
+    to: &SessionWord<'_>,
 ) -> Result<(), EditFault>
     ensures { IsTried (Some
         (demand_of (line.message_envelope id.now from.now to.now))) result bench.old bench.new }
@@ -221,7 +233,7 @@ fn set_message_envelope(
 /// Takes a message's own addresses from it. An id that is too long for an array isn't one of the
 /// bench.
 #[tactic(auto, using(crate::proofs::Tried::trying))]
-fn clear_message_envelope(bench: &mut Bench, id: &Word<'_>) -> Result<(), EditFault>
+fn clear_message_envelope(bench: &mut Bench, id: &SessionWord<'_>) -> Result<(), EditFault>
     ensures { IsTried
         (Some (demand_of (line.no_message_envelope id.now))) result bench.old bench.new }
 {

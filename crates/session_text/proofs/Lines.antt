@@ -15,7 +15,7 @@ after front cut = (front ++ cut.0, cut.1)
 apart : {X : Type 0} (r : Option X) (x : X) → r ≡ Some x → r ≡ None → ⊥
 apart r x some none = cc
 
--- the cut of an empty line and what follows it
+-- the cut of an empty line and the rest after it
 abbrev empty_line : List ℕ → List ℕ × List ℕ
 empty_line rest = ([], rest)
 
@@ -38,7 +38,7 @@ none_at b bs more true later none = absurd (apart _ (empty_line bs) refl none)
 none_at b bs more false later none =
     ap (option_map (put_before b)) (later (mapped_none b (cut_line bs) none)) ∙ after_both b bs (cut_line more)
 
--- where octets have no LF, they stand before the line that is cut from what follows them
+-- octets without an LF stand before the line that is cut from the octets after them
 pub cut_line-none : (bs more : List ℕ) → cut_line bs ≡ None → cut_line (bs ++ more) ≡ option_map (after bs) (cut_line more)
 cut_line-none [] more none = after_nothing (cut_line more)
 cut_line-none (b ∷ bs) more none = none_at b bs more (eqb b (octet_of "\n")) (cut_line-none bs more) none
@@ -63,7 +63,7 @@ some_at b bs more true line rest later found =
     ap (λ l. Some (l, bs ++ more)) same ∙ ap (λ t. Some (line, t ++ more)) left
 some_at b bs more false line rest later found = mapped_some b more (cut_line bs) (cut_line (bs ++ more)) line rest later found
 
--- where octets have an LF, what follows them stands after what follows the line
+-- where octets have an LF, the octets after them are after the rest of the line
 pub cut_line-some : (bs more line rest : List ℕ) → cut_line bs ≡ Some (line, rest) → cut_line (bs ++ more) ≡ Some (line, rest ++ more)
 cut_line-some [] more line rest found = absurd (apart _ _ found refl)
 cut_line-some (b ∷ bs) more line rest found = some_at b bs more (eqb b (octet_of "\n")) line rest (cut_line-some bs more) found
@@ -90,7 +90,7 @@ cut_line-at bs i within before here =
     ap cut_line (sym (take-append-drop i bs) ∙ ap (λ l. take i bs ++ l) (drop_more bs i 0 within ∙ ap (λ b. b ∷ drop (i + 1) bs) here))
     ∙ cut_line-front (take i bs) (drop (i + 1) bs) (λ k below. let under : k < i = omega (arith, length-take i bs) in rw get_or-take (before k under))
 
--- what follows the first LF doesn't matter to the line that it ends
+-- the octets after the first LF don't matter to the line that it ends
 pub cut_line-within : (bs : List ℕ) (i : ℕ) → i < length bs → ((k : ℕ) → k < i → get_or bs k 0 ≢ octet_of "\n") → get_or bs i 0 ≡ octet_of "\n" → (more : List ℕ) → cut_line (take (i + 1) bs ++ more) ≡ Some (take i bs, more)
 cut_line-within bs i within before here more =
     ap (λ l. cut_line (l ++ more)) (take_more bs i 0 within ∙ ap (λ b. take i bs ++ b ∷ []) here)

@@ -1,4 +1,4 @@
--- What needs a name of the profile is there where the profile has it.
+-- A command that needs an extension is known where the profile has it.
 use Rattle.std.proofs.Common.{◌≡◌, ◌∙◌, ℕ, Bool, true, false, cond, List, Option, None, Some, IfSome, option_map, unwrap_or, refl, sym, ap}
 use Rattle.std.proofs.lemmas.Bool.{false≢true}
 use Rattle.std.specs.Option.{option_and_then}

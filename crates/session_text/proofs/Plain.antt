@@ -1,4 +1,4 @@
--- What is quoted stands in plain octets.
+-- The quoted form of octets is plain octets.
 use Rattle.std.proofs.Common.{◌≡◌, ℕ, ◌/◌, ◌%◌, ◌<◌, ◌||◌, Bool, true, false, eqb, cond, List, [], ◌∷◌, ◌++◌, map, nat_lt, refl, ◌∙◌, arith}
 use Rattle.std.specs.List.{All, AllByRecursion, flat_map, list_all}
 use Rattle.std.proofs.lemmas.Bool.Decides.{nat_tests}

@@ -1,4 +1,4 @@
--- What reads do to the turns and to the counts of a device.
+-- How reads change the turns and the counts of a device.
 use Rattle.std.proofs.Common.{◌≡◌, ℕ, ◌+◌, ◌-◌, ◌^◌, ◌<◌, ◌≤◌, ◌⊎◌, inl, inr, Bool, false, List, length, length-append, ap, sym, arith, Option, None, Some, true, ◌∙◌}
 use Rattle.std.proofs.lemmas.Bool.{cases_lt}
 use Rattle.std.specs.Io.KnownBytes.{Consumes, Keeps}
@@ -10,7 +10,7 @@ gave_nothing : (t : ℕ) (r : Option (List ℕ)) (f : ℕ) → TurnsGave t t r r
 gave_nothing t None f = tt
 gave_nothing t (Some xs) f = (omega arith, inl (omega arith))
 
--- what some turns gave, and then what others gave, is what all of them gave
+-- turns that gave octets or faults, and then others, are turns that gave all of these
 gave_both : (t u v : ℕ) (r s q : Option (List ℕ)) (f g h : ℕ) → g ≤ h → TurnsGave t u r s f g → TurnsGave u v s q g h → TurnsGave t v r q f h
 gave_both t u v None s q f g h kept first second = tt
 gave_both t u v (Some xs) None q f g h kept first second = absurd first
@@ -72,7 +72,7 @@ reads_both remaining fault_count call_count i j k s t u first second = record {
   turns_gave = λ is. gave_both i.turns j.turns k.turns (remaining s) (remaining t) (remaining u) (fault_count s) (fault_count t) (fault_count u) second.faults_kept (first.turns_gave (second.stays_ended is)) (second.turns_gave is);
 }
 
--- which of the octets are used is no matter to the reads
+-- the reads don't depend on which of the octets are used
 pub reads_used : {S : Type 0} (remaining : S → Option (List ℕ)) (fault_count call_count : S → ℕ) (i j k : Input) (s t : S)
     → Reads remaining fault_count call_count i j s t → k.turns ≡ j.turns → k.ended ≡ j.ended → Reads remaining fault_count call_count i k s t
 reads_used remaining fault_count call_count i j k s t reads turns ended = record {

@@ -97,7 +97,7 @@ word_some : (word : List ℕ) → IsWord word → 0 < length word
 word_some word (inl bare) = bare.some
 word_some word (inr made) = rw made.1 (quoted_some made.0)
 
--- a word before nothing or of a space is the first word of the line
+-- a word before nothing or before a space is the first word of the line
 word_before : (word rest : List ℕ) → IsWord word → piece_length outside rest ≡ 0 → line_words (word ++ rest) ≡ word ∷ line_words rest
 word_before word rest is none =
     let size : length word ≡ piece_length outside (word ++ rest) = omega (arith, word_passes word is rest, none) in

@@ -18,7 +18,7 @@ takes-kept count (Some xs) None c kept taken same = absurd taken
 takes-kept count (Some xs) (Some ys) None kept taken same = absurd same
 takes-kept count (Some xs) (Some ys) (Some zs) kept taken same = (taken.0, same ∙ taken.1, taken.2)
 
--- what is kept grows with the octets that are taken, and stays the first of them all
+-- the kept octets grow with those that are taken, and stay the first of all
 kept_more : (count part : ℕ) (xs pending rest : List ℕ) (old new : Option (List ℕ)) → part ≤ length pending → pending ++ rest ≡ drop count xs
     → IfSome old (λ octets. octets ≡ take count xs) → Grows old new (take part pending) → IfSome new (λ octets. octets ≡ take (count + part) xs)
 kept_more count part xs pending rest old None within split before grown = tt

@@ -1,4 +1,4 @@
--- What stays of the octets that a session has yet to use.
+-- The octets that a session has yet to use, after a read.
 use Rattle.std.proofs.Common.{◌≡◌, ℕ, ◌+◌, List, ◌++◌, take, drop, sym, ap, ◌∙◌, append_assoc, Option, None, Some}
 use Rattle.std.specs.Io.KnownBytes.{Keeps, Consumes, prepend_known}
 use Rattle.std.proofs.Math.Seq.{take-add}

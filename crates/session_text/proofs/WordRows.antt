@@ -1,4 +1,4 @@
--- Worked rows of what the laws say of lines and their words.
+-- Worked rows of the laws about lines and their words.
 use Rattle.std.proofs.Common.{◌≡◌, [], ◌∷◌, refl, inr, codes}
 use Rattle.devices.specs.Writers.{quoted}
 use Rattle.session_text.specs.LineOf.{IsLineOf, after_space, first_word, joined, no_words}

@@ -15,7 +15,7 @@ pub line_words-drop : (line : List ℕ) (i : ℕ) → i < length line → get_or
 line_words-drop line i within is =
     sym (ap line_words (drop_more line i 0 within) ∙ ap (λ b. line_words (b ∷ drop (i + 1) line)) is ∙ line_words-space (drop (i + 1) line))
 
--- the pieces after the first: those of what is after a space
+-- the pieces after the first: those of the octets after a space
 abbrev after_space : List ℕ → List (List ℕ)
 after_space [] = []
 after_space (b ∷ bs) = pieces_from outside bs
@@ -38,7 +38,7 @@ pieces_from-first quoting (b ∷ bs) = by_gap (is_gap quoting b) refl (pieces_fr
     by_gap true is later = rw is refl
     by_gap false is later = rw is (ap (grow_first b) later)
 
--- what is after a piece begins with a space, which changes no word
+-- the octets after a piece begin with a space, which changes no word
 after_piece : (quoting : Quoting) (line : List ℕ) → filter is_word (after_space (drop (piece_length quoting line) line)) ≡ line_words (drop (piece_length quoting line) line)
 unfolding line_words
 after_piece quoting [] = refl

@@ -20,7 +20,8 @@ joined [] = []
 joined (word ∷ []) = word
 joined (word ∷ next ∷ words) = word ++ octet_of " " ∷ joined (next ∷ words)
 
--- A line of these words, in this order: a space or more between each two of them, and spaces or none before them and after.
+-- A line of these words, in this order. There is a space or more between each two of them, and any
+-- before and after.
 pub data IsLineOf : List (List ℕ) → List ℕ → Type 0 where
   no_words : IsLineOf [] []
   last_word : (word : List ℕ) → IsWord word → IsLineOf (word ∷ []) word

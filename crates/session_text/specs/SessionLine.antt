@@ -1,4 +1,4 @@
--- The lines of a session: where they end, and what they say.
+-- The lines of a session: where they end, and their commands.
 use Rattle.std.specs.Prelude.{ℕ, suc, ◌+◌, ◌-◌, ◌*◌, Bool, true, false, ◌&&◌, ◌||◌, ◌==◌, not, nat_le, nat_lt, if◌then◌else◌, List, [], ◌∷◌, length, filter, find, Option, None, Some, unwrap_or, codes, nat_eq}
 use Rattle.std.specs.List.{list_all}
 use Rattle.std.specs.Option.{option_map, option_and_then}
@@ -18,7 +18,7 @@ use Rattle.sieve_limits.specs.Limits.{line_limit}
 use Rattle.octets.specs.Hex.{hex_octet}
 use Rattle.octets.specs.Octet.{octet_of, is_digit, is_printable, is_visible}
 
--- a line with an octet before it, and what follows
+-- a line with an octet before it, and the rest
 abbrev pub put_before : ℕ → List ℕ × List ℕ → List ℕ × List ℕ
 put_before b (line, rest) = (b ∷ line, rest)
 
@@ -33,7 +33,8 @@ without_cr [] = []
 without_cr (b ∷ []) = if b == octet_of "\r" then [] else b ∷ []
 without_cr (b ∷ c ∷ bs) = b ∷ without_cr (c ∷ bs)
 
--- a line and what follows it: a CR before the LF isn't part of it, and the end of the octets ends a line too
+-- A line and the rest after it. A CR before the LF isn't part of it, and the end of the octets ends
+-- a line too.
 abbrev pub line_from : List ℕ → Option (List ℕ × List ℕ) → List ℕ × List ℕ
 line_from stream None = (stream, [])
 line_from stream (Some cut) = (without_cr cut.0, cut.1)
@@ -41,31 +42,33 @@ line_from stream (Some cut) = (without_cr cut.0, cut.1)
 unfoldable pub first_line : List ℕ → List ℕ × List ℕ
 first_line stream = line_from stream (cut_line stream)
 
--- the line that ends at an LF, and what follows it
+-- the line that ends at an LF, and the rest after it
 abbrev pub ended_line : List ℕ × List ℕ → List ℕ × List ℕ
 ended_line (line, rest) = (without_cr line, rest)
 
--- the first line of octets that others may follow, and what is after it, where its LF is among them
+-- the first line of octets that others may follow, and the rest after it, where its LF is among
+-- them
 unfoldable pub line_so_far : List ℕ → Option (List ℕ × List ℕ)
 line_so_far read = option_map ended_line (cut_line read)
 
--- whether octets without an LF are too long for a line, whatever follows: a CR at their end may belong to the line's end
+-- Whether octets without an LF are too long for a line, whatever follows. A CR at their end may
+-- belong to the line's end.
 abbrev pub is_long_so_far : List ℕ → Bool
 is_long_so_far read = nat_lt line_limit (length (without_cr read))
 
--- where an octet of a line stands: outside quotes, inside them, or after a backslash there
+-- the place of an octet of a line: outside quotes, inside them, or after a backslash there
 pub data Quoting : Type 0 where
   outside : Quoting
   inside : Quoting
   escaped : Quoting
 
--- where the octet after an octet stands
+-- the place of the octet after an octet
 abbrev pub quoting_after : Quoting → ℕ → Quoting
 quoting_after outside b = if b == octet_of "\"" then inside else outside
 quoting_after inside b = if b == octet_of "\"" then outside else if b == octet_of "\\" then escaped else inside
 quoting_after escaped b = inside
 
--- whether a space there stands between words
+-- whether an octet at such a place is a space between words
 abbrev pub is_gap : Quoting → ℕ → Bool
 is_gap outside b = b == octet_of " "
 is_gap inside b = false
@@ -75,12 +78,12 @@ abbrev pub grow_first : ℕ → List (List ℕ) → List (List ℕ)
 grow_first b [] = (b ∷ []) ∷ []
 grow_first b (piece ∷ pieces) = (b ∷ piece) ∷ pieces
 
--- the pieces between the spaces that no quotes hold
+-- the pieces between the spaces outside quotes
 abbrev pub pieces_from : Quoting → List ℕ → List (List ℕ)
 pieces_from quoting [] = [] ∷ []
 pieces_from quoting (b ∷ bs) = if is_gap quoting b then [] ∷ pieces_from outside bs else grow_first b (pieces_from (quoting_after quoting b) bs)
 
--- how many octets stand before the first such space
+-- the number of octets before the first such space
 abbrev pub piece_length : Quoting → List ℕ → ℕ
 piece_length quoting [] = 0
 piece_length quoting (b ∷ bs) = if is_gap quoting b then 0 else suc (piece_length (quoting_after quoting b) bs)
@@ -106,12 +109,13 @@ nothing_more [] = Some []
 nothing_more (b ∷ bs) = None
 
 unfoldable mutual
-  -- the octets that a quoted word stands for, after its first quote: the next one ends it, and nothing may follow
+  -- The octets that a quoted word stands for, after its first quote. The next quote ends it, and
+  -- nothing may follow.
   pub quoted_value : List ℕ → Option (List ℕ)
   quoted_value [] = None
   quoted_value (b ∷ bs) = if b == octet_of "\"" then nothing_more bs else if b == octet_of "\\" then escaped_value bs else after b (quoted_value bs)
 
-  -- what stands after a backslash: a quote, a backslash, or x and two hexadecimal digits
+  -- the octets after a backslash: a quote, a backslash, or `x` and two hexadecimal digits
   pub escaped_value : List ℕ → Option (List ℕ)
   escaped_value [] = None
   escaped_value (b ∷ bs) = if b == octet_of "\"" || b == octet_of "\\" then after b (quoted_value bs) else if b == octet_of "x" then hex_octets bs else None
@@ -126,7 +130,7 @@ unfoldable pub word_value : List ℕ → Option (List ℕ)
 word_value [] = None
 word_value (b ∷ bs) = if b == octet_of "\"" then quoted_value bs else if list_all is_bare (b ∷ bs) then Some (b ∷ bs) else None
 
--- what a line asks for
+-- the command of a line
 pub data SessionCommand : Type 0 where
   nothing : SessionCommand
   script : (location : Location) (name : List ℕ) (count : ℕ) → SessionCommand
@@ -179,7 +183,7 @@ abbrev pub last_name : List (List ℕ) → Option (Location × List ℕ)
 last_name (location ∷ name ∷ []) = named location name
 last_name other = None
 
--- what the last word stands for
+-- the value of the last word
 abbrev pub last_value : List (List ℕ) → Option (List ℕ)
 last_value [] = None
 last_value (word ∷ []) = word_value word
@@ -288,13 +292,14 @@ abbrev pub command_of_words : List (List ℕ) → Option SessionCommand
 command_of_words [] = Some nothing
 command_of_words (word ∷ words) = command_by word words
 
--- what a line asks for by its words, whichever names the profile has: a line of visible octets of ASCII and spaces alone
+-- The command of a line by its words, whichever extensions the profile has. The line has visible
+-- octets of ASCII and spaces alone.
 unfoldable pub command_in : List ℕ → Option SessionCommand
 command_in line = if list_all is_printable line then command_of_words (line_words line) else None
 
--- WHAT IS ASKED FOR BY NAME
+-- COMMANDS THAT NEED AN EXTENSION
 
--- the name that a profile needs for a command to be there; without one it always is
+-- the extension that a command needs; without one the command is always known
 abbrev pub extension_of : SessionCommand → Option Extension
 extension_of (mailboxes count) = Some extension.Mailbox
 extension_of (message_envelope id from to) = Some extension.Envelopes
@@ -309,6 +314,6 @@ is_there profile command = unwrap_or (option_map (has profile) (extension_of com
 abbrev pub where_there : Profile → SessionCommand → Option SessionCommand
 where_there profile command = if is_there profile command then Some command else None
 
--- what a line asks for, if it is one of the lines that there are under a profile
+-- the command of a line, if it is known under a profile
 unfoldable pub command_of_line : Profile → List ℕ → Option SessionCommand
 command_of_line profile line = option_and_then (where_there profile) (command_in line)

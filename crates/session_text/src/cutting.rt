@@ -4,7 +4,7 @@ ghost use Rattle.octets.specs.Octet.{octet_of};
 ghost use Rattle.session_text.specs.SessionLine.{outside, quoting_after, is_gap, piece_length, line_words};
 ghost use Rattle.session_text.specs.view.Command.{quoting_as};
 
-/// How many spaces a line begins with.
+/// The number of spaces that a line begins with.
 fn leading_spaces(line: &[u8]) -> usize
     ensures within { result ≤ length line.now }
     ensures words { line_words (drop result line.now) ≡ line_words line.now }
@@ -18,7 +18,7 @@ fn leading_spaces(line: &[u8]) -> usize
     line.len()
 }
 
-/// Where an octet of a line stands.
+/// The place of an octet of a line, by the quotes before it.
 #[derive(Clone, Copy)]
 pub(crate) enum Quoting {
     /// Outside quotes.
@@ -29,7 +29,7 @@ pub(crate) enum Quoting {
     Escaped,
 }
 
-/// Where the octet after an octet stands.
+/// The place of the octet after an octet.
 fn quoting_after(quoting: Quoting, octet: u8) -> Quoting
     ensures { quoting_as result ≡ quoting_after (quoting_as quoting) octet }
 {
@@ -47,7 +47,7 @@ fn quoting_after(quoting: Quoting, octet: u8) -> Quoting
     }
 }
 
-/// Whether an octet there is a space between words.
+/// Whether an octet at such a place is a space between words.
 fn is_gap(quoting: Quoting, octet: u8) -> bool
     ensures { result ≡ is_gap (quoting_as quoting) octet }
 {
@@ -57,7 +57,7 @@ fn is_gap(quoting: Quoting, octet: u8) -> bool
     }
 }
 
-/// How many octets stand before the first space that is outside quotes.
+/// The number of octets before the first space that is outside quotes.
 fn word_len(line: &[u8]) -> usize
     ensures value { result ≡ piece_length outside line.now }
     ensures within { result ≤ length line.now }
@@ -72,7 +72,7 @@ fn word_len(line: &[u8]) -> usize
     line.len()
 }
 
-/// The first word of a line, and what is after it.
+/// The first word of a line, and the rest after it.
 pub(crate) fn next_word(line: &[u8]) -> Option<(&[u8], &[u8])>
     ensures { MatchOption result (line_words line.now ≡ [])
         (λ cut. line_words line.now ≡ cut.0.now ∷ line_words cut.1.now) }

@@ -15,8 +15,8 @@ const CAPACITY: usize = 65_536;
 /// How many times in a row a read is tried: once, and 1,000 times again after an interruption.
 const MAX_TRIES: u32 = 1_001;
 
-/// The octets that a session has read and not yet used, how many reads it may still make, and whether one has come
-/// to the end of the input: no read is made after that.
+/// The octets that a session has read and not yet used, and how many reads it may still make. And
+/// whether a read has come to the end of the input: none is made after that.
 #[derive(Drop)]
 pub struct Input {
     buffer: Vec<u8>,
@@ -50,7 +50,7 @@ pub(crate) enum Filled {
     Spent,
 }
 
-/// The places for what is read.
+/// The places for the octets that are read.
 fn places(alloc: Global) -> Result<Vec<u8>, AllocError>
     ensures { IfOk result (λ places. vec_len places ≡ capacity) }
 {
@@ -101,8 +101,8 @@ impl Input {
     ghost use Rattle.session_text.specs.view.Input.{capacity, unused, fuel, CallsMade, Knows, Reads, TurnsGave};
     ghost use Rattle.session_text.specs.view.Filled.{MatchFilled};
 
-    /// Nothing is read yet, and `turns` reads may be made. A buffer of 65,536 octets is allocated, which never grows.
-    /// An error is out of memory.
+    /// Nothing is read yet, and `turns` reads may be made. A buffer of 65,536 octets is allocated,
+    /// which never grows. An error is out of memory.
     pub fn new(alloc: Global, turns: u64) -> Result<Input, AllocError>
         ensures { IfOk result
             (λ input. input ≡ record { pending = []; turns = turns; ended = false }) }
@@ -133,7 +133,7 @@ impl Input {
         self.start += count;
     }
 
-    /// Makes one read, after the octets that are not used, of which there must be room for one more.
+    /// Makes one read, after the octets that are not used. There must be room for one octet more.
     fn read_once<R: Source>(&mut self, reader: &mut R) -> io::Result<usize>
         requires room { length self.old.pending < capacity }
         requires turn { 0 < self.old.turns }
@@ -169,9 +169,9 @@ impl Input {
         }
     }
 
-    /// Reads more octets after those that are not used, of which there must be room for one more. A read that was
-    /// interrupted is tried again, at most 1,000 times in a row, and each try counts as a read. None is
-    /// made, and nothing changes, where one has come to the end.
+    /// Reads more octets after those that are not used. There must be room for one octet more. A
+    /// read that was interrupted is tried again, at most 1,000 times in a row. Each try counts as a
+    /// read. Where a read has come to the end, none is made, and nothing changes.
     #[tactic(auto, using(crate::proofs::Reading::reading))]
     pub(crate) fn fill<R: Source>(&mut self, reader: &mut R) -> Filled
         requires room { length self.old.pending < capacity }
@@ -214,8 +214,8 @@ impl Input {
         Filled::Failed
     }
 
-    /// Reads more octets if all are used. Where there are some, or a read has come to the end, none is made, and nothing
-    /// changes.
+    /// Reads more octets if all are used. Where some are left, or a read has come to the end, no
+    /// read is made, and nothing changes.
     #[tactic(auto, using(crate::proofs::Reading::reading))]
     pub(crate) fn refresh<R: Source>(&mut self, reader: &mut R) -> Filled
         requires known { Knows self.old (R.remaining reader.old) }

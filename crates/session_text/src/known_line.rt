@@ -1,4 +1,4 @@
-//! The lines of a session that there are under a profile.
+//! The known lines of a session under a profile.
 ghost use Rattle.std.specs.Prelude.{◌≡◌};
 ghost use Rattle.std.specs.Option.{option_map};
 ghost use Rattle.sieve_profile.specs.view.Profile.{profile_as};
@@ -8,7 +8,7 @@ ghost use Rattle.session_text.specs.view.Command.{command_as};
 use crate::session_line::{SessionCommand, command_in};
 use sieve_profile::{Extension, Profile};
 
-/// The name that a profile needs for a command to be there; without one it always is.
+/// The extension that a command needs. Without one the command is always known.
 fn extension_of(command: &SessionCommand<'_>) -> Option<Extension>
     ensures { result ≡ spec.extension_of (command_as command.now) }
 {
@@ -22,7 +22,7 @@ fn extension_of(command: &SessionCommand<'_>) -> Option<Extension>
     }
 }
 
-/// Whether a command is there under a profile.
+/// Whether a command is known under a profile.
 fn is_there(profile: Profile, command: &SessionCommand<'_>) -> bool
     ensures { result ≡ spec.is_there (profile_as profile) (command_as command.now) }
 {
@@ -32,10 +32,14 @@ fn is_there(profile: Profile, command: &SessionCommand<'_>) -> bool
     }
 }
 
-/// What a line, without its LF and the CR before it, asks for. `None` where it is none of the lines that there are under the
-/// profile: for an octet that is neither a visible one of ASCII nor a space, a first word that is unknown or needs a name that
-/// the profile lacks, a word that is ill quoted, too few words or too many, a count that isn't one to nine digits, or
-/// a clock that isn't bare digits up to 253402300799 and a bare zone. Takes no memory.
+/// The command of a line, without its LF and the CR before it. `None` where the line has:
+///
+/// - an octet that is neither a visible one of ASCII nor a space.
+/// - a first word that is unknown or needs an extension that the profile lacks.
+/// - a word that is ill quoted, too few words or too many.
+/// - a place that is neither `personal` nor `global`.
+/// - a count that isn't one to nine digits.
+/// - a clock that isn't bare digits up to 253402300799 and a bare zone.
 #[tactic(auto, unfolding(crate::specs::SessionLine::command_of_line))]
 pub fn command_of_line(profile: Profile, line: &[u8]) -> Option<SessionCommand<'_>>
     ensures { option_map command_as result ≡ spec.command_of_line (profile_as profile) line.now }

@@ -19,7 +19,8 @@ pub fn lines_are_found_by_their_words()
     ensures { (kind : LineKind) → line_kind (line_word kind) ≡ Some kind }
 {}
 
-/// The words of a line that is made of words, bare or in the quoted form that reports print, with one space or more between each two and any in front and after, are these words.
+/// The words of a line that is made of words are these words. Each is bare or in the quoted form
+/// that reports print. There is one space or more between each two, and any in front and after.
 pub fn words_stand_between_spaces()
     ensures joined { (words : List (List ℕ)) → All IsWord words
         → line_words (joined words) ≡ words }
@@ -27,7 +28,8 @@ pub fn words_stand_between_spaces()
         → line_words line ≡ words }
 {}
 
-/// A line of the quoted forms of values has no octet that a session refuses, and its words give back each value.
+/// A line of the quoted forms of values has no octet that a session refuses. Its words give back
+/// each value.
 pub fn a_line_gives_back_its_values()
     ensures plain { (values : List (List ℕ)) → All (All (λ octet. octet < 256)) values
         → list_all is_printable (joined (map quoted values)) ≡ true }
@@ -35,7 +37,8 @@ pub fn a_line_gives_back_its_values()
         → map word_value (line_words (joined (map quoted values))) ≡ map Some values }
 {}
 
-/// No line asks for what needs a name that the profile lacks. What needs none is asked for under each profile alike.
+/// No line is a command that needs an extension that the profile lacks. A command that needs none
+/// is one under each profile alike.
 pub fn what_needs_a_name_is_there_by_it()
     ensures named { (profile : Profile) (line : List ℕ) → IfSome (command_of_line profile line)
         (λ command. IfSome (extension_of command) (λ name. has profile name ≡ true)) }

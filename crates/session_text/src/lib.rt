@@ -1,5 +1,5 @@
-//! The octets of a session: what is read of the input and not used yet, its lines and their words, what a line asks
-//! for, and the counted octets that follow it.
+//! The octets of a session: those that are read and not used yet, its lines and their words. And
+//! the commands of lines, and the counted octets that follow them.
 #![tactic(auto)]
 
 mod cutting;
@@ -18,4 +18,4 @@ pub use known_line::command_of_line;
 pub use line::Line;
 pub use payload::{Taken, take_octets};
 pub use session_line::SessionCommand;
-pub use word::Word;
+pub use word::SessionWord;

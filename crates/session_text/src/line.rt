@@ -10,7 +10,7 @@ use crate::input::{Filled, Input};
 use devices::Source;
 use sieve_limits::MAX_LINE;
 
-/// Where the first LF is.
+/// The place of the first LF.
 fn find_lf(octets: &[u8]) -> Option<usize>
     ensures { MatchOption result (cut_line octets.now ≡ None) (λ at. (at < length octets.now)
         × (cut_line octets.now ≡ Some (take at octets.now, drop (at + 1) octets.now))
@@ -25,7 +25,7 @@ fn find_lf(octets: &[u8]) -> Option<usize>
     None
 }
 
-/// How many octets of those before a place are left without a CR at their end.
+/// The number of octets before a place without a CR at their end.
 fn len_without_cr(octets: &[u8], end: usize) -> usize
     requires { end ≤ length octets.now }
     ensures within { result ≤ end }
@@ -38,13 +38,13 @@ fn len_without_cr(octets: &[u8], end: usize) -> usize
     }
 }
 
-/// What the input has next.
+/// The next line of the input, or why there is none.
 #[derive(Drop)]
 pub enum Line {
-    /// Nothing: it is at its end.
+    /// The input is at its end.
     Over,
-    /// A line: the first `len` octets that are read and not used yet. It ends, with its CR and LF, within the first
-    /// `skip` of them.
+    /// A line: the first `len` octets that are read and not used yet. It ends, with its CR and LF,
+    /// within the first `skip` of them.
     Whole { len: usize, skip: usize },
     /// A line of more than 16,384 octets.
     TooLong,
@@ -55,9 +55,9 @@ pub enum Line {
 }
 
 impl Line {
-    ghost use Rattle.session_text.specs.view.Line.{IsCutOff, IsEnded, IsLine, IsWithin, MatchEnd};
+    ghost use Rattle.session_text.specs.view.Line.{IsCutOff, IsEnded, IsLine, IsWithinLine, MatchEnd};
 
-    /// The line that ends at an LF, the first one.
+    /// The line that ends at the first LF.
     fn before(pending: &[u8], at: usize) -> Line
         requires within { at < length pending.now }
         requires first { cut_line pending.now
@@ -66,7 +66,7 @@ impl Line {
             → cut_line (take (at + 1) pending.now ++ more) ≡ Some (take at pending.now, more) }
         ensures line { (left : List ℕ) → IsLine result pending.now left }
         ensures ended { IsEnded result pending.now }
-        ensures within { IsWithin result pending.now }
+        ensures within { IsWithinLine result pending.now }
         ensures kind { MatchEnd result ⊥ ⊥ ⊥ }
     {
         let len = len_without_cr(pending, at);
@@ -81,7 +81,7 @@ impl Line {
     fn last(pending: &[u8]) -> Line
         requires { cut_line pending.now ≡ None }
         ensures line { IsLine result pending.now [] }
-        ensures within { IsWithin result pending.now }
+        ensures within { IsWithinLine result pending.now }
         ensures kind { MatchEnd result ⊤ ⊥ ⊥ }
     {
         if pending.is_empty() {
@@ -96,7 +96,8 @@ impl Line {
         }
     }
 
-    /// Whether a line without its LF is too long already, whatever follows: a last CR may belong to its end.
+    /// Whether a line without its LF is too long already, whatever follows. A last CR may belong to
+    /// its end.
     fn is_too_long(pending: &[u8]) -> bool
         requires { cut_line pending.now ≡ None }
         ensures yes { IsTrue result → (left : List ℕ) → IsLine Line.TooLong pending.now left }
@@ -107,10 +108,11 @@ impl Line {
         pending.len() > MAX_LINE + 1 || pending.len() == MAX_LINE + 1 && pending[MAX_LINE] != b'\r'
     }
 
-    /// The next line of the input, which reads as much as it takes to find its end, and uses nothing. An LF ends a
-    /// line, and so does the end of the input; a CR before the LF is no part of the line. A line that is too long is
-    /// reported as soon as that is known, whether its end has been read or not. Nothing is read where the octets that are
-    /// read and not used tell the line already, by its LF or by being too many, nor after the end of the input.
+    /// The next line of the input. It reads as much as is needed to find the line's end, and uses
+    /// nothing. An LF ends a line, and so does the end of the input. A CR before the LF is no part
+    /// of the line. A line that is too long is reported as soon as that is known, also before its
+    /// end is read. Nothing is read where the unused octets have an LF or are too many for a line.
+    /// Nothing is read after the end of the input.
     #[tactic(auto, using(crate::proofs::Reading::reading))]
     pub fn next<R: Source>(input: &mut Input, reader: &mut R) -> Line
         requires known { Knows input.old (R.remaining reader.old) }
@@ -120,7 +122,7 @@ impl Line {
         ensures fuel { fuel input.new ≤ fuel input.old }
         ensures line { IfSome (R.remaining reader.new) (IsLine result input.new.pending) }
         ensures ended { input.new.ended ≡ false → IsEnded result input.new.pending }
-        ensures within { IsWithin result input.new.pending }
+        ensures within { IsWithinLine result input.new.pending }
         ensures reads { Reads R.remaining R.fault_count R.call_count input.old input.new reader.old
             reader.new }
         ensures still { (IsCutOff input.old.pending → ⊥)

@@ -2,7 +2,7 @@
 ghost use Rattle.std.specs.Prelude.{◌≡◌};
 ghost use Rattle.session_text.specs.SessionLine.{is_kind, line_kind, line_word};
 
-/// What a line's first word says.
+/// The kind of a line, by its first word.
 #[derive(Clone, Copy)]
 pub(crate) enum LineKind {
     Script,
@@ -25,7 +25,7 @@ pub(crate) enum LineKind {
     NoClock,
 }
 
-/// All of them.
+/// All kinds.
 const KINDS: [LineKind; 18] = [
     LineKind::Script,
     LineKind::Message,
@@ -47,7 +47,7 @@ const KINDS: [LineKind; 18] = [
     LineKind::NoClock,
 ];
 
-/// Whether a word says this.
+/// Whether a word is the first word of this kind.
 fn is_kind(word: &[u8], kind: LineKind) -> bool
     ensures { result ≡ is_kind word.now kind }
 {
@@ -55,7 +55,7 @@ fn is_kind(word: &[u8], kind: LineKind) -> bool
 }
 
 impl LineKind {
-    /// The word.
+    /// The first word of this kind.
     fn word(self) -> &'static [u8]
         ensures { result.now ≡ line_word self }
     {
@@ -81,7 +81,7 @@ impl LineKind {
         }
     }
 
-    /// The one of a word.
+    /// The kind of a first word.
     pub(crate) fn of(word: &[u8]) -> Option<LineKind>
         ensures { result ≡ line_kind word.now }
     {

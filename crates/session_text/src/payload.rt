@@ -12,9 +12,9 @@ use std::alloc::Global;
 /// How taking octets went.
 #[derive(Drop)]
 pub enum Taken {
-    /// All octets came. They are kept where that was asked for and memory wasn't refused.
+    /// All octets came. They are kept where that was asked for and there was memory.
     Whole { kept: Option<Vec<u8>> },
-    /// The input ended before.
+    /// The input ended before all octets came.
     Truncated,
     /// The input can't be read.
     Failed,
@@ -22,7 +22,7 @@ pub enum Taken {
     Spent,
 }
 
-/// What is kept, with more octets, if memory isn't refused.
+/// The kept octets with more, or none when out of memory.
 fn with_more(kept: Option<Vec<u8>>, octets: &[u8]) -> Option<Vec<u8>>
     ensures more { Grows (option_map octets_kept kept) (option_map octets_kept result) octets.now }
     ensures none { kept ≡ None → result ≡ None }
@@ -34,7 +34,7 @@ fn with_more(kept: Option<Vec<u8>>, octets: &[u8]) -> Option<Vec<u8>>
     }
 }
 
-/// The vector that octets are kept in, where they are, if memory isn't refused.
+/// A vector for the octets, where they are to be kept. There is none when out of memory.
 fn room_for(alloc: Global, count: usize, keep: bool) -> Option<Vec<u8>>
     ensures empty { IfSome result (λ kept. kept.items ≡ []) }
     ensures none { keep ≡ false → result ≡ None }
@@ -46,9 +46,9 @@ fn room_for(alloc: Global, count: usize, keep: bool) -> Option<Vec<u8>>
     }
 }
 
-/// Uses the next `count` octets of the input, and keeps a copy of them where `keep` is true. Where memory is refused for
-/// the copy, the octets are used all the same, and none are kept; nor are they where it is false. Nothing is read where
-/// all of them are read already, nor after the end of the input.
+/// Uses the next `count` octets of the input, and keeps a copy of them where `keep` is true. When
+/// out of memory for the copy, it uses the octets all the same, and keeps none. Nothing is read
+/// where all of them are read already, nor after the end of the input.
 #[tactic(auto, using(crate::proofs::Taking::taking, crate::proofs::Reading::reading))]
 pub fn take_octets<R: Source>(
     alloc: Global,

@@ -1,4 +1,4 @@
-//! The lines of a session: what their words ask for, whichever names the profile has. None of it takes memory.
+//! The commands of a session's lines by their words, whichever extensions the profile has.
 ghost use Rattle.std.specs.Prelude.{◌≡◌, ◌<◌, None, Some, IsTrue, ◌↔◌, []};
 ghost use Rattle.std.specs.List.{list_all};
 ghost use Rattle.std.specs.Option.{option_map};
@@ -9,12 +9,12 @@ ghost use Rattle.session_text.specs.view.Command.{command_as};
 use crate::cutting::next_word;
 use crate::extension_lines::{last_clock, message_envelope_command};
 use crate::line_kind::LineKind;
-use crate::word::Word;
+use crate::word::SessionWord;
 use date_text::Clock;
 use octets::{is_digit, is_printable};
 use script_names::Location;
 
-/// What a line asks for. The words are those of the line, and no copies.
+/// The command of a line. Its words are those of the line, and no copies.
 #[derive(Drop)]
 pub enum SessionCommand<'a> {
     /// The line has no words.
@@ -22,77 +22,78 @@ pub enum SessionCommand<'a> {
     /// To put a script, whose text is the next `count` octets.
     Script {
         location: Location,
-        name: Word<'a>,
+        name: SessionWord<'a>,
         count: u64,
     },
     /// To put a message, which is the next `count` octets.
     Message {
-        id: Word<'a>,
+        id: SessionWord<'a>,
         count: u64,
     },
     /// To make a script main.
     Main {
         location: Location,
-        name: Word<'a>,
+        name: SessionWord<'a>,
     },
     /// To leave no script main.
     NoMain,
     /// To rename a script.
     Rename {
         location: Location,
-        name: Word<'a>,
+        name: SessionWord<'a>,
         new_location: Location,
-        new_name: Word<'a>,
+        new_name: SessionWord<'a>,
     },
     /// To remove a script.
     DropScript {
         location: Location,
-        name: Word<'a>,
+        name: SessionWord<'a>,
     },
     /// To remove a message.
     DropMessage {
-        id: Word<'a>,
+        id: SessionWord<'a>,
     },
     /// To set the envelope's addresses.
     Envelope {
-        from: Word<'a>,
-        to: Word<'a>,
+        from: SessionWord<'a>,
+        to: SessionWord<'a>,
     },
     /// To set the mailbox.
     Mailbox {
-        mailbox: Word<'a>,
+        mailbox: SessionWord<'a>,
     },
     /// To report.
     Report,
     /// To print the code of a script.
     Dump {
         location: Location,
-        name: Word<'a>,
+        name: SessionWord<'a>,
     },
     /// To expect a text of a message's verdict, which is the next `count` octets.
     Expect {
-        id: Word<'a>,
+        id: SessionWord<'a>,
         count: u64,
     },
     /// To expect no text of a message's verdict.
     NoExpect {
-        id: Word<'a>,
+        id: SessionWord<'a>,
     },
-    /// To set the list of mailboxes, which is the next `count` octets (RFC 5490). Needs `mailbox`.
+    /// To set the list of mailboxes, which is the next `count` octets (RFC 5490, section 3.1).
+    /// Needs `mailbox`.
     Mailboxes {
         count: u64,
     },
     /// To give a message addresses of its own. Needs `envelopes`.
     MessageEnvelope {
-        id: Word<'a>,
-        from: Word<'a>,
-        to: Word<'a>,
+        id: SessionWord<'a>,
+        from: SessionWord<'a>,
+        to: SessionWord<'a>,
     },
     /// To take a message's own addresses from it. Needs `envelopes`.
     NoMessageEnvelope {
-        id: Word<'a>,
+        id: SessionWord<'a>,
     },
-    /// To set the clock (RFC 5260). Needs `date`.
+    /// To set the clock (RFC 5260, sections 4.1 and 5). Needs `date`.
     Clock {
         clock: Clock,
     },
@@ -108,7 +109,7 @@ fn is_text(word: &[u8], text: &[u8]) -> bool
     word == text
 }
 
-/// The location of that name.
+/// The location of a word, `personal` or `global`.
 fn location_of(word: &[u8]) -> Option<Location>
     ensures { result ≡ spec.location_of word.now }
 {
@@ -154,16 +155,16 @@ pub(crate) fn last_count(line: &[u8]) -> Option<u64>
 }
 
 /// The script of a location and a name.
-fn named<'a>(location: &[u8], name: &'a [u8]) -> Option<(Location, Word<'a>)>
+fn named<'a>(location: &[u8], name: &'a [u8]) -> Option<(Location, SessionWord<'a>)>
     ensures { result ≡ spec.named location.now name.now }
 {
     let location = location_of(location)?;
-    let name = Word::new(name)?;
+    let name = SessionWord::new(name)?;
     Some((location, name))
 }
 
 /// A location and a name that are the last words.
-fn last_name(line: &[u8]) -> Option<(Location, Word<'_>)>
+fn last_name(line: &[u8]) -> Option<(Location, SessionWord<'_>)>
     ensures { result ≡ spec.last_name (spec.line_words line.now) }
 {
     let (location, line) = next_word(line)?;
@@ -175,15 +176,19 @@ fn last_name(line: &[u8]) -> Option<(Location, Word<'_>)>
     }
 }
 
-/// What the last word stands for.
-pub(crate) fn last_value(line: &[u8]) -> Option<Word<'_>>
+/// The value of the last word.
+pub(crate) fn last_value(line: &[u8]) -> Option<SessionWord<'_>>
     ensures { result ≡ spec.last_value (spec.line_words line.now) }
 {
     let (word, line) = next_word(line)?;
-    if is_over(line) { Word::new(word) } else { None }
+    if is_over(line) {
+        SessionWord::new(word)
+    } else {
+        None
+    }
 }
 
-/// What `script PLACE NAME N` asks for, after its first word.
+/// The command of `script PLACE NAME N`, after its first word.
 fn script_command(line: &[u8]) -> Option<SessionCommand<'_>>
     ensures { option_map command_as result ≡ spec.script_command (spec.line_words line.now) }
 {
@@ -198,27 +203,27 @@ fn script_command(line: &[u8]) -> Option<SessionCommand<'_>>
     })
 }
 
-/// What `message ID N` asks for, after its first word.
+/// The command of `message ID N`, after its first word.
 fn message_command(line: &[u8]) -> Option<SessionCommand<'_>>
     ensures { option_map command_as result ≡ spec.message_command (spec.line_words line.now) }
 {
     let (id, line) = next_word(line)?;
-    let id = Word::new(id)?;
+    let id = SessionWord::new(id)?;
     let count = last_count(line)?;
     Some(SessionCommand::Message { id, count })
 }
 
-/// What `expect ID N` asks for, after its first word.
+/// The command of `expect ID N`, after its first word.
 fn expect_command(line: &[u8]) -> Option<SessionCommand<'_>>
     ensures { option_map command_as result ≡ spec.expect_command (spec.line_words line.now) }
 {
     let (id, line) = next_word(line)?;
-    let id = Word::new(id)?;
+    let id = SessionWord::new(id)?;
     let count = last_count(line)?;
     Some(SessionCommand::Expect { id, count })
 }
 
-/// What `rename PLACE NAME PLACE NAME` asks for, after its first word.
+/// The command of `rename PLACE NAME PLACE NAME`, after its first word.
 fn rename_command(line: &[u8]) -> Option<SessionCommand<'_>>
     ensures { option_map command_as result ≡ spec.rename_command (spec.line_words line.now) }
 {
@@ -234,17 +239,17 @@ fn rename_command(line: &[u8]) -> Option<SessionCommand<'_>>
     })
 }
 
-/// What `envelope FROM TO` asks for, after its first word.
+/// The command of `envelope FROM TO`, after its first word.
 fn envelope_command(line: &[u8]) -> Option<SessionCommand<'_>>
     ensures { option_map command_as result ≡ spec.envelope_command (spec.line_words line.now) }
 {
     let (from, line) = next_word(line)?;
-    let from = Word::new(from)?;
+    let from = SessionWord::new(from)?;
     let to = last_value(line)?;
     Some(SessionCommand::Envelope { from, to })
 }
 
-/// What `main PLACE NAME` asks for, after its first word.
+/// The command of `main PLACE NAME`, after its first word.
 fn main_command(line: &[u8]) -> Option<SessionCommand<'_>>
     ensures { option_map command_as result ≡ spec.main_command (spec.line_words line.now) }
 {
@@ -252,7 +257,7 @@ fn main_command(line: &[u8]) -> Option<SessionCommand<'_>>
     Some(SessionCommand::Main { location, name })
 }
 
-/// What `drop-script PLACE NAME` asks for, after its first word.
+/// The command of `drop-script PLACE NAME`, after its first word.
 fn drop_script_command(line: &[u8]) -> Option<SessionCommand<'_>>
     ensures { option_map command_as result ≡ spec.drop_script_command (spec.line_words line.now) }
 {
@@ -260,7 +265,7 @@ fn drop_script_command(line: &[u8]) -> Option<SessionCommand<'_>>
     Some(SessionCommand::DropScript { location, name })
 }
 
-/// What `dump PLACE NAME` asks for, after its first word.
+/// The command of `dump PLACE NAME`, after its first word.
 fn dump_command(line: &[u8]) -> Option<SessionCommand<'_>>
     ensures { option_map command_as result ≡ spec.dump_command (spec.line_words line.now) }
 {
@@ -276,7 +281,7 @@ fn alone<'a>(command: SessionCommand<'a>, line: &[u8]) -> Option<SessionCommand<
     if is_over(line) { Some(command) } else { None }
 }
 
-/// What a line asks for, by what its first word says and by the words after it.
+/// The command of a kind of line and the words after the first.
 fn command_of_kind(kind: LineKind, line: &[u8]) -> Option<SessionCommand<'_>>
     ensures { option_map command_as result
         ≡ spec.command_of_kind kind (spec.line_words line.now) }
@@ -315,7 +320,7 @@ fn command_of_kind(kind: LineKind, line: &[u8]) -> Option<SessionCommand<'_>>
     }
 }
 
-/// What a line of some words asks for.
+/// The command of a first word and the words after it.
 fn command_by<'a>(word: &[u8], line: &'a [u8]) -> Option<SessionCommand<'a>>
     ensures { option_map command_as result ≡ spec.command_by word.now (spec.line_words line.now) }
 {
@@ -323,7 +328,7 @@ fn command_by<'a>(word: &[u8], line: &'a [u8]) -> Option<SessionCommand<'a>>
     command_of_kind(kind, line)
 }
 
-/// What a line asks for by its words, whichever names the profile has.
+/// The command of a line by its words, whichever extensions the profile has.
 #[tactic(auto, unfolding(crate::specs::SessionLine::command_in))]
 pub(crate) fn command_in(line: &[u8]) -> Option<SessionCommand<'_>>
     ensures { option_map command_as result ≡ spec.command_in line.now }

@@ -1,4 +1,4 @@
-//! The words of a session's lines that may be quoted. Reading them takes no memory, and copying their octets does.
+//! The words of a session's lines that may be quoted. Copying their octets takes memory.
 ghost use Rattle.std.specs.Prelude.{◌≡◌, ◌<◌, ℕ, IfOk, Some, None, IfSome, IfNone, is_some, length, [], false, true};
 ghost use Rattle.std.specs.List.{list_all};
 ghost use Rattle.session_text.specs.SessionLine.{is_bare, after, quoted_value, escaped_value, hex_octets, word_value};
@@ -9,7 +9,8 @@ use octets::{Octets, hex_octet, is_visible};
 use std::alloc::{AllocError, Global};
 use std::marker::Model;
 
-/// Whether an octet may stand in a bare word: a visible one of ASCII but the quote and the backslash.
+/// Whether an octet may stand in a bare word: a visible one of ASCII but the quote and the
+/// backslash.
 fn is_bare(octet: u8) -> bool
     ensures { result ≡ is_bare octet }
 {
@@ -23,18 +24,18 @@ fn are_bare(octets: &[u8]) -> bool
     octets.iter().all(|octet| is_bare(*octet))
 }
 
-/// What a quoted word has next, after its first quote.
+/// The next part of a quoted word, after its first quote.
 #[derive(Drop)]
 pub(crate) enum Next<'a> {
     /// The end of the word.
     End,
-    /// An octet, and what is after it.
+    /// An octet, and the rest after it.
     Octet { octet: u8, rest: &'a [u8] },
-    /// Nothing that there is.
+    /// No part of a quoted word.
     Wrong,
 }
 
-/// What is after a backslash and an `x`.
+/// The part after a backslash and an `x`.
 #[tactic(auto, unfolding(crate::specs::SessionLine::hex_octets))]
 fn next_hex(rest: &[u8]) -> Next<'_>
     ensures { MatchNext result ⊥ (λ octet left. (hex_octets rest.now ≡ after octet
@@ -49,7 +50,7 @@ fn next_hex(rest: &[u8]) -> Next<'_>
     }
 }
 
-/// What is after a backslash.
+/// The part after a backslash.
 #[tactic(auto, unfolding(crate::specs::SessionLine::escaped_value))]
 fn next_escaped(rest: &[u8]) -> Next<'_>
     ensures { MatchNext result ⊥ (λ octet left. (escaped_value rest.now ≡ after octet
@@ -68,7 +69,7 @@ fn next_escaped(rest: &[u8]) -> Next<'_>
     }
 }
 
-/// What a quoted word has next, after its first quote.
+/// The next part of a quoted word, after its first quote.
 #[tactic(auto, unfolding(crate::specs::SessionLine::quoted_value))]
 fn next_octet(rest: &[u8]) -> Next<'_>
     ensures { MatchNext result (quoted_value rest.now ≡ Some [])
@@ -148,11 +149,11 @@ fn short_quoted<const N: usize>(word: &[u8]) -> Option<ArrayVec<u8, N>>
 
 /// A word of a line that may be quoted. Contracts see the octets that it stands for.
 #[derive(Drop)]
-pub struct Word<'a> {
+pub struct SessionWord<'a> {
     written: &'a [u8],
 }
 
-impl<'a> Model for Word<'a> {
+impl<'a> Model for SessionWord<'a> {
     ghost use Rattle.std.specs.Prelude.{◌≡◌, ℕ, List, [], is_some, true};
     ghost use Rattle.session_text.specs.SessionLine.{word_value};
     ghost use Rattle.session_text.specs.view.Word.{octets_if_any};
@@ -164,10 +165,10 @@ impl<'a> Model for Word<'a> {
     ghost invariant = { λ a. is_some (word_value a.written.now) ≡ true };
 }
 
-impl<'a> Word<'a> {
+impl<'a> SessionWord<'a> {
     /// The word that is written so, if it is one.
     #[tactic(auto, unfolding(crate::specs::SessionLine::word_value))]
-    pub(crate) fn new(written: &'a [u8]) -> Option<Word<'a>>
+    pub(crate) fn new(written: &'a [u8]) -> Option<SessionWord<'a>>
         ensures { result ≡ word_value written.now }
     {
         let is_word = match written {
@@ -176,13 +177,13 @@ impl<'a> Word<'a> {
             bare => are_bare(bare),
         };
         if is_word {
-            Some(Word { written })
+            Some(SessionWord { written })
         } else {
             None
         }
     }
 
-    /// A copy of the octets that it stands for. An error is out of memory.
+    /// A copy of the octets that the word stands for. An error is out of memory.
     #[tactic(auto, unfolding(crate::specs::SessionLine::word_value))]
     pub fn copied(&self, alloc: Global) -> Result<Octets, AllocError>
         ensures { IfOk result (λ octets. octets ≡ self.now) }
@@ -193,7 +194,7 @@ impl<'a> Word<'a> {
         }
     }
 
-    /// The octets that it stands for, where they are `N` at most. Takes no memory.
+    /// The octets that the word stands for, where they are `N` at most.
     #[tactic(auto, unfolding(crate::specs::SessionLine::word_value))]
     pub fn short<const N: usize>(&self) -> Option<ArrayVec<u8, N>>
         ensures short { IfSome result (λ octets. octets.items ≡ self.now) }

@@ -22,7 +22,7 @@ use Rattle.sieve_table.specs.Table.{Row, command_named, command_row, test_named,
 use Rattle.sieve_table.specs.declared.rule.Rule.{Rule}
 use Rattle.sieve_table.specs.declared.rule.Rule.TheVariants.{BadTag, UnknownCapability, UnknownCommand, UnknownComparator}
 use Rattle.sieve_table.specs.declared.table.CommandKind.{CommandKind}
-use Rattle.sieve_table.specs.declared.table.Tag.{Tag}
+use Rattle.sieve_table.specs.declared.tag.Tag.{Tag}
 use Rattle.sieve_table.specs.declared.table.TestKind.{TestKind}
 use Rattle.sieve_check.proofs.Reprofiled.{elements_again, reprofiled}
 use Rattle.sieve_check.proofs.Truth.{never_both}

@@ -7,7 +7,7 @@ use Rattle.sieve_table.specs.Role.{names_variable}
 use Rattle.sieve_table.specs.declared.row.Role.{Role}
 use Rattle.sieve_table.specs.declared.row.Role.TheVariants.{NameToSet, NamesToRead}
 use Rattle.sieve_variables.specs.Part.{Part, grouped, literal, scoped_part, variable_part}
-use Rattle.sieve_variables.specs.Reference.{Cuts, TextPiece}
+use Rattle.sieve_variables.specs.Reference.{CutsReferences, ReferencePiece}
 use Rattle.sieve_variables.specs.Scan.{parts_of_text, pieces_of}
 use Rattle.sieve_variables.specs.Variable.{scoped, variable_named}
 use Rattle.sieve_table.proofs.Telling.{only_in_role}
@@ -37,7 +37,7 @@ module _ (context : Context) (role : Option Role) (octets : List ℕ) where
       (either_false _ _ (takes_references context.required role) (only_in_role NameToSet (takes_references context.required) role refl) (only_in_role NamesToRead (takes_references context.required) role refl)) takes)
       ∙ ap (λ b. if b then its_parts else literal octets ∷ []) takes
 
-  pub expanded_cut : takes_references context.required role ≡ true → (pieces : List TextPiece) × Cuts pieces octets × (parts_in context role octets ≡ map (scoped_part context.scope.declared) (grouped pieces))
+  pub expanded_cut : takes_references context.required role ≡ true → (pieces : List ReferencePiece) × CutsReferences pieces octets × (parts_in context role octets ≡ map (scoped_part context.scope.declared) (grouped pieces))
   expanded_cut takes = (pieces_of octets, cuts_from 0 octets, expanded takes)
 
   pub named : names_variable role ≡ true → parts_in context role octets ≡ variable_part (scoped context.scope.declared (variable_named octets)) ∷ []

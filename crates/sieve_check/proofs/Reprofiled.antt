@@ -32,7 +32,7 @@ use Rattle.sieve_table.specs.Role.{has_role}
 use Rattle.sieve_table.specs.declared.row.Role.{Role}
 use Rattle.sieve_table.specs.declared.row.Role.TheVariants.{ComparatorName}
 use Rattle.sieve_table.specs.declared.table.CommandKind.{CommandKind}
-use Rattle.sieve_table.specs.declared.table.Tag.{Tag}
+use Rattle.sieve_table.specs.declared.tag.Tag.{Tag}
 use Rattle.sieve_table.specs.declared.table.TestKind.{TestKind}
 use Rattle.sieve_check.proofs.Profiles.{kind_profile, node_profile}
 

@@ -14,7 +14,7 @@ use Rattle.sieve_script.specs.declared.label.Label.{Label}
 use Rattle.sieve_script.specs.declared.label.Label.TheVariants.{Tagged}
 use Rattle.sieve_table.specs.declared.row.Role.{Role}
 use Rattle.sieve_table.specs.declared.table.CommandKind.{CommandKind}
-use Rattle.sieve_table.specs.declared.table.Tag.TheVariants.{Contains, Matches}
+use Rattle.sieve_table.specs.declared.tag.Tag.TheVariants.{Contains, Matches}
 use Rattle.sieve_table.specs.declared.table.TestKind.{TestKind}
 
 -- A command, a test, a string in its role, or a number. A string has no role where no slot or tag

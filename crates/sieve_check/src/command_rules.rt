@@ -93,7 +93,7 @@ fn kind_of(profile: Profile, command: &Command) -> Option<CommandKind>
 
 /// The kind of a command, and the labels of its arguments.
 #[derive(Drop)]
-struct Head {
+struct CommandHead {
     kind: CommandKind,
     labels: Vec<Label>,
 }
@@ -104,7 +104,7 @@ fn check_command_head(
     alloc: Global,
     context: Context<'_>,
     command: &Command,
-) -> Result<Head, CheckFault>
+) -> Result<CommandHead, CheckFault>
     ensures found { FindsIn (command_head (context_as context.entry) command.now) result }
     ensures kind { IfOk result (λ head. spec.known_command (context_as context.entry).profile
         (out-Command command.now).name ≡ Some head.kind) }
@@ -119,7 +119,7 @@ fn check_command_head(
         }),
         Some(kind) => {
             let labels = check_kind(alloc, context, kind, command)?;
-            Ok(Head { kind, labels })
+            Ok(CommandHead { kind, labels })
         }
     }
 }
@@ -166,7 +166,7 @@ fn check_front(
     alloc: Global,
     spot: Spot,
     scope: &mut Scope,
-    head: Head,
+    head: CommandHead,
     args: Vec<Argument>,
     tests: Tests,
 ) -> Result<Front, CheckFault>
@@ -181,7 +181,7 @@ fn check_front(
     ensures condition { IfOk result (λ front. condition_as front.condition
         ≡ first_condition (conditions_in (at_spot spot scope.old) (seen.tests_of tests))) }
 {
-    let Head { kind, labels } = head;
+    let CommandHead { kind, labels } = head;
     let context = Context {
         spot,
         scope: &*scope,

@@ -35,11 +35,11 @@ ghost use Rattle.sieve_table.specs.declared.row.TagKind.TheVariants.{Bound};
 ghost use Rattle.sieve_table.specs.declared.rule.Rule.{Rule};
 ghost use Rattle.sieve_table.specs.declared.rule.Rule.TheVariants.{RequirePlace, UnknownCapability, UnknownCommand, NotRequired, ElsePlace, BadTag, BadArguments, UnknownComparator, BadVariableName, GlobalAfterSet, BadNamespace, MatchIndex, NumberTooLarge, BadEnvelopePart, NotAddressHeader, TooManyVariables, BadCharacter, BadRelation, UnfitComparator, BadDatePart};
 ghost use Rattle.sieve_table.specs.declared.table.CommandKind.{CommandKind};
-ghost use Rattle.sieve_table.specs.declared.table.Tag.TheVariants.{Over, Under};
+ghost use Rattle.sieve_table.specs.declared.tag.Tag.TheVariants.{Over, Under};
 ghost use Rattle.sieve_table.specs.declared.table.TestKind.{TestKind};
 ghost use Rattle.sieve_table.specs.declared.table.TestKind.TheVariants.{Size};
 ghost use Rattle.sieve_variables.specs.Part.{grouped, literal, scoped_part, variable_part};
-ghost use Rattle.sieve_variables.specs.Reference.{Cuts, TextPiece};
+ghost use Rattle.sieve_variables.specs.Reference.{CutsReferences, ReferencePiece};
 ghost use Rattle.sieve_variables.specs.Variable.{scoped, variable_named};
 
 /// The breaches of a script are those of its elements: commands, tests, strings and numbers in text
@@ -66,7 +66,7 @@ pub fn first_breach_is_least()
 pub fn parts_go_by_the_role()
     ensures expanded { (context : Context) (role : Option Role) (octets : List ℕ)
         → takes_references context.required role ≡ true
-        → (pieces : List TextPiece) × Cuts pieces octets × (parts_in context role octets
+        → (pieces : List ReferencePiece) × CutsReferences pieces octets × (parts_in context role octets
         ≡ map (scoped_part context.scope.declared) (grouped pieces)) }
     ensures name { (context : Context) (role : Option Role) (octets : List ℕ)
         → names_variable role ≡ true → parts_in context role octets

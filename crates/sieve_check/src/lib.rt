@@ -18,7 +18,5 @@ mod validator;
 
 pub use checked::Checked;
 pub use judged::{FaultKind, JudgeFault, Judged, judge};
-pub use octets::SmallOctets;
-pub use sieve_script::{Branch, Condition, Part, PartRef, Parts, Statement, Variable, VariableRef};
 pub use sieve_table::Rule;
 pub use validator::{CheckFault, check};

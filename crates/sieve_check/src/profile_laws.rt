@@ -12,7 +12,7 @@ ghost use Rattle.sieve_table.specs.Table.{all_tags, command_row, commands, test_
 ghost use Rattle.sieve_table.specs.declared.capability.Capability.{Capability};
 ghost use Rattle.sieve_table.specs.declared.capability.Capability.TheVariants as capability;
 ghost use Rattle.sieve_table.specs.declared.table.CommandKind.TheVariants as command;
-ghost use Rattle.sieve_table.specs.declared.table.Tag.TheVariants as tag;
+ghost use Rattle.sieve_table.specs.declared.tag.Tag.TheVariants as tag;
 ghost use Rattle.sieve_table.specs.declared.table.TestKind.TheVariants as test;
 
 /// By the empty profile exactly these capabilities, commands, tests and tags are known: those

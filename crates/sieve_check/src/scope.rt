@@ -35,7 +35,7 @@ impl Model for Scope {
 }
 
 /// Whether a name is declared, in any case of its letters.
-pub(crate) fn is_declared(alloc: Global, name: &[u8], declared: &Names) -> Result<bool, AllocError>
+fn is_declared(alloc: Global, name: &[u8], declared: &Names) -> Result<bool, AllocError>
     ensures { IfOk result (λ is. is ≡ is_among (folded_name name.now) declared.now) }
 {
     let name = folded(alloc, name)?;

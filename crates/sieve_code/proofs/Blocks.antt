@@ -9,7 +9,7 @@ use Rattle.sieve_code.specs.Walk.{Walk, by_stop, by_return, acted, branches_walk
 use Rattle.sieve_code.proofs.Tails.{Walks, Ends, Forward, ends_self, ends_more, ends_trans, walks_acts, walks_stops, walks_returns, walks_jumps, walks_jumps_if, forward_plain, forward_jumps, forward_jumps_if, landed}
 use Rattle.sieve_code.proofs.Conditions.{condition_code}
 
--- a tail goes this walk, whatever is in the register, and its jumps go forward
+-- A tail goes this walk, whatever is in the register. Its jumps go forward.
 pub record Goes (tail : Tail) (walk : Walk) : Type 0 where
   pub forward : Forward tail
   pub walks : Walks tail (λ r. walk)
@@ -19,11 +19,12 @@ pub record GoesBefore (tail after : Tail) (walk : Walk) : Type 0 where
   pub ends : Ends tail after
   pub goes : Goes tail walk
 
--- what is put before a tail does what commands or branches do that have this walk
+-- the operations that are put before a tail do what commands or branches with this walk do
 pub record IsBlock (before : Tail → Tail) (does : Walk → Walk) : Type 0 where
   pub at : (after : Tail) (next : Walk) → Goes after next → GoesBefore (before after) after (does next)
 
--- a stop or a return before a tail ends its walk, and a command that acts before a tail acts before what the tail does
+-- A stop or a return before a tail ends its walk. A command that acts before a tail acts before the
+-- walk of the tail.
 stops_before : (tail after : Tail) (walk : Walk) → GoesBefore tail after walk → GoesBefore (stop_op ∷ tail) after by_stop
 stops_before tail after walk g = record {
   ends = ends_more stop_op tail after g.ends;
@@ -44,7 +45,7 @@ acts_before leaf line tail after walk g = record {
 
 -- BRANCHES
 
--- after a block, what is done next is what is after the branches
+-- after a block, the walk goes on after the branches
 jump_goes : (w after : Tail) (other next : Walk) → Goes after next → GoesBefore w after other → GoesBefore (jump_op (length after) ∷ w) w next
 jump_goes w after other next goes branch = record {
   ends = ends_more (jump_op (length after)) w w (ends_self w);
@@ -57,7 +58,8 @@ past_goes no_branches after next goes branch = record { ends = ends_self after; 
 past_goes (else_branch inner) after next goes branch = jump_goes (branches_before (else_branch inner) after) after (branches_walk (else_branch inner) next) next goes branch
 past_goes (test_branch c inner others) after next goes branch = jump_goes (branches_before (test_branch c inner others) after) after (branches_walk (test_branch c inner others) next) next goes branch
 
--- a branch with a test does its block or what the other branches do, and then what is after them
+-- A branch with a test does its block, or what the other branches do. Then the walk after them goes
+-- on.
 test_goes : (c : Condition) (inner : Commands) (others : Branches) → IsBlock (commands_before inner) (commands_walk inner) → IsBlock (branches_before others) (branches_walk others)
     → (after : Tail) (next : Walk) → Goes after next → GoesBefore (branches_before (test_branch c inner others) after) after (branches_walk (test_branch c inner others) next)
 unfolding branches_before branches_walk

@@ -1,4 +1,4 @@
--- The code of conditions asks what they ask.
+-- The code of conditions asks what the conditions ask.
 use Rattle.std.proofs.Common.{◌≡◌, Bool, true, false, not, ◌∷◌, length, refl, ◌∙◌}
 use Rattle.sieve_script.specs.Reading.{Ask}
 use Rattle.sieve_script.specs.Script as script
@@ -8,7 +8,8 @@ use Rattle.sieve_code.specs.Operation.{set_op, invert_op, test_op, jump_if_op}
 use Rattle.sieve_code.specs.Walk.{Walk, condition_walk, all_walk, any_walk}
 use Rattle.sieve_code.proofs.Tails.{Walks, Ends, Forward, ends_self, ends_more, ends_trans, walks_sets, walks_inverts, walks_asks, walks_jumps_if, forward_plain, forward_jumps_if, landed}
 
--- what is put before a tail asks what a condition asks, and goes on in the tail with its truth in the register
+-- The operations before a tail ask what a condition asks. They go on in the tail with its truth in
+-- the register.
 pub record IsConditionCode (before : Tail → Tail) (c : Condition) : Type 0 where
   pub ends : (after : Tail) → Ends (before after) after
   pub forward : (after : Tail) → Forward after → Forward (before after)
@@ -56,7 +57,8 @@ like_code before c d same code = record {
 
 -- LISTS
 
--- joined conditions of which one that comes to that truth decides: all of them for false, any of them for true
+-- Joined conditions, where a condition with that truth decides. They are all of them for false, and
+-- any of them for true.
 abbrev pub joined_by : Bool → Conditions → Condition
 joined_by false cs = all_hold cs
 joined_by true cs = any_holds cs
@@ -88,7 +90,7 @@ joint_code false before others c cs code more = record {
   walks = λ after does w. code.walks (jump_if_op false (length after) ∷ others after) (λ r. landed false r (does r) (all_walk cs (does true) (does false))) (walks_jumps_if (others after) after does (more.ends after) w false _ (more.walks after does w));
 }
 
--- what is known of a list of conditions where it has one
+-- the code of a list of conditions that isn't empty is that of the joined conditions
 abbrev ListCode : Bool → Conditions → Type 0
 ListCode truth no_conditions = Unit {0}
 ListCode truth (one_condition c cs) = IsConditionCode (list_before truth (one_condition c cs)) (joined_by truth (one_condition c cs))

@@ -1,4 +1,4 @@
--- What is kept in pools stays where it is.
+-- Items that are kept in pools stay at their places.
 use Rattle.std.proofs.Common.{◌≡◌, ℕ, zero, suc, true, false, List, [], ◌∷◌, ◌++◌, length, map, get_or, slice_get, Option, Some, refl, sym, ap, ◌∙◌, subst}
 use Rattle.std.proofs.Math.Seq.{get_or-append_seam}
 use Rattle.std.proofs.lemmas.List.{append-nil, append_assoc}
@@ -18,7 +18,7 @@ lists_none lists =
     ap (λ (s : List (List Part)). record { strings = s; ends = lists.ends ++ [] }) (append-nil lists.strings)
     ∙ ap (λ (e : List ℕ). record { strings = lists.strings; ends = e }) (append-nil lists.ends)
 
--- with nothing more after it a pool is what it is
+-- a pool with nothing more after it is the same pool
 pub plus_none : (p : Pool) → plus p no_pool ≡ p
 plus_none p =
     ap (λ (s : List (List Part)). record (plus p no_pool) { strings = s }) (append-nil p.strings)
@@ -33,30 +33,30 @@ grows_self p = λ more. (more, refl)
 pub grows_on : (p q r : Pool) → PoolGrows p q → PoolGrows q r → PoolGrows p r
 grows_on p q r first second = λ more. let two = second more in let one = first two.0 in (one.0, two.1 ∙ one.1)
 
--- what is found is found when the pool has grown
+-- an item that is found is still found when the pool has grown
 pub keeps_on : {X : Type 0} (p q : Pool) (find : Pool → X) (x : X) → PoolGrows p q → Keeps p find x → Keeps q find x
 keeps_on p q find x grows keeps = λ more. let r = grows more in ap find r.1 ∙ keeps r.0
 
--- what stands in no pool is found in each
+-- a value that needs no pool is found in each
 pub kept_still : {X : Type 0} (p : Pool) (x : X) → Kept p p (λ q. x) x
 kept_still p x = record { grows = grows_self p; keeps = λ more. refl }
 
--- what is made of two things that are found
+-- a value that is made of two found values is found
 pub kept_two : {X Y Z : Type 0} (g : X → Y → Z) (p q r : Pool) (f : Pool → X) (h : Pool → Y) (x : X) (y : Y) → Kept p q f x → Kept q r h y → Kept p r (λ s. g (f s) (h s)) (g x y)
 kept_two g p q r f h x y first second = record {
   grows = grows_on p q r first.grows second.grows;
   keeps = λ more. ap (λ a. g a (h (plus r more))) (keeps_on q r f x second.grows first.keeps more) ∙ ap (g x) (second.keeps more);
 }
 
--- what is made of one thing more
+-- a value that is made with one more found value is found
 pub kept_then : {X Y : Type 0} (p q r : Pool) (f : Pool → X → Y) (h : Pool → X) (g : X → Y) (x : X) → Kept p q f g → Kept q r h x → Kept p r (λ s. f s (h s)) (g x)
 kept_then p q r f h g x first second = kept_two (λ g x. g x) p q r f h g x first second
 
--- what is made of what is found
+-- a value that is made of a found value is found
 pub kept_as : {X Y : Type 0} (g : X → Y) (p q : Pool) (f : Pool → X) (x : X) → Kept p q f x → Kept p q (λ s. g (f s)) (g x)
 kept_as g p q f x kept = record { grows = kept.grows; keeps = λ more. ap g (kept.keeps more) }
 
--- WHAT IS ADDED
+-- ADDED ITEMS
 
 no_plain : false ≡ true → ⊥
 no_plain e = cc
@@ -86,16 +86,16 @@ module _ (p q : Pool) (place : ℕ) (texts : List (List Part)) where
     keeps = λ more. ap (list_in (lists_plus (lists_with p.names texts) more.names)) at ∙ there more.names;
   })
 
--- what the last list is already is kept there
+-- a list that is the same as the last is found at the last one's place
 pub list_shared : (p : Pool) (place : ℕ) (texts : List (List Part)) → ((more : Lists) → list_in (lists_plus p.lists more) place ≡ texts) → Kept p p (λ r. list_in r.lists place) texts
 list_shared p place texts there = record { grows = grows_self p; keeps = λ more. there more.lists }
 
 pub names_shared : (p : Pool) (place : ℕ) (texts : List (List Part)) → ((more : Lists) → list_in (lists_plus p.names more) place ≡ texts) → Kept p p (λ r. list_in r.names place) texts
 names_shared p place texts there = record { grows = grows_self p; keeps = λ more. there more.names }
 
--- WHAT TESTS ASK AND COMMANDS DO
+-- QUESTIONS AND COMMANDS
 
--- an item that is there is there with more after it
+-- an item that is there is still there with more after it
 there : {X : Type 0} (xs more : List X) (n : ℕ) (x : X) → slice_get xs n ≡ Some x → slice_get (xs ++ more) n ≡ Some x
 there [] more n x is = cc
 there (y ∷ xs) more zero x is = is
@@ -133,7 +133,7 @@ module _ (p q r : Pool) (place : ℕ) where
     keeps = λ more. ap (leaf_of (plus q more)) (added_get q.leaves more.leaves place leaf at) ∙ kept.keeps more;
   })
 
--- what lies at a place already is kept there
+-- a question that is at a place already is found there
 pub ask_shared : (p q : Pool) (place : ℕ) (ask : PackedAsk) (x : reading.Ask) → slice_get q.asks place ≡ Some ask → Kept p q (λ s. ask_in s ask) x → Kept p q (λ s. ask_at s place) x
 ask_shared p q place ask x at kept = record {
   grows = kept.grows;
@@ -146,12 +146,12 @@ leaf_shared p q place leaf x at kept = record {
   keeps = λ more. ap (leaf_of (plus q more)) (there q.leaves more.leaves place leaf at) ∙ kept.keeps more;
 }
 
--- WHAT A VACATION SAYS
+-- VACATIONS
 
 abbrev said : Vacation ℕ ℕ → List Part → (subject from : Option (List Part)) → (addresses : Option (List (List Part))) → (handle : Option (List Part)) → reading.Vacation
 said packed reason subject from addresses handle = record { reason = reason; days = packed.days; subject = subject; from = from; addresses = addresses; mime = packed.mime; handle = handle }
 
--- its strings and its list are kept one after another
+-- the strings and the list of a vacation are kept one after another
 module _ (p q r s t u : Pool) (packed : Vacation ℕ ℕ) (reason : List Part) (subject from : Option (List Part)) (addresses : Option (List (List Part))) (handle : Option (List Part)) where
   pub said_kept :
       Kept p q (λ x. get_or x.strings packed.reason []) reason → Kept q r (λ x. given_string x packed.subject) subject
@@ -166,7 +166,7 @@ module _ (p q r s t u : Pool) (packed : Vacation ℕ ℕ) (reason : List Part) (
 
 -- OPERATIONS
 
--- what operations are in a pool, they are in all with more after it
+-- operations of a pool are the same in each pool with more after it
 abbrev pub Stays : Pool → List PackedOperation → Type 0
 Stays pool ops = Keeps pool (λ p. map (op_in p) ops) (map (op_in pool) ops)
 
@@ -190,7 +190,7 @@ module _ (pool : Pool) (ops ops' : List PackedOperation) (stays : Stays pool ops
   pub stays_plain : (op : PackedOperation) → is_plain op ≡ true → ops' ≡ op ∷ ops → Stays pool ops'
   stays_plain op plain is = subst (λ (o : List PackedOperation). Stays pool o) (sym is) (λ more. ap (λ o. o ∷ map (op_in (plus pool more)) ops) (plain_in (plus pool more) op plain ∙ sym (plain_in pool op plain)) ∙ ap (λ o. op_in pool op ∷ o) (stays more))
 
--- operations in a pool that has grown
+-- operations of a pool that has grown
 module _ (p q : Pool) (ops : List PackedOperation) (grows : PoolGrows p q) (stays : Stays p ops) where
   pub ops_grown : map (op_in q) ops ≡ map (op_in p) ops
   ops_grown = let r = grows no_pool in ap (λ x. map (op_in x) ops) (sym (plus_none q) ∙ r.1) ∙ stays r.0
@@ -199,7 +199,8 @@ module _ (p q : Pool) (ops : List PackedOperation) (grows : PoolGrows p q) (stay
   stays_grown = λ more. let r = grows more in ap (λ x. map (op_in x) ops) r.1 ∙ stays r.0 ∙ sym ops_grown
 
 module _ (p q : Pool) (ops ops' : List PackedOperation) (op : PackedOperation) (o : Operation) (kept : Kept p q (λ r. op_in r op) o) (stays : Stays p ops) (is : ops' ≡ op ∷ ops) where
-  -- with an operation before them whose places are kept, operations are it and then what they were
+  -- With one operation more in front, whose places are kept, operations are that one and then the
+  -- old ones.
   pub ops_more : map (op_in q) ops' ≡ o ∷ map (op_in p) ops
   ops_more =
       ap (map (op_in q)) is

@@ -12,7 +12,7 @@ use Rattle.sieve_code.proofs.Blocks.{Goes, commands_code}
 
 -- PLACES
 
--- an operation with its target's place, in code of that length
+-- an operation with its target as a place, in code of `count` operations
 abbrev put : ℕ → Operation → Operation
 put count = targeting (λ left. count - left)
 
@@ -44,7 +44,7 @@ same_next n same front op rest r f =
 length_take : (k : ℕ) (tail : Tail) → k ≤ length tail → length (take k tail) ≡ k
 length_take k tail le = length-take-le k tail le
 
--- from a target on, code does what its tail does that stands there
+-- from a target on, code does what the tail there does
 same_target : (n : ℕ) → Same n → (front : Tail) (op : Operation) (rest : Tail) (r : Bool) (left : ℕ) → left ≤ length rest → Forward rest → walk_from (placed (front ++ op ∷ rest)) n (length (front ++ op ∷ rest) - left) r ≡ tail_walk n (last left rest) r
 same_target n same front op rest r left le f =
     let k = length rest - left in
@@ -98,7 +98,7 @@ code_walks script =
     ∙ same_walk (length tail) [] tail false goes.forward
     ∙ goes.walks.by (length tail) (omega arith) false
 
--- a jump before a tail has its target after itself, counted from the end of the code
+-- The target of a jump before a tail is after the jump. It is counted from the end of the code.
 jump_at : (count : ℕ) (op : Operation) (rest : Tail) → Forward (op ∷ rest) → (target : ℕ) → target_of (put count op) ≡ Some target → (left : ℕ) × (target ≡ count - left) × (left < length (op ∷ rest))
 jump_at count (set_op truth) rest f target is = absurd cc
 jump_at count invert_op rest f target is = absurd cc
@@ -112,7 +112,8 @@ jump_at count return_op rest f target is = absurd cc
 same_op : (op other : Operation) (target : ℕ) → Some other ≡ Some op → target_of op ≡ Some target → target_of other ≡ Some target
 same_op op other target is has = let e : other ≡ op = cc in ap target_of e ∙ has
 
--- a jump at a place in a tail has its target after that place, counted from the end of the code
+-- The target of a jump at a place in a tail is after that place. It is counted from the end of the
+-- code.
 jump_forward : (count : ℕ) (tail : Tail) → Forward tail → (place : ℕ) (op : Operation) (target : ℕ) → slice_get (map (put count) tail) place ≡ Some op → target_of op ≡ Some target → (left : ℕ) × (target ≡ count - left) × (left + place < length tail)
 jump_forward count [] f place op target is has = absurd cc
 jump_forward count (o ∷ rest) f zero op target is has =

@@ -1,4 +1,4 @@
--- The targets' places in all of the code.
+-- Targets as places in all of the code.
 use Rattle.std.proofs.Common.{◌≡◌, ℕ, ◌-◌, List, [], ◌∷◌, length, map, refl, sym, ap, ◌∙◌}
 use Rattle.std.proofs.lemmas.List.{length-map}
 use Rattle.sieve_script.specs.Script.{Commands}
@@ -12,7 +12,7 @@ places_seen : (count : ℕ) (pool : Pool) (ops : List PackedOperation) → map (
 places_seen count pool [] = refl
 places_seen count pool (op ∷ ops) = ap (λ xs. placed_in count pool op ∷ xs) (places_seen count pool ops)
 
--- what the compiler makes of a script's tail is the script's code
+-- the operations that the compiler makes of a script's tail are the script's code
 pub code_made : (script : Commands) (pool : Pool) (ops : List PackedOperation) (tail : Tail) → map (op_in pool) ops ≡ tail → tail ≡ tail_of script → ops_in pool ops ≡ code_of script
 unfolding placed
 code_made script pool ops tail seen all =

@@ -1,4 +1,4 @@
--- What single steps of the compiler put before a tail.
+-- The operations that single steps of the compiler put before a tail.
 use Rattle.std.proofs.Common.{◌≡◌, ℕ, ◌<◌, ◌≤◌, Bool, true, false, not, List, [], ◌∷◌, length, map, if◌then◌else◌, Option, Result, OnOk, refl, sym, ap, ◌∙◌, subst, arith}
 use Rattle.std.specs.declared.alloc.Global.{Global}
 use Rattle.std.specs.declared.boxed.Box.{Box}
@@ -18,7 +18,7 @@ use Rattle.sieve_code.specs.Choice.{Tail, branches_before, commands_before, cond
 use Rattle.sieve_code.specs.Operation.{set_op, invert_op, test_op, jump_if_op, act_op, stop_op, return_op}
 use Rattle.sieve_code.specs.view.Branches.{branch_before, has_branch}
 
--- what a step that succeeds puts before a tail may be said as anything that is equal to it
+-- the tail after a step that succeeds may be said as any tail that is equal to it
 pub on_ok_along : {T E X : Type 0} (r : Result T E) (a b c : X) → b ≡ c → OnOk r (a ≡ b) → OnOk r (a ≡ c)
 on_ok_along r a b c same h = subst (λ x. OnOk r (a ≡ x)) same h
 
@@ -29,7 +29,7 @@ no_items (x ∷ xs) none = absurd (omega (arith, none))
 
 -- CONDITIONS
 
--- one condition, by which it is
+-- one condition, by its kind
 pub put_always : (c : declared_conditions.Condition) (after : Tail) → c ≡ condition.Always → set_op true ∷ after ≡ condition_before (condition_as c) after
 unfolding condition_before
 put_always c after is = sym (ap (λ x. condition_before x after) (ap condition_as is ∙ seen_always))
@@ -59,18 +59,19 @@ abbrev pub has_condition : Conditions → Bool
 has_condition no_conditions = false
 has_condition (one_condition c cs) = true
 
--- the conditions of which some have been put, and those that are left, the next first
+-- The conditions that have been put, and those that are left in front of them. The next of those
+-- that are left comes first.
 abbrev pub conditions_with : List declared_conditions.Condition → Conditions → Conditions
 conditions_with left seen = put_each one_condition (map condition_as left) seen
 
--- some of all conditions were put before a tail: those in front of which the ones that are left stand
+-- Some of all conditions were put before a tail. Those that are left stand in front of them.
 pub record ConditionsPut (truth : Bool) (tail old : Tail) (follows : Bool) (left : List declared_conditions.Condition) (all : Conditions) : Type 0 where
   pub seen : Conditions
   pub put : tail ≡ list_before truth seen old
   pub follows_is : follows ≡ has_condition seen
   pub goes_on : conditions_with left seen ≡ all
 
--- a condition before those that have been put
+-- a condition is put before those that have been put
 pub condition_put : (truth : Bool) (c : Condition) (seen : Conditions) (after tail new : Tail) (follows : Bool) → tail ≡ list_before truth seen after → follows ≡ has_condition seen
     → new ≡ condition_before c (if follows then jump_if_op truth (length after) ∷ tail else tail) → new ≡ list_before truth (one_condition c seen) after
 unfolding list_before
@@ -99,7 +100,8 @@ joined_some truth (c ∷ list) after some = all_joined truth (map condition_as l
 
 -- COMMANDS
 
--- the commands of which some have been put, and those that are left, the next first
+-- The commands that have been put, and those that are left in front of them. The next of those that
+-- are left comes first.
 abbrev pub commands_with : List statements.Statement → Commands → Commands
 commands_with left seen = put_each (λ (before : Before). before) (map statement_as left) seen
 
@@ -107,7 +109,7 @@ pub commands_none : (after : Tail) → after ≡ commands_before no_commands aft
 unfolding commands_before
 commands_none after = refl
 
--- what a command puts before a tail, in front of commands
+-- the operations that a command puts before a tail
 pub put_stop : (s : statements.Statement) (after : Tail) → s ≡ statement.Stop → stop_op ∷ after ≡ commands_before (statement_as s no_commands) after
 unfolding commands_before
 put_stop s after is = sym (ap (λ (f : Before). commands_before (f no_commands) after) (ap statement_as is ∙ seen_stop))
@@ -124,7 +126,7 @@ pub put_choice : (s : statements.Statement) (list : Vec declared_branches.Branch
 unfolding commands_before
 put_choice s list otherwise after is = sym (ap (λ (f : Before). commands_before (f no_commands) after) (ap statement_as is ∙ seen_choose list otherwise))
 
--- a command before others is what it puts before what they put
+-- a command before others: its operations stand before theirs
 variant_more : (s : statements.Statement) (cs : Commands) (after : Tail) (made : Before) → statement_as s ≡ made → commands_before (made cs) after ≡ commands_before (made no_commands) (commands_before cs after) → commands_before (statement_as s cs) after ≡ commands_before (statement_as s no_commands) (commands_before cs after)
 variant_more s cs after made is so =
     ap (λ (f : Before). commands_before (f cs) after) is ∙ so ∙ sym (ap (λ (f : Before). commands_before (f no_commands) (commands_before cs after)) is)
@@ -139,7 +141,7 @@ layer_more (layers.Choose list otherwise) cs after = refl
 pub statement_more : (s : statements.Statement) (cs : Commands) (after : Tail) → commands_before (statement_as s cs) after ≡ commands_before (statement_as s no_commands) (commands_before cs after)
 statement_more s cs after = variant_more s cs after _ (folds.fold_out-Statement Before BranchBefore statement_step branch_step s) (layer_more _ cs after)
 
--- some of all commands were put before a tail: those in front of which the ones that are left stand
+-- Some of all commands were put before a tail. Those that are left stand in front of them.
 pub record CommandsPut (tail old : Tail) (left : List statements.Statement) (all : Commands) : Type 0 where
   pub seen : Commands
   pub put : tail ≡ commands_before seen old
@@ -155,7 +157,7 @@ pub else_before : (inner : Commands) (after : Tail) → commands_before inner af
 unfolding branches_before
 else_before inner after = refl
 
--- some of all branches were put before a tail: those in front of which the ones that are left stand
+-- Some of all branches were put before a tail. Those that are left stand in front of them.
 pub record BranchesPut (tail old : Tail) (follows : Bool) (left : List declared_branches.Branch) (all : Branches) : Type 0 where
   pub seen : Branches
   pub put : tail ≡ branches_before seen old
@@ -168,7 +170,7 @@ put_by c inner no_branches old = refl
 put_by c inner (else_branch other) old = refl
 put_by c inner (test_branch d other others) old = refl
 
--- a branch before those that have been put
+-- a branch is put before those that have been put
 pub branch_put : (b : declared_branches.Branch) (seen : Branches) (old tail new : Tail) (follows : Bool) (after : ℕ) → tail ≡ branches_before seen old → follows ≡ has_branch seen → after ≡ length old
     → new ≡ branch_before (condition_as b.condition) (commands_as b.block.items) follows after tail → new ≡ branches_before (branch_as b seen) old
 branch_put b seen old tail new follows after so is count made =

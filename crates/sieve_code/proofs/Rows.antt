@@ -1,4 +1,4 @@
--- Worked rows of walks, of which the laws speak.
+-- Worked rows of walks, which the laws are about.
 use Rattle.std.proofs.Common.{◌≡◌, true, false, List, [], ◌∷◌, None, refl, codes}
 use Rattle.match_text.specs.declared.comparators.Collation.TheVariants.{Casemap}
 use Rattle.sieve_script.specs.Reading.{Ask, field_values, compares, over_ask, keep_leaf, discard_leaf}
@@ -29,7 +29,7 @@ worked_code_row : code_walk worked_code 7 ≡ worked_walk
 unfolding walk_from
 worked_code_row = refl
 
--- of the ways through the code, five operations are too few for the longest alone
+-- five operations are too few only for the longest way through the code
 cut_row : code_walk worked_code 5 ≡ asked list_ask (acted (keep_leaf None) 2 at_end) (asked (over_ask 1048576) (acted (keep_leaf None) 2 cut_off) (acted discard_leaf 4 at_end))
 unfolding walk_from
 cut_row = refl

@@ -6,7 +6,7 @@ use Rattle.sieve_code.specs.Operation.{Operation, set_op, invert_op, test_op, ju
 use Rattle.sieve_code.specs.Walk.{Walk, at_end, by_stop, by_return, cut_off, asked, acted}
 use Rattle.sieve_code.specs.view.Branches.{last}
 
--- what one operation of a tail does
+-- the step of the first operation of a tail
 abbrev pub tail_step : (Tail → Bool → Walk) → Tail → Bool → Walk
 tail_step go [] r = at_end
 tail_step go (set_op truth ∷ rest) r = go rest truth
@@ -19,13 +19,14 @@ tail_step go (act_op leaf line ∷ rest) r = acted leaf line (go rest r)
 tail_step go (stop_op ∷ rest) r = by_stop
 tail_step go (return_op ∷ rest) r = by_return
 
--- what a tail does in at most so many operations
+-- the walk of a tail in at most this many operations
 abbrev pub tail_walk : ℕ → Tail → Bool → Walk
 tail_walk zero [] r = at_end
 tail_walk zero (op ∷ rest) r = cut_off
 tail_walk (suc n) tail r = tail_step (tail_walk n) tail r
 
--- a tail does this, by the truth in the register, in as many operations as the tail has, or more
+-- A tail goes this walk, by the truth in the register. It may take as many operations as it has, or
+-- more.
 pub record Walks (tail : Tail) (does : Bool → Walk) : Type 0 where
   pub by : (n : ℕ) → length tail ≤ n → (r : Bool) → tail_walk n tail r ≡ does r
 
@@ -97,7 +98,7 @@ walks_stops rest = walks_more stop_op rest _ (λ n le r. refl)
 pub walks_returns : (rest : Tail) → Walks (return_op ∷ rest) (λ r. by_return)
 walks_returns rest = walks_more return_op rest _ (λ n le r. refl)
 
--- where a jump that goes by a truth leads: there, or on
+-- the walk after a jump that goes by a truth: from its target, or on
 abbrev pub landed : (truth r : Bool) → (there on : Walk) → Walk
 landed true r there on = if r then there else on
 landed false r there on = if r then on else there

@@ -2,8 +2,9 @@
 use Rattle.std.specs.Prelude.{ℕ, Bool, Option, Some, None}
 use Rattle.sieve_script.specs.Reading.{Ask, Leaf}
 
--- An operation: it sets the register, inverts it, sets it to what a test asks of the delivery, goes to another operation,
--- always or where the register has that truth, does what a command does, with its line, ends the run, or ends its script.
+-- An operation. It sets the register, inverts it, or sets it to the truth of a test on the
+-- delivery. Or it goes to another operation, always or if the register has that truth. Or it
+-- carries out a command, with the command's line. Or it ends the run or its script.
 pub data Operation : Type 0 where
   set_op : (truth : Bool) → Operation
   invert_op : Operation
@@ -14,7 +15,7 @@ pub data Operation : Type 0 where
   stop_op : Operation
   return_op : Operation
 
--- an operation with another target
+-- an operation, with its target changed
 abbrev pub targeting : (ℕ → ℕ) → Operation → Operation
 targeting f (set_op truth) = set_op truth
 targeting f invert_op = invert_op

@@ -1,12 +1,14 @@
--- What a script and its code do, apart from what the message answers: a tree of decisions.
+-- The walks of a script and of its code. A walk is a tree of decisions, which leaves open what the
+-- message answers.
 use Rattle.std.specs.Prelude.{ℕ, zero, suc, ◌+◌, Bool, true, false, not, List, [], ◌∷◌, Option, Some, None, slice_get, if◌then◌else◌}
 use Rattle.sieve_script.specs.Reading.{Ask, Leaf}
 use Rattle.sieve_script.specs.Script as script
 use Rattle.sieve_script.specs.Script.{Condition, always, never, negated, all_hold, any_holds, Conditions, no_conditions, one_condition, Commands, no_commands, chooses, Branches, no_branches, else_branch, test_branch}
 use Rattle.sieve_code.specs.Operation.{Operation, set_op, invert_op, test_op, jump_op, jump_if_op, act_op, stop_op, return_op}
 
--- A walk: it has come to the end, it was ended by `stop` (RFC 5228, section 3.3) or by `return` (RFC 6609, section 3.3), or its
--- operations were used up; it asks something of the delivery, and goes on by the answer; or it does what a command does, with the command's line, and goes on.
+-- A walk. It is at the end, or was ended by `stop` (RFC 5228, 3.3) or by `return` (RFC 6609, 3.3).
+-- Or its operations were used up. Or it asks a question of the delivery, and goes on by the answer.
+-- Or it carries out a command, with the command's line, and goes on.
 pub data Walk : Type 0 where
   at_end : Walk
   by_stop : Walk
@@ -18,8 +20,8 @@ pub data Walk : Type 0 where
 -- THE WALK OF A SCRIPT
 
 unfoldable mutual
-  -- a condition, and the walks where it holds and where it doesn't: tests go from left to right, and no further than needed
-  -- (RFC 5229, section 3.2)
+  -- A condition, and the walks if it holds and if it doesn't. Tests go from left to right, and no
+  -- further than needed (RFC 5229, 3.2).
   pub condition_walk : Condition → (held failed : Walk) → Walk
   condition_walk always held failed = held
   condition_walk never held failed = failed
@@ -45,19 +47,21 @@ unfoldable mutual
   commands_walk (script.acts leaf line rest) next = acted leaf line (commands_walk rest next)
   commands_walk (chooses branches rest) next = branches_walk branches (commands_walk rest next)
 
-  -- branches, and the walk after them: of the branches one at most is taken, the first whose condition holds, or the `else`
+  -- Branches, and the walk after them. At most one branch is taken: the first whose condition
+  -- holds, or the `else`.
   pub branches_walk : Branches → Walk → Walk
   branches_walk no_branches next = next
   branches_walk (else_branch inner) next = commands_walk inner next
   branches_walk (test_branch condition inner others) next = condition_walk condition (commands_walk inner next) (branches_walk others next)
 
--- what a script does
+-- the walk of a script
 abbrev pub script_walk : Commands → Walk
 script_walk commands = commands_walk commands at_end
 
 -- THE WALK OF CODE
 
--- the operation at a place, or the end where there is none; `go` goes on at a place with a truth in the register
+-- The step of the operation at a place, or the end if there is none. `go` goes on at a place with a
+-- truth in the register.
 abbrev pub step : (go : ℕ → Bool → Walk) → Option Operation → (place : ℕ) (register : Bool) → Walk
 step go None place register = at_end
 step go (Some (set_op truth)) place register = go (place + 1) truth
@@ -70,17 +74,17 @@ step go (Some (act_op leaf line)) place register = acted leaf line (go (place + 
 step go (Some stop_op) place register = by_stop
 step go (Some return_op) place register = by_return
 
--- the walk where no further operation may be met: the end, where the code ends there
+-- the walk if no further operation may be met, which is the end if the code ends there
 abbrev pub at_limit : Option Operation → Walk
 at_limit None = at_end
 at_limit (Some op) = cut_off
 
--- the walk from a place, with a truth in the register, in at most so many operations
+-- the walk from a place, with a truth in the register, in at most this many operations
 unfoldable pub walk_from : List Operation → ℕ → (place : ℕ) (register : Bool) → Walk
 walk_from ops zero place register = at_limit (slice_get ops place)
 walk_from ops (suc n) place register = step (walk_from ops n) (slice_get ops place) place register
 
--- what code does in at most so many operations; the register starts as false
+-- The walk of code in at most this many operations. The register starts as false.
 abbrev pub code_walk : List Operation → ℕ → Walk
 code_walk ops n = walk_from ops n 0 false
 
@@ -95,12 +99,13 @@ IsWhole (acted leaf line next) = IsWhole next
 
 -- WITH ANSWERS
 
--- what is met on a walk: a test that asks, and a command that acts, with its line
+-- an item that a walk meets: a test that asks, or a command that acts with its line
 pub data Met : Type 0 where
   met_ask : (ask : Ask) → Met
   met_leaf : (leaf : Leaf) (line : ℕ) → Met
 
--- how a walk ends: at the end, by `stop`, by `return`, for lack of an answer, or with its operations used up
+-- how a walk ends: at the end, by `stop`, by `return`, without an answer, or with its operations
+-- used up
 pub data WalkEnd : Type 0 where
   ended : WalkEnd
   stopped : WalkEnd
@@ -108,7 +113,7 @@ pub data WalkEnd : Type 0 where
   unanswered : WalkEnd
   unfinished : WalkEnd
 
--- a walk that was gone: what was met, in order, and how it ended
+-- the result of going a walk: the items that were met, in order, and how it ended
 pub record Gone : Type 0 where
   pub met : List Met
   pub ending : WalkEnd
@@ -116,7 +121,7 @@ pub record Gone : Type 0 where
 abbrev pub met_before : Met → Gone → Gone
 met_before m gone = record { met = m ∷ gone.met; ending = gone.ending }
 
--- a walk with these answers, of which each test that asks takes the next
+-- Going a walk with these answers. Each test that asks takes the next answer.
 unfoldable pub gone : Walk → List Bool → Gone
 gone at_end answers = record { met = []; ending = ended }
 gone by_stop answers = record { met = []; ending = stopped }

@@ -17,8 +17,9 @@ use packed_strings::{BodyRef, FieldNames, SettingsRef, SourceRef, Strings, Vacat
 use sieve_script::{Ask, BodyTransform, DateZone};
 use sieve_variables::Part;
 
-/// The code of a checked script. It starts at the first operation and ends after the last. Each jump goes forward, and at most
-/// to the end; and what it does is what the script does that it was compiled from.
+/// The code of a checked script. It starts at the first operation and ends after the last. Each
+/// jump goes forward, and at most to the end. The code does what the script does that it was
+/// compiled from.
 #[derive(Drop)]
 pub struct Code {
     pub(crate) ops: Vec<PackedOperation>,
@@ -30,14 +31,14 @@ pub struct Code {
 impl Code {
     ghost use Rattle.sieve_code.specs.view.Code.{jump_place_of, op_of, ops_of, pool_of};
 
-    /// How many operations there are. Takes no memory.
+    /// The number of operations.
     pub fn len(&self) -> usize
         ensures { result ≡ length (ops_of self.now) }
     {
         self.ops.len()
     }
 
-    /// The operation at a place. Takes no memory.
+    /// The operation at a place.
     pub fn op(&self, i: usize) -> PackedOperation
         requires { i < length (ops_of self.now) }
         ensures { slice_get (ops_of self.now) i ≡ Some (op_of self.now result) }
@@ -45,7 +46,8 @@ impl Code {
         self.ops[i]
     }
 
-    /// What a test asks, by its place; past the last it is whether the message came before. Takes no memory.
+    /// The question at a place, with the places of its strings. Past the last place it is whether
+    /// the message came before.
     pub fn ask(&self, place: u32) -> PackedAsk
         ensures { ask_in (pool_of self.now) result ≡ ask_at (pool_of self.now) place }
     {
@@ -55,7 +57,8 @@ impl Code {
         }
     }
 
-    /// What a command does, by its place; past the last it discards. Takes no memory.
+    /// The command at a place, with the places of its strings. Past the last place there is none,
+    /// which stands for `discard`.
     pub fn leaf(&self, place: u32) -> Option<&PackedLeaf>
         ensures { leaf_of (pool_of self.now) (option_copied result)
             ≡ leaf_at (pool_of self.now) place }
@@ -63,21 +66,21 @@ impl Code {
         self.pools.leaves.get(place as usize)
     }
 
-    /// The place where so many operations are left, to which a jump goes that says this number. Takes no memory.
+    /// The place where `left` operations are left. A jump with this number goes there.
     pub fn jump_place(&self, left: u32) -> usize
         ensures { result ≡ jump_place_of self.now left }
     {
         self.len().saturating_sub(left as usize)
     }
 
-    /// The parts of the string at a place. Takes no memory.
+    /// The parts of the string at a place.
     pub fn string(&self, place: u32) -> &[Part]
         ensures { result.now ≡ string_in (pool_of self.now) place }
     {
         self.pools.strings.get(place as usize)
     }
 
-    /// The string at a place, where one is given. Takes no memory.
+    /// The string at a place, if one is given.
     fn given_string(&self, place: Option<u32>) -> Option<&[Part]>
         ensures { option_copied result ≡ given_string (pool_of self.now) place }
     {
@@ -87,14 +90,14 @@ impl Code {
         }
     }
 
-    /// The list at a place. Takes no memory.
+    /// The list at a place.
     pub fn list(&self, place: u32) -> Strings<'_>
         ensures { result ≡ list_in (pool_of self.now).lists place }
     {
         self.pools.lists.list(place as usize)
     }
 
-    /// The list at a place, where one is given. Takes no memory.
+    /// The list at a place, if one is given.
     pub fn given_list(&self, place: Option<u32>) -> Option<Strings<'_>>
         ensures { result ≡ given_list (pool_of self.now) place }
     {
@@ -104,7 +107,7 @@ impl Code {
         }
     }
 
-    /// The names of fields at a place. Takes no memory.
+    /// The names of fields at a place.
     pub fn names(&self, place: u32) -> FieldNames<'_>
         ensures { result ≡ list_in (pool_of self.now).names place }
     {
@@ -122,7 +125,7 @@ impl Code {
         }
     }
 
-    /// What is taken of a body.
+    /// The part of a body that a test looks at.
     fn body(&self, transform: BodyTransform<u32>) -> BodyRef<'_>
         ensures { body_ref_as result ≡ body_in (pool_of self.now) transform }
     {
@@ -135,7 +138,7 @@ impl Code {
         }
     }
 
-    /// Where a test takes values from. Takes no memory.
+    /// The source that a test takes its values from, with its strings.
     pub fn source(&self, source: PackedSource) -> SourceRef<'_>
         ensures { source_ref_as result ≡ source_in (pool_of self.now) source }
     {
@@ -169,7 +172,7 @@ impl Code {
         }
     }
 
-    /// What a `fileinto` says beside its mailbox. Takes no memory.
+    /// The settings of a `fileinto` beside its mailbox, with their strings.
     pub fn settings(&self, settings: PackedSettings) -> SettingsRef<'_>
         ensures { settings_ref_as result ≡ settings_in (pool_of self.now) settings }
     {
@@ -181,7 +184,7 @@ impl Code {
         }
     }
 
-    /// What a `vacation` says. Takes no memory.
+    /// The arguments of a `vacation`, with their strings.
     pub fn vacation(&self, vacation: PackedVacation) -> VacationRef<'_>
         ensures { vacation_ref_as result ≡ vacation_in (pool_of self.now) vacation }
     {

@@ -1,4 +1,4 @@
-//! The operations of commands (RFC 5228, sections 3 and 4).
+//! The operations of commands (RFC 5228, 3 and 4).
 ghost use Rattle.std.specs.Prelude.{◌≡◌, ◌∷◌, if◌then◌else◌, List, length, OnOk};
 ghost use Rattle.sieve_script.specs.Script.{Branches, no_commands};
 ghost use Rattle.sieve_script.specs.view.Script.{branches_as, commands_as, condition_as, statement_as};
@@ -12,7 +12,8 @@ use crate::tail::Tail;
 use sieve_script::{Branch, Statement};
 use std::alloc::AllocError;
 
-/// Puts a jump past the branches before a tail where a branch follows there; so many operations stand after them.
+/// Puts a jump past the branches before a tail, if a branch follows there. `after` is the number of
+/// operations after the branches.
 fn put_past(follows: bool, after: u32, tail: &mut Tail) -> Result<(), AllocError>
     ensures { OnOk result (tail.new ≡ (if follows then jump_op after ∷ tail.old else tail.old)) }
 {
@@ -60,7 +61,8 @@ fn put_command(statement: Statement, tail: &mut Tail) -> Result<(), AllocError>
     }
 }
 
-/// Puts branches with tests before a tail, by whether an `else` stands there, and how many operations stand after the branches.
+/// Puts branches with tests before a tail. `otherwise` says whether an `else` is there, and `after`
+/// is the number of operations after the branches.
 #[cycle(command_code)]
 fn put_branches(
     branches: Vec<Branch>,
@@ -80,7 +82,8 @@ fn put_branches(
     Ok(())
 }
 
-/// Puts a branch with a test before a tail, by whether another branch follows, and how many operations stand after the branches.
+/// Puts a branch with a test before a tail. `follows` says whether another branch follows, and
+/// `after` is the number of operations after the branches.
 #[cycle(command_code)]
 fn put_branch(branch: Branch, follows: bool, after: u32, tail: &mut Tail) -> Result<(), AllocError>
     ensures { OnOk result (tail.new ≡ branch_before (condition_as branch.condition)

@@ -11,9 +11,10 @@ use crate::tail::Tail;
 use sieve_check::Checked;
 use std::alloc::{AllocError, Global};
 
-/// The code of a checked script, which does what the script does: its walk is the script's, so for every list of answers it
-/// meets what the script meets, in that order, and ends as the script ends. More than 4,294,967,295 strings or places are answered
-/// as out of memory; no text that is read has them.
+/// Compiles a checked script. The code does what the script does: its walk is the script's. So for
+/// each list of answers it meets the same tests and commands, in the same order. It also ends as
+/// the script ends. An error is out of memory, or more strings, parts or places than 4,294,967,295.
+/// No text that is read has so many.
 pub fn compile(alloc: Global, checked: Checked) -> Result<Code, AllocError>
     ensures code { IfOk result (λ code. Compiles (commands_of checked) (ops_of code)) }
     ensures answers { IfOk result (λ code. (answers : List Bool) → gone (code_walk (ops_of code)

@@ -1,4 +1,4 @@
-//! The operations of conditions (RFC 5228, section 5).
+//! The operations of conditions (RFC 5228, 5).
 ghost use Rattle.std.specs.Prelude.{◌≡◌, ◌∷◌, if◌then◌else◌, true, OnOk};
 ghost use Rattle.sieve_script.specs.view.Script.{condition_as, conditions_as};
 ghost use Rattle.sieve_code.specs.Choice.{condition_before, joined_before};
@@ -10,7 +10,7 @@ use crate::tail::Tail;
 use sieve_script::Condition;
 use std::alloc::AllocError;
 
-/// The operation that sets the register.
+/// The operation that sets the register to a truth.
 fn constant(truth: bool) -> PackedOperation
     ensures op { plain_as result ≡ set_op truth }
     ensures plain { is_plain result ≡ true }
@@ -22,7 +22,7 @@ fn constant(truth: bool) -> PackedOperation
     }
 }
 
-/// The operation that jumps where the register has that truth.
+/// The operation that jumps if the register has this truth.
 fn jump_if(truth: bool, target: u32) -> PackedOperation
     ensures op { plain_as result ≡ jump_if_op truth target }
     ensures plain { is_plain result ≡ true }
@@ -34,7 +34,7 @@ fn jump_if(truth: bool, target: u32) -> PackedOperation
     }
 }
 
-/// Puts a jump before a tail where other conditions follow there.
+/// Puts a jump before a tail, if other conditions follow there.
 fn put_joint(follows: bool, truth: bool, end: u32, tail: &mut Tail) -> Result<(), AllocError>
     ensures { OnOk result
         (tail.new ≡ (if follows then jump_if_op truth end ∷ tail.old else tail.old)) }
@@ -64,7 +64,9 @@ pub(crate) fn put_condition(condition: Condition, tail: &mut Tail) -> Result<(),
     }
 }
 
-/// Puts all conditions before a tail, with jumps past the last one where one comes to that truth.
+/// Puts joined conditions before a tail. After each but the last there is a jump past the last one.
+/// It is taken if the condition has this truth. Without conditions the register is set to the other
+/// truth.
 #[cycle(condition_code)]
 fn put_joined(truth: bool, list: Vec<Condition>, tail: &mut Tail) -> Result<(), AllocError>
     ensures { OnOk result

@@ -1,5 +1,5 @@
-//! The compiler of checked Sieve scripts (RFC 5228): code of operations in a row, with one truth register, that does what the
-//! script does.
+//! The compiler of checked Sieve scripts. Code is operations in a row, with one truth register. It
+//! does what the script does (RFC 5228, 3 to 5).
 #![tactic(auto)]
 
 mod code;

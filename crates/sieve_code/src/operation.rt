@@ -3,52 +3,57 @@
 use sieve_script::{Ask, Leaf, Settings, Vacation, ValueSource};
 use std::mem::size_of;
 
-/// Where a test takes values from, with the places of what it names.
+/// The source that a test takes its values from, with the places of its strings.
 pub type PackedSource = ValueSource<u32, u32, u32>;
 
-/// What a test asks, with the places of its strings.
+/// The question of a test, with the places of its strings.
 pub type PackedAsk = Ask<u32, u32, u32>;
 
-/// What a `fileinto` says beside its mailbox, with the places of its strings.
+/// The settings of a `fileinto` beside its mailbox, with the places of their strings.
 pub type PackedSettings = Settings<u32, u32>;
 
-/// What a `vacation` says (RFC 5230, section 4), with the places of its strings.
+/// The arguments of a `vacation` (RFC 5230, 4), with the places of their strings.
 pub type PackedVacation = Vacation<u32, u32>;
 
-/// What a command does that acts, with the places of its strings. A `vacation` has a box, since it says most.
+/// A command that acts, with the places of its strings. A `vacation` is in a box, since it has the
+/// most arguments.
 pub type PackedLeaf = Leaf<u32, u32, Box<PackedVacation>>;
 
-/// An operation. Code has one truth register, which tests set. An operation says the place of what it asks or does;
-/// [`Code`](crate::Code) has what lies there, and says to which place a jump goes.
+/// An operation. Code has one truth register, which tests set. An operation has the place of its
+/// question or of its command. [`Code`](crate::Code) has the items at these places, and says to
+/// which place a jump goes.
 #[derive(Clone, Copy)]
 pub enum PackedOperation {
     /// Sets the register to true.
     True,
-    /// Sets it to false.
+    /// Sets the register to false.
     False,
-    /// Inverts it.
+    /// Inverts the register.
     Not,
-    /// Sets it to what a test finds in the delivery (RFC 5228, section 5). What it asks lies at that place.
+    /// Sets the register to the truth of a test (RFC 5228, 5). The question of the test is at this
+    /// place.
     Test(u32),
-    /// Goes on so many operations before the end.
+    /// Goes on at the place where this many operations are left.
     Jump(u32),
-    /// Goes on there where the register is false, and else after this operation.
+    /// Goes on at the place where this many operations are left, if the register is false.
+    /// Otherwise goes on after this operation.
     JumpIfFalse(u32),
-    /// Goes on there where the register is true, and else after this operation.
+    /// Goes on at the place where this many operations are left, if the register is true. Otherwise
+    /// goes on after this operation.
     JumpIfTrue(u32),
-    /// Does what a command does (RFC 5228, section 4).
+    /// Carries out a command that acts (RFC 5228, 4).
     Act {
-        /// The place of what the command does.
+        /// The place of the command with its arguments.
         leaf: u32,
-        /// The command's line.
+        /// The line of the command.
         line: u32,
     },
-    /// Ends the run (RFC 5228, section 3.3).
+    /// Ends the run (RFC 5228, 3.3).
     Stop,
-    /// Ends its script (RFC 6609, section 3.3).
+    /// Ends its script (RFC 6609, 3.3).
     Return,
 }
 
-/// An operation takes twelve octets. Code can have two for five octets of its text, as `true,` in a long `anyof`, so their size is much
-/// of what is kept.
+/// An operation takes 12 octets. Code can have two operations for five octets of its text, as for
+/// `true,` in a long `anyof`. So their size is much of what is kept.
 const _: () = prove!(size_of::<PackedOperation>() == 12);

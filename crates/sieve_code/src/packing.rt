@@ -1,4 +1,4 @@
-//! What tests ask and what commands do, with their strings in pools.
+//! The questions of tests and the commands that act, with their strings in pools.
 ghost use Rattle.std.specs.Prelude.{◌≡◌, IfOk};
 ghost use Rattle.sieve_script.specs.Reading.{compares, fileinto_leaf};
 ghost use Rattle.sieve_script.specs.view.Reading.{ask_as, date_zone_as, leaf_as, settings_as, source_as, transform_as, vacation_as};
@@ -30,7 +30,7 @@ impl Pools {
         }
     }
 
-    /// Adds what is taken of a body.
+    /// Adds the part of a body that a test looks at.
     fn add_body(
         &mut self,
         transform: BodyTransform<Vec<Parts>>,
@@ -48,7 +48,7 @@ impl Pools {
         }
     }
 
-    /// Adds where a test takes values from.
+    /// Adds the source that a test takes its values from.
     fn add_source(
         &mut self,
         source: ValueSource<Vec<Parts>, Vec<Parts>, Parts>,
@@ -110,7 +110,7 @@ impl Pools {
         })
     }
 
-    /// Adds the strings of what a test asks.
+    /// Adds the strings of a test's question.
     fn pack_ask(&mut self, ask: ReadAsk) -> Result<PackedAsk, AllocError>
         ensures { IfOk result (λ kept. Kept (pool_as self.old) (pool_as self.new)
             (λ p. ask_in p kept) (ask_as ask)) }
@@ -135,7 +135,7 @@ impl Pools {
         }
     }
 
-    /// Adds what a `fileinto` says beside its mailbox.
+    /// Adds the settings of a `fileinto` beside its mailbox.
     fn add_settings(
         &mut self,
         settings: Settings<Vec<Parts>, Parts>,
@@ -155,7 +155,7 @@ impl Pools {
         })
     }
 
-    /// Adds what a `vacation` says.
+    /// Adds the arguments of a `vacation`.
     fn add_vacation(&mut self, vacation: ReadVacation) -> Result<PackedVacation, AllocError>
         ensures { IfOk result (λ kept. Kept (pool_as self.old) (pool_as self.new)
             (λ p. vacation_in p kept) (vacation_as vacation)) }
@@ -192,7 +192,7 @@ impl Pools {
         Ok(Leaf::Fileinto { mailbox, settings })
     }
 
-    /// Adds the strings of what a command does.
+    /// Adds the strings of a command that acts.
     fn pack_leaf(&mut self, alloc: Global, leaf: ReadLeaf) -> Result<PackedLeaf, AllocError>
         ensures { IfOk result (λ kept. Kept (pool_as self.old) (pool_as self.new)
             (λ p. leaf_in p kept) (leaf_as leaf)) }
@@ -255,7 +255,7 @@ impl Pools {
         }
     }
 
-    /// Adds what a test asks. Answers its place.
+    /// Adds the question of a test. Returns its place.
     pub(crate) fn add_ask(&mut self, ask: ReadAsk) -> Result<u32, AllocError>
         ensures { IfOk result (λ place. Kept (pool_as self.old) (pool_as self.new)
             (λ p. ask_at p place) (ask_as ask)) }
@@ -264,7 +264,7 @@ impl Pools {
         self.push_ask(packed)
     }
 
-    /// Adds what a command does. Answers its place.
+    /// Adds a command that acts. Returns its place.
     pub(crate) fn add_leaf(&mut self, alloc: Global, leaf: ReadLeaf) -> Result<u32, AllocError>
         ensures { IfOk result (λ place. Kept (pool_as self.old) (pool_as self.new)
             (λ p. leaf_at p place) (leaf_as leaf)) }

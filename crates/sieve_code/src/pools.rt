@@ -1,4 +1,4 @@
-//! What operations of code say, by its place.
+//! The strings, questions and commands that operations of code name by their places.
 ghost use Rattle.std.specs.Prelude.{◌≡◌, ◌^◌, ◌≤◌, true, IfOk, IfSome, OnErr, Some, slice_get};
 ghost use Rattle.std.specs.Option.{option_map};
 ghost use Rattle.packed_strings.specs.Joined.{list_in};
@@ -12,7 +12,8 @@ use sieve_script::{Ask, Leaf};
 use sieve_variables::Parts;
 use std::alloc::{AllocError, Global};
 
-/// What operations of code say, each at its place. What a script says again right after lies there once.
+/// The strings, lists, questions and commands of code, each at its place. A string or a list that a
+/// script repeats right after lies there once. So do some questions and commands.
 #[derive(Drop)]
 pub(crate) struct Pools {
     pub(crate) strings: JoinedStrings,
@@ -22,7 +23,8 @@ pub(crate) struct Pools {
     pub(crate) leaves: Vec<PackedLeaf>,
 }
 
-/// Whether two asks are seen to be the same. Only those of `exists` and `duplicate` are looked at.
+/// Whether two questions are seen to be the same. Only those of `exists` and `duplicate` are looked
+/// at.
 fn are_same_asks(one: &PackedAsk, other: &PackedAsk) -> bool
     ensures { result ≡ true → one.now ≡ other.now }
 {
@@ -33,7 +35,8 @@ fn are_same_asks(one: &PackedAsk, other: &PackedAsk) -> bool
     }
 }
 
-/// Whether two leaves are seen to be the same. Only a `keep` without flags, a `discard` and a change of the internal flags are looked at.
+/// Whether two commands are seen to be the same. Only a `keep` without flags, a `discard` and a
+/// change of the internal flags are looked at.
 fn are_same(one: &PackedLeaf, other: &PackedLeaf) -> bool
     ensures { result ≡ true → one.now ≡ other.now }
 {
@@ -56,7 +59,8 @@ fn are_same(one: &PackedLeaf, other: &PackedLeaf) -> bool
     }
 }
 
-/// The number of items as the place of the next. More than 4,294,967,295 are answered as out of memory.
+/// The number of items, as the place of the next item. More than 4,294,967,295 items are answered
+/// as out of memory.
 pub(crate) fn place_of(len: usize) -> Result<u32, AllocError>
     ensures is { IfOk result (λ place. place ≡ len) }
     ensures err { OnErr result (2 ^ 32 ≤ len) }
@@ -68,7 +72,7 @@ pub(crate) fn place_of(len: usize) -> Result<u32, AllocError>
 }
 
 impl Pools {
-    /// Nothing.
+    /// Makes pools that hold nothing.
     pub(crate) fn new(alloc: Global) -> Pools
         ensures { pool_as result ≡ no_pool }
     {
@@ -81,7 +85,7 @@ impl Pools {
         }
     }
 
-    /// Gives back the room that there is for more.
+    /// Gives back the memory that is kept for more.
     pub(crate) fn shrink_to_fit(&mut self)
         ensures { pool_as self.new ≡ pool_as self.old }
     {
@@ -92,7 +96,7 @@ impl Pools {
         self.leaves.shrink_to_fit();
     }
 
-    /// Adds a string, unless it is the same as the last. Answers its place.
+    /// Adds a string, unless it is the same as the last. Returns its place.
     pub(crate) fn add_string(&mut self, string: Parts) -> Result<u32, AllocError>
         ensures { IfOk result (λ place. Kept (pool_as self.old) (pool_as self.new)
             (λ p. string_in p place) string) }
@@ -107,7 +111,7 @@ impl Pools {
         }
     }
 
-    /// Adds a string that may be left out. Answers its place.
+    /// Adds a string that may be left out. Returns its place.
     pub(crate) fn add_given_string(
         &mut self,
         string: Option<Parts>,
@@ -124,7 +128,7 @@ impl Pools {
         }
     }
 
-    /// Adds a list, unless it has the same strings as the last. Answers its place.
+    /// Adds a list, unless it has the same strings as the last. Returns its place.
     pub(crate) fn add_list(&mut self, texts: Vec<Parts>) -> Result<u32, AllocError>
         ensures { IfOk result (λ place. Kept (pool_as self.old) (pool_as self.new)
             (λ p. list_in p.lists place) texts.items) }
@@ -139,7 +143,7 @@ impl Pools {
         }
     }
 
-    /// Adds a list that may be left out. Answers its place.
+    /// Adds a list that may be left out. Returns its place.
     pub(crate) fn add_given(&mut self, texts: Option<Vec<Parts>>) -> Result<Option<u32>, AllocError>
         ensures { IfOk result (λ place. Kept (pool_as self.old) (pool_as self.new)
             (λ p. given_list p place) (option_map (λ given. given.items) texts)) }
@@ -153,7 +157,7 @@ impl Pools {
         }
     }
 
-    /// Adds names of fields, unless they are the same as the last. Answers the place of their list.
+    /// Adds names of fields, unless they are the same as the last. Returns the place of their list.
     pub(crate) fn add_names(&mut self, texts: Vec<Parts>) -> Result<u32, AllocError>
         ensures { IfOk result (λ place. Kept (pool_as self.old) (pool_as self.new)
             (λ p. list_in p.names place) texts.items) }
@@ -168,7 +172,7 @@ impl Pools {
         }
     }
 
-    /// The place of the last ask, where it is the same as this one.
+    /// The place of the last question if it is seen to be the same as this one, or none.
     fn repeated_ask(&self, ask: &PackedAsk) -> Option<u32>
         ensures { IfSome result (λ place. slice_get self.now.asks.items place ≡ Some ask.now) }
     {
@@ -180,7 +184,8 @@ impl Pools {
         }
     }
 
-    /// Adds what a test asks, whose strings are there. Answers its place, which is that of the last where this is the same.
+    /// Adds the question of a test, whose strings are there. Returns its place, which is that of
+    /// the last question if both are seen to be the same.
     #[tactic(auto, using(crate::proofs::Keeping::ask_shared))]
     pub(crate) fn push_ask(&mut self, ask: PackedAsk) -> Result<u32, AllocError>
         ensures { IfOk result (λ place. (p : Pool) (x : reading.Ask)
@@ -195,7 +200,7 @@ impl Pools {
         Ok(place)
     }
 
-    /// The place of the last leaf, where it is the same as this one.
+    /// The place of the last command if it is seen to be the same as this one, or none.
     fn repeated(&self, leaf: &PackedLeaf) -> Option<u32>
         ensures { IfSome result
             (λ place. slice_get self.now.leaves.items place ≡ Some leaf.now) }
@@ -208,7 +213,8 @@ impl Pools {
         }
     }
 
-    /// Adds what a command does, whose strings are there. Answers its place, which is that of the last where this is the same.
+    /// Adds a command that acts, whose strings are there. Returns its place, which is that of the
+    /// last command if both are seen to be the same.
     pub(crate) fn push_leaf(&mut self, leaf: PackedLeaf) -> Result<u32, AllocError>
         ensures { IfOk result (λ place. (p : Pool) (x : reading.Leaf)
             → Kept p (pool_as self.old) (λ q. leaf_in q leaf) x

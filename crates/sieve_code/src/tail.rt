@@ -12,8 +12,9 @@ use std::alloc::{AllocError, Global};
 use std::collections::VecDeque;
 use std::marker::Model;
 
-/// The operations from some place to the end of the code. A jump in it has for its target how many operations there are from
-/// the target to the end, so that what is put before it changes nothing in it. Contracts see the list of operations.
+/// The operations from some place to the end of the code. The target of a jump is the number of
+/// operations from the target to the end. So operations that are put in front change none of the
+/// others. Contracts see the list of operations.
 #[derive(Drop)]
 pub(crate) struct Tail {
     alloc: Global,
@@ -36,7 +37,7 @@ impl Model for Tail {
 }
 
 impl Tail {
-    /// No operations.
+    /// Makes a tail without operations.
     pub(crate) fn new(alloc: Global) -> Tail
         ensures { result ≡ [] }
     {
@@ -47,7 +48,8 @@ impl Tail {
         }
     }
 
-    /// How many operations there are, as the target of a jump. More than 4,294,967,295 are answered as out of memory.
+    /// The number of operations, as the target of a jump. More than 4,294,967,295 operations are
+    /// answered as out of memory.
     pub(crate) fn target(&self) -> Result<u32, AllocError>
         ensures { IfOk result (λ target. target ≡ length self.now) }
     {
@@ -63,7 +65,8 @@ impl Tail {
         Ok(())
     }
 
-    /// Puts the operation of a test that asks in front. An error, which is out of memory, leaves no operations.
+    /// Puts the operation of a test that asks in front. An error is out of memory, or more strings,
+    /// parts or places than 4,294,967,295. No operations are left if the question can't be added.
     pub(crate) fn put_ask(&mut self, ask: ReadAsk) -> Result<(), AllocError>
         ensures { OnOk result (self.new ≡ test_op (ask_as ask) ∷ self.old) }
     {
@@ -79,7 +82,9 @@ impl Tail {
         }
     }
 
-    /// Puts the operation of a command of a line in front. An error, which is out of memory, leaves no operations.
+    /// Puts the operation of a command that acts in front, with the command's line. An error is out
+    /// of memory, or more strings, parts or places than 4,294,967,295. No operations are left if
+    /// the command can't be added.
     pub(crate) fn put_act(&mut self, leaf: ReadLeaf, line: u32) -> Result<(), AllocError>
         ensures { OnOk result (self.new ≡ act_op (leaf_as leaf) line ∷ self.old) }
     {
@@ -95,7 +100,7 @@ impl Tail {
         }
     }
 
-    /// The operations in order, and their pools, with room for no more.
+    /// The operations in order, and their pools. Memory that is kept for more is given back.
     pub(crate) fn into_parts(self) -> (Vec<PackedOperation>, Pools)
         ensures { map (op_in (pool_as result.1)) result.0.items ≡ self }
     {

@@ -5,7 +5,7 @@ use Rattle.std.specs.List.{list_any}
 use Rattle.std.specs.Option.{option_or}
 use Rattle.match_text.specs.Order.{are_equal}
 use Rattle.match_text.specs.declared.comparators.Collation.{Collation}
-use Rattle.match_text.specs.Flags.{has_key}
+use Rattle.flag_lists.specs.Flags.{has_key}
 use Rattle.sieve_conditions.specs.Matching.{Pair, first_match, first_some, match_by, pairs_with}
 use Rattle.sieve_script.specs.declared.reading.MatchType.TheVariants.{Is}
 

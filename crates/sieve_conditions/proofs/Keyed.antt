@@ -4,7 +4,7 @@ use Rattle.std.proofs.lemmas.Bool.{cases_lt, eqb-true, false≢true}
 use Rattle.std.proofs.lemmas.List.{drop_all, length-map, take_all}
 use Rattle.std.specs.List.{flat_map, list_any, slice_get}
 use Rattle.std.specs.Option.{option_or}
-use Rattle.match_text.specs.Flags.{filled_pieces, flag_keys}
+use Rattle.flag_lists.specs.Flags.{filled_pieces, flag_keys}
 use Rattle.sieve_script.specs.declared.reading.Comparison.{Comparison}
 use Rattle.sieve_conditions.specs.Matching.{Pair, first_match, first_some, match_of, pairs_with}
 use Rattle.sieve_conditions.specs.declared.flag_values.Best.{Best}

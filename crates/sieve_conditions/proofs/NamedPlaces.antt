@@ -2,7 +2,7 @@
 use Rattle.std.proofs.Common.{◌≡◌, ◌<◌, ◌≤◌, ◌+◌, ◌-◌, ◌^◌, ℕ, zero, suc, arith, true, false, List, [], ◌∷◌, length, map, Some, sym, ap, ◌∙◌}
 use Rattle.std.specs.List.{slice_get}
 use Rattle.match_text.specs.Comparator.{ascii_casemap, same}
-use Rattle.match_text.specs.view.Hashing.{same_equiv}
+use Rattle.flag_lists.specs.view.Hashing.{same_equiv}
 use Rattle.message_text.specs.Fields.{Field, IsNextNamed, fields_of, is_field_named, names_of}
 use Rattle.sieve_conditions.specs.declared.field_cache.NamedPlace.{NamedPlace}
 use Rattle.sieve_conditions.specs.view.FieldCache.{IsNamedPlace}

@@ -12,7 +12,7 @@ use Rattle.sieve_variables.specs.Part.{Part}
 use Rattle.sieve_variables.specs.Value.{text_value}
 use Rattle.sieve_script.specs.declared.reading.Comparison.{Comparison}
 use Rattle.sieve_delivery.specs.Delivery.{Delivery, envelope_of}
-use Rattle.match_text.specs.Flags.{flag_keys_of_texts, flag_list}
+use Rattle.flag_lists.specs.Flags.{flag_keys_of_texts, flag_list}
 use Rattle.sieve_delivery.specs.State.{RunState}
 use Rattle.packed_strings.proofs.Joining.{get_map}
 use Rattle.sieve_conditions.specs.Matching.{compared_of, envelope_named, envelope_text, first_match, first_some, match_found, match_of, pairs_with, parts_of_envelope, values_in, values_of, keys_from, keys_of}

@@ -10,7 +10,7 @@ use Rattle.date_text.specs.Moment.{Moment}
 use Rattle.date_text.specs.Reading.{date_in}
 use Rattle.encoded_words.specs.Scan.{decoded_of}
 use Rattle.sieve_profile.specs.Profile.{Profile}
-use Rattle.match_text.specs.Flags.{flag_keys_of_texts, flag_list}
+use Rattle.flag_lists.specs.Flags.{flag_keys_of_texts, flag_list}
 use Rattle.match_text.specs.Order.{are_equal, contains_under, matched_under, order_of}
 use Rattle.match_text.specs.Relation.{stands_in}
 use Rattle.match_text.specs.declared.comparators.Collation.{Collation}

@@ -3,7 +3,7 @@ ghost use Rattle.std.specs.Prelude.{◌≡◌, ◌<◌, ◌≤◌, ◌+◌, ◌^
 ghost use Rattle.std.proofs.Common.{rules};
 ghost use Rattle.std.specs.List.{flat_map};
 ghost use Rattle.std.specs.Option.{option_map};
-ghost use Rattle.match_text.specs.Flags.{flag_list};
+ghost use Rattle.flag_lists.specs.Flags.{flag_list};
 ghost use Rattle.message_text.specs.Fields.{Field, fields_of};
 ghost use Rattle.message_text.specs.declared.addressing.AddressPart.TheVariants.{All};
 ghost use Rattle.octets.specs.Octet.{is_filled};
@@ -21,7 +21,7 @@ use crate::date_values::{count_clock, count_date};
 use crate::field_cache::FieldCache;
 use crate::field_walk::{FieldVisitor, visit_looked_at};
 use crate::path_values::{envelope_text, is_null_path};
-use match_text::flags_of;
+use flag_lists::flags_of;
 use message_text::AddressPart;
 use packed_strings::{FieldNames, SourceRef, Strings};
 use sieve_delivery::{Arrival, Delivery, RunState};

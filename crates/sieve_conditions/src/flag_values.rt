@@ -1,7 +1,7 @@
 //! Flags as the values of a test (RFC 5232, 4).
 ghost use Rattle.std.specs.Prelude.{◌≡◌, ◌∷◌, ◌++◌, ℕ, List, IfOk, Some};
 ghost use Rattle.std.specs.List.{list_any};
-ghost use Rattle.match_text.specs.Flags.{flag_keys, flag_list, has_key};
+ghost use Rattle.flag_lists.specs.Flags.{flag_keys, flag_list, has_key};
 ghost use Rattle.match_text.specs.Order.{are_equal};
 ghost use Rattle.sieve_script.specs.Reading.{flag_values};
 ghost use Rattle.sieve_conditions.specs.Matching.{first_some, values_of};
@@ -12,7 +12,8 @@ ghost use Rattle.sieve_delivery.specs.view.State.{state_of};
 ghost use Rattle.octets.specs.view.Texts.{octets_of_each};
 
 use crate::matcher::{MatchValues, Matcher, plain_match};
-use match_text::{Collation, FlagList, flags_of, next_key};
+use flag_lists::{FlagList, flags_of, next_key};
+use match_text::Collation;
 use packed_strings::Strings;
 use sieve_delivery::{Delivery, RunState};
 use sieve_script::MatchType;

@@ -1,7 +1,7 @@
 //! How a test compares a value with keys (RFC 5228, 2.7.1).
 ghost use Rattle.std.specs.Prelude.{◌≡◌, ◌<◌, ℕ, List, [], IfOk, IfSome, None, Some, false, is_some, length, map, slice_get, true, if◌then◌else◌};
 ghost use Rattle.match_text.specs.Comparator.{ascii_casemap, is_part};
-ghost use Rattle.match_text.specs.Flags.{flag_keys};
+ghost use Rattle.flag_lists.specs.Flags.{flag_keys};
 ghost use Rattle.match_text.specs.Order.{order_of};
 ghost use Rattle.match_text.specs.Relation.{stands_in};
 ghost use Rattle.match_text.specs.Room.{may_match};
@@ -12,10 +12,11 @@ ghost use Rattle.sieve_conditions.specs.view.FieldTests.{found_with, key_found};
 ghost use Rattle.sieve_delivery.specs.view.State.{state_of};
 ghost use Rattle.sieve_variables.specs.Value.{text_value};
 
+use flag_lists::next_key;
 use match_text::laws::keys_need_octets;
 use match_text::{
     AsciiCasemap, Captures, Collation, Comparator, KeyKind, Octet, Relation, Room, SearchedValue,
-    contains, contains_in, equals, matches, next_key, stands,
+    contains, contains_in, equals, matches, stands,
 };
 use octets::Octets;
 use packed_strings::Strings;

@@ -9,7 +9,7 @@ use Rattle.std.proofs.lemmas.List.Elements.{All-cons, All-head, All-nil, All-tai
 use Rattle.std.proofs.lemmas.List.Folds.{list_any-append}
 use Rattle.std.proofs.lemmas.Bool.Decides.{nat_tests}
 use Rattle.match_text.specs.Comparator.{ascii_casemap, same}
-use Rattle.match_text.specs.Flags.{distinct, flag_union, flags_without, has_flag}
+use Rattle.flag_lists.specs.Flags.{distinct, flag_union, flags_without, has_flag}
 use Rattle.sieve_delivery.specs.Ending.{goes_on}
 use Rattle.sieve_delivery.specs.Joining.{brought_by, joined_entry, joined_with, same_action}
 use Rattle.sieve_delivery.specs.Performing.{cancelled_by, ends_with, entry_at, fails_at, performs, refused, with_entry}

@@ -2,7 +2,7 @@
 use Rattle.std.specs.Prelude.{Bool, true, false, ◌||◌, nat_eq}
 use Rattle.std.specs.Option.{option_or}
 use lib.Pointwise.{pointwise}
-use Rattle.match_text.specs.Flags.{flag_union}
+use Rattle.flag_lists.specs.Flags.{flag_union}
 use Rattle.sieve_delivery.specs.declared.action.Action.{Action}
 use Rattle.sieve_delivery.specs.declared.action.Filing.{Filing}
 use Rattle.sieve_delivery.specs.declared.action.Action.TheVariants.{Store, Redirect, Discard, Respond, Reject}

@@ -3,7 +3,7 @@
 use Rattle.std.specs.Prelude.{◌==◌, ℕ, List, [], ◌∷◌, length, map, Bool, true, false, not, ◌&&◌, Option, None, Some, nat_eq, nat_lt, nat_le}
 use Rattle.std.specs.List.{list_all}
 use Rattle.std.specs.Option.{option_map}
-use Rattle.match_text.specs.Flags.{is_keyword, flags_of_texts}
+use Rattle.flag_lists.specs.Flags.{is_keyword, flags_of_texts}
 use Rattle.sieve_limits.specs.Limits.{mailbox_limit}
 use Rattle.octets.specs.Octet.{octet_of}
 use Rattle.sieve_script.specs.Reading.{Settings, plain_settings}

@@ -25,7 +25,7 @@ use crate::error::ErrorKind;
 use crate::flagging::flags_named;
 use crate::response::given_text;
 use crate::state::RunState;
-use match_text::is_keyword;
+use flag_lists::is_keyword;
 use message_text::{Address, AddressPart, addresses};
 use octets::Octets;
 use packed_strings::{SettingsRef, Strings};

@@ -3,7 +3,7 @@ ghost use Rattle.std.specs.Prelude.{◌≡◌};
 ghost use Rattle.sieve_delivery.specs.Joining.{same_action};
 
 use crate::response::Response;
-use match_text::FlagList;
+use flag_lists::FlagList;
 use octets::Octets;
 use script_names::ScriptName;
 use sieve_script::Rejection;

@@ -10,7 +10,7 @@ ghost use Rattle.sieve_delivery.specs.declared.actions.Performed.TheVariants.{Re
 ghost use Rattle.sieve_delivery.specs.declared.error.ErrorKind.{ErrorKind};
 ghost use Rattle.sieve_delivery.specs.view.Actions.{entries_as, performed_as};
 ghost use Rattle.sieve_delivery.specs.view.Delivery.{delivery_as};
-ghost use Rattle.match_text.specs.Flags.{flag_union, flags_in, flags_without};
+ghost use Rattle.flag_lists.specs.Flags.{flag_union, flags_in, flags_without};
 
 use crate::action::{Action, Entry, Filing};
 use crate::conflicts::{conflict_among, has_rejection};
@@ -19,8 +19,8 @@ use crate::entries::{
     all_joined, all_with_flags, first_entry, has_action, has_store, lower_all, push_entry,
 };
 use crate::error::ErrorKind;
-use match_text::laws::flags_are_taken_out_in_turn;
-use match_text::{FlagList, next_flag};
+use flag_lists::laws::flags_are_taken_out_in_turn;
+use flag_lists::{FlagList, next_flag};
 use octets::Octets;
 use sieve_limits::MAX_ACTIONS;
 use std::alloc::{AllocError, Global};

@@ -10,7 +10,7 @@ ghost use Rattle.sieve_delivery.specs.view.Delivery.{delivery_as};
 
 use crate::action::{Action, Entry, Filing, Origin, same_action};
 use crate::delivery::Delivery;
-use match_text::FlagList;
+use flag_lists::FlagList;
 use octets::Octets;
 use std::alloc::{AllocError, Global};
 

@@ -1,6 +1,6 @@
 //! Commands on flags (RFC 5232, 3 and 5).
 ghost use Rattle.std.specs.Prelude.{◌≡◌, IfOk, OnOk, Some, None, map};
-ghost use Rattle.match_text.specs.Flags.{flag_list, flag_union, flags_of_texts, flags_without};
+ghost use Rattle.flag_lists.specs.Flags.{flag_list, flag_union, flags_of_texts, flags_without};
 ghost use Rattle.std.specs.Option.{option_copied};
 ghost use Rattle.sieve_delivery.specs.Act.{changed_flags, changes, held_flags};
 ghost use Rattle.sieve_delivery.specs.Storing.{flags_named};
@@ -14,8 +14,8 @@ use crate::actions::Actions;
 use crate::delivery::Delivery;
 use crate::ending::Ending;
 use crate::state::RunState;
-use match_text::laws::texts_are_changed_in_turn;
-use match_text::{FlagList, flag_text, flags_of, flags_of_texts, union, without};
+use flag_lists::laws::texts_are_changed_in_turn;
+use flag_lists::{FlagList, flag_text, flags_of, flags_of_texts, union, without};
 use octets::Octets;
 use packed_strings::Strings;
 use sieve_limits::MAX_VALUE;

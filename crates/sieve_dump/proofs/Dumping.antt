@@ -1,4 +1,4 @@
--- What the dump writes of parts and strings.
+-- The octets that the dump writes of parts and strings.
 use Rattle.std.proofs.Common.{◌≡◌, ℕ, ◌-◌, ◌<◌, ◌≤◌, List, [], ◌∷◌, ◌++◌, length, get_or, take, drop, codes, Some, refl, sym, ap, ◌∙◌, arith, append_assoc}
 use Rattle.std.specs.List.{flat_map, slice_get}
 use Rattle.std.proofs.lemmas.List.{append-nil, take_rest}
@@ -24,7 +24,8 @@ unfolding string_text
 string_none [] none = refl
 string_none (p ∷ ps) none = absurd (omega (arith, none))
 
--- what is written of a string with parts is its first part without a mark, and the others after their marks
+-- A string with parts is written as its first part without a mark, and the others after their
+-- marks.
 pub string_some : (parts : List Part) (part : Part) → 0 < length parts → part ≡ get_or parts 0 part → part_text part ++ flat_map marked_part (drop 1 parts) ≡ string_text parts
 unfolding string_text
 string_some [] part some is = absurd (omega (arith, some))
@@ -41,7 +42,8 @@ string_front front parts part some is =
     ∙ ap (λ ps. front ++ (part_text part ++ flat_map marked_part ps)) (take_rest parts 1)
     ∙ ap (λ t. front ++ t) (string_some parts part some is)
 
--- of no strings nothing is written, and of others the first without a mark, and the others after their marks
+-- Without strings nothing is written. Otherwise the first is written without a mark, and the others
+-- after their marks.
 pub strings_none : (front : List ℕ) (strings : List (List Part)) → length strings ≤ 0 → front ≡ front ++ separated (codes ", ") string_text strings
 strings_none front [] none = sym (append-nil front)
 strings_none front (s ∷ ss) none = absurd (omega (arith, none))

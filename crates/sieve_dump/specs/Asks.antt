@@ -12,7 +12,7 @@ use Rattle.sieve_script.specs.declared.reading.MatchType.TheVariants.{Is, Contai
 use Rattle.sieve_variables.specs.Part.{Part}
 use Rattle.sieve_dump.specs.Strings.{further_list, further_string, list_text, string_text}
 
--- the word of a match type; after that of `:value` or `:count` stands the relation (RFC 5231, section 4)
+-- The word of a match type. After that of `:value` or `:count` stands the relation (RFC 5231, 4).
 abbrev pub match_word : MatchType → List ℕ
 match_word Is = codes "is"
 match_word Contains = codes "contains"
@@ -40,7 +40,7 @@ comparing_words test comparison = test ++ codes " " ++ match_word comparison.mat
 unfoldable pub address_words : List ℕ → Comparison → AddressPart → List ℕ
 address_words test comparison part = comparing_words test comparison ++ (codes " " ++ address_part_word part)
 
--- the flags of the variables that are named, or the internal ones
+-- the variables whose flags a test looks at, or `internal` for the internal flags
 unfoldable pub internal_list : Option (List (List Part)) → List ℕ
 internal_list None = codes " internal"
 internal_list (Some variables) = further_list variables
@@ -55,13 +55,13 @@ zone_words (named_zone zone) = codes " zone " ++ string_text zone
 unfoldable pub date_words : List ℕ → Comparison → DateZone → List ℕ
 date_words test comparison zone = comparing_words test comparison ++ zone_words zone
 
--- what is taken of a body
+-- the part of a body that a test looks at
 unfoldable pub transform_words : BodyTransform → List ℕ
 transform_words raw_transform = codes " raw"
 transform_words (content_transform entries) = codes " content" ++ further_list entries
 transform_words text_transform = codes " text"
 
--- how a test compares, and its values
+-- how a test compares, and the source of its values
 unfoldable pub source_text : ValueSource → Comparison → List ℕ
 source_text (field_values None names) comparison = comparing_words (codes "header") comparison ++ further_list names
 source_text (field_values (Some part) names) comparison = address_words (codes "address") comparison part ++ further_list names

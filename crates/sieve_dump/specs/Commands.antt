@@ -14,7 +14,7 @@ use Rattle.sieve_variables.specs.declared.modifier.LetterCase.TheVariants as let
 use Rattle.sieve_variables.specs.declared.modifier.Modifiers.{Modifiers}
 use Rattle.sieve_dump.specs.Strings.{given_string_text, given_word, list_text, name_of, scope_word, worded_text}
 
--- the flags of what is stored: those that are named, or the internal ones
+-- the flags of a store: those that are named, or `internal` for the internal ones
 unfoldable pub stored_flags : Option (List (List Part)) → List ℕ
 stored_flags None = codes " internal"
 stored_flags (Some flags) = codes " flags " ++ list_text flags
@@ -23,23 +23,23 @@ stored_flags (Some flags) = codes " flags " ++ list_text flags
 unfoldable pub copy_word : Bool → List ℕ
 copy_word copy = given_word copy (codes " copy")
 
--- the word that says that a mailbox is made which isn't there
+-- the word that says that a mailbox is made if it isn't there
 unfoldable pub create_word : Bool → List ℕ
 create_word create = given_word create (codes " create")
 
--- what a command says of the mailbox that it stores into
+-- the settings of the mailbox that a command stores into
 unfoldable pub filing_words : Settings → List ℕ
 filing_words settings = create_word settings.create ++ given_string_text (codes " special-use ") settings.special_use
 
--- what a command says of the store, beside its flags
+-- the settings of a store beside its flags
 unfoldable pub store_words : Settings → List ℕ
 store_words settings = filing_words settings ++ copy_word settings.copy
 
--- what a `fileinto` says beside its mailbox
+-- the settings of a `fileinto` beside its mailbox
 unfoldable pub stored_text : Settings → List ℕ
 stored_text settings = stored_flags settings.flags ++ store_words settings
 
--- the flags of what a `keep` stores, after its word
+-- the flags of the store of a `keep`, after its word
 unfoldable pub worded_flags : List ℕ → Option (List (List Part)) → List ℕ
 worded_flags word flags = word ++ stored_flags flags
 
@@ -54,7 +54,7 @@ first_word None = []
 first_word (Some letter_case.Lower) = codes " lowerfirst"
 first_word (Some letter_case.Upper) = codes " upperfirst"
 
--- modifiers after the variable
+-- the modifiers of a `set`, after its variable
 unfoldable pub modifier_words : Modifiers → List ℕ
 modifier_words modifiers = case_word modifiers.letter_case ++ first_word modifiers.first_letter ++ given_word modifiers.quote_wildcard (codes " quotewildcard") ++ given_word modifiers.length (codes " length") ++ codes " "
 
@@ -62,7 +62,7 @@ modifier_words modifiers = case_word modifiers.letter_case ++ first_word modifie
 unfoldable pub worded_variable : List ℕ → Variable → List ℕ
 worded_variable word variable = word ++ scope_word variable ++ name_of variable ++ codes ")"
 
--- what a `set` does, apart from the value
+-- a `set` without its value
 unfoldable pub set_words : Variable → Modifiers → List ℕ
 set_words variable modifiers = worded_variable (codes "set ") variable ++ modifier_words modifiers
 
@@ -71,21 +71,21 @@ change_word change.Set = codes "setflag"
 change_word change.Add = codes "addflag"
 change_word change.Remove = codes "removeflag"
 
--- what changes flags: those of a variable, or the internal ones
+-- the words of a command that changes flags, up to the flags, with the variable or `internal`
 unfoldable pub changing_words : FlagChange → Option Variable → List ℕ
 changing_words how None = change_word how ++ codes " internal "
 changing_words how (Some variable) = change_word how ++ codes " " ++ scope_word variable ++ name_of variable ++ codes ") "
 
--- what is included
+-- an `include`
 unfoldable pub include_words : Location → (once optional : Bool) → List ℕ → List ℕ
 include_words location once optional name = codes "include " ++ location_word location ++ given_word once (codes " once") ++ given_word optional (codes " optional") ++ codes " " ++ quoted name
 
--- for how many days a sender gets no other response, where that is said
+-- for how many days a sender gets no other response, if that is said
 unfoldable pub days_words : Option ℕ → List ℕ
 days_words None = []
 days_words (Some days) = codes " days " ++ decimal days
 
--- further addresses of the user, where they are given
+-- further addresses of the user, if they are given
 unfoldable pub addresses_words : Option (List (List Part)) → List ℕ
 addresses_words None = []
 addresses_words (Some addresses) = codes " addresses " ++ list_text addresses
@@ -94,14 +94,15 @@ addresses_words (Some addresses) = codes " addresses " ++ list_text addresses
 unfoldable pub mime_word : Bool → List ℕ
 mime_word mime = given_word mime (codes " mime")
 
--- what is given of a `vacation` beside its text: how often a sender gets a response, its subject and whom it is from, and then the rest
+-- The arguments of a `vacation` beside its text. First how often a sender gets a response, its
+-- subject and its sender. Then the others.
 unfoldable pub sending_words : Vacation → List ℕ
 sending_words vacation = days_words vacation.days ++ given_string_text (codes " subject ") vacation.subject ++ given_string_text (codes " from ") vacation.from
 
 unfoldable pub further_words : Vacation → List ℕ
 further_words vacation = addresses_words vacation.addresses ++ mime_word vacation.mime ++ given_string_text (codes " handle ") vacation.handle
 
--- all that, after the command's word
+-- all these arguments, after the command's word
 unfoldable pub vacation_words : List ℕ → Vacation → List ℕ
 vacation_words word vacation = word ++ sending_words vacation ++ further_words vacation
 

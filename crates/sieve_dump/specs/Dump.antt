@@ -4,7 +4,7 @@ use Rattle.sieve_code.specs.Operation.{Operation, set_op, invert_op, test_op, ju
 use Rattle.sieve_dump.specs.Asks.{ask_text}
 use Rattle.sieve_dump.specs.Commands.{leaf_text}
 
--- a command's line after what it does
+-- the line of a command, after the command
 abbrev pub at_line : ℕ → List ℕ
 at_line line = codes " @" ++ decimal line
 
@@ -20,11 +20,11 @@ operation_text (act_op leaf line) = leaf_text leaf ++ at_line line
 operation_text stop_op = codes "stop"
 operation_text return_op = codes "return"
 
--- the line of an operation: its place and what it is
+-- the line of an operation: its place and then the operation
 unfoldable pub line_text : ℕ → Operation → List ℕ
 line_text place op = decimal place ++ codes ": " ++ operation_text op ++ codes "\n"
 
--- the line of the operation at a place of code, where there is one
+-- the line of the operation at a place of code, or nothing if there is none
 abbrev pub line_of : ℕ → Option Operation → List ℕ
 line_of place None = []
 line_of place (Some op) = line_text place op

@@ -10,7 +10,7 @@ abbrev pub separated : {X : Type 0} → List ℕ → (X → List ℕ) → List X
 separated mark text [] = []
 separated mark text (x ∷ xs) = text x ++ flat_map (λ y. mark ++ text y) xs
 
--- whose a variable is, and its name
+-- the word that says whether a variable is local or global, and the name of the variable
 abbrev pub scope_word : Variable → List ℕ
 scope_word (local_variable name) = codes "local("
 scope_word (global_variable name) = codes "global("
@@ -24,7 +24,7 @@ part_text (literal octets) = quoted octets
 part_text (variable_part variable) = scope_word variable ++ name_of variable ++ codes ")"
 part_text (match_part index) = codes "match(" ++ decimal index ++ codes ")"
 
--- a string: its parts, joined by `+`; one without parts is empty
+-- A string: its parts, joined by `+`. One without parts is empty.
 unfoldable pub string_text : List Part → List ℕ
 string_text [] = codes "\"\""
 string_text (part ∷ parts) = separated (codes "+") part_text (part ∷ parts)
@@ -33,7 +33,7 @@ string_text (part ∷ parts) = separated (codes "+") part_text (part ∷ parts)
 unfoldable pub list_text : List (List Part) → List ℕ
 list_text strings = codes "[" ++ separated (codes ", ") string_text strings ++ codes "]"
 
--- a word, where it is given
+-- a word, if it is given
 abbrev pub given_word : Bool → List ℕ → List ℕ
 given_word false word = []
 given_word true word = word
@@ -42,7 +42,7 @@ given_word true word = word
 unfoldable pub worded_text : List ℕ → List Part → List ℕ
 worded_text word string = word ++ string_text string
 
--- a string after a word, where it is given
+-- a word and a string, if the string is given
 unfoldable pub given_string_text : List ℕ → Option (List Part) → List ℕ
 given_string_text word None = []
 given_string_text word (Some string) = word ++ string_text string

@@ -14,7 +14,7 @@ use packed_strings::{BodyRef, SourceRef, Strings, ZoneRef};
 use sieve_script::{Comparison, MatchType};
 use sieve_variables::Part;
 
-/// The word of a match type that compares values, by its relation (RFC 5231, section 4.1).
+/// The word of a match type that compares values, by its relation (RFC 5231, 4.1).
 fn value_word(relation: Relation) -> &'static [u8]
     ensures { result.now ≡ codes "value-" ++ relation_word relation }
 {
@@ -28,7 +28,7 @@ fn value_word(relation: Relation) -> &'static [u8]
     }
 }
 
-/// The word of a match type that compares their number, by its relation (RFC 5231, section 4.2).
+/// The word of a match type that compares the number of values, by its relation (RFC 5231, 4.2).
 fn count_word(relation: Relation) -> &'static [u8]
     ensures { result.now ≡ codes "count-" ++ relation_word relation }
 {
@@ -119,7 +119,7 @@ fn write_address_words<W: Sink>(
     )
 }
 
-/// Writes the variables whose flags a test looks at, or that these are the internal ones.
+/// Writes the variables whose flags a test looks at, or `internal` for the internal flags.
 #[tactic(auto, unfolding(crate::specs::Asks::internal_list))]
 fn write_internal_list<W: Sink>(
     variables: &Option<Strings<'_>>,
@@ -134,7 +134,7 @@ fn write_internal_list<W: Sink>(
     }
 }
 
-/// Writes a test of this name that compares values, with its values.
+/// Writes a test of this name that compares values, with its names of fields or its texts.
 #[tactic(auto, using(devices::proofs::Writing::writing))]
 fn write_values<W: Sink>(
     test: &[u8],
@@ -216,7 +216,7 @@ fn write_date_words<W: Sink>(
     write_zone(zone, writer)
 }
 
-/// Writes the name of a field, and which part of its date.
+/// Writes the name of a field, and the part of its date.
 #[tactic(auto, using(devices::proofs::Writing::writing))]
 fn write_field_part<W: Sink>(
     field: &[Part],
@@ -276,7 +276,7 @@ fn write_word_and_list<W: Sink>(
     write_further_list(list, writer)
 }
 
-/// Writes what is taken of a body.
+/// Writes the part of a body that a test looks at.
 #[tactic(auto, unfolding(crate::specs::Asks::transform_words))]
 fn write_transform<W: Sink>(transform: &BodyRef<'_>, writer: &mut W) -> Result<(), WriteFault>
     ensures { Writes W.contents W.fault_count result writer.old writer.new
@@ -289,7 +289,7 @@ fn write_transform<W: Sink>(transform: &BodyRef<'_>, writer: &mut W) -> Result<(
     }
 }
 
-/// Writes a `body` with what is taken of the body.
+/// Writes a `body` with the part of the body that it looks at.
 #[tactic(auto, using(devices::proofs::Writing::writing))]
 fn write_body<W: Sink>(
     comparison: Comparison,
@@ -303,7 +303,7 @@ fn write_body<W: Sink>(
     write_transform(transform, writer)
 }
 
-/// Writes how a test compares, and its values.
+/// Writes how a test compares, and the source of its values.
 #[tactic(auto, unfolding(crate::specs::Asks::source_text))]
 fn write_source<W: Sink>(
     source: &SourceRef<'_>,

@@ -27,7 +27,7 @@ pub(crate) fn write_worded<W: Sink>(
     write_string(word, string, writer)
 }
 
-/// Writes the flags of what is stored: those that are named, or that these are the internal ones.
+/// Writes the flags of a store: those that are named, or `internal` for the internal ones.
 #[tactic(auto, unfolding(crate::specs::Commands::stored_flags))]
 fn write_stored_flags<W: Sink>(
     flags: &Option<Strings<'_>>,
@@ -42,14 +42,14 @@ fn write_stored_flags<W: Sink>(
     }
 }
 
-/// A word, where it is given.
+/// A word if it is given, or no octets.
 pub(crate) fn given_word<'a>(is_given: bool, word: &'a [u8]) -> &'a [u8]
     ensures { result.now ≡ strings.given_word is_given word.now }
 {
     if is_given { word } else { b"" }
 }
 
-/// Writes that an action is a copy, where it is one.
+/// Writes that an action is a copy, if it is one.
 #[tactic(auto, unfolding(crate::specs::Commands::copy_word))]
 fn write_copy<W: Sink>(copy: bool, writer: &mut W) -> Result<(), WriteFault>
     ensures { Writes W.contents W.fault_count result writer.old writer.new (spec.copy_word copy) }
@@ -57,7 +57,7 @@ fn write_copy<W: Sink>(copy: bool, writer: &mut W) -> Result<(), WriteFault>
     write_out(given_word(copy, b" copy"), writer)
 }
 
-/// Writes that a mailbox is made which isn't there, where a command says so.
+/// Writes `create` for a command that makes its mailbox if there is none.
 #[tactic(auto, unfolding(crate::specs::Commands::create_word))]
 fn write_create<W: Sink>(settings: &SettingsRef<'_>, writer: &mut W) -> Result<(), WriteFault>
     ensures { Writes W.contents W.fault_count result writer.old writer.new
@@ -66,7 +66,7 @@ fn write_create<W: Sink>(settings: &SettingsRef<'_>, writer: &mut W) -> Result<(
     write_out(given_word(settings.create, b" create"), writer)
 }
 
-/// Writes a string after a word, where it is given.
+/// Writes a word and a string, if the string is given.
 #[tactic(auto, unfolding(crate::specs::Strings::given_string_text))]
 pub(crate) fn write_given_string<W: Sink>(
     word: &[u8],
@@ -82,7 +82,7 @@ pub(crate) fn write_given_string<W: Sink>(
     }
 }
 
-/// Writes what a command says of the mailbox that it stores into.
+/// Writes the settings of the mailbox that a command stores into.
 #[tactic(auto, using(devices::proofs::Writing::writing), unfolding(crate::specs::Commands::filing_words))]
 fn write_filing_words<W: Sink>(settings: &SettingsRef<'_>, writer: &mut W) -> Result<(), WriteFault>
     ensures { Writes W.contents W.fault_count result writer.old writer.new
@@ -92,7 +92,7 @@ fn write_filing_words<W: Sink>(settings: &SettingsRef<'_>, writer: &mut W) -> Re
     write_given_string(b" special-use ", settings.special_use, writer)
 }
 
-/// Writes what a command says of the store, beside its flags.
+/// Writes the settings of a store beside its flags.
 #[tactic(auto, using(devices::proofs::Writing::writing), unfolding(crate::specs::Commands::store_words))]
 fn write_store_words<W: Sink>(settings: &SettingsRef<'_>, writer: &mut W) -> Result<(), WriteFault>
     ensures { Writes W.contents W.fault_count result writer.old writer.new
@@ -102,7 +102,7 @@ fn write_store_words<W: Sink>(settings: &SettingsRef<'_>, writer: &mut W) -> Res
     write_copy(settings.copy, writer)
 }
 
-/// Writes what a `fileinto` says beside its mailbox.
+/// Writes the settings of a `fileinto` beside its mailbox.
 #[tactic(auto, using(devices::proofs::Writing::writing), unfolding(crate::specs::Commands::stored_text))]
 fn write_stored<W: Sink>(settings: &SettingsRef<'_>, writer: &mut W) -> Result<(), WriteFault>
     ensures { Writes W.contents W.fault_count result writer.old writer.new
@@ -112,7 +112,7 @@ fn write_stored<W: Sink>(settings: &SettingsRef<'_>, writer: &mut W) -> Result<(
     write_store_words(settings, writer)
 }
 
-/// Writes a command's word and then the flags of what is stored.
+/// Writes a command's word and then the flags of its store.
 #[tactic(auto, using(devices::proofs::Writing::writing), unfolding(crate::specs::Commands::worded_flags))]
 pub(crate) fn write_worded_flags<W: Sink>(
     word: &[u8],
@@ -215,7 +215,7 @@ fn write_modifiers<W: Sink>(modifiers: Modifiers, writer: &mut W) -> Result<(), 
     )
 }
 
-/// Writes what a `set` does, apart from the value.
+/// Writes a `set` without its value.
 #[tactic(auto, using(devices::proofs::Writing::writing), unfolding(crate::specs::Commands::set_words))]
 fn write_set_words<W: Sink>(
     variable: &Variable,
@@ -255,7 +255,7 @@ fn change_word(change: FlagChange) -> &'static [u8]
     }
 }
 
-/// Writes whose flags a command changes.
+/// Writes the word of a command that changes flags, and the variable or `internal`.
 #[tactic(auto, unfolding(crate::specs::Commands::changing_words))]
 fn write_changing_words<W: Sink>(
     change: FlagChange,
@@ -299,7 +299,7 @@ pub(crate) fn write_flags<W: Sink>(
     write_list(b"", flags, writer)
 }
 
-/// Writes what is included.
+/// Writes an `include`.
 #[tactic(auto, unfolding(crate::specs::Commands::include_words))]
 pub(crate) fn write_include<W: Sink>(
     location: Location,
@@ -324,7 +324,7 @@ pub(crate) fn write_include<W: Sink>(
     )
 }
 
-/// Writes the line that a command stands in.
+/// Writes the line of a command.
 pub(crate) fn write_line_number<W: Sink>(line: u32, writer: &mut W) -> Result<(), WriteFault>
     ensures { Writes W.contents W.fault_count result writer.old writer.new (at_line line) }
 {

@@ -18,7 +18,7 @@ use devices::{Piece, Sink, WriteFault, write_out, write_pieces};
 use sieve_code::{Code, PackedAsk, PackedLeaf, PackedOperation};
 use sieve_script::{Ask, Leaf};
 
-/// Writes what a test asks.
+/// Writes the question of a test.
 #[tactic(auto, unfolding(crate::specs::Asks::ask_text))]
 fn write_ask<W: Sink>(code: &Code, ask: &PackedAsk, writer: &mut W) -> Result<(), WriteFault>
     ensures { Writes W.contents W.fault_count result writer.old writer.new
@@ -43,7 +43,7 @@ fn write_ask<W: Sink>(code: &Code, ask: &PackedAsk, writer: &mut W) -> Result<()
     }
 }
 
-/// Writes what a command does.
+/// Writes a command that acts.
 #[tactic(auto, unfolding(crate::specs::Commands::leaf_text))]
 fn write_leaf<W: Sink>(code: &Code, leaf: &PackedLeaf, writer: &mut W) -> Result<(), WriteFault>
     ensures { Writes W.contents W.fault_count result writer.old writer.new
@@ -77,7 +77,7 @@ fn write_leaf<W: Sink>(code: &Code, leaf: &PackedLeaf, writer: &mut W) -> Result
     }
 }
 
-/// Writes what the command of a place does.
+/// Writes the command at a place. Past the last place it is a `discard`.
 fn write_leaf_at<W: Sink>(code: &Code, place: u32, writer: &mut W) -> Result<(), WriteFault>
     ensures { Writes W.contents W.fault_count result writer.old writer.new
         (leaf_text (leaf_at (pool_of code.now) place)) }
@@ -88,7 +88,7 @@ fn write_leaf_at<W: Sink>(code: &Code, place: u32, writer: &mut W) -> Result<(),
     }
 }
 
-/// Writes what the command of a place does, and its line.
+/// Writes the command at a place, and its line.
 #[tactic(auto, using(devices::proofs::Writing::writing))]
 fn write_act<W: Sink>(code: &Code, place: u32, line: u32, writer: &mut W) -> Result<(), WriteFault>
     ensures { Writes W.contents W.fault_count result writer.old writer.new
@@ -98,7 +98,7 @@ fn write_act<W: Sink>(code: &Code, place: u32, line: u32, writer: &mut W) -> Res
     write_line_number(line, writer)
 }
 
-/// Writes a jump of this word.
+/// Writes a jump with this word.
 fn write_jump<W: Sink>(
     word: &[u8],
     code: &Code,
@@ -131,7 +131,7 @@ fn write_op<W: Sink>(code: &Code, op: PackedOperation, writer: &mut W) -> Result
     }
 }
 
-/// Writes a place.
+/// Writes a place, and a colon after it.
 fn write_place<W: Sink>(place: usize, writer: &mut W) -> Result<(), WriteFault>
     ensures { Writes W.contents W.fault_count result writer.old writer.new
         (decimal place ++ codes ": ") }
@@ -155,7 +155,7 @@ fn write_line<W: Sink>(
     write_out(b"\n", writer)
 }
 
-/// Writes the line of the operation at a place of code: the place, `: `, the operation, LF. Where the
+/// Writes the line of the operation at a place of code: the place, `: `, the operation, LF. If the
 /// writer fails, a front of the line is written.
 pub fn write_operation<W: Sink>(code: &Code, place: usize, writer: &mut W) -> Result<(), WriteFault>
     requires { place < length (ops_of code.now) }

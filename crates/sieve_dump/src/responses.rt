@@ -11,7 +11,7 @@ use packed_strings::{Strings, VacationRef};
 use sieve_script::Rejection;
 use sieve_variables::Part;
 
-/// Writes for how many days a sender gets no other response, where that is said.
+/// Writes for how many days a sender gets no other response, if that is said.
 #[tactic(auto, unfolding(crate::specs::Commands::days_words))]
 fn write_days<W: Sink>(days: Option<u64>, writer: &mut W) -> Result<(), WriteFault>
     ensures { Writes W.contents W.fault_count result writer.old writer.new (spec.days_words days) }
@@ -22,7 +22,7 @@ fn write_days<W: Sink>(days: Option<u64>, writer: &mut W) -> Result<(), WriteFau
     }
 }
 
-/// Writes further addresses of the user, where they are given.
+/// Writes further addresses of the user, if they are given.
 #[tactic(auto, unfolding(crate::specs::Commands::addresses_words))]
 fn write_addresses<W: Sink>(
     addresses: &Option<Strings<'_>>,
@@ -37,7 +37,7 @@ fn write_addresses<W: Sink>(
     }
 }
 
-/// Writes that a response is a MIME entity, where it is one.
+/// Writes that a response is a MIME entity, if it is one.
 #[tactic(auto, unfolding(crate::specs::Commands::mime_word))]
 fn write_mime<W: Sink>(mime: bool, writer: &mut W) -> Result<(), WriteFault>
     ensures { Writes W.contents W.fault_count result writer.old writer.new (spec.mime_word mime) }
@@ -45,7 +45,7 @@ fn write_mime<W: Sink>(mime: bool, writer: &mut W) -> Result<(), WriteFault>
     write_out(given_word(mime, b" mime"), writer)
 }
 
-/// Writes how often a sender gets a response, its subject and whom it is from, where they are given.
+/// Writes how often a sender gets a response, its subject and its sender, each if it is given.
 #[tactic(auto, using(devices::proofs::Writing::writing), unfolding(crate::specs::Commands::sending_words))]
 fn write_sending<W: Sink>(vacation: &VacationRef<'_>, writer: &mut W) -> Result<(), WriteFault>
     ensures { Writes W.contents W.fault_count result writer.old writer.new
@@ -56,7 +56,7 @@ fn write_sending<W: Sink>(vacation: &VacationRef<'_>, writer: &mut W) -> Result<
     write_given_string(b" from ", vacation.from, writer)
 }
 
-/// Writes what else is given of a `vacation` beside its text.
+/// Writes the further addresses, the mark of a MIME entity and the handle, each if it is given.
 #[tactic(auto, using(devices::proofs::Writing::writing, devices::proofs::Writing::middle_failed), unfolding(crate::specs::Commands::further_words))]
 fn write_further<W: Sink>(vacation: &VacationRef<'_>, writer: &mut W) -> Result<(), WriteFault>
     ensures { Writes W.contents W.fault_count result writer.old writer.new
@@ -67,7 +67,7 @@ fn write_further<W: Sink>(vacation: &VacationRef<'_>, writer: &mut W) -> Result<
     write_given_string(b" handle ", vacation.handle, writer)
 }
 
-/// Writes a command's word and then what is given of a `vacation` beside its text.
+/// Writes a command's word and then the arguments of a `vacation` beside its text.
 #[tactic(auto, using(devices::proofs::Writing::writing, devices::proofs::Writing::middle_failed), unfolding(crate::specs::Commands::vacation_words))]
 fn write_vacation_words<W: Sink>(
     word: &[u8],

@@ -10,7 +10,7 @@ use devices::{Piece, Sink, WriteFault, write_out, write_pieces};
 use packed_strings::Strings;
 use sieve_variables::{Part, PartRef, VariableRef};
 
-/// The word that says whose a variable is.
+/// The word that says whether a variable is local or global, with a bracket after it.
 pub(crate) fn scope_word(variable: VariableRef<'_>) -> &'static [u8]
     ensures { result.now ≡ scope_word (variable_ref_as variable.entry) }
 {
@@ -65,7 +65,7 @@ fn write_part<'x, W: Sink>(
     }
 }
 
-/// Writes parts after another.
+/// Writes parts after another part, each after a `+`.
 #[tactic(auto, using(devices::proofs::Writing::writing_items), unfolding(crate::specs::view::Marked::marked_part))]
 fn write_marked_parts<W: Sink>(parts: &[Part], writer: &mut W) -> Result<(), WriteFault>
     ensures { Writes W.contents W.fault_count result writer.old writer.new
@@ -95,7 +95,7 @@ pub(crate) fn write_string<W: Sink>(
     }
 }
 
-/// Writes the strings after the first.
+/// Writes the strings after the first, each after a comma.
 fn write_marked_strings<W: Sink>(strings: &Strings<'_>, writer: &mut W) -> Result<(), WriteFault>
     ensures { Writes W.contents W.fault_count result writer.old writer.new
         (flat_map marked_string (drop 1 strings.now)) }

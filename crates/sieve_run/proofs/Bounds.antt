@@ -40,7 +40,7 @@ use Rattle.sieve_variables.specs.Modifier.{modified}
 use Rattle.sieve_variables.specs.Part.{Part}
 use Rattle.sieve_variables.specs.Value.{Values, has_room_for, resumed_values, text_value, variable_value, with_variable}
 use Rattle.sieve_variables.specs.Variable.{Variable}
-use Rattle.match_text.specs.Flags.{flag_list}
+use Rattle.flag_lists.specs.Flags.{flag_list}
 use Rattle.sieve_run.proofs.Performing.{does_walk}
 
 -- A fact on the state of a run holds after an action is performed, if it holds in two cases. In one

@@ -31,7 +31,7 @@ module _ (find : ScriptName → Lookup) (delivery : Delivery) (name : ScriptName
   abbrev done_by : Option (ScriptName → Commands → RunState → Ending) → Ending
   done_by enter = include_of find delivery enter name once optional line s
 
-  -- how a script is entered, where so many levels of includes are still allowed
+  -- how a script is entered, where `depth` more levels of includes are allowed below it
   abbrev entered_at : ℕ → ScriptName → Commands → RunState → Ending
   entered_at depth script = running find depth (inside script delivery)
 

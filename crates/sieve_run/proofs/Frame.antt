@@ -4,7 +4,7 @@ use Rattle.std.proofs.lemmas.Bool.Decides.{nat_tests}
 use Rattle.std.specs.Prelude.{if◌then◌else◌}
 use lib.Pointwise.{pointwise}
 use Rattle.message_text.specs.Addresses.{addresses_of}
-use Rattle.match_text.specs.Flags.{flag_list}
+use Rattle.flag_lists.specs.Flags.{flag_list}
 use Rattle.sieve_limits.specs.Limits.{include_depth, include_limit, name_limit}
 use Rattle.script_names.specs.declared.location.Location.{Location}
 use Rattle.script_names.specs.declared.location.Location.TheVariants.{Personal, Global}
@@ -136,7 +136,7 @@ module _ (find other : ScriptName → Lookup) where
   AgreeOn lookups = (name : ScriptName) → is_looked_up name lookups ≡ true → find name ≡ other name
 
   -- `f` over the first library keeps the names that were read. `g` over the other library does the
-  -- same as `f` if the libraries agree on the names that `f` has read.
+  -- same as `f` if the libraries agree. They have to agree on the names that `f` has read.
   record Frames (f g : RunState → Ending) : Type 0 where
     grows : (s : RunState) → Grows s (state_after (f s))
     same : (s : RunState) → AgreeOn (state_after (f s)).lookups → g s ≡ f s
@@ -344,8 +344,7 @@ module _ (find other : ScriptName → Lookup) where
       ap (λ lookup. verdict_at other arrival main (if nat_lt name_limit (length main.name) then missing else lookup)) (sym (agree main (main_lookup arrival main (found_at find main))))
       ∙ verdict_same arrival main (found_at find main) agree
 
--- the verdict over a library is that over another one, if both have the same at each name that was
--- looked up
+-- the verdict over a library is that over another, if both have the same at each looked-up name
 pub frame : (texts others : LibraryTexts) (main : Option ScriptName) (arrival : Arrival) → Agree texts others (verdict_over texts main arrival).lookups → verdict_over others main arrival ≡ verdict_over texts main arrival
 frame texts others main arrival agree =
     verdict_same (library_of arrival.profile texts) (library_of arrival.profile others) main arrival (λ name r. ap (lookup_of arrival.profile) (agree name r))

@@ -28,8 +28,7 @@ one_more : {n turn : ℕ} → turn < n → n - turn ≡ suc (n - (turn + 1))
 one_more below = omega arith
 
 module _ (act : Acts) (delivery : Delivery) where
-  -- going on at the place after an operation is going on at the next place, with the same truth in
-  -- the register
+  -- going on at the place after an operation is going on at the next place, with the same register
   on_after : (go : ℕ → Bool → Walk) (truth : Bool) (after place : ℕ) (s : RunState) → after ≡ place + 1 → doing act delivery (go (place + 1) truth) s ≡ doing act delivery (go after truth) s
   on_after go truth after place s is = ap (λ b. doing act delivery (go b truth) s) (sym is)
 

@@ -33,8 +33,8 @@ abbrev pub watched : (beyond : Delivery → Commands → RunState → Ending) �
 watched beyond include delivery program state =
     if nat_lt include_depth (length delivery.including) then beyond delivery program state else exec (answer_of delivery) (act_by include delivery) program state
 
--- an include, where so many levels of includes are still allowed and each script that is entered is
--- watched
+-- An include, where `depth` more levels of includes are allowed below the running script. Each
+-- script that is entered is watched.
 unfoldable pub watched_include : (beyond : Delivery → Commands → RunState → Ending) → (ScriptName → Lookup) → (depth : ℕ) → Delivery → ScriptName → (once optional : Bool) → ℕ → RunState → Ending
 watched_include beyond find zero delivery name once optional line state = include_of find delivery None name once optional line state
 watched_include beyond find (suc depth) delivery name once optional line state =

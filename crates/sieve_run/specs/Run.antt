@@ -165,7 +165,8 @@ include_of find delivery enter name once optional line state =
     if once && is_script name state.entered then goes_on state else
     if is_running name delivery then fails_at delivery line RecursiveInclude state else includes find delivery enter name optional line state
 
--- an include, where so many levels of includes are still allowed (RFC 6609, 3.2)
+-- an include, where `depth` more levels of includes are allowed below the running script (RFC 6609,
+-- 3.2)
 unfoldable pub included : (ScriptName → Lookup) → (depth : ℕ) → Delivery → ScriptName → (once optional : Bool) → ℕ → RunState → Ending
 included find zero delivery name once optional line state = include_of find delivery None name once optional line state
 included find (suc depth) delivery name once optional line state =

@@ -16,8 +16,8 @@ use crate::including::find;
 use crate::library::{Found, Library};
 use crate::meter::Meter;
 use crate::steps::{Running, execute};
+use flag_lists::FlagList;
 use indexmap::IndexMap;
-use match_text::FlagList;
 use message_text::Message;
 use script_names::ScriptName;
 use sieve_code::Code;
@@ -174,9 +174,9 @@ fn no_main(alloc: Global) -> Verdict
     )
 }
 
-/// Runs the main script on a message, under the library's profile. If there is none, the implicit
-/// keep stands. A message's own addresses take the place of those of the envelope. The meter counts
-/// the run, even if memory runs out. An error is out of memory.
+/// Runs the main script on a message, under the library's profile. Without a main script the
+/// implicit keep stands. A message's own addresses take the place of those of the envelope. The
+/// meter counts the run, even if memory runs out. An error is out of memory.
 #[tactic(auto, using(crate::proofs::Performing::by_code), unfolding(crate::specs::Run::verdict_of))]
 pub fn run<L: Library>(
     alloc: Global,

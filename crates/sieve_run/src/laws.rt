@@ -76,8 +76,9 @@ pub fn no_run_comes_to_a_deeper_script()
         → watched_run beyond find arrival main program ≡ spec.run_of find arrival main program }
 {}
 
-/// A verdict, with the names that it looked up, is the same over two libraries of one profile that
-/// agree at these names. They agree at a name if both have the same text there, or both have none.
+/// A verdict, with the names that it looked up, is the same over libraries that agree at these
+/// names. They have the same profile. They agree at a name if they have the same text there, or
+/// none has any.
 #[tactic(auto, using(crate::proofs::Frame::frame))]
 pub fn a_verdict_depends_on_what_it_looked_up()
     ensures { (texts others : LibraryTexts) (main : Option names.ScriptName) (arrival : Arrival)
@@ -94,10 +95,10 @@ pub fn tests_set_match_variables_at_most()
         → spec.SetsMatched state (spec.decide (spec.answer_of delivery) condition state).state }
 {}
 
-/// Running a script's commands gives the same as doing the leaves of its walk in turn, up to the
-/// first that ends the run. The walk goes by the answers of the tests. Doing in turn what the walk
-/// meets with the list of these answers gives the same too. This holds whatever tests ask, and
-/// whatever commands that act do.
+/// Running a script's commands gives the same as doing the leaves of its walk in turn. They are
+/// done up to the first that ends the run. The walk goes by the answers of the tests. Doing in turn
+/// what the walk meets with the list of these answers gives the same too. This holds whatever tests
+/// ask, and whatever commands that act do.
 #[tactic(auto, using(crate::proofs::Performing::walking))]
 pub fn a_run_does_its_walk()
     ensures same { (ask : Ask → RunState → spec.Answer) (act : Leaf → ℕ → RunState → Ending)
@@ -125,8 +126,8 @@ pub fn each_action_has_its_origin()
         line deed state.entries (state_after (performs delivery line deed state)).entries }
 {}
 
-/// No two actions of a verdict are one. It has no two stores into one mailbox, no two redirects to
-/// one address, and no two discards (RFC 5228, 2.10.3). It also has no two responses and no two
+/// No two actions of a verdict are one. It has no two stores into one mailbox and no two redirects
+/// to one address. It has no two discards either (RFC 5228, 2.10.3), no two responses and no two
 /// rejections.
 #[tactic(auto, using(crate::proofs::Distinct::verdict_distinct))]
 pub fn no_run_acts_twice_alike()

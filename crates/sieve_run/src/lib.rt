@@ -14,10 +14,10 @@ mod shelf;
 mod steps;
 mod turn;
 
+pub use flag_lists::FlagList;
 pub use including::find;
 pub use interpreter::run;
 pub use library::{Found, Library};
-pub use match_text::FlagList;
 pub use message_text::{Message, MessageFault};
 pub use meter::Meter;
 pub use octets::Octets;

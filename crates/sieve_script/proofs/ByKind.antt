@@ -9,7 +9,7 @@ use Rattle.sieve_script.specs.declared.label.Label.{Label}
 use Rattle.sieve_table.proofs.Telling.{one_kind, own_kind}
 use Rattle.sieve_table.specs.Table.{same_kind}
 use Rattle.sieve_table.specs.declared.row.TagKind.{TagKind}
-use Rattle.sieve_table.specs.declared.table.Tag.{Tag}
+use Rattle.sieve_table.specs.declared.tag.Tag.{Tag}
 
 -- AT THE PLACES OF KINDS
 

@@ -13,7 +13,7 @@ use Rattle.sieve_table.specs.Table.{Row, tag_row}
 use Rattle.sieve_table.specs.declared.row.Form.{Form}
 use Rattle.sieve_table.specs.declared.row.Form.TheVariants as form
 use Rattle.sieve_table.specs.declared.row.Slot.{Slot}
-use Rattle.sieve_table.specs.declared.table.Tag.{Tag}
+use Rattle.sieve_table.specs.declared.tag.Tag.{Tag}
 
 never_both : true ≡ false → ⊥
 never_both e = cc

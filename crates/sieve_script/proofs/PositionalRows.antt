@@ -5,7 +5,7 @@ use Rattle.sieve_script.specs.declared.label.Shape.TheVariants as shape
 use Rattle.sieve_table.specs.Table.{slot}
 use Rattle.sieve_table.specs.declared.row.Form.TheVariants as form
 use Rattle.sieve_table.specs.declared.row.Role.TheVariants as role
-use Rattle.sieve_table.specs.declared.table.Tag.TheVariants as tag
+use Rattle.sieve_table.specs.declared.tag.Tag.TheVariants as tag
 
 -- header :comparator "i;octet" :is "Subject" ["a"]
 positional_row : positional_of (shape.Tag (Some tag.Comparator) ∷ shape.Text ∷ shape.Tag (Some tag.Is) ∷ shape.Text ∷ shape.Texts ∷ []) ≡ shape.Text ∷ shape.Texts ∷ []

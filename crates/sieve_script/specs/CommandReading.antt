@@ -16,8 +16,8 @@ use Rattle.sieve_table.specs.declared.row.Role.TheVariants as role
 use Rattle.sieve_table.specs.declared.row.TagKind.TheVariants as kind
 use Rattle.sieve_table.specs.declared.table.CommandKind.{CommandKind}
 use Rattle.sieve_table.specs.declared.table.CommandKind.TheVariants as command
-use Rattle.sieve_table.specs.declared.table.Tag.{Tag}
-use Rattle.sieve_table.specs.declared.table.Tag.TheVariants as tag
+use Rattle.sieve_table.specs.declared.tag.Tag.{Tag}
+use Rattle.sieve_table.specs.declared.tag.Tag.TheVariants as tag
 use Rattle.sieve_variables.specs.declared.modifier.LetterCase.{LetterCase}
 use Rattle.sieve_variables.specs.declared.modifier.LetterCase.TheVariants as letter_case
 use Rattle.sieve_variables.specs.declared.modifier.Modifiers.{Modifiers}

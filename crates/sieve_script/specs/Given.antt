@@ -21,8 +21,8 @@ use Rattle.sieve_script.specs.declared.reading.MatchType.TheVariants.{Is, Contai
 use Rattle.sieve_table.specs.declared.row.Role.{Role}
 use Rattle.sieve_table.specs.declared.row.TagKind.{TagKind}
 use Rattle.sieve_table.specs.declared.row.TagKind.TheVariants as kind
-use Rattle.sieve_table.specs.declared.table.Tag.{Tag}
-use Rattle.sieve_table.specs.declared.table.Tag.TheVariants as tag
+use Rattle.sieve_table.specs.declared.tag.Tag.{Tag}
+use Rattle.sieve_table.specs.declared.tag.Tag.TheVariants as tag
 use Rattle.sieve_variables.specs.Part.{Part, literal, variable_part}
 use Rattle.sieve_variables.specs.Variable.{Variable, local_variable}
 

@@ -10,7 +10,7 @@ use Rattle.sieve_script.specs.declared.label.Label.TheVariants.{InSlot, Unfit}
 use Rattle.sieve_script.specs.declared.label.Shape.{Shape}
 use Rattle.sieve_script.specs.declared.label.Shape.TheVariants as shape
 use Rattle.sieve_table.specs.declared.row.Slot.{Slot}
-use Rattle.sieve_table.specs.declared.table.Tag.{Tag}
+use Rattle.sieve_table.specs.declared.tag.Tag.{Tag}
 
 -- TAGS' OWN ARGUMENTS
 

@@ -8,7 +8,7 @@ use Rattle.sieve_table.specs.Table.{Row, tag_named}
 use Rattle.sieve_script.specs.declared.label.Label.{Label}
 use Rattle.sieve_script.specs.declared.label.Shape.{Shape}
 use Rattle.sieve_script.specs.declared.label.Shape.TheVariants as shape
-use Rattle.sieve_table.specs.declared.table.Tag.{Tag}
+use Rattle.sieve_table.specs.declared.tag.Tag.{Tag}
 
 -- the shape of strings: one string without brackets, or a list (RFC 5228, section 2.4.2.1)
 abbrev pub texts_shape : ℕ → Bool → Shape

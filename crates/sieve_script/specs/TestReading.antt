@@ -9,8 +9,8 @@ use Rattle.sieve_variables.specs.Part.{Part}
 use Rattle.sieve_script.specs.declared.reading.Comparison.{Comparison}
 use Rattle.sieve_table.specs.declared.row.Role.TheVariants as role
 use Rattle.sieve_table.specs.declared.row.TagKind.TheVariants as kind
-use Rattle.sieve_table.specs.declared.table.Tag.{Tag}
-use Rattle.sieve_table.specs.declared.table.Tag.TheVariants as tag
+use Rattle.sieve_table.specs.declared.tag.Tag.{Tag}
+use Rattle.sieve_table.specs.declared.tag.Tag.TheVariants as tag
 use Rattle.sieve_table.specs.declared.table.TestKind.{TestKind}
 use Rattle.sieve_table.specs.declared.table.TestKind.TheVariants as test_kind
 use Rattle.sieve_script.specs.Given.{Tags, tags_of, in_role, texts_in, text_in, given_text, given_texts, number_in, collation_by, relation_by, match_type_of, address_part_of}

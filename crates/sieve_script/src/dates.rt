@@ -21,7 +21,7 @@ use std::alloc::Global;
 
 /// The arguments of a test of dates that have strings, each the first in its role.
 #[derive(Drop)]
-struct Strings {
+struct DateStrings {
     zone: Option<CutArgument>,
     field: Option<CutArgument>,
     part: Option<CutArgument>,
@@ -29,7 +29,7 @@ struct Strings {
 }
 
 /// The first argument in each of these roles, by value.
-fn into_strings(labels: &[Label], args: Vec<CutArgument>) -> Strings
+fn into_strings(labels: &[Label], args: Vec<CutArgument>) -> DateStrings
     ensures zone { option_map cut_as result.zone
         ≡ in_role role.Zone labels.now (map cut_as args.items) }
     ensures field { option_map cut_as result.field
@@ -57,7 +57,7 @@ fn into_strings(labels: &[Label], args: Vec<CutArgument>) -> Strings
             keys = first_or(keys, argument);
         }
     }
-    Strings {
+    DateStrings {
         zone,
         field,
         part,
@@ -91,7 +91,7 @@ pub(crate) fn date_ask(alloc: Global, labels: &[Label], args: Vec<CutArgument>) 
 {
     let tags = Tags::among(labels);
     let comparison = comparison_of(tags, labels, &args);
-    let Strings {
+    let DateStrings {
         zone,
         field,
         part,
@@ -115,7 +115,7 @@ pub(crate) fn current_date_ask(alloc: Global, labels: &[Label], args: Vec<CutArg
 {
     let tags = Tags::among(labels);
     let comparison = comparison_of(tags, labels, &args);
-    let Strings {
+    let DateStrings {
         zone,
         part,
         keys,

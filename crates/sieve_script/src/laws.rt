@@ -9,7 +9,7 @@ ghost use Rattle.sieve_script.specs.declared.label.Label.TheVariants.{Own, Tagge
 ghost use Rattle.sieve_script.specs.declared.label.Shape.{Shape};
 ghost use Rattle.sieve_script.specs.declared.label.Shape.TheVariants as shape;
 ghost use Rattle.sieve_table.specs.declared.row.Slot.{Slot};
-ghost use Rattle.sieve_table.specs.declared.table.Tag.{Tag};
+ghost use Rattle.sieve_table.specs.declared.tag.Tag.{Tag};
 
 /// The label of each argument, by its shape and that of the argument right before it (RFC 5228,
 /// section 2.6). Tags that are taken are labelled so, and nothing else is. An argument is a tag's

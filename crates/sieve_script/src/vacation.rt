@@ -17,7 +17,7 @@ use sieve_table::{Role, TagKind, has_role};
 use std::alloc::{AllocError, Global};
 
 /// The arguments of a `vacation` that have strings, each the first in its role.
-struct Strings {
+struct VacationStrings {
     reason: Option<CutArgument>,
     subject: Option<CutArgument>,
     from: Option<CutArgument>,
@@ -26,7 +26,7 @@ struct Strings {
 }
 
 /// The first argument in each of these roles, by value.
-fn into_strings(labels: &[Label], args: Vec<CutArgument>) -> Strings
+fn into_strings(labels: &[Label], args: Vec<CutArgument>) -> VacationStrings
     ensures reason { option_map cut_as result.reason
         ≡ in_role role.Text labels.now (map cut_as args.items) }
     ensures subject { option_map cut_as result.subject
@@ -59,7 +59,7 @@ fn into_strings(labels: &[Label], args: Vec<CutArgument>) -> Strings
             handle = first_or(handle, argument);
         }
     }
-    Strings {
+    VacationStrings {
         reason,
         subject,
         from,
@@ -79,7 +79,7 @@ pub(crate) fn vacation_leaf(
 {
     let mime = Tags::among(labels).has(TagKind::Mime);
     let days = given_number(argument_in(labels, Role::Days, &args));
-    let Strings {
+    let VacationStrings {
         reason,
         subject,
         from,

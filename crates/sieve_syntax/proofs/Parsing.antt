@@ -4,7 +4,7 @@ use Rattle.std.proofs.lemmas.Option.{same_Some}
 use Rattle.sieve_syntax.specs.Tree.{Tests, no_tests, one_test, test_list, tests, Node, no_block, block, nodes}
 use Rattle.sieve_syntax.specs.Token.{line_at}
 use Rattle.sieve_syntax.specs.Symbol.{Symbol, identifier, string_symbol, semicolon, close_brace, close_parenthesis, close_bracket, symbol_of, symbols_of}
-use Rattle.sieve_syntax.specs.Grammar.{written_nodes, NestsNodes, WritesSymbols, Begins}
+use Rattle.sieve_syntax.specs.Grammar.{written_nodes, NestsNodes, WritesSymbols, BeginsAt}
 use Rattle.sieve_syntax.specs.Machine.{Head, Level, for_one, for_list, Open, Outer, ParserState, between, in_arguments, before_string, after_string, before_test, after_tests, bare_head, test_with, node_with, close_block, step, start, whole, whole_outer, read}
 use Rattle.sieve_syntax.specs.Syntax.{IsFaultAt, IsFaultAtEnd}
 use Rattle.sieve_syntax.specs.declared.token.Token.{Token}
@@ -121,12 +121,12 @@ module _ (depth room : ℕ) where
       ∙ read_nodes depth room (nodes tree) (record { blocks = []; done = [] }) [] room h.0 (omega arith)
       ∙ ap (λ x. Some (ended x)) (items-nodes tree)
 
-  runs_begin : (ws : List Symbol) (s : ParserState) → run depth room start ws ≡ Some s → Begins depth room ws
+  runs_begin : (ws : List Symbol) (s : ParserState) → run depth room start ws ≡ Some s → BeginsAt depth room ws
   runs_begin ws s e =
       let c : Closes s = closes s in
       (c.more, c.tree, ended_writes c.tree (ws ++ c.more) (run-append ws c.more start s e ∙ c.runs))
 
-  begins_run : (ws : List Symbol) → Begins depth room ws → (s : ParserState) × (run depth room start ws ≡ Some s)
+  begins_run : (ws : List Symbol) → BeginsAt depth room ws → (s : ParserState) × (run depth room start ws ≡ Some s)
   begins_run ws h =
       by_option (run depth room start ws) (λ o. (s : ParserState) × (o ≡ Some s)) (λ s e. (s, refl))
       (λ e. absurd (let p = run-none ws h.0 start e in let q = writes_runs h.1 (ws ++ h.0) h.2 in cc))
@@ -169,7 +169,7 @@ module _ (depth room : ℕ) where
         ∙ run-one s t (symbol_of text token) f
 
     -- the tokens up to one that the state does not take begin nothing that a tree writes
-    stuck_stops : (front : List Token) (token : Token) (s : ParserState) → run depth room start (symbols_of text front) ≡ Some s → step depth room s (symbol_of text token) ≡ None → Begins depth room (symbols_of text (front ++ token ∷ [])) → ⊥
+    stuck_stops : (front : List Token) (token : Token) (s : ParserState) → run depth room start (symbols_of text front) ≡ Some s → step depth room s (symbol_of text token) ≡ None → BeginsAt depth room (symbols_of text (front ++ token ∷ [])) → ⊥
     stuck_stops front token s e f h =
         let b = begins_run _ h in
         let none : run depth room start (symbols_of text (front ++ token ∷ [])) ≡ None =
@@ -213,7 +213,7 @@ module _ (depth room : ℕ) where
         by_option (whole s) (λ o. whole s ≡ o → IsRead (front ++ []) (elim o as (λ z. Result (List Node) ℕ) [ Some tree ↦ Ok tree | None ↦ Err (line_at text (length text)) ]))
         (λ tree q p. subst (λ x. WritesSymbols depth room tree (symbols_of text x)) (sym (append-nil front)) (ended_writes tree (symbols_of text front) (e ∙ ap (λ x. Some x) (whole_ended s tree p))))
         (λ q p. inr (record {
-          begins = subst (λ x. Begins depth room (symbols_of text x)) (sym (append-nil front)) (runs_begin _ s e);
+          begins = subst (λ x. BeginsAt depth room (symbols_of text x)) (sym (append-nil front)) (runs_begin _ s e);
           stops = subst (λ x. (tree : List Node) → WritesSymbols depth room tree (symbols_of text x) → ⊥) (sym (append-nil front)) (part_stops front s e p);
           line_is = refl;
         })) refl

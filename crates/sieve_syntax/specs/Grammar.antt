@@ -115,5 +115,5 @@ abbrev pub WritesSymbols : ℕ → ℕ → List Node → List Symbol → Type 0
 WritesSymbols depth room tree symbols = NestsNodes depth (nodes tree) room × (symbols ≡ written_nodes (nodes tree))
 
 -- the symbols begin what a tree writes
-abbrev pub Begins : ℕ → ℕ → List Symbol → Type 0
-Begins depth room symbols = (more : List Symbol) × (tree : List Node) × WritesSymbols depth room tree (symbols ++ more)
+abbrev pub BeginsAt : ℕ → ℕ → List Symbol → Type 0
+BeginsAt depth room symbols = (more : List Symbol) × (tree : List Node) × WritesSymbols depth room tree (symbols ++ more)

@@ -1,7 +1,7 @@
 -- What a text means: the one tree that writes it, or the line of its first fault.
 use Rattle.std.specs.Prelude.{◌≡◌, ℕ, ◌⊎◌, List, [], ◌∷◌, ◌++◌, length, Result}
 use Rattle.sieve_limits.specs.Limits.{test_depth, block_room}
-use Rattle.sieve_syntax.specs.Grammar.{WritesSymbols, Begins}
+use Rattle.sieve_syntax.specs.Grammar.{WritesSymbols, BeginsAt}
 use Rattle.sieve_syntax.specs.Machine.{start, read}
 use Rattle.sieve_syntax.specs.Scan.{tokens_of}
 use Rattle.sieve_syntax.specs.Token.{Spells, line_at}
@@ -15,13 +15,13 @@ pub record IsFaultAt (depth room : ℕ) (text : List ℕ) (tokens : List Token) 
   pub token : Token
   pub rest : List Token
   pub split : tokens ≡ front ++ token ∷ rest
-  pub begins : Begins depth room (symbols_of text front)
-  pub stops : Begins depth room (symbols_of text (front ++ token ∷ [])) → ⊥
+  pub begins : BeginsAt depth room (symbols_of text front)
+  pub stops : BeginsAt depth room (symbols_of text (front ++ token ∷ [])) → ⊥
   pub line_is : line ≡ token.line
 
 -- The tokens begin what a tree writes, but no tree writes them alone, and the line is that of the end.
 pub record IsFaultAtEnd (depth room : ℕ) (text : List ℕ) (tokens : List Token) (line : ℕ) : Type 0 where
-  pub begins : Begins depth room (symbols_of text tokens)
+  pub begins : BeginsAt depth room (symbols_of text tokens)
   pub stops : (tree : List Node) → WritesSymbols depth room tree (symbols_of text tokens) → ⊥
   pub line_is : line ≡ line_at text (length text)
 

@@ -12,11 +12,11 @@ use Rattle.sieve_table.specs.Known.{is_known, names_known}
 use Rattle.sieve_table.specs.Table.{command_named, command_row, commands, same_tag, tag_named, tag_row, test_named, test_row, tests}
 use Rattle.sieve_table.specs.contracts.capability.Capability as every_capability
 use Rattle.sieve_table.specs.contracts.table.CommandKind as every_command
-use Rattle.sieve_table.specs.contracts.table.Tag as every_tag
+use Rattle.sieve_table.specs.contracts.tag.Tag as every_tag
 use Rattle.sieve_table.specs.contracts.table.TestKind as every_test
 use Rattle.sieve_table.specs.declared.capability.Capability.{Capability}
 use Rattle.sieve_table.specs.declared.table.CommandKind.{CommandKind}
-use Rattle.sieve_table.specs.declared.table.Tag.{Tag}
+use Rattle.sieve_table.specs.declared.tag.Tag.{Tag}
 use Rattle.sieve_table.specs.declared.table.TestKind.{TestKind}
 use Rattle.sieve_profile.proofs.Each.{of_each}
 

@@ -6,10 +6,10 @@ use Rattle.sieve_table.specs.Role.{has_role, same_role}
 use Rattle.sieve_table.specs.Table.{all_tags, same_kind, same_tag}
 use Rattle.sieve_table.specs.contracts.row.Role as roles
 use Rattle.sieve_table.specs.contracts.row.TagKind as kinds
-use Rattle.sieve_table.specs.contracts.table.Tag as tags
+use Rattle.sieve_table.specs.contracts.tag.Tag as tags
 use Rattle.sieve_table.specs.declared.row.Role.{Role}
 use Rattle.sieve_table.specs.declared.row.TagKind.{TagKind}
-use Rattle.sieve_table.specs.declared.table.Tag.{Tag}
+use Rattle.sieve_table.specs.declared.tag.Tag.{Tag}
 use Rattle.sieve_profile.proofs.Each.{of_each}
 
 pub one_role : (a b : Role) → same_role a b ≡ true → a ≡ b

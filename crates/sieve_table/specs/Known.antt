@@ -10,7 +10,7 @@ use Rattle.sieve_table.specs.Table.{Row, command_named, command_row, tag_row, te
 use Rattle.sieve_table.specs.declared.capability.Capability.{Capability}
 use Rattle.sieve_table.specs.declared.capability.Capability.TheVariants as capability
 use Rattle.sieve_table.specs.declared.table.CommandKind.{CommandKind}
-use Rattle.sieve_table.specs.declared.table.Tag.{Tag}
+use Rattle.sieve_table.specs.declared.tag.Tag.{Tag}
 use Rattle.sieve_table.specs.declared.table.TestKind.{TestKind}
 
 -- the name that a profile needs for a capability to be known; without one it always is

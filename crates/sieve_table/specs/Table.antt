@@ -5,7 +5,7 @@ use denote.Enum.Bare.{sameb}
 use Rattle.sieve_profile.specs.Every.{every}
 use Rattle.sieve_table.specs.contracts.row.TagKind as kinds
 use Rattle.sieve_table.specs.contracts.table.CommandKind as command_kinds
-use Rattle.sieve_table.specs.contracts.table.Tag as tag_kinds
+use Rattle.sieve_table.specs.contracts.tag.Tag as tag_kinds
 use Rattle.sieve_table.specs.contracts.table.TestKind as test_kinds
 use Rattle.sieve_table.specs.declared.capability.Capability.{Capability}
 use Rattle.sieve_table.specs.declared.capability.Capability.TheVariants as capability
@@ -20,8 +20,8 @@ use Rattle.sieve_table.specs.declared.row.TagKind.{TagKind}
 use Rattle.sieve_table.specs.declared.row.TagKind.TheVariants as kind
 use Rattle.sieve_table.specs.declared.table.CommandKind.{CommandKind}
 use Rattle.sieve_table.specs.declared.table.CommandKind.TheVariants as command
-use Rattle.sieve_table.specs.declared.table.Tag.{Tag}
-use Rattle.sieve_table.specs.declared.table.Tag.TheVariants as tag
+use Rattle.sieve_table.specs.declared.tag.Tag.{Tag}
+use Rattle.sieve_table.specs.declared.tag.Tag.TheVariants as tag
 use Rattle.sieve_table.specs.declared.table.TestKind.{TestKind}
 use Rattle.sieve_table.specs.declared.table.TestKind.TheVariants as test
 

@@ -10,7 +10,7 @@ ghost use Rattle.sieve_table.specs.Table.{command_named, command_row, commands, 
 ghost use Rattle.sieve_table.specs.declared.capability.Capability.{Capability};
 ghost use Rattle.sieve_table.specs.declared.rule.Rule.{Rule};
 ghost use Rattle.sieve_table.specs.declared.table.CommandKind.{CommandKind};
-ghost use Rattle.sieve_table.specs.declared.table.Tag.{Tag};
+ghost use Rattle.sieve_table.specs.declared.tag.Tag.{Tag};
 ghost use Rattle.sieve_table.specs.declared.table.TestKind.{TestKind};
 
 /// The rules stand in the order of their numbers: the rule of number n is the n-th of them, and there is no other.

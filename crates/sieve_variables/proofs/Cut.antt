@@ -6,8 +6,8 @@ use Rattle.std.specs.Option.{option_map}
 use Rattle.std.proofs.lemmas.Bool.{eqb-true}
 use Rattle.text_cut.proofs.Cut as cuts
 use Rattle.text_cut.specs.Cut.{octet}
-use Rattle.text_cut.specs.Scan.{Finds, pieces_from}
-use Rattle.sieve_variables.specs.Reference.{Cuts, IsLegal, dotted, is_legal, reference, written}
+use Rattle.text_cut.specs.Scan.{FindsSequences, pieces_from}
+use Rattle.sieve_variables.specs.Reference.{CutsReferences, IsLegalReference, dotted, is_legal, reference, written}
 use Rattle.sieve_variables.specs.Scan.{before_brace, further, if_legal, inside_at, is_inside, pieces_of, reference_at, words_of}
 use Rattle.sieve_variables.proofs.Words.{dotted-words_of, dotted_inside, legal_octets, legal_some, not_brace, words_of-dotted}
 use Rattle.octets.proofs.Both.{first_of_both, last_of_both}
@@ -135,7 +135,7 @@ written_length : (words : List (List ℕ)) → length (written words) ≡ suc (f
 written_length words = simp length-append (omega arith)
 
 -- exactly the references are found
-pub finds : Finds written IsLegal reference_at further
+pub finds : FindsSequences written IsLegalReference reference_at further
 finds = record {
   legal = λ text words is. (reference_starts text words is).legal;
   is = λ text words is. let starts = reference_starts text words is in (starts.rest, starts.is);
@@ -154,7 +154,7 @@ pieces-reference c rest inside found =
     ∙ ap (λ octets. reference (words_of inside) ∷ pieces_of (drop (length octets + 2) rest)) (dotted-words_of inside)
 
 -- the computed pieces are a cut of the text
-pub cuts_from : (skip : ℕ) (text : List ℕ) → Cuts (pieces_from reference_at further skip text) (drop skip text)
+pub cuts_from : (skip : ℕ) (text : List ℕ) → CutsReferences (pieces_from reference_at further skip text) (drop skip text)
 cuts_from skip text = cuts.cuts_from finds skip text
 
 -- the octets of the reference with which a text begins

@@ -8,7 +8,7 @@ use Rattle.sieve_variables.specs.Name.{folded_name, index_of, is_identifier}
 use Rattle.sieve_variables.specs.Part.{Part, global_part, grouped, is_shared, literal, local_part, match_part, octet_before, part_of_words, variable_part}
 use Rattle.text_cut.specs.Cut.{octet}
 use Rattle.text_cut.specs.Scan.{pieces_from}
-use Rattle.sieve_variables.specs.Reference.{TextPiece, reference, written}
+use Rattle.sieve_variables.specs.Reference.{ReferencePiece, reference, written}
 use Rattle.sieve_variables.specs.Scan.{has_reference, inside_at, is_foreign, is_reference, parts_of_text, pieces_of, words_of}
 use Rattle.sieve_variables.specs.Variable.{Variable, global_variable, local_variable}
 use Rattle.sieve_variables.specs.view.Part.{added, literal_part}
@@ -29,12 +29,12 @@ pub true_once : (a more all : Bool) → ((a || true) || more) ≡ all → true �
 true_once true more all is = is
 true_once false more all is = is
 
-any_octet : (p : TextPiece → Bool) → ((c : ℕ) → p (octet c) ≡ false) → (text : List ℕ) → 0 < length text → None ≡ inside_at text → list_any p (pieces_of text) ≡ list_any p (pieces_of (drop 1 text))
+any_octet : (p : ReferencePiece → Bool) → ((c : ℕ) → p (octet c) ≡ false) → (text : List ℕ) → 0 < length text → None ≡ inside_at text → list_any p (pieces_of text) ≡ list_any p (pieces_of (drop 1 text))
 any_octet p never [] some none = absurd (omega arith)
 any_octet p never (c ∷ rest) some none =
     ap (list_any p) (pieces-octet c rest (sym none)) ∙ ap (λ b. b || list_any p (pieces_of rest)) (never c)
 
-any_reference : (p : TextPiece → Bool) (text inside : List ℕ) → Some inside ≡ inside_at text → list_any p (pieces_of text) ≡ (p (reference (words_of inside)) || list_any p (pieces_of (drop (3 + length inside) text)))
+any_reference : (p : ReferencePiece → Bool) (text inside : List ℕ) → Some inside ≡ inside_at text → list_any p (pieces_of text) ≡ (p (reference (words_of inside)) || list_any p (pieces_of (drop (3 + length inside) text)))
 any_reference p [] inside found =
     let none = none_at_end in absurd cc
 any_reference p (c ∷ rest) inside found =
@@ -42,13 +42,13 @@ any_reference p (c ∷ rest) inside found =
     ap (list_any p) (pieces-reference c rest inside (sym found))
     ∙ ap (λ n. p (reference (words_of inside)) || list_any p (pieces_of (drop n (c ∷ rest)))) (sym same)
 
-pub passed_octet : (p : TextPiece → Bool) → ((c : ℕ) → p (octet c) ≡ false) → (text after : List ℕ) (found all : Bool) → 0 < length text → None ≡ inside_at text → after ≡ drop 1 text → (found || list_any p (pieces_of text)) ≡ all → (found || list_any p (pieces_of after)) ≡ all
+pub passed_octet : (p : ReferencePiece → Bool) → ((c : ℕ) → p (octet c) ≡ false) → (text after : List ℕ) (found all : Bool) → 0 < length text → None ≡ inside_at text → after ≡ drop 1 text → (found || list_any p (pieces_of text)) ≡ all → (found || list_any p (pieces_of after)) ≡ all
 passed_octet p never text after found all some none is so_far =
     ap (λ one. found || list_any p (pieces_of one)) is
     ∙ ap (λ b. found || b) (sym (any_octet p never text some none))
     ∙ so_far
 
-pub passed_reference : (p : TextPiece → Bool) (text inside after : List ℕ) (found said all : Bool) → Some inside ≡ inside_at text → said ≡ p (reference (words_of inside)) → after ≡ drop (3 + length inside) text → (found || list_any p (pieces_of text)) ≡ all → ((found || said) || list_any p (pieces_of after)) ≡ all
+pub passed_reference : (p : ReferencePiece → Bool) (text inside after : List ℕ) (found said all : Bool) → Some inside ≡ inside_at text → said ≡ p (reference (words_of inside)) → after ≡ drop (3 + length inside) text → (found || list_any p (pieces_of text)) ≡ all → ((found || said) || list_any p (pieces_of after)) ≡ all
 passed_reference p text inside after found said all reads says is so_far =
     ap (λ b. (found || b) || list_any p (pieces_of after)) says
     ∙ ap (λ one. (found || p (reference (words_of inside))) || list_any p (pieces_of one)) is
@@ -59,7 +59,7 @@ or_false : (a all : Bool) → (a || false) ≡ all → a ≡ all
 or_false true all is = is
 or_false false all is = is
 
-pub passed_all : (p : TextPiece → Bool) (rest : List ℕ) (found all : Bool) → length rest ≡ 0 → (found || list_any p (pieces_of rest)) ≡ all → found ≡ all
+pub passed_all : (p : ReferencePiece → Bool) (rest : List ℕ) (found all : Bool) → length rest ≡ 0 → (found || list_any p (pieces_of rest)) ≡ all → found ≡ all
 unfolding pieces_from
 passed_all p [] found all ended is = or_false found all is
 passed_all p (c ∷ rest) found all ended is = absurd (omega arith)

@@ -4,7 +4,7 @@ use Rattle.std.proofs.lemmas.Bool.{false≢true}
 use Rattle.sieve_variables.specs.Name.{folded_name, index_of, is_identifier, is_number}
 use Rattle.sieve_variables.specs.Part.{AreWritten, Part, global_part, grouped, is_shared, literal, local_part, match_part, octet_before, part_of_words, variable_part}
 use Rattle.text_cut.specs.Cut.{octet, sequence}
-use Rattle.sieve_variables.specs.Reference.{Cuts, TextPiece, is_legal, written}
+use Rattle.sieve_variables.specs.Reference.{CutsReferences, ReferencePiece, is_legal, written}
 use Rattle.sieve_variables.specs.Variable.{global_variable, local_variable}
 
 octet_written : (c : ℕ) (parts : List Part) (rest : List ℕ) → AreWritten parts rest → AreWritten (octet_before c parts) (c ∷ rest)
@@ -30,7 +30,7 @@ reference_written (namespace ∷ name ∷ []) parts text rest legal is after =
     shared_written namespace name parts text rest (is_shared namespace name) refl is after
 reference_written (namespace ∷ word ∷ next ∷ words) parts text rest legal is after = (rest, is, after)
 
-pub grouped-written : (pieces : List TextPiece) (text : List ℕ) → Cuts pieces text → AreWritten (grouped pieces) text
+pub grouped-written : (pieces : List ReferencePiece) (text : List ℕ) → CutsReferences pieces text → AreWritten (grouped pieces) text
 grouped-written [] text is = is
 grouped-written (sequence words ∷ pieces) text (legal, rest, is, cut) =
     reference_written words (grouped pieces) text rest legal is (grouped-written pieces rest cut)

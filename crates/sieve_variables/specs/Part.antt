@@ -3,7 +3,7 @@ use Rattle.std.specs.Prelude.{◌≡◌, ℕ, Bool, true, ◌&&◌, List, [], �
 use Rattle.std.specs.Str.{str_eq_ignore_ascii_case}
 use Rattle.sieve_variables.specs.Name.{is_identifier, is_number, index_of, folded_name, global_namespace}
 use Rattle.text_cut.specs.Cut.{octet, sequence}
-use Rattle.sieve_variables.specs.Reference.{TextPiece, written}
+use Rattle.sieve_variables.specs.Reference.{ReferencePiece, written}
 use Rattle.sieve_variables.specs.Variable.{Variable, local_variable, global_variable, scoped}
 
 -- Octets, a variable, or a match variable by its number.
@@ -38,7 +38,7 @@ octet_before c (match_part index ∷ parts) = literal (c ∷ []) ∷ match_part 
 
 -- The parts that pieces make. A reference that stands as it is written is a literal of its own: octets after it
 -- begin another, and only those directly before it join it.
-abbrev pub grouped : List TextPiece → List Part
+abbrev pub grouped : List ReferencePiece → List Part
 grouped [] = []
 grouped (sequence words ∷ pieces) = part_of_words words ∷ grouped pieces
 grouped (octet c ∷ pieces) = octet_before c (grouped pieces)

@@ -5,7 +5,7 @@ use Rattle.std.specs.Prelude.{◌≡◌, ℕ, Bool, true, false, ◌&&◌, ◌||
 use Rattle.std.specs.List.{flat_map, list_all}
 use Rattle.octets.specs.Octet.{octet_of}
 use Rattle.text_cut.specs.Cut as cut
-use Rattle.text_cut.specs.Cut.{Piece, sequence}
+use Rattle.text_cut.specs.Cut.{TextPiece, sequence}
 use Rattle.sieve_variables.specs.Name.{is_identifier, is_number}
 
 -- variable-name, sub-namespace
@@ -28,17 +28,17 @@ abbrev pub written : List (List ℕ) → List ℕ
 written words = codes "${" ++ dotted words ++ codes "}"
 
 -- whether words are those of a reference
-abbrev pub IsLegal : List (List ℕ) → Type 0
-IsLegal words = is_legal words ≡ true
+abbrev pub IsLegalReference : List (List ℕ) → Type 0
+IsLegalReference words = is_legal words ≡ true
 
 -- a piece of a text: a reference, by its words, or an octet
-abbrev pub TextPiece : Type 0
-TextPiece = Piece (List (List ℕ))
+abbrev pub ReferencePiece : Type 0
+ReferencePiece = TextPiece (List (List ℕ))
 
-abbrev pub reference : (words : List (List ℕ)) → TextPiece
+abbrev pub reference : (words : List (List ℕ)) → ReferencePiece
 reference words = sequence words
 
 -- A text is cut from the left into references and single octets, and no reference begins where an octet stands alone (RFC 5229,
 -- section 3: what isn't a reference stands as it is).
-abbrev pub Cuts : List TextPiece → List ℕ → Type 0
-Cuts pieces text = cut.Cuts written IsLegal pieces text
+abbrev pub CutsReferences : List ReferencePiece → List ℕ → Type 0
+CutsReferences pieces text = cut.Cuts written IsLegalReference pieces text

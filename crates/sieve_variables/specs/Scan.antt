@@ -7,7 +7,7 @@ use Rattle.octets.specs.Octet.{octet_of, is_name_octet}
 use Rattle.sieve_variables.specs.Name.{is_number, index_of}
 use Rattle.text_cut.specs.Cut.{octet, sequence}
 use Rattle.text_cut.specs.Scan as scan
-use Rattle.sieve_variables.specs.Reference.{TextPiece, dotted, is_legal}
+use Rattle.sieve_variables.specs.Reference.{ReferencePiece, dotted, is_legal}
 use Rattle.sieve_variables.specs.Part.{Part, grouped, is_shared}
 
 -- what stands between the words of a reference
@@ -47,7 +47,7 @@ abbrev pub further : List (List ℕ) → ℕ
 further words = length (dotted words) + 2
 
 -- the pieces of a text
-abbrev pub pieces_of : List ℕ → List TextPiece
+abbrev pub pieces_of : List ℕ → List ReferencePiece
 pieces_of text = scan.pieces_of reference_at further text
 
 -- the parts of a text
@@ -55,17 +55,17 @@ abbrev pub parts_of_text : List ℕ → List Part
 parts_of_text text = grouped (pieces_of text)
 
 -- whether a piece is a reference
-abbrev pub is_reference : TextPiece → Bool
+abbrev pub is_reference : ReferencePiece → Bool
 is_reference (octet c) = false
 is_reference (sequence words) = true
 
 -- whether a piece is a reference with a namespace: of more than one word
-abbrev pub is_namespaced : TextPiece → Bool
+abbrev pub is_namespaced : ReferencePiece → Bool
 is_namespaced (octet c) = false
 is_namespaced (sequence words) = nat_lt 1 (length words)
 
 -- whether a piece is a reference in another namespace than that of the variables that scripts share (RFC 6609, section 3.4.2)
-abbrev pub is_foreign : TextPiece → Bool
+abbrev pub is_foreign : ReferencePiece → Bool
 is_foreign (octet c) = false
 is_foreign (sequence []) = false
 is_foreign (sequence (name ∷ [])) = false
@@ -73,7 +73,7 @@ is_foreign (sequence (namespace ∷ name ∷ [])) = not (is_shared namespace nam
 is_foreign (sequence (namespace ∷ word ∷ next ∷ words)) = true
 
 -- whether a piece is a reference to a match variable whose number is past the limit (RFC 5229, section 6)
-abbrev pub is_far : TextPiece → Bool
+abbrev pub is_far : ReferencePiece → Bool
 is_far (octet c) = false
 is_far (sequence []) = false
 is_far (sequence (name ∷ [])) = is_number name && nat_lt match_limit (index_of name)

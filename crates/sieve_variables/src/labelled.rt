@@ -8,7 +8,7 @@ use std::marker::Model;
 
 /// Where octets lie that have a label.
 #[derive(Drop)]
-enum Word<L> {
+enum LabelledWord<L> {
     /// In the value itself.
     Few { label: L, octets: Few },
     /// After a pointer.
@@ -18,7 +18,7 @@ enum Word<L> {
 /// Octets with a label. Few of them, as most names and strings have, take no memory of their own. Contracts see both.
 #[derive(Drop)]
 pub struct Labelled<L> {
-    word: Word<L>,
+    word: LabelledWord<L>,
 }
 
 impl<L> Model for Labelled<L> {
@@ -36,7 +36,7 @@ impl<L: Copy> Labelled<L> {
         ensures { result ≡ record { label = label; octets = [] } }
     {
         Labelled {
-            word: Word::Few {
+            word: LabelledWord::Few {
                 label,
                 octets: Few::new(),
             },
@@ -50,12 +50,12 @@ impl<L: Copy> Labelled<L> {
         ensures few { length octets.items ≤ 12 → IsOk result }
     {
         let word = if octets.len() <= FEW {
-            Word::Few {
+            LabelledWord::Few {
                 label,
                 octets: Few::copied(&octets),
             }
         } else {
-            Word::Many {
+            LabelledWord::Many {
                 label,
                 octets: Box::new(alloc, octets)?,
             }
@@ -68,8 +68,8 @@ impl<L: Copy> Labelled<L> {
         ensures { result.now ≡ self.now.octets }
     {
         match &self.word {
-            Word::Few { octets, .. } => octets.as_slice(),
-            Word::Many { octets, .. } => octets.as_slice(),
+            LabelledWord::Few { octets, .. } => octets.as_slice(),
+            LabelledWord::Many { octets, .. } => octets.as_slice(),
         }
     }
 
@@ -78,8 +78,8 @@ impl<L: Copy> Labelled<L> {
         ensures { result ≡ record { label = label; octets = self.octets } }
     {
         let word = match self.word {
-            Word::Few { octets, .. } => Word::Few { label, octets },
-            Word::Many { octets, .. } => Word::Many { label, octets },
+            LabelledWord::Few { octets, .. } => LabelledWord::Few { label, octets },
+            LabelledWord::Many { octets, .. } => LabelledWord::Many { label, octets },
         };
         Labelled { word }
     }
@@ -89,8 +89,8 @@ impl<L: Copy> Labelled<L> {
         ensures { result ≡ self.now.label }
     {
         match &self.word {
-            Word::Few { label, .. } => *label,
-            Word::Many { label, .. } => *label,
+            LabelledWord::Few { label, .. } => *label,
+            LabelledWord::Many { label, .. } => *label,
         }
     }
 }

@@ -4,7 +4,7 @@ ghost use Rattle.sieve_variables.specs.Part.{literal, match_part, scoped_part, v
 ghost use Rattle.sieve_variables.specs.view.Part.{part_ref_as, plain_octets, variable_in};
 
 use crate::labelled::Labelled;
-use crate::variable::{Names, Scope, Variable, VariableRef};
+use crate::variable::{Names, Variable, VariableRef, VariableScope};
 use octets::SmallOctets;
 use std::alloc::{AllocError, Global};
 use std::marker::Model;
@@ -101,8 +101,8 @@ impl Part {
         ensures { result ≡ variable_part variable }
     {
         let kind = match variable.name.label() {
-            Scope::Local => PartKind::Local,
-            Scope::Global => PartKind::Global,
+            VariableScope::Local => PartKind::Local,
+            VariableScope::Global => PartKind::Global,
         };
         Part {
             octets: variable.name.with_label(kind),
@@ -160,10 +160,10 @@ impl Part {
         ensures { result ≡ variable_in self }
     {
         let name = match self.octets.label() {
-            PartKind::Local => self.octets.with_label(Scope::Local),
-            PartKind::Global => self.octets.with_label(Scope::Global),
-            PartKind::Literal => Labelled::none(Scope::Local),
-            PartKind::Match(_) => Labelled::none(Scope::Local),
+            PartKind::Local => self.octets.with_label(VariableScope::Local),
+            PartKind::Global => self.octets.with_label(VariableScope::Global),
+            PartKind::Literal => Labelled::none(VariableScope::Local),
+            PartKind::Match(_) => Labelled::none(VariableScope::Local),
         };
         Variable { name }
     }

@@ -14,7 +14,7 @@ use std::mem::size_of;
 
 /// Whose a variable is.
 #[derive(Clone, Copy)]
-pub(crate) enum Scope {
+pub(crate) enum VariableScope {
     /// The script's (RFC 5229, section 3).
     Local,
     /// That of all scripts (RFC 6609, section 3.4).
@@ -24,7 +24,7 @@ pub(crate) enum Scope {
 /// A variable, by its name in lower case.
 #[derive(Drop)]
 pub struct Variable {
-    pub(crate) name: Labelled<Scope>,
+    pub(crate) name: Labelled<VariableScope>,
 }
 
 /// A variable takes two words.
@@ -54,7 +54,7 @@ impl Variable {
         ensures { IfOk result (λ variable. variable ≡ local_variable (folded_name name.now)) }
     {
         Ok(Variable {
-            name: Labelled::kept(alloc, Scope::Local, folded(alloc, name)?)?,
+            name: Labelled::kept(alloc, VariableScope::Local, folded(alloc, name)?)?,
         })
     }
 
@@ -63,7 +63,7 @@ impl Variable {
         ensures { IfOk result (λ variable. variable ≡ global_variable (folded_name name.now)) }
     {
         Ok(Variable {
-            name: Labelled::kept(alloc, Scope::Global, folded(alloc, name)?)?,
+            name: Labelled::kept(alloc, VariableScope::Global, folded(alloc, name)?)?,
         })
     }
 
@@ -84,8 +84,8 @@ impl Variable {
     {
         let name = self.name.octets();
         match self.name.label() {
-            Scope::Local => VariableRef::Local(name),
-            Scope::Global => VariableRef::Global(name),
+            VariableScope::Local => VariableRef::Local(name),
+            VariableScope::Global => VariableRef::Global(name),
         }
     }
 
@@ -96,7 +96,7 @@ impl Variable {
     {
         if declared.has(self.name.octets()) {
             Variable {
-                name: self.name.with_label(Scope::Global),
+                name: self.name.with_label(VariableScope::Global),
             }
         } else {
             self

@@ -13,7 +13,7 @@ ghost use Rattle.sieve_verdict.specs.view.Wanted.{wanted_line};
 use crate::comparing::Comparing;
 use crate::lines::{write_action, write_error, write_implicit};
 use devices::{Sink, WriteFault};
-use match_text::FlagList;
+use flag_lists::FlagList;
 use message_text::next_line;
 use sieve_delivery::{Action, Entry, RunError};
 

@@ -5,7 +5,7 @@ ghost use Rattle.sieve_verdict.specs.Lines.{action_line, create_word, error_line
 
 use crate::response_lines::{write_reject, write_response};
 use devices::{Piece, Sink, WriteFault, write_out, write_pieces};
-use match_text::FlagList;
+use flag_lists::FlagList;
 use octets::Octets;
 use script_names::ScriptName;
 use sieve_delivery::{Action, Filing, Origin, RunError};

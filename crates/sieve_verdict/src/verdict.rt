@@ -7,8 +7,8 @@ ghost use Rattle.sieve_delivery.specs.view.Actions.{entries_as};
 ghost use Rattle.sieve_verdict.specs.Lines.{agrees, verdict_lines};
 
 use crate::agreement::says;
+use flag_lists::FlagList;
 use indexmap::IndexMap;
-use match_text::FlagList;
 use script_names::ScriptName;
 use sieve_delivery::{Entry, RunError};
 use std::marker::Model;

@@ -1,8 +1,8 @@
 -- The computed cut of a text is the one cut.
 use Rattle.std.proofs.Common.{◌≡◌, ℕ, zero, suc, List, [], ◌∷◌, ◌++◌, length, drop, Option, None, Some, refl, sym, ◌∙◌, ap, subst, length-append, arith}
 use Rattle.std.proofs.Math.Seq.{drop-append_seam}
-use Rattle.text_cut.specs.Cut.{Begins, Cuts, Piece, octet, sequence}
-use Rattle.text_cut.specs.Scan.{Finds, first_piece, further_octets, pieces_from, pieces_of}
+use Rattle.text_cut.specs.Cut.{Begins, Cuts, TextPiece, octet, sequence}
+use Rattle.text_cut.specs.Scan.{FindsSequences, first_piece, further_octets, pieces_from, pieces_of}
 
 -- the computed pieces, one by one
 module _ {S : Type 0} (at : List ℕ → Option S) (further : S → ℕ) where
@@ -29,7 +29,7 @@ drop_front : (front rest : List ℕ) (n : ℕ) (text : List ℕ) → length fron
 drop_front front rest n text count is =
     ap (λ m. drop m text) (sym count) ∙ ap (drop (length front)) is ∙ drop-append_seam front rest
 
-module _ {S : Type 0} {written : S → List ℕ} {Legal : S → Type 0} {at : List ℕ → Option S} {further : S → ℕ} (finds : Finds written Legal at further) where
+module _ {S : Type 0} {written : S → List ℕ} {Legal : S → Type 0} {at : List ℕ → Option S} {further : S → ℕ} (finds : FindsSequences written Legal at further) where
   -- what stands after a sequence
   pub drop_further : (c : ℕ) (rest after : List ℕ) (s : S) → Legal s → c ∷ rest ≡ written s ++ after → drop (further s) rest ≡ after
   drop_further c rest after s legal is = drop_front (written s) after (suc (further s)) (c ∷ rest) (finds.count s legal) is
@@ -60,7 +60,7 @@ module _ {S : Type 0} {written : S → List ℕ} {Legal : S → Type 0} {at : Li
       ∙ ap (λ one. sequence s ∷ pieces_of at further one) (drop_further c after rest s legal is)
 
   -- each cut of a text is the computed one
-  pub cut_is : (pieces : List (Piece S)) (text : List ℕ) → Cuts written Legal pieces text → pieces ≡ pieces_of at further text
+  pub cut_is : (pieces : List (TextPiece S)) (text : List ℕ) → Cuts written Legal pieces text → pieces ≡ pieces_of at further text
   unfolding pieces_from
   cut_is [] text is = ap (pieces_of at further) (sym is)
   cut_is (sequence s ∷ pieces) text (legal, rest, is, cut) =

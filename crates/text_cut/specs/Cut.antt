@@ -3,9 +3,9 @@
 use Rattle.std.specs.Prelude.{◌≡◌, ℕ, List, [], ◌∷◌, ◌++◌}
 
 -- a piece of a text: a sequence, or an octet
-pub data Piece (S : Type 0) : Type 0 where
-  sequence : (sequence : S) → Piece S
-  octet : (octet : ℕ) → Piece S
+pub data TextPiece (S : Type 0) : Type 0 where
+  sequence : (sequence : S) → TextPiece S
+  octet : (octet : ℕ) → TextPiece S
 
 -- a text that begins with a legal sequence
 pub record Begins {S : Type 0} (written : S → List ℕ) (Legal : S → Type 0) (text : List ℕ) : Type 0 where
@@ -15,7 +15,7 @@ pub record Begins {S : Type 0} (written : S → List ℕ) (Legal : S → Type 0)
   pub is : text ≡ written first ++ rest
 
 -- A text is cut from the left into legal sequences and single octets, and no legal sequence begins where an octet stands alone.
-abbrev pub Cuts : {S : Type 0} (written : S → List ℕ) (Legal : S → Type 0) → List (Piece S) → List ℕ → Type 0
+abbrev pub Cuts : {S : Type 0} (written : S → List ℕ) (Legal : S → Type 0) → List (TextPiece S) → List ℕ → Type 0
 Cuts written Legal [] text = text ≡ []
 Cuts written Legal (sequence s ∷ pieces) text = Legal s × (rest : List ℕ) × (text ≡ written s ++ rest) × Cuts written Legal pieces rest
 Cuts written Legal (octet c ∷ pieces) text = (Begins written Legal text → ⊥) × (rest : List ℕ) × (text ≡ c ∷ rest) × Cuts written Legal pieces rest

@@ -1,17 +1,17 @@
 -- The one cut of a text into sequences and octets, computed.
 use Rattle.std.specs.Prelude.{◌≡◌, ℕ, zero, suc, List, [], ◌∷◌, ◌++◌, length, Option, None, Some}
-use Rattle.text_cut.specs.Cut.{Piece, octet, sequence}
+use Rattle.text_cut.specs.Cut.{TextPiece, octet, sequence}
 
 -- What a search has to be that finds the sequence with which a text begins: it finds exactly the legal ones, as they are
 -- written. Of a legal sequence the count of octets after its first is known.
-pub record Finds {S : Type 0} (written : S → List ℕ) (Legal : S → Type 0) (at : List ℕ → Option S) (further : S → ℕ) : Type 0 where
+pub record FindsSequences {S : Type 0} (written : S → List ℕ) (Legal : S → Type 0) (at : List ℕ → Option S) (further : S → ℕ) : Type 0 where
   pub legal : (text : List ℕ) (s : S) → at text ≡ Some s → Legal s
   pub is : (text : List ℕ) (s : S) → at text ≡ Some s → (rest : List ℕ) × (text ≡ written s ++ rest)
   pub found : (s : S) (rest : List ℕ) → Legal s → at (written s ++ rest) ≡ Some s
   pub count : (s : S) → Legal s → length (written s) ≡ suc (further s)
 
 -- the piece with which a text begins, by its first octet and by the sequence with which it begins, if it does
-abbrev pub first_piece : {S : Type 0} → ℕ → Option S → Piece S
+abbrev pub first_piece : {S : Type 0} → ℕ → Option S → TextPiece S
 first_piece c None = octet c
 first_piece c (Some s) = sequence s
 
@@ -21,11 +21,11 @@ further_octets further None = 0
 further_octets further (Some s) = further s
 
 -- the pieces of a text, of which the first octets, as many as `skip`, belong to the piece before
-unfoldable pub pieces_from : {S : Type 0} (at : List ℕ → Option S) (further : S → ℕ) (skip : ℕ) → List ℕ → List (Piece S)
+unfoldable pub pieces_from : {S : Type 0} (at : List ℕ → Option S) (further : S → ℕ) (skip : ℕ) → List ℕ → List (TextPiece S)
 pieces_from at further skip [] = []
 pieces_from at further zero (c ∷ rest) = first_piece c (at (c ∷ rest)) ∷ pieces_from at further (further_octets further (at (c ∷ rest))) rest
 pieces_from at further (suc skip) (c ∷ rest) = pieces_from at further skip rest
 
 -- the pieces of a text
-abbrev pub pieces_of : {S : Type 0} (at : List ℕ → Option S) (further : S → ℕ) → List ℕ → List (Piece S)
+abbrev pub pieces_of : {S : Type 0} (at : List ℕ → Option S) (further : S → ℕ) → List ℕ → List (TextPiece S)
 pieces_of at further text = pieces_from at further 0 text

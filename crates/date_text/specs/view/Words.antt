@@ -2,23 +2,23 @@
 use Rattle.std.specs.Prelude.{ℕ, ◌+◌, Bool, true, not, ◌&&◌, ◌==◌, List, [], ◌∷◌, option_map}
 use Rattle.octets.specs.Octet.{is_white, octet_of}
 use Rattle.date_text.specs.Reading.{DateWords}
-use Rattle.date_text.specs.Words.{Word, is_closed, is_outside, kept, words_of}
+use Rattle.date_text.specs.Words.{DateWord, is_closed, is_outside, kept, words_of}
 use Rattle.date_text.specs.declared.date_words.DateSlices as slices
-use Rattle.date_text.specs.declared.spot.Spot.{Spot}
-use Rattle.date_text.specs.declared.spot.Spot.TheVariants.{Escaped, Inside, Outside}
+use Rattle.date_text.specs.declared.spot.CommentSpot.{CommentSpot}
+use Rattle.date_text.specs.declared.spot.CommentSpot.TheVariants.{Escaped, Inside, Outside}
 
 -- how many comments a spot is in
-abbrev pub depth_of : Spot → ℕ
+abbrev pub depth_of : CommentSpot → ℕ
 depth_of Outside = 0
 depth_of (Inside others) = others + 1
 depth_of (Escaped others) = others + 1
 
 -- the words of a text from such a spot on
-abbrev pub words_from : Spot → List ℕ → List Word
+abbrev pub words_from : CommentSpot → List ℕ → List DateWord
 words_from spot text = words_of (kept spot text)
 
 -- the words of a text whose comments are closed
-abbrev pub words_in : List ℕ → List Word
+abbrev pub words_in : List ℕ → List DateWord
 words_in text = words_from Outside text
 
 abbrev pub closes : List ℕ → Bool
@@ -29,7 +29,7 @@ abbrev pub is_of_word : ℕ → Bool
 is_of_word c = not (is_white c) && not (c == octet_of "(")
 
 -- whether an octet that stands at such a spot is one of a word
-abbrev pub is_word_at : Spot → ℕ → Bool
+abbrev pub is_word_at : CommentSpot → ℕ → Bool
 is_word_at spot c = is_outside spot && is_of_word c
 
 -- whether a text has no white space and no comment before its first word

@@ -5,22 +5,22 @@ use Rattle.std.specs.declared.alloc.Global.{Global}
 use Rattle.std.specs.declared.borrow.CowSlice.{CowSlice}
 use Rattle.std.specs.declared.vec.Vec.{Vec}
 use Rattle.encoded_characters.specs.Scan.{inside_of}
-use Rattle.encoded_characters.specs.Sequence.{Inside, Item, Sequence}
+use Rattle.encoded_characters.specs.Sequence.{InsideSequence, Item, EncodedSequence}
 use Rattle.encoded_characters.specs.declared.item.EncodedItem as items
 use Rattle.encoded_characters.specs.declared.sequence.EncodedSequence as sequences
 
-abbrev pub sequence_of : sequences.EncodedSequence → Sequence
+abbrev pub sequence_of : sequences.EncodedSequence → EncodedSequence
 sequence_of s = record { word = s.word.now; inside = inside_of s.inside.now }
 
 abbrev pub item_of : items.EncodedItem → Item
 item_of item = record { blanks = item.blanks.now; digits = item.digits.now }
 
 -- an item before what stands after it
-abbrev pub item_before : Item → Inside → Inside
+abbrev pub item_before : Item → InsideSequence → InsideSequence
 item_before item inside = record { items = item ∷ inside.items; last = inside.last }
 
 -- octets without digits
-abbrev pub last_alone : List ℕ → Inside
+abbrev pub last_alone : List ℕ → InsideSequence
 last_alone octets = record { items = []; last = octets }
 
 -- octets before others, if there are others

@@ -1,39 +1,39 @@
 -- The program's boundaries and stretches.
 use Rattle.std.specs.Prelude.{◌≡◌, ℕ, ◌+◌, List, [], ◌∷◌, ◌++◌, Option, None, Some, length, map, option_map, codes, if◌then◌else◌}
 use Rattle.std.specs.List.{concat}
-use Rattle.mime_text.specs.Multipart.{Cut, Line, content_cut, epilogue_text, is_padded, part_texts, prologue_text}
-use Rattle.mime_text.specs.declared.multipart.LineKind.{LineKind}
-use Rattle.mime_text.specs.declared.multipart.LineKind.TheVariants as kind
+use Rattle.mime_text.specs.Multipart.{Cut, BodyLine, content_cut, epilogue_text, is_padded, part_texts, prologue_text}
+use Rattle.mime_text.specs.declared.multipart.BoundaryKind.{BoundaryKind}
+use Rattle.mime_text.specs.declared.multipart.BoundaryKind.TheVariants as kind
 use Rattle.mime_text.specs.declared.multipart.Pieces as declared
-use Rattle.mime_text.specs.declared.multipart.Stop.{Stop}
-use Rattle.mime_text.specs.declared.multipart.Stop.TheVariants as stop
+use Rattle.mime_text.specs.declared.multipart.PartStop.{PartStop}
+use Rattle.mime_text.specs.declared.multipart.PartStop.TheVariants as stop
 
 -- what the lines of a boundary begin with
 abbrev pub IsBoundary : (boundary delimiter closing : List ℕ) → Type 0
 IsBoundary boundary delimiter closing = (delimiter ≡ codes "--" ++ boundary) × (closing ≡ codes "--" ++ boundary ++ codes "--")
 
-abbrev pub kind_of : (delimiter closing : List ℕ) → Line → LineKind
+abbrev pub kind_of : (delimiter closing : List ℕ) → BodyLine → BoundaryKind
 kind_of delimiter closing line = if is_padded delimiter line then kind.Delimiter else if is_padded closing line then kind.Closing else kind.Inner
 
 -- how much is left to be cut after a stop
-abbrev pub left_after : Stop → ℕ
+abbrev pub left_after : PartStop → ℕ
 left_after stop.End = 0
 left_after (stop.Delimiter rest) = 1 + length rest.now
 left_after (stop.Closing rest) = 0
 
 -- the parts after a stop, and what follows the closing line
-abbrev pub parts_at : (boundary : List ℕ) → Stop → List (List ℕ)
+abbrev pub parts_at : (boundary : List ℕ) → PartStop → List (List ℕ)
 parts_at boundary stop.End = []
 parts_at boundary (stop.Delimiter rest) = prologue_text (content_cut boundary rest.now) ∷ part_texts (content_cut boundary rest.now)
 parts_at boundary (stop.Closing rest) = []
 
-abbrev pub epilogue_at : (boundary : List ℕ) → Stop → Option (List ℕ)
+abbrev pub epilogue_at : (boundary : List ℕ) → PartStop → Option (List ℕ)
 epilogue_at boundary stop.End = None
 epilogue_at boundary (stop.Delimiter rest) = epilogue_text (content_cut boundary rest.now)
 epilogue_at boundary (stop.Closing rest) = Some rest.now
 
 -- where the first stretch of a cut ends
-pub record StopsAt (boundary : List ℕ) (cut : Cut) (stop : Stop) : Type 0 where
+pub record StopsAt (boundary : List ℕ) (cut : Cut) (stop : PartStop) : Type 0 where
   pub parts : part_texts cut ≡ parts_at boundary stop
   pub epilogue : epilogue_text cut ≡ epilogue_at boundary stop
 

@@ -1,4 +1,4 @@
--- What the program's commands stand for.
+-- The models of the program's commands.
 use Rattle.session_text.specs.SessionLine as line
 use Rattle.session_text.specs.declared.session_line.SessionCommand.{SessionCommand}
 use Rattle.session_text.specs.declared.session_line.SessionCommand.TheVariants.{Nothing, Script, Message, Main, NoMain, Rename, DropScript, DropMessage, Envelope, Mailbox, Report, Dump, Expect, NoExpect, Mailboxes, MessageEnvelope, NoMessageEnvelope, Clock, NoClock}

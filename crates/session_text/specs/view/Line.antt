@@ -1,4 +1,4 @@
--- What the program says of the next line.
+-- The next line, as the program answers it.
 use Rattle.std.specs.Prelude.{◌≡◌, ⊤, ℕ, false, ◌<◌, ◌≤◌, List, [], ◌++◌, length, take, drop, None, Some}
 use Rattle.sieve_limits.specs.Limits.{line_limit}
 use Rattle.session_text.specs.SessionLine.{cut_line, first_line, is_long_so_far, line_so_far}
@@ -9,7 +9,8 @@ use Rattle.session_text.specs.declared.line.Line.TheVariants.{Over, Whole, TooLo
 abbrev pub IsCutOff : List ℕ → Type 0
 IsCutOff pending = (cut_line pending ≡ None) × (is_long_so_far pending ≡ false)
 
--- a line, or why there is none, is as the octets that are read and not used and those that are left in the input tell
+-- The answer fits the octets that are read and not used and those left in the input. `Failed` and
+-- `Spent` fit any.
 abbrev pub IsLine : Line → List ℕ → List ℕ → Type 0
 IsLine Over pending left = pending ++ left ≡ []
 IsLine (Whole len skip) pending left = first_line (pending ++ left) ≡ (take len pending, drop skip pending ++ left)
@@ -17,13 +18,14 @@ IsLine TooLong pending left = line_limit < length (first_line (pending ++ left))
 IsLine Failed pending left = ⊤
 IsLine Spent pending left = ⊤
 
--- a line lies in the octets that are read, and is within the limit; and where it can't be read, what there is of it may still become one
-abbrev pub IsWithin : Line → List ℕ → Type 0
-IsWithin Over pending = ⊤
-IsWithin (Whole len skip) pending = (len ≤ line_limit) × (len ≤ length pending) × (0 < skip) × (skip ≤ length pending)
-IsWithin TooLong pending = 0 < length pending
-IsWithin Failed pending = IsCutOff pending
-IsWithin Spent pending = IsCutOff pending
+-- A line lies in the octets that are read, and is within the limit. Where it can't be read, its
+-- octets so far may still become one.
+abbrev pub IsWithinLine : Line → List ℕ → Type 0
+IsWithinLine Over pending = ⊤
+IsWithinLine (Whole len skip) pending = (len ≤ line_limit) × (len ≤ length pending) × (0 < skip) × (skip ≤ length pending)
+IsWithinLine TooLong pending = 0 < length pending
+IsWithinLine Failed pending = IsCutOff pending
+IsWithinLine Spent pending = IsCutOff pending
 
 -- a line ends at an LF, whatever follows it
 abbrev pub IsEnded : Line → List ℕ → Type 0

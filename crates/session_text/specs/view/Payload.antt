@@ -9,13 +9,13 @@ use Rattle.session_text.specs.declared.payload.Taken.TheVariants.{Whole, Truncat
 abbrev pub octets_kept : Vec ℕ Global → List ℕ
 octets_kept v = v.items
 
--- what is kept has grown by octets, or is no longer kept
+-- the kept octets have grown by these, or are no longer kept
 abbrev pub Grows : Option (List ℕ) → Option (List ℕ) → List ℕ → Type 0
 Grows old None octets = ⊤
 Grows None (Some new) octets = ⊥
 Grows (Some old) (Some new) octets = new ≡ old ++ octets
 
--- the first octets were taken, and what is kept are those
+-- the first octets were taken, and these are kept, if any are
 abbrev pub Takes : ℕ → Option (List ℕ) → Option (List ℕ) → Option (List ℕ) → Type 0
 Takes count None new kept = ⊤
 Takes count (Some xs) None kept = ⊥
@@ -26,7 +26,7 @@ abbrev pub FallsShort : ℕ → Option (List ℕ) → Option (List ℕ) → Type
 FallsShort count None new = IsAtEnd new
 FallsShort count (Some xs) new = (length xs < count) × IsAtEnd new
 
--- what was read of them ends before all are there
+-- the octets that were read end before all are there
 abbrev pub BreaksOff : ℕ → Option (List ℕ) → Option (List ℕ) → Type 0
 BreaksOff count None left = ⊤
 BreaksOff count (Some xs) None = ⊥

@@ -10,14 +10,14 @@ use Rattle.sieve_code.specs.declared.operation.PackedOperation.{PackedOperation}
 abbrev pub ops_of : Code → List Operation
 ops_of code = ops_in (pool_as code.pools) code.ops.items
 
--- what lies where its operations say
+-- the strings, questions and commands that its operations name by their places
 abbrev pub pool_of : Code → Pool
 pool_of code = pool_as code.pools
 
--- the place where so many operations are left
+-- the place where this many operations are left
 abbrev pub jump_place_of : Code → ℕ → ℕ
 jump_place_of code left = length code.ops.items - left
 
--- what one of its operations is
+-- one of its operations
 abbrev pub op_of : Code → PackedOperation → Operation
 op_of code op = targeting (jump_place_of code) (op_in (pool_of code) op)

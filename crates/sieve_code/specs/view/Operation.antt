@@ -18,11 +18,11 @@ op_in pool (op.Act place line) = act_op (leaf_at pool place) line
 op_in pool op.Stop = stop_op
 op_in pool op.Return = return_op
 
--- an operation, with its jump's target as a place in code of that many operations
+-- an operation of code with `count` operations, with its target as a place
 abbrev pub placed_in : ℕ → Pool → PackedOperation → Operation
 placed_in count pool op = targeting (λ left. count - left) (op_in pool op)
 
--- whether an operation neither asks nor acts, and what it is then
+-- Whether an operation neither asks nor acts. Then the operation that it is.
 abbrev pub is_plain : PackedOperation → Bool
 is_plain op.True = true
 is_plain op.False = true

@@ -1,4 +1,4 @@
--- What lies where operations say.
+-- The strings, questions and commands that operations name by their places.
 use Rattle.sieve_code.specs.Pool.{Pool}
 use Rattle.sieve_code.specs.declared.pools.Pools.{Pools}
 

@@ -2,7 +2,7 @@
 use Rattle.std.specs.Prelude.{ℕ, ◌+◌, Bool, true, false, List, [], ◌∷◌, length, map, Option}
 use Rattle.std.specs.List.{flat_map}
 use Rattle.std.specs.Option.{option_and_then, option_map, option_or}
-use Rattle.match_text.specs.Flags.{flag_keys}
+use Rattle.flag_lists.specs.Flags.{flag_keys}
 use Rattle.sieve_profile.specs.Profile.{Profile}
 use Rattle.message_text.specs.Addresses.{AddrSpec, part_of_address, part_of_path}
 use Rattle.message_text.specs.Fields.{Field}

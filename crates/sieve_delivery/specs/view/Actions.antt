@@ -2,7 +2,7 @@
 use Rattle.std.specs.Prelude.{◌≡◌, ⊤, ℕ, ◌-◌, ◌≤◌, Bool, true, false, List, [], ◌∷◌, length, map, take, nat_eq, nat_lt, if◌then◌else◌, Option, None, Some}
 use Rattle.std.specs.List.{All}
 use lib.Pointwise.{pointwise}
-use Rattle.match_text.specs.Flags.{has_flag}
+use Rattle.flag_lists.specs.Flags.{has_flag}
 use Rattle.sieve_delivery.specs.declared.action.Action.{Action}
 use Rattle.sieve_delivery.specs.declared.action.Action.TheVariants.{Store}
 use Rattle.sieve_delivery.specs.declared.action.Entry.{Entry}

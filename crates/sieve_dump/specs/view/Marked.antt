@@ -1,4 +1,4 @@
--- What the dump writes of a part or a string that isn't the first.
+-- The text of a part or a string that isn't the first.
 use Rattle.std.specs.Prelude.{ℕ, List, ◌++◌, codes}
 use Rattle.sieve_variables.specs.Part.{Part}
 use Rattle.sieve_dump.specs.Strings.{part_text, string_text}

@@ -25,8 +25,8 @@ resumed_by Returned = GoesOn
 resumed_by Stopped = Stopped
 resumed_by (Failed error) = Failed error
 
--- running these operations of an included script, where so many levels of includes are still
--- allowed in it
+-- running these operations of an included script, where `depth` more levels of includes are allowed
+-- below it
 abbrev pub enters : (ScriptName → Lookup) → (depth : ℕ) → Delivery → ScriptName → List Operation → RunState → Ending
 enters find depth delivery name ops state = resumed state.values (doing (act_of find depth (inside name delivery)) (inside name delivery) (code_walk ops (length ops)) (entering name state))
 

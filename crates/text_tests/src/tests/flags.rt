@@ -1,6 +1,6 @@
 //! Pieces of texts as flags and as keys, by RFC 5232. What lists of flags come to is made in `tools/checks`.
 use super::{Row, holds, push_ended, same};
-use match_text::{flag_keys, flag_keys_of_texts, next_flag, next_key};
+use flag_lists::{flag_keys, flag_keys_of_texts, next_flag, next_key};
 use std::alloc::AllocError;
 use std::borrow::CowSlice;
 use std::process::Abort;

@@ -1,4 +1,5 @@
--- A parse reads the subcommand `session` with its argument as `session_shape` says, and the argument is not global.
+-- A parse reads the subcommand `session` with its argument as `session_shape` says, and the
+-- argument is not global.
 use Rattle.std.proofs.Common.{ap, ◌∙◌}
 use Rattle.std.proofs.lemmas.Result.{IfOk-weaker}
 use Rattle.clap.specs.Simple.{App}

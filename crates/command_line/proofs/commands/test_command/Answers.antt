@@ -1,4 +1,5 @@
--- A parse reads the subcommand `test` with its arguments as `test_shape` says, and none of the arguments is global.
+-- A parse reads the subcommand `test` with its arguments as `test_shape` says, and none of the
+-- arguments is global.
 use Rattle.std.proofs.Common.{ap, ◌∙◌}
 use Rattle.std.proofs.lemmas.Result.{IfOk-weaker}
 use Rattle.clap.specs.Words.{App}

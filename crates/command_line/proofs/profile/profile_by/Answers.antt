@@ -1,4 +1,4 @@
--- The words are taken one by one, up to the first with a name by which nothing is known.
+-- The words are taken one by one, up to the first with an unknown name.
 use Rattle.std.proofs.Common.{◌≡◌, ◌∙◌, ℕ, ◌+◌, ◌<◌, List, [], length, map, get_or, drop, Bor, Ok, Err, sym, ap, arith}
 use Rattle.std.proofs.lemmas.List.{at_drop_more, at_drop_all}
 use Rattle.clap.specs.Walk.{Text}

@@ -9,7 +9,7 @@ use Rattle.sieve_profile.specs.declared.profile.Profile as profiles
 use Rattle.command_line.specs.Profiles.{Says, names_in, with_names}
 use Rattle.command_line.proofs.profile.profile_in.Goals as goal
 
--- what is said by these words is what a row with them says
+-- these words say the profile that a row with them says
 by_row : (words : List Text) (row : Option (List Text)) (answer : Result profiles.Profile (Bor Text)) → Some words ≡ row
     → Says (with_names empty_profile (names_in words)) answer → Says (with_names empty_profile (names_in (unwrap_or row []))) answer
 by_row words row answer is =

@@ -1,4 +1,5 @@
--- What `clap` answers to the words of a command line, for the program `the_app`: the job that the words name, or why they are refused.
+-- The answer of `clap` to the words of a command line, for the program `the_app`. It is the job
+-- that the words name, or why they are refused.
 use Rattle.std.proofs.Common.{◌≡◌, ◌∙◌, Bool, true, false, not, ◌&&◌, List, [], ◌∷◌, map, Option, Some, None, Ok, Err, IfOk, IfErr, IsOkUnless, is_some, refl, sym, ap, subst, inl, inr}
 use Rattle.clap.specs.Words.{App, HasKind, HasMatchesOf, Row, Kinds, Text, fault_of, is_simple, is_simple_and_free, kind_of, subcommand_of, subcommand_rows_of}
 use Rattle.clap.specs.declared.error.Error.{Error}
@@ -34,7 +35,7 @@ none_where_named : (kinds : Kinds) (job : Option Job) (one : Job) → where_take
 none_where_named [] job one named = refl
 none_where_named (kind ∷ kinds) job one named = absurd (cc)
 
--- where there are no faults, an error says that memory ran out
+-- where there are no faults, an error is out of memory
 only_memory : (kinds : Kinds) (e : Error) → kinds ≡ [] → HasKind kinds e → kind_of e ≡ OutOfMemory
 only_memory [] e none (inl memory) = memory
 only_memory [] e none (inr among) = absurd among
@@ -67,7 +68,7 @@ none_met met None is_job is_none named =
     let bad : is_some {T = Job} None ≡ true = ap is_some is_job ∙ named in absurd (cc)
 none_met met (Some job) is_job is_none named = absurd (cc)
 
--- what `clap` says of simple and free apps holds of one that is `the_app`
+-- the kind of an error for simple and free apps is also that of `the_app`
 kind_at : (a : App) (words : List Text) (e : Error) → a ≡ the_app → (is_simple_and_free a ≡ true → HasKind (fault_of a words) e)
     → HasKind (fault_of the_app words) e
 kind_at a words e is_program has =
@@ -101,7 +102,8 @@ unreachable-requires g c =
     none_met (subcommand_rows_of c.in-Ok.matches) c.in_ok-job.field-0 c.in_ok-job.ensures c.in-None.is
     (ap (λ met. is_some (job_of met)) is_met ∙ is_named)
 
--- what it says of each clause that the answer has the profile that is said and that the job may have, or is for a name in place of one
+-- The clauses of an answer. It has the profile that is said, which suits the job, or is for a name
+-- in place of one.
 has_profile : (said : Result Profile Text) (asked : Job) (answer : Result CommandLine UsageFault) → SaysOf said asked answer
     → IfOk answer (λ line. said ≡ Ok (profile_as line.profile))
 has_profile said asked (Ok line) says = says.0
@@ -167,7 +169,7 @@ name_refused kinds said named asked (Err (Usage help text)) none is says = absur
 only_job : (one other : Job) → Some one ≡ Some other → one ≡ other
 only_job one other is = cc
 
--- what the words say is said by the subcommand that was met
+-- the profile that the words say is that of the subcommand that was met
 says_at : (words : List Text) (met : Option (Text × List Row)) (asked : Job) (answer : Result CommandLine UsageFault) → met ≡ subcommand_of the_app words
     → SaysOf (profile_met met) asked answer → SaysOf (said_profile words) asked answer
 unfolding said_profile

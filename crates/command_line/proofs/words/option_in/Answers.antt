@@ -1,4 +1,4 @@
--- The value of an option is the first value in the row of its name, and is missing where that is.
+-- The value of an option is the first value in the row of its name. It is missing where that is.
 use Rattle.std.proofs.Common.{◌∙◌, Some, Bor, sym, ap, option_map}
 use Rattle.clap.specs.Matches.{found_of}
 use Rattle.clap.specs.Walk.{Text}

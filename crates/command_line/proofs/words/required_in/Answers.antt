@@ -1,4 +1,5 @@
--- The value of a required argument is the first value in the row of its name, and empty where that is missing.
+-- The value of a required argument is the first value in the row of its name. It is empty where
+-- that is missing.
 use Rattle.std.proofs.Common.{◌≡◌, ◌∙◌, [], Option, Some, None, Bor, refl, ap, option_map, unwrap_or}
 use Rattle.std.proofs.lemmas.Result.{IfOk-weaker}
 use Rattle.clap.specs.Matches.{found_of}

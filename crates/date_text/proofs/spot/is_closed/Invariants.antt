@@ -1,6 +1,6 @@
 use Rattle.std.proofs.Common.{◌≡◌, ◌≤◌, drop}
 use Rattle.date_text.specs.Words.{is_closed}
-use Rattle.date_text.specs.declared.spot.Spot.TheVariants.{Outside}
+use Rattle.date_text.specs.declared.spot.CommentSpot.TheVariants.{Outside}
 use Rattle.date_text.specs.view.Words.{depth_of}
 use Rattle.date_text.proofs.spot.is_closed.Given as goal
 

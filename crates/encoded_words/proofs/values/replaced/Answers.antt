@@ -1,9 +1,10 @@
 use Rattle.std.proofs.Common.{if◌then◌else◌, ◌≡◌, ℕ, ◌+◌, ◌<◌, ◌++◌, ◌||◌, Some, None, List, true, false, length, drop, take, length-drop, refl, sym, ◌∙◌, ap, arith}
 use Rattle.std.specs.List.{list_any}
-use Rattle.encoded_words.specs.Charset.{meaning}
+use Rattle.encoded_words.specs.Meaning.{meaning}
 use Rattle.encoded_words.specs.Cut.{kept}
 use Rattle.encoded_words.specs.Scan.{decoded_of, has_word, is_word, pieces_of, word_at}
-use Rattle.encoded_words.specs.view.Word.{octets_of, word_of}
+use Rattle.charsets.specs.view.Text.{octets_of}
+use Rattle.encoded_words.specs.view.Word.{word_of}
 use Rattle.sieve_profile.specs.view.Profile.{profile_as}
 use Rattle.encoded_words.proofs.Steps.{all_alone, put_before, known_next, last_decoded, meaningless_at, none_at, none_found, plain_step, unknown_here, unknown_means, word_decoded, word_found, word_step}
 use Rattle.encoded_words.proofs.values.replaced.Goals as goal

@@ -1,8 +1,8 @@
 use Rattle.std.proofs.Common.{◌≡◌, ◌+◌, ◌++◌, List, Some, None, true, false, if◌then◌else◌, drop, sym, ap, ◌∙◌, arith}
 use Rattle.std.proofs.lemmas.List.{append-nil}
 use Rattle.mime_text.specs.Marks.{is_closed, marks_from}
-use Rattle.mime_text.specs.declared.marks.Mark.{Mark}
-use Rattle.mime_text.specs.declared.marks.Spot.TheVariants.{Outside}
+use Rattle.mime_text.specs.declared.marks.ValueMark.{ValueMark}
+use Rattle.mime_text.specs.declared.marks.ValueSpot.TheVariants.{Outside}
 use Rattle.mime_text.proofs.Marked.{closed_end, closed_step, marks_end, marks_more}
 use Rattle.mime_text.proofs.marks.marks_of.Goals as goal
 
@@ -24,7 +24,7 @@ returns-then-is_outside c =
     let i = c.loop-octet.octet-index in
     let done = c.loop-octet.marks.items in
     let closed : is_closed Outside text ≡ true = sym c.loop-octet.invariant.closed ∙ closed_end spot text i c.loop-octet-test.false ∙ sym c.is_outside.ensures ∙ c.if-is_outside.true in
-    ap Some (sym (append-nil done) ∙ ap (λ (rest : List Mark). done ++ rest) (sym (marks_end spot text i c.loop-octet-test.false)) ∙ c.loop-octet.invariant.marks)
+    ap Some (sym (append-nil done) ∙ ap (λ (rest : List ValueMark). done ++ rest) (sym (marks_end spot text i c.loop-octet-test.false)) ∙ c.loop-octet.invariant.marks)
     ∙ ap (λ b. if b then Some (marks_from Outside text) else None) (sym closed)
 
 pub returns-else-is_outside : goal.returns-else-is_outside

@@ -1,6 +1,6 @@
 use Rattle.std.proofs.Common.{◌≡◌, ◌≤◌, ◌++◌, drop}
 use Rattle.mime_text.specs.Marks.{is_closed, marks_from}
-use Rattle.mime_text.specs.declared.marks.Spot.TheVariants.{Outside}
+use Rattle.mime_text.specs.declared.marks.ValueSpot.TheVariants.{Outside}
 use Rattle.mime_text.specs.view.Spots.{depth_of}
 use Rattle.mime_text.proofs.marks.marks_of.Given as goal
 

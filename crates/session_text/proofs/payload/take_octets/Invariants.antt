@@ -4,8 +4,8 @@ use Rattle.session_text.specs.view.Input.{Reads, unused, fuel, Knows}
 use Rattle.session_text.specs.view.Payload.{Takes, octets_kept}
 use Rattle.session_text.proofs.payload.take_octets.Given as goal
 
--- of the `count` octets all but `left` were taken, and kept only where that is asked for; and nothing was read where all were read before,
--- nor after the end of the input
+-- Of the `count` octets all but `left` were taken, and kept only where that is asked for. Nothing
+-- was read where all were read before, nor after the end of the input.
 abbrev pub invariant-loop-left : goal.invariant-loop-left
 invariant-loop-left g l =
     (l.left ≤ l.count)

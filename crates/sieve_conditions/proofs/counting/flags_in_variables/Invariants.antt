@@ -1,6 +1,6 @@
 use Rattle.std.proofs.Common.{◌≡◌, ◌+◌, drop, length, map}
 use Rattle.std.specs.List.{flat_map}
-use Rattle.match_text.specs.Flags.{flag_list}
+use Rattle.flag_lists.specs.Flags.{flag_list}
 use Rattle.sieve_variables.specs.Value.{text_value}
 use Rattle.sieve_conditions.proofs.counting.flags_in_variables.Given as goal
 

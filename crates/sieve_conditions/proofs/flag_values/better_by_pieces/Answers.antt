@@ -1,6 +1,6 @@
 use Rattle.std.proofs.Common.{◌∙◌, ◌++◌, ℕ, List, ap, sym}
 use Rattle.std.proofs.lemmas.Result.{IfOk-weaker}
-use Rattle.match_text.specs.Flags.{filled_pieces}
+use Rattle.flag_lists.specs.Flags.{filled_pieces}
 use Rattle.sieve_conditions.specs.view.FlagTests.{best_of}
 use Rattle.sieve_conditions.proofs.Keyed.{keys_of_empty, keys_of_filled}
 use Rattle.sieve_conditions.proofs.flag_values.better_by_pieces.Goals as goal

@@ -1,5 +1,5 @@
 use Rattle.std.proofs.Common.{◌≡◌, ◌++◌, ℕ, List, length}
-use Rattle.match_text.specs.Flags.{filled_pieces, flag_keys}
+use Rattle.flag_lists.specs.Flags.{filled_pieces, flag_keys}
 use Rattle.sieve_conditions.specs.view.FlagTests.{best_of}
 use Rattle.sieve_conditions.proofs.flag_values.better_by_pieces.Given as goal
 

@@ -1,5 +1,5 @@
 use Rattle.std.proofs.Common.{◌≡◌, drop}
-use Rattle.match_text.specs.Flags.{flag_list}
+use Rattle.flag_lists.specs.Flags.{flag_list}
 use Rattle.sieve_conditions.specs.Matching.{first_some}
 use Rattle.sieve_conditions.specs.view.FieldTests.{found_with}
 use Rattle.octets.specs.view.Texts.{octets_of_each}

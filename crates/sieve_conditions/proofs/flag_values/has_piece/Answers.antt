@@ -1,6 +1,6 @@
 use Rattle.std.proofs.Common.{◌∙◌, ap, sym}
 use Rattle.std.specs.List.{list_any}
-use Rattle.match_text.specs.Flags.{has_key}
+use Rattle.flag_lists.specs.Flags.{has_key}
 use Rattle.match_text.specs.Order.{are_equal}
 use Rattle.sieve_conditions.proofs.Keyed.{any_alone, keys_of_empty, keys_of_filled}
 use Rattle.sieve_conditions.proofs.flag_values.has_piece.Goals as goal

@@ -1,6 +1,6 @@
 use Rattle.std.proofs.Common.{◌≡◌, length}
 use Rattle.std.specs.List.{list_any}
-use Rattle.match_text.specs.Flags.{filled_pieces, flag_keys, has_key}
+use Rattle.flag_lists.specs.Flags.{filled_pieces, flag_keys, has_key}
 use Rattle.match_text.specs.Order.{are_equal}
 use Rattle.sieve_conditions.proofs.flag_values.has_piece.Given as goal
 

@@ -1,6 +1,6 @@
 use Rattle.std.proofs.Common.{◌≡◌, drop, map}
 use Rattle.std.specs.List.{flat_map, list_any}
-use Rattle.match_text.specs.Flags.{has_key}
+use Rattle.flag_lists.specs.Flags.{has_key}
 use Rattle.match_text.specs.Order.{are_equal}
 use Rattle.sieve_variables.specs.Value.{text_value}
 use Rattle.sieve_conditions.specs.view.FieldTests.{cut_key, key_texts}

@@ -1,5 +1,5 @@
 use Rattle.std.proofs.Common.{◌≡◌, drop, map}
-use Rattle.match_text.specs.Flags.{flag_union, flags_of_texts}
+use Rattle.flag_lists.specs.Flags.{flag_union, flags_of_texts}
 use Rattle.sieve_variables.specs.Value.{text_value}
 use Rattle.sieve_delivery.proofs.flagging.add_named.Given as goal
 

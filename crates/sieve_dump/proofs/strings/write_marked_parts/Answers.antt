@@ -1,4 +1,4 @@
--- What is written when the writing of a part fails is a front of the text of all parts.
+-- If writing a part fails, the octets that were written are a front of the text of all parts.
 use Rattle.devices.proofs.Writing.{wrote_items_then_front_at, writes_failed}
 use Rattle.sieve_dump.specs.view.Marked.{marked_part}
 use Rattle.sieve_dump.proofs.strings.write_marked_parts.Goals as goal

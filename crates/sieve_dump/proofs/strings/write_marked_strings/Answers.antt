@@ -1,4 +1,4 @@
--- What was written of the strings so far, and what is written of those that are left.
+-- The octets that were written of the strings so far, and the texts of those that are left.
 use Rattle.std.proofs.Common.{[], ◌∷◌, ◌++◌, ◌≡◌, ◌+◌, ◌≤◌, List, ℕ, length, drop, refl, rules, subst, sym, ap, ◌∙◌, append_assoc}
 use Rattle.std.specs.List.{flat_map}
 use Rattle.std.proofs.lemmas.List.{append-nil, drop_all}
@@ -9,7 +9,7 @@ use Rattle.sieve_variables.specs.Part.{Part}
 use Rattle.sieve_dump.specs.view.Marked.{marked_string}
 use Rattle.sieve_dump.proofs.strings.write_marked_strings.Goals as goal
 
--- one string more stands after what was written
+-- the text of one more string stands after the octets that were written
 more_whole : (done text whole : List ℕ) (strings : List (List Part)) (i : ℕ) (string : List Part) → drop i strings ≡ string ∷ drop (i + 1) strings → text ≡ marked_string string
     → done ++ flat_map marked_string (drop i strings) ≡ whole → (done ++ text) ++ flat_map marked_string (drop (i + 1) strings) ≡ whole
 more_whole done text whole strings i string left is so =

@@ -4,7 +4,8 @@ use Rattle.devices.specs.Devices.{HasRisen}
 use Rattle.session_text.specs.view.Input.{Reads, unused}
 use Rattle.session_text.proofs.input.Input.fill.Given as goal
 
--- nothing was read and no end was met; each try took a turn, and where one was made the count of faults has risen
+-- Nothing was read and no end was met. Each try took a turn, and where one was made the count of
+-- faults has risen.
 abbrev pub invariant-loop-retry : goal.invariant-loop-retry
 invariant-loop-retry g l =
     (l.self.pending ≡ l.fn.self.pending)

@@ -4,7 +4,7 @@ use Rattle.session_text.specs.declared.input.Filled.{Filled}
 use Rattle.session_text.specs.declared.input.Filled.TheVariants.{More, Ended, Failed, Spent}
 use Rattle.session_text.proofs.input.Input.refresh.Goals as goal
 
--- of the facts for the ways that an attempt to read may go, each may be replaced by one that follows from it
+-- each fact for a way that a read may go may be replaced by one that follows from it
 each_way : (filled : Filled) (P Q R S P' Q' R' S' : Type 0) → MatchFilled filled P Q R S → (P → P') → (Q → Q') → (R → R') → (S → S') → MatchFilled filled P' Q' R' S'
 each_way More P Q R S P' Q' R' S' is p q r s = p is
 each_way Ended P Q R S P' Q' R' S' is p q r s = q is

@@ -4,7 +4,7 @@ use Rattle.session_text.specs.declared.line.Line.{Line}
 use Rattle.session_text.specs.declared.line.Line.TheVariants.{Over, Whole, TooLong, Failed, Spent}
 use Rattle.session_text.proofs.line.Line.next.Goals as goal
 
--- of the facts for the end of the input, for a failed read and for spent turns, each may be replaced by one that follows from it
+-- each fact for the end, a failed read or spent turns may be replaced by one that follows from it
 at_end : (line : Line) (P Q R P' Q' R' : Type 0) → MatchEnd line P Q R → (P → P') → (Q → Q') → (R → R') → MatchEnd line P' Q' R'
 at_end Over P Q R P' Q' R' may p q r = p may
 at_end (Whole len skip) P Q R P' Q' R' may p q r = tt

@@ -4,7 +4,8 @@ use Rattle.session_text.specs.view.Input.{Reads, unused, fuel, Knows}
 use Rattle.session_text.specs.view.Line.{IsCutOff}
 use Rattle.session_text.proofs.line.Line.next.Given as goal
 
--- no octets were used; and nothing was read where the octets at hand tell the line already, nor after the end of the input
+-- No octets were used. Nothing was read where the unused octets have the line already, nor after
+-- the end of the input.
 abbrev pub invariant-loop-at : goal.invariant-loop-at
 invariant-loop-at g l =
     Keeps (unused l.fn.input (g.R.Source.remaining l.fn.reader)) (unused l.input (g.R.Source.remaining l.reader))

@@ -1,5 +1,5 @@
 use Rattle.std.proofs.Common.{◌≡◌, length}
-use Rattle.match_text.specs.Flags.{filled_pieces, flag_keys}
+use Rattle.flag_lists.specs.Flags.{filled_pieces, flag_keys}
 use Rattle.sieve_conditions.specs.Matching.{first_match, pairs_with}
 use Rattle.sieve_conditions.proofs.matcher.Matcher.match_pieces.Given as goal
 

@@ -1,5 +1,5 @@
 use Rattle.std.proofs.Common.{List, ℕ, subst, sym, ap}
-use Rattle.match_text.specs.Flags.{flags_in}
+use Rattle.flag_lists.specs.Flags.{flags_in}
 use Rattle.sieve_delivery.specs.declared.action.Entry.{Entry}
 use Rattle.sieve_delivery.specs.view.Actions.{AreKnown}
 use Rattle.sieve_delivery.proofs.Known.{are_known_union}

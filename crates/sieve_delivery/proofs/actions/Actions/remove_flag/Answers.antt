@@ -1,5 +1,5 @@
 use Rattle.std.proofs.Common.{List, ℕ, [], ◌∷◌, Some, ap, map, subst, sym, ◌∙◌}
-use Rattle.match_text.specs.Flags.{flags_without}
+use Rattle.flag_lists.specs.Flags.{flags_without}
 use Rattle.sieve_delivery.specs.declared.action.Entry.{Entry}
 use Rattle.sieve_delivery.specs.view.Actions.{AreKnown, EntriesAndFlags, entries_as, lowered_in}
 use Rattle.sieve_delivery.proofs.Known.{are_known_lowered, as_lowered, same_both}

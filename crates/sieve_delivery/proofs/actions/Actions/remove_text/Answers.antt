@@ -1,5 +1,5 @@
 use Rattle.std.proofs.Common.{[], ◌∷◌, ◌∙◌, ap}
-use Rattle.match_text.specs.Flags.{flags_in, flags_without}
+use Rattle.flag_lists.specs.Flags.{flags_in, flags_without}
 use Rattle.sieve_delivery.proofs.Known.{changed_all, changed_on}
 use Rattle.sieve_delivery.proofs.actions.Actions.remove_text.Goals as goal
 

@@ -1,5 +1,5 @@
 use Rattle.std.proofs.Common.{◌≡◌, length}
-use Rattle.match_text.specs.Flags.{flags_in, flags_without}
+use Rattle.flag_lists.specs.Flags.{flags_in, flags_without}
 use Rattle.sieve_delivery.proofs.actions.Actions.remove_text.Given as goal
 
 -- The internal flags without those of the rest of the text stay the same. They are the flags at the

@@ -10,7 +10,7 @@ use Rattle.sieve_run.proofs.Entries.{are-insert, texts-insert}
 use Rattle.sieve_run.proofs.LookedUp.{names_alike}
 use Rattle.sieve_run.proofs.shelf.Shelf.replace.Goals as goal
 
--- what is put by the test of the names' type is put by that of the definition
+-- the test of the names' type puts an entry at the same place as the test of the definition
 put_alike : {V : Type 0} (names : List (ScriptName × V)) (name : ScriptName) (text : V) → insert_entry equality.eq-value.it names name text ≡ insert_entry name_eq names name text
 put_alike [] name text = refl
 put_alike (e ∷ es) name text =

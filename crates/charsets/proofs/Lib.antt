@@ -1,0 +1,3 @@
+pub mod Known
+pub mod Tabled
+pub mod Utf8

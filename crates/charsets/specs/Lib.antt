@@ -1,0 +1,2 @@
+pub mod Charset
+pub mod view

@@ -1,0 +1,2 @@
+-- The meaning of texts of the program.
+pub mod Text

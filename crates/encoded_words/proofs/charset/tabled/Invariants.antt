@@ -1,9 +1,0 @@
-use Rattle.std.proofs.Common.{◌≡◌, drop}
-use Rattle.std.specs.String.{string_bytes}
-use Rattle.encoded_words.specs.Charset.{tabled}
-use Rattle.encoded_words.proofs.Tabled.{with_left}
-use Rattle.encoded_words.proofs.charset.tabled.Given as goal
-
--- the text, and after it the octets that are left in UTF-8, are all of them, if each stands for a character
-abbrev pub invariant-loop-octet : goal.invariant-loop-octet
-invariant-loop-octet l = with_left l.table (string_bytes l.text) (drop l.octet-index l.octets) ≡ tabled l.table l.octets

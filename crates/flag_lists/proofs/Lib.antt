@@ -1,0 +1,6 @@
+pub mod Finding
+pub mod FlagLists
+mod FlagRows
+pub mod Keywords
+pub mod Pieces
+pub mod Turns

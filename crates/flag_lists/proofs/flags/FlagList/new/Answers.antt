@@ -1,0 +1,5 @@
+use Rattle.std.proofs.Common.{rules}
+use Rattle.flag_lists.proofs.flags.FlagList.new.Goals as goal
+
+pub returns : goal.returns
+returns c = search rules

@@ -1,0 +1,106 @@
+//! Flags to look for (RFC 5232, section 4).
+ghost use Rattle.octets.specs.Octet.{is_filled};
+ghost use Rattle.std.specs.Prelude.{◌≡◌, ◌++◌, ◌∷◌, ◌<◌, [], IfNone, IfOk, IfSome, OnOk, filter, length};
+ghost use Rattle.flag_lists.specs.Flags.{filled_pieces, flag_keys, flag_keys_of_texts, pieces};
+ghost use Rattle.octets.specs.view.Texts.{octets_of_each};
+
+use crate::flag_spelling::next_piece;
+use std::alloc::{AllocError, Global};
+use std::borrow::CowSlice;
+
+/// What a key of a test stands for: what stands between spaces, whether it is a flag or not. The empty key stands for itself,
+/// and spaces alone stand for nothing (RFC 5232, section 4).
+pub fn flag_keys(alloc: Global, key: &[u8]) -> Result<Vec<CowSlice<'_, u8>>, AllocError>
+    ensures { IfOk result (λ keys. octets_of_each keys.items ≡ flag_keys key.now) }
+{
+    let mut keys = Vec::new(alloc);
+    push_keys(&mut keys, key)?;
+    Ok(keys)
+}
+
+/// What each key of a test stands for, in order (RFC 5232, section 4).
+#[tactic(auto, unfolding(crate::specs::Flags::flag_keys_of_texts))]
+pub fn flag_keys_of_texts<'a>(
+    alloc: Global,
+    keys: &'a [CowSlice<'a, u8>],
+) -> Result<Vec<CowSlice<'a, u8>>, AllocError>
+    ensures { IfOk result
+        (λ found. octets_of_each found.items ≡ flag_keys_of_texts (octets_of_each keys.now)) }
+{
+    let mut found = Vec::new(alloc);
+    for key in keys {
+        push_keys(&mut found, key.as_slice())?;
+    }
+    Ok(found)
+}
+
+/// The first piece of a key of a test that has octets, and what stands after it: what a key that isn't empty stands for, one after
+/// another (RFC 5232, section 4). Takes no memory.
+pub fn next_key(key: &[u8]) -> Option<(&[u8], &[u8])>
+    ensures some { IfSome result
+        (λ found. filled_pieces key.now ≡ found.0.now ∷ filled_pieces found.1.now) }
+    ensures shorter { IfSome result (λ found. length found.1.now < length key.now) }
+    ensures none { IfNone result (filled_pieces key.now ≡ []) }
+{
+    let mut rest = key;
+    'pieces: loop {
+        let (piece, after) = next_piece(rest);
+        match after {
+            Some(after) => {
+                if piece.is_empty() {
+                    rest = after;
+                } else {
+                    return Some((piece, after));
+                }
+            }
+            None => return last_key(piece),
+        }
+    }
+}
+
+/// The piece that a text without a space is, if it has octets, and nothing after it.
+fn last_key(piece: &[u8]) -> Option<(&[u8], &[u8])>
+    requires { pieces piece.now ≡ piece.now ∷ [] }
+    ensures some { IfSome result
+        (λ found. filled_pieces piece.now ≡ found.0.now ∷ filled_pieces found.1.now) }
+    ensures shorter { IfSome result (λ found. length found.1.now < length piece.now) }
+    ensures none { IfNone result (filled_pieces piece.now ≡ []) }
+{
+    if piece.is_empty() {
+        None
+    } else {
+        Some((piece, &[]))
+    }
+}
+
+/// Adds what a key stands for.
+#[tactic(auto, unfolding(crate::specs::Flags::flag_keys))]
+fn push_keys<'a>(found: &mut Vec<CowSlice<'a, u8>>, key: &'a [u8]) -> Result<(), AllocError>
+    ensures { OnOk result
+        (octets_of_each found.new.items ≡ octets_of_each found.old.items ++ flag_keys key.now) }
+{
+    if key.is_empty() {
+        found.push(CowSlice::Borrowed(key))?;
+        return Ok(());
+    }
+    let mut rest = key;
+    'pieces: loop {
+        let (piece, after) = next_piece(rest);
+        push_filled(found, piece)?;
+        match after {
+            Some(after) => rest = after,
+            None => return Ok(()),
+        }
+    }
+}
+
+/// Adds a piece that has octets.
+fn push_filled<'a>(found: &mut Vec<CowSlice<'a, u8>>, piece: &'a [u8]) -> Result<(), AllocError>
+    ensures { OnOk result (octets_of_each found.new.items
+        ≡ octets_of_each found.old.items ++ filter is_filled (piece.now ∷ [])) }
+{
+    if !piece.is_empty() {
+        found.push(CowSlice::Borrowed(piece))?;
+    }
+    Ok(())
+}

@@ -1,7 +1,0 @@
-use Rattle.std.proofs.Common.{sym, ◌∙◌}
-use Rattle.match_text.proofs.Keywords.{filled}
-use Rattle.match_text.proofs.flag_spelling.is_keyword.Goals as goal
-
-pub returns-then-not-is_empty : goal.returns-then-not-is_empty
-returns-then-not-is_empty c =
-    rw (filled c.args.text.now (sym c.is_empty.ensures ∙ c.if-not-is_empty.true)) c.are_flag_octets.ensures

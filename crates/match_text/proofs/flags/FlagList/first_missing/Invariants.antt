@@ -1,8 +1,0 @@
-use Rattle.std.proofs.Common.{◌≡◌, take, true}
-use Rattle.std.specs.List.{All}
-use Rattle.match_text.specs.Flags.{has_flag}
-use Rattle.match_text.proofs.flags.FlagList.first_missing.Given as goal
-
--- the list has each flag of the other list before the place
-abbrev pub invariant-loop-place : goal.invariant-loop-place
-invariant-loop-place l = All (λ flag. has_flag l.self flag ≡ true) (take l.place l.flags)

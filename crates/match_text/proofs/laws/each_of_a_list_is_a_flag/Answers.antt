@@ -1,5 +1,0 @@
-use Rattle.match_text.proofs.FlagLists.{flag_list-flags}
-use Rattle.match_text.proofs.laws.each_of_a_list_is_a_flag.Goals as goal
-
-pub returns : goal.returns
-returns c = flag_list-flags
