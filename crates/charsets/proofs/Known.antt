@@ -1,4 +1,4 @@
--- Which charsets are known, and what octets of a charset are in UTF-8.
+-- Which charsets are known, and octets of a charset in UTF-8.
 use Rattle.std.proofs.Common.{◌≡◌, ℕ, suc, ◌<◌, Bool, true, false, ◌||◌, cond, List, [], ◌∷◌, get_or, zero, Option, None, Some, is_some, codes, encode_utf8_all, nat_lt, refl, sym, ◌∙◌, ap, ◌-◌, ◌==◌, arith}
 use Rattle.std.specs.Option.{option_map}
 use Rattle.std.specs.List.{cons_option, filter_map, list_all, list_any}
@@ -7,7 +7,7 @@ use Rattle.std.proofs.Math.Utf8.{low_scalar, scalar, scalars}
 use Rattle.std.proofs.lemmas.Bool.Decides.{nat_tests}
 use Rattle.std.proofs.lemmas.Str.{IsUtf8-from_ascii, is_utf8-from_IsUtf8}
 use Rattle.base64.specs.GeneralPurpose.{IsBytes}
-use Rattle.octets.proofs.Both.{both, first_of_both, last_of_both}
+use Rattle.octets.proofs.Both.{both, first_of_both, last_of_both, some_step}
 use Rattle.sieve_profile.specs.Profile.{Profile, empty_profile, has}
 use Rattle.sieve_profile.specs.declared.extension.Extension.TheVariants.{Charsets}
 use Rattle.charsets.specs.Charset.{character_at, charset_named, codepage_named, if_character, if_right, in_utf8, is_ascii, is_character, table_of, tabled}
@@ -28,6 +28,39 @@ pub three_known : (profile : Profile) (name : List ℕ) → has profile Charsets
 three_known profile name lacks =
     three_step (str_eq_ignore_ascii_case (codes "utf-8") name) (str_eq_ignore_ascii_case (codes "us-ascii") name) (str_eq_ignore_ascii_case (codes "iso-8859-1") name) (has profile Charsets)
     (option_map Tabled (codepage_named name)) lacks
+
+-- charsets that have tables
+
+is_some_tabled : (found : Option Codepage) → is_some (option_map Tabled found) ≡ is_some found
+is_some_tabled None = refl
+is_some_tabled (Some codepage) = refl
+
+tables_known : (name : List ℕ) → is_some (codepage_named name) ≡ list_any (λ known. str_eq_ignore_ascii_case known name) (codes "windows-1250" ∷ codes "windows-1251" ∷ codes "windows-1252" ∷ codes "iso-8859-2" ∷ codes "iso-8859-15" ∷ codes "koi8-r" ∷ [])
+unfolding codepage_named
+tables_known name =
+    let a = str_eq_ignore_ascii_case (codes "windows-1250") name in
+    let b = str_eq_ignore_ascii_case (codes "windows-1251") name in
+    let c = str_eq_ignore_ascii_case (codes "windows-1252") name in
+    let d = str_eq_ignore_ascii_case (codes "iso-8859-2") name in
+    let e = str_eq_ignore_ascii_case (codes "iso-8859-15") name in
+    let f = str_eq_ignore_ascii_case (codes "koi8-r") name in
+    some_step a Windows1250 (cond b (Some Windows1251) (cond c (Some Windows1252) (cond d (Some Iso8859Part2) (cond e (Some Iso8859Part15) (cond f (Some Koi8R) None))))) ∙ ap (λ more. a || more) (some_step b Windows1251 (cond c (Some Windows1252) (cond d (Some Iso8859Part2) (cond e (Some Iso8859Part15) (cond f (Some Koi8R) None)))) ∙ ap (λ more. b || more) (some_step c Windows1252 (cond d (Some Iso8859Part2) (cond e (Some Iso8859Part15) (cond f (Some Koi8R) None))) ∙ ap (λ more. c || more) (some_step d Iso8859Part2 (cond e (Some Iso8859Part15) (cond f (Some Koi8R) None)) ∙ ap (λ more. d || more) (some_step e Iso8859Part15 (cond f (Some Koi8R) None) ∙ ap (λ more. e || more) (some_step f Koi8R None)))))
+
+asked_step : (has_charsets : Bool) (found : Option Charset) → has_charsets ≡ true → is_some (cond has_charsets found None) ≡ is_some found
+asked_step true found asked = refl
+asked_step false found asked = absurd (let e : false ≡ true = asked in cc)
+
+pub nine_known : (profile : Profile) (name : List ℕ) → has profile Charsets ≡ true → is_some (charset_named profile name)
+    ≡ list_any (λ known. str_eq_ignore_ascii_case known name) (codes "utf-8" ∷ codes "us-ascii" ∷ codes "iso-8859-1" ∷ codes "windows-1250" ∷ codes "windows-1251" ∷ codes "windows-1252" ∷ codes "iso-8859-2" ∷ codes "iso-8859-15" ∷ codes "koi8-r" ∷ [])
+nine_known profile name asked =
+    let utf8 = str_eq_ignore_ascii_case (codes "utf-8") name in
+    let ascii = str_eq_ignore_ascii_case (codes "us-ascii") name in
+    let latin = str_eq_ignore_ascii_case (codes "iso-8859-1") name in
+    let tables = cond (has profile Charsets) (option_map Tabled (codepage_named name)) None in
+    some_step utf8 Utf8 (cond ascii (Some Ascii) (cond latin (Some Latin1) tables))
+    ∙ ap (λ more. utf8 || more) (some_step ascii Ascii (cond latin (Some Latin1) tables)
+    ∙ ap (λ more. ascii || more) (some_step latin Latin1 tables
+    ∙ ap (λ more. latin || more) (asked_step (has profile Charsets) (option_map Tabled (codepage_named name)) asked ∙ is_some_tabled (codepage_named name) ∙ tables_known name)))
 
 pub same_named : (profile : Profile) (name : List ℕ) → has profile Charsets ≡ false → charset_named profile name ≡ charset_named empty_profile name
 same_named profile name lacks =

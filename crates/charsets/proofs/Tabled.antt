@@ -4,7 +4,7 @@ use Rattle.std.specs.List.{cons_option, filter_map, list_all}
 use Rattle.std.proofs.lemmas.List.{drop_all, drop_more}
 use Rattle.charsets.specs.Charset.{character_at, if_right, is_character, tabled}
 
--- what is done, and after it octets in UTF-8, if each of these stands for a character
+-- octets that are done, and others after them in UTF-8, if each of these stands for a character
 abbrev pub with_left : (table done : List ℕ) → List ℕ → Option (List ℕ)
 with_left table done octets = if_right (list_all (is_character table) octets) (done ++ encode_utf8_all (filter_map (character_at table) octets))
 

@@ -22,7 +22,8 @@ codepage_named name =
     else if str_eq_ignore_ascii_case (codes "koi8-r") name then Some Koi8R
     else None
 
--- the charset of that name, in any case, if it is known (RFC 2047, section 2); those that have tables only by a profile with `charsets`
+-- The charset of that name, in any case, if it is known (RFC 2047, section 2). A charset that has a
+-- table is known only by a profile with `charsets`.
 abbrev pub charset_named : Profile → List ℕ → Option Charset
 charset_named profile name =
     if str_eq_ignore_ascii_case (codes "utf-8") name then Some Utf8
@@ -43,7 +44,7 @@ table_of Iso8859Part2 = ISO_8859_2
 table_of Iso8859Part15 = ISO_8859_15
 table_of Koi8R = KOI8_R
 
--- a character, which 0 isn't
+-- a character, if it isn't 0
 abbrev pub if_character : ℕ → Option ℕ
 if_character character = if character == 0 then None else Some character
 
@@ -51,7 +52,7 @@ if_character character = if character == 0 then None else Some character
 abbrev pub character_at : (table : List ℕ) → ℕ → Option ℕ
 character_at table octet = if is_ascii octet then Some octet else if_character (get_or table (octet - 128) 0)
 
--- octets that pass a test
+-- octets, if they pass a test
 abbrev pub if_right : Bool → List ℕ → Option (List ℕ)
 if_right right octets = if right then Some octets else None
 
@@ -63,7 +64,8 @@ is_character table octet = is_some (character_at table octet)
 unfoldable pub tabled : (table : List ℕ) → List ℕ → Option (List ℕ)
 tabled table octets = if_right (list_all (is_character table) octets) (encode_utf8_all (filter_map (character_at table) octets))
 
--- Octets of a charset in UTF-8, if they are of that charset. An octet of ISO 8859-1 is the character of its number.
+-- Octets of a charset in UTF-8, if they are of that charset. An octet of ISO 8859-1 is the
+-- character of its number.
 unfoldable pub in_utf8 : Charset → List ℕ → Option (List ℕ)
 in_utf8 Utf8 octets = if_right (is_utf8 octets) octets
 in_utf8 Ascii octets = if_right (list_all is_ascii octets) octets
@@ -75,7 +77,7 @@ abbrev pub or_same : (octets : List ℕ) → (text : Option (List ℕ)) → List
 or_same octets None = octets
 or_same octets (Some text) = text
 
--- octets in UTF-8 where all of them are right in a charset of that name, and that one is known; and else as they are
--- (RFC 5173, section 5.2)
+-- Octets in UTF-8, where all are right in the charset of that name; else as they are
+-- (RFC 5173, 5.2). The profile must know that charset.
 unfoldable pub text_in : Profile → (charset : List ℕ) → List ℕ → List ℕ
 text_in profile charset octets = or_same octets (option_and_then (λ found. in_utf8 found octets) (charset_named profile charset))

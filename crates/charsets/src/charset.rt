@@ -12,7 +12,7 @@ use sieve_profile::{Extension, Profile};
 use std::alloc::{AllocError, Global};
 use std::borrow::CowSlice;
 
-/// A charset of which each octet is a character, or stands for nothing.
+/// A charset in which each octet is one character, or stands for nothing.
 #[derive(Clone, Copy)]
 pub enum Codepage {
     /// Windows-1250.
@@ -29,7 +29,7 @@ pub enum Codepage {
     Koi8R,
 }
 
-/// A charset whose words can be decoded.
+/// A charset whose octets can be put into UTF-8.
 #[derive(Clone, Copy)]
 pub enum Charset {
     /// UTF-8 (RFC 3629).
@@ -38,7 +38,7 @@ pub enum Charset {
     Ascii,
     /// ISO 8859-1. Its octets are the first 256 characters of Unicode.
     Latin1,
-    /// One of a table.
+    /// A charset that has a table.
     Tabled(Codepage),
 }
 
@@ -49,7 +49,7 @@ fn is_named(charset: &[u8], name: &[u8]) -> bool
     name.eq_ignore_ascii_case(charset)
 }
 
-/// The charset of that name that has a table.
+/// The charset with a table of that name, in any case.
 #[tactic(auto, unfolding(crate::specs::Charset::codepage_named))]
 fn codepage_named(name: &[u8]) -> Option<Codepage>
     ensures { result ≡ codepage_named name.now }
@@ -71,7 +71,8 @@ fn codepage_named(name: &[u8]) -> Option<Codepage>
     }
 }
 
-/// The charset of that name, if the profile knows it (RFC 2047, section 2).
+/// The charset of that name, in any case, if the profile knows it (RFC 2047, section 2). A charset
+/// that has a table is known only by a profile with `charsets`.
 pub fn charset_named(profile: Profile, name: &[u8]) -> Option<Charset>
     ensures { result ≡ charset_named (profile_as profile) name.now }
 {
@@ -99,7 +100,7 @@ fn latin(alloc: Global, octets: &[u8]) -> Result<Vec<u8>, AllocError>
     Ok(text.into_bytes())
 }
 
-/// The characters of a charset's octets from 128 on.
+/// The characters of a charset's octets from 128 on; `'\0'` for an octet that stands for nothing.
 #[tactic(auto, unfolding(crate::specs::Charset::table_of))]
 fn table_of(codepage: Codepage) -> &'static [char; 128]
     ensures { result.now ≡ table_of codepage }
@@ -114,7 +115,7 @@ fn table_of(codepage: Codepage) -> &'static [char; 128]
     }
 }
 
-/// The character of an octet.
+/// The character of an octet, if it stands for one.
 fn character_at(table: &[char; 128], octet: u8) -> Option<char>
     ensures { result ≡ character_at table.now octet }
 {
@@ -129,7 +130,7 @@ fn character_at(table: &[char; 128], octet: u8) -> Option<char>
     }
 }
 
-/// Octets in UTF-8 by a table, or nothing where one of them stands for nothing.
+/// Octets in UTF-8 by a table. None where one of them stands for nothing.
 fn tabled(alloc: Global, table: &[char; 128], octets: &[u8]) -> Result<Option<Vec<u8>>, AllocError>
     ensures { IfOk result (λ text. octets_of text ≡ tabled table.now octets.now) }
 {
@@ -151,14 +152,15 @@ fn is_utf8(octets: &[u8]) -> bool
     std::str::from_utf8(octets).is_ok()
 }
 
-/// Whether octets are those of ASCII.
+/// Whether all octets are of ASCII.
 fn are_ascii(octets: &[u8]) -> bool
     ensures { result ≡ list_all is_ascii octets.now }
 {
     octets.iter().all(|octet| octet.is_ascii())
 }
 
-/// Octets of a charset in UTF-8, or nothing where they aren't of that charset.
+/// Octets of a charset in UTF-8. None where they aren't of that charset. Takes memory only where
+/// the charset is another than UTF-8 and ASCII.
 #[tactic(auto, unfolding(crate::specs::Charset::in_utf8))]
 pub fn in_utf8(
     alloc: Global,
@@ -179,7 +181,7 @@ pub fn in_utf8(
     }
 }
 
-/// A text, or octets where there is none.
+/// The text, or the octets where there is none.
 fn or_same<'o>(octets: CowSlice<'o, u8>, text: Option<Vec<u8>>) -> CowSlice<'o, u8>
     ensures { cow_slice_items result ≡ or_same (cow_slice_items octets.entry) (octets_of text) }
 {
@@ -189,8 +191,9 @@ fn or_same<'o>(octets: CowSlice<'o, u8>, text: Option<Vec<u8>>) -> CowSlice<'o, 
     }
 }
 
-/// Octets in UTF-8, where all of them are right in a charset of that name that the profile knows (RFC 2047, section 2), and else as they
-/// are. Takes memory only where the charset is another than UTF-8 and ASCII.
+/// Octets in UTF-8, where all are right in the charset of that name, and else as they are. The
+/// profile must know that charset (RFC 2047, section 2). Takes memory only where the charset is
+/// another than UTF-8 and ASCII.
 #[tactic(auto, unfolding(crate::specs::Charset::text_in, crate::specs::Charset::in_utf8))]
 pub fn text_in<'o>(
     alloc: Global,

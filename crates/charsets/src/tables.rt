@@ -1,5 +1,6 @@
-//! Tables of charsets whose octets are each one character, as Unicode publishes them. A table has the characters of the
-//! octets from 128 on, in their order, and `'\0'` where an octet stands for nothing.
+//! Tables of charsets whose octets are each one character, as Unicode publishes them. A
+//! table has the characters of the octets from 128 on, in their order. It has `'\0'` where
+//! an octet stands for nothing.
 
 /// Windows-1250, for the languages of Central Europe: `CP1250.TXT`.
 pub(crate) static WINDOWS_1250: [char; 128] = [

@@ -29,12 +29,12 @@ digit_more : (limit n : ℕ) (rest : List ℕ) (d : Option ℕ)
 digit_more limit n rest None = refl
 digit_more limit n rest (Some d) = cut_at limit (10 * n + d) rest (nat_le (10 * n + d) limit) refl
 
--- the next digit is read, and then those that are left
+-- the next digit is read, and then the rest
 pub one_more : (limit n : ℕ) (digits : List ℕ) (i : ℕ) → i < length digits
     → up_to limit (number_after n (drop i digits)) ≡ option_and_then (λ m. up_to limit (number_after m (drop (i + 1) digits))) (up_to limit (option_map (λ d. 10 * n + d) (digit_number (get_or digits i 0))))
 one_more limit n digits i h = rw (add-one, drop-cons digits i 0) (digit_more limit n (drop (suc i) digits) (digit_number (get_or digits i 0)))
 
--- where there is a digit, the number is that of all digits after none
+-- where there is a digit, the seconds are those of all digits, read from 0 on
 pub of_some : (digits : List ℕ) → 0 < length digits → seconds_named digits ≡ up_to last_second (number_after 0 digits)
 of_some [] some = absurd (omega arith)
 of_some (c ∷ rest) some = refl

@@ -9,7 +9,7 @@ use Rattle.jiff_core.proofs.DateLemmas.{days_from_civil-day, days_from_civil-max
 use Rattle.date_text.specs.Calendar.{CivilDate, IsInCalendar, count_to, date_at, day_at, day_number, has_come, is_in_years, month_at, next_date, year_at}
 use borrow.Author.Differences.{up, down}
 
--- how many numbers pass, where those up to one do
+-- the count is `x`, where exactly the numbers up to `x` pass
 pub count_is : (n x : ℕ) (passes : ℕ → Bool) → x ≤ n → ((k : ℕ) → 1 ≤ k → k ≤ x → passes k ≡ true) → ((k : ℕ) → x < k → k ≤ n → passes k ≡ false) → count_to n passes ≡ x
 unfolding count_to
 count_is zero x passes h below above = omega arith
@@ -102,7 +102,7 @@ in_years y m d h =
 first_is : IsCivilDate (pos 0) 1 1
 first_is = search rules
 
--- a day before the year 0 doesn't, nor one past the last that the calendar has
+-- a day before the year 0 isn't in the years 0 to 9999, and none past the calendar's last is
 pub before_years : (y : ℤ) (m d : ℕ) → IsCivilDate y m d → y <ℤ pos 0 → is_in_years (days_from_civil y m d) ≡ false
 before_years y m d h lt =
     let low = not_come (days_from_civil (pos 0) 1 1) (days_from_civil y m d) (omega (arith, signed_arith, days_from_civil-day_count, day_count-lt_year y m d (pos 0) 1 1 h (omega arith) lt)) in
@@ -119,7 +119,7 @@ past_days day past =
     (λ lt. let low = not_come (days_from_civil (pos 0) 1 1) day lt in rw low refl)
     (λ ge. and_right (has_come (days_from_civil (pos 0) 1 1) day) (has_come day (days_from_civil (pos 9999) 12 31)) (not_come day (days_from_civil (pos 9999) 12 31) (past_last day past ge)))
 
--- the same of a date whose year is an integer
+-- a date from the year 0 on, whose year is an integer, lies in the years 0 to 9999
 pub late_in_years : (y : ℤ) (m d : ℕ) → IsCivilDate y m d → pos 0 ≤ℤ y → is_in_years (days_from_civil y m d) ≡ true
 late_in_years (pos y) m d h late = in_years y m d h
 late_in_years (negsuc y) m d h late = absurd (omega (arith, signed_arith))

@@ -7,3 +7,5 @@ pub mod PartLemmas
 pub mod PlainLemmas
 pub mod ReadLemmas
 pub mod WordLemmas
+pub mod ZoneNames
+pub mod PartNames

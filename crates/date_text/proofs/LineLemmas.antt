@@ -15,14 +15,14 @@ use Rattle.date_text.proofs.NumberLemmas.{zone_minutes-digits}
 
 -- WORDS
 
--- three letters before what is no letter
+-- three letters before an octet that is no letter
 pub words_name : (a b c x : ℕ) (rest : List ℕ) → is_letter a ≡ true → is_letter b ≡ true → is_letter c ≡ true → is_letter x ≡ false → words_of (a ∷ b ∷ c ∷ x ∷ rest) ≡ (a ∷ b ∷ c ∷ []) ∷ words_of (x ∷ rest)
 words_name a b c x rest one two three none =
     words_joined a (b ∷ c ∷ x ∷ rest) (letter_not_white a one) (letters_joined a b one two)
     ∙ ap (onto_first a) (words_joined b (c ∷ x ∷ rest) (letter_not_white b two) (letters_joined b c two three)
     ∙ ap (onto_first b) (words_alone c (x ∷ rest) (letter_not_white c three) (letter_apart c x three none)))
 
--- digits before what is no digit
+-- digits before an octet that is no digit
 pub words_pair : (a b : ℕ) (rest : List ℕ) → is_digit a ≡ true → is_digit b ≡ true → is_joined_to b rest ≡ false → words_of (a ∷ b ∷ rest) ≡ (a ∷ b ∷ []) ∷ words_of rest
 words_pair a b rest one two none =
     words_joined a (b ∷ rest) (digit_not_white a one) (digits_joined a b one two)
@@ -102,7 +102,7 @@ month_case (suc (suc (suc (suc (suc (suc (suc (suc (suc (suc (suc (suc (suc m)))
 abbrev pub zone_of : Bool → ℕ → Zone
 zone_of w n = record { west = w; minutes = n }
 
--- the words of a zone, and what they are read as
+-- the words of a zone, and the zone that they are read as
 pub zone_is_read : (w : Bool) (n : ℕ) → n ≤ 5999 → (words_of (zone_text (zone_of w n)) ≡ (zone_sign (zone_of w n) ∷ []) ∷ (two_digits (n / 60) ++ two_digits (n % 60)) ∷ []) × (zone_of_sign (zone_sign (zone_of w n)) (two_digits (n / 60) ++ two_digits (n % 60)) ≡ Some (zone_of w n))
 zone_is_read true n h = (
   words_alone (octet_of "-") (two_digits (n / 60) ++ two_digits (n % 60)) refl refl ∙ ap (λ words. (octet_of "-" ∷ []) ∷ words) (last_words (n / 60) (n % 60) (omega arith) (omega arith)),

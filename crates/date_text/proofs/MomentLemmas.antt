@@ -13,7 +13,7 @@ in_days minutes =
     let size = unsigned_abs-parts (int_rem_euclid minutes (pos 1440)) in
     (omega (arith, signed_arith), omega arith)
 
--- and they are so in one way
+-- minutes are days and minutes of a day in one way
 only_days : (day minutes : ℤ) (minute : ℕ) → minute < 1440 → day *ℤ pos 1440 +ℤ pos minute ≡ minutes → (int_div_euclid minutes (pos 1440) ≡ day) × (unsigned_abs (int_rem_euclid minutes (pos 1440)) ≡ minute)
 only_days day minutes minute small is =
     let parts = in_days minutes in

@@ -15,7 +15,7 @@ use Rattle.date_text.proofs.WordLemmas.{closed_word, kept_word, no_white, not_bo
 
 -- TEXTS
 
--- an octet that ends nothing before it and begins no comment
+-- an octet that is no `;` and begins no comment
 abbrev pub is_plain : ℕ → Bool
 is_plain c = not (c == octet_of ";") && not (c == octet_of "(")
 
@@ -50,7 +50,7 @@ plain_last text h =
     let none : length text - suffix_len (λ (c : ℕ). not (c == octet_of ";")) text ≡ 0 = omega arith in
     ap (λ n. drop n text) none
 
--- such a text is read by its words
+-- a plain text is read by its words
 pub date_in-plain : (text : List ℕ) → list_all is_plain text ≡ true → date_in text ≡ moment_read text
 date_in-plain text h =
     ap (λ one. option_and_then moment_read (without_comments one)) (plain_last text h)

@@ -1,4 +1,4 @@
--- What is shown of a moment is read as that moment.
+-- The text shown of a moment is read as that moment.
 use Rattle.std.proofs.Common.{◌≡◌, ℕ, ◌+◌, ◌*◌, ◌/◌, ◌%◌, ◌<◌, ◌≤◌, Bool, true, false, cond, ◌&&◌, List, [], ◌∷◌, ◌++◌, ℤ, Some, None, refl, sym, ap, ◌∙◌, arith, pos, codes}
 use Rattle.std.specs.Option.{option_and_then, option_map}
 use Rattle.jiff_core.proofs.CalendarLemmas.{days_in_month_bounds}
@@ -17,7 +17,7 @@ use Rattle.date_text.proofs.PlainLemmas.{date_in-plain}
 use Rattle.date_text.proofs.NumberLemmas.{date_of-calendar, pair_number-digits, pair_of_word-digits, year_of_word-digits}
 use Rattle.date_text.proofs.LineLemmas.{AreShort, line, line_plain, line_words, month_case, weekday_case, words_of-line, zone_is_read, zone_plain}
 
--- WHAT THE WORDS STAND FOR
+-- THE MEANING OF THE WORDS
 
 abbrev pub words_as : (month : List ℕ) (d y h m s : ℕ) (zone : List DateWord) → DateWords
 words_as month d y h m s zone = record { day = two_digits d; month = month; year = four_digits y; hour = two_digits h; minute = two_digits m; second = Some (two_digits s); zone = zone }
@@ -50,7 +50,7 @@ moment_of_words-parts w date minute second zone one two three four =
     ∙ ap (option_and_then (λ s. option_map (moment_at (day_number date) minute s) (zone_of_words w.zone))) three
     ∙ ap (option_map (moment_at (day_number date) minute second)) four
 
--- what is shown of a date and a time is read as them
+-- the line shown of a date and a time is read as them
 pub line_is_read : (date : CivilDate) (weekday minute second : ℕ) (zone : Zone) → IsInCalendar date → 1900 ≤ date.year → date.year < 10000 → date.day < 100 → weekday < 7 → minute < 1440 → second ≤ 60 → zone.minutes ≤ 5999 → date_in (line (weekday_name weekday) (month_name date.month) date.day date.year (minute / 60) (minute % 60) second (zone_text zone)) ≡ Some (moment_at (day_number date) minute second zone)
 line_is_read date weekday minute second zone h late year day w m s z =
     let first = weekday_case weekday w in

@@ -52,7 +52,7 @@ pub passed_closed : (spot : CommentSpot) (c : ℕ) (rest : List ℕ) → is_clos
 unfolding is_closed
 passed_closed spot c rest = refl
 
--- at the end of a text whose comments are closed nothing is open
+-- at the end of a text whose comments are closed, no comment is open
 pub ended_outside : (spot : CommentSpot) (text : List ℕ) → length text ≡ 0 → is_closed spot text ≡ true → (spot ≡ Outside) × (begins_word text ≡ true)
 unfolding is_closed
 ended_outside Outside [] none closed = (refl, refl)
@@ -174,7 +174,7 @@ first_word c [] is =
     (ap words_of (kept_word c [] plain.1) ∙ words_alone c [] plain.0 refl, sym (closed_word c [] plain.1))
 first_word c (d ∷ rest) is = first_step c d rest (is_joined c d) refl is (λ joined. first_word d rest (joined_of_word c d joined))
 
--- the same of a text that begins with a word, by how many octets follow the first
+-- the first word of a text that begins with one, by how many octets follow the word's first
 pub word_cut : (text : List ℕ) (n : ℕ) → 0 < length text → begins_word text ≡ true → n ≡ more (get_or text 0 0) (take (length text - 1) (drop 1 text)) → (words_in text ≡ take (1 + n) text ∷ words_in (drop (1 + n) text)) × (closes (drop (1 + n) text) ≡ closes text)
 word_cut [] n some begins is = absurd (omega arith)
 word_cut (c ∷ rest) n some begins is =

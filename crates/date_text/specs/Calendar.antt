@@ -1,5 +1,5 @@
--- Dates of the years 0 to 9999, and their day numbers. Which dates there are, and how many days each is after 1970-01-01, is told
--- by the calendar of `jiff_core`.
+-- Dates of the years 0 to 9999, and their day numbers. The calendar of `jiff_core` says which dates
+-- exist, and how many days each is after 1970-01-01.
 use Rattle.std.specs.Prelude.{ℕ, zero, suc, ◌+◌, ◌%◌, Bool, ◌&&◌, nat_lt, ℤ, pos, ◌-ℤ◌, int_le, unsigned_abs, Option, Some, None, if◌then◌else◌}
 use Rattle.jiff_core.specs.Calendar.{days_from_civil, days_in_month, weekday_number, IsCivilDate}
 use Rattle.octets.specs.Octet.{is_between}
@@ -14,7 +14,7 @@ pub record CivilDate : Type 0 where
 abbrev pub IsInCalendar : CivilDate → Type 0
 IsInCalendar date = IsCivilDate (pos date.year) date.month date.day
 
--- how many days it is after 1970-01-01
+-- the number of days after 1970-01-01
 abbrev pub day_number : CivilDate → ℤ
 day_number date = days_from_civil (pos date.year) date.month date.day
 

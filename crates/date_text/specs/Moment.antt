@@ -3,8 +3,8 @@ use Rattle.std.specs.Prelude.{ℕ, ℤ, pos, ◌+ℤ◌, ◌-ℤ◌, ◌*ℤ◌,
 use Rattle.std.specs.Int.{int_div_euclid, int_rem_euclid}
 use Rattle.date_text.specs.Zone.{Zone, shift_of}
 
--- the minutes since 1970-01-01 00:00 UTC, the second of the minute, which is 60 where one is put in, and the zone in which the
--- moment was written
+-- The minutes since 1970-01-01 00:00 UTC, the second of the minute, and the zone in which the
+-- moment was written. The second is 60 where a leap second is put in.
 pub record Moment : Type 0 where
   pub minutes : ℤ
   pub second : ℕ
@@ -22,6 +22,6 @@ minutes_in moment zone = moment.minutes +ℤ shift_of zone
 abbrev pub day_in : Moment → Zone → ℤ
 day_in moment zone = int_div_euclid (minutes_in moment zone) (pos 1440)
 
--- the minute of that day
+-- the minute of the day of a moment in a zone
 abbrev pub minute_in : Moment → Zone → ℕ
 minute_in moment zone = unsigned_abs (int_rem_euclid (minutes_in moment zone) (pos 1440))

@@ -1,4 +1,4 @@
--- Numbers of as many digits as dates and zones have.
+-- Numbers with the digits that dates and zones have.
 use Rattle.std.specs.Prelude.{ℕ, ◌+◌, ◌-◌, ◌*◌, ◌/◌, ◌%◌, nat_le, List, [], ◌∷◌, ◌++◌, Option, Some, None, if◌then◌else◌}
 use Rattle.std.specs.Option.{option_and_then, option_map}
 use Rattle.octets.specs.Octet.{is_digit, octet_of}
@@ -27,6 +27,6 @@ digit n = octet_of "0" + n
 abbrev pub two_digits : ℕ → List ℕ
 two_digits n = digit (n / 10) ∷ digit (n % 10) ∷ []
 
--- a number under 10000 as four
+-- a number under 10000 as four digits
 abbrev pub four_digits : ℕ → List ℕ
 four_digits n = two_digits (n / 100) ++ two_digits (n % 100)

@@ -1,4 +1,4 @@
--- The parts of a date by their names (RFC 5260, section 4.2).
+-- The parts of a date by their names (RFC 5260, 4.2).
 use Rattle.std.specs.Prelude.{ℕ, List, Option, find, codes}
 use Rattle.std.specs.Str.{str_eq_ignore_ascii_case}
 use Rattle.sieve_profile.specs.Every.{every}
@@ -21,7 +21,7 @@ part_name Std11 = codes "std11"
 part_name Zone = codes "zone"
 part_name Weekday = codes "weekday"
 
--- all of them
+-- all parts, in the order of the enum
 abbrev pub parts : List DatePart
 parts = every enum tt
 

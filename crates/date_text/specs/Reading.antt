@@ -1,4 +1,4 @@
--- Dates as they are written (RFC 5322, sections 3.3 and 4.3).
+-- Dates as they are written (RFC 5322, 3.3 and 4.3).
 use Rattle.std.specs.Prelude.{ℕ, ◌+◌, ◌*◌, Bool, false, ◌&&◌, ◌==◌, nat_le, nat_lt, List, [], ◌∷◌, Option, Some, None, codes, position, if◌then◌else◌}
 use Rattle.std.specs.List.{after_last, list_any}
 use Rattle.std.specs.Option.{option_and_then, option_map}
@@ -19,7 +19,7 @@ month_names =
     codes "Jan" ∷ codes "Feb" ∷ codes "Mar" ∷ codes "Apr" ∷ codes "May" ∷ codes "Jun"
     ∷ codes "Jul" ∷ codes "Aug" ∷ codes "Sep" ∷ codes "Oct" ∷ codes "Nov" ∷ codes "Dec" ∷ []
 
--- a word that is the name of a weekday, in any case of letters
+-- whether a word is the name of a weekday, in any case of letters
 abbrev pub is_weekday : DateWord → Bool
 is_weekday word = list_any (is_same_name word) weekday_names
 
@@ -29,31 +29,31 @@ month_number word = option_map (λ place. place + 1) (position (is_same_name wor
 
 -- THE WORDS OF A DATE
 
--- a word that is one such octet
+-- whether a word is this one octet
 abbrev pub is_sign : ℕ → DateWord → Bool
 is_sign sign [] = false
 is_sign sign (c ∷ []) = c == sign
 is_sign sign (c ∷ d ∷ rest) = false
 
--- what stands after a weekday and a comma, if they are there
+-- the words after a weekday and a comma, if they begin with them, and else all
 abbrev pub after_weekday : List DateWord → List DateWord
 after_weekday [] = []
 after_weekday (word ∷ []) = word ∷ []
 after_weekday (word ∷ comma ∷ words) = if is_weekday word && is_sign (octet_of ",") comma then words else word ∷ comma ∷ words
 
--- the second with a `:` before it, if they are there
+-- the second after a `:`, if words begin with them
 abbrev pub second_word : List DateWord → Option DateWord
 second_word [] = None
 second_word (word ∷ []) = None
 second_word (colon ∷ second ∷ words) = if is_sign (octet_of ":") colon then Some second else None
 
--- what stands after them
+-- the words after a `:` and a second, if they begin with them, and else all
 abbrev pub after_second : List DateWord → List DateWord
 after_second [] = []
 after_second (word ∷ []) = word ∷ []
 after_second (colon ∷ second ∷ words) = if is_sign (octet_of ":") colon then words else colon ∷ second ∷ words
 
--- the words of a date and a time, by what they stand for
+-- the words of a date and a time, by their meaning
 pub record DateWords : Type 0 where
   pub day : DateWord
   pub month : DateWord
@@ -71,7 +71,7 @@ date_words (day ∷ month ∷ year ∷ hour ∷ colon ∷ minute ∷ words) =
     else None
 date_words words = None
 
--- WHAT THEY STAND FOR
+-- MEANINGS
 
 -- the number of a day: one digit or two
 abbrev pub day_of_word : DateWord → Option ℕ
@@ -83,11 +83,11 @@ day_of_word word = None
 abbrev pub year_of_pair : ℕ → ℕ
 year_of_pair n = if nat_lt n 50 then 2000 + n else 1900 + n
 
--- a year of four digits, which is 1900 or later
+-- a year, if it is 1900 or later
 abbrev pub if_late : ℕ → Option ℕ
 if_late year = if nat_le 1900 year then Some year else None
 
--- the year of four digits, of three, which are added to 1900, or of two
+-- The year of four digits, three or two. Four are 1900 or later, and three are added to 1900.
 abbrev pub year_of_word : DateWord → Option ℕ
 year_of_word (c ∷ d ∷ []) = option_map year_of_pair (pair_number c d)
 year_of_word (b ∷ c ∷ d ∷ []) = option_map (λ n. 1900 + n) (four_number (octet_of "0") b c d)
@@ -103,23 +103,25 @@ pair_of_word limit word = None
 abbrev pub date_of_words : DateWords → Option CivilDate
 date_of_words w = option_and_then (λ year. option_and_then (λ month. option_and_then (date_of year month) (day_of_word w.day)) (month_number w.month)) (year_of_word w.year)
 
--- the minute of the day
+-- the minute of the day, of an hour up to 23 and a minute up to 59
 abbrev pub minute_of_words : DateWords → Option ℕ
 minute_of_words w = option_and_then (λ hour. option_map (λ minute. 60 * hour + minute) (pair_of_word 59 w.minute)) (pair_of_word 23 w.hour)
 
--- the second, which is 0 where none is written
+-- the second up to 60; it is 0 where none is written
 abbrev pub second_of_word : Option DateWord → Option ℕ
 second_of_word None = Some 0
 second_of_word (Some word) = pair_of_word 60 word
 
--- the moment of a date, a time and a zone, if they are such
+-- the moment of words, if they are a date, a time and a zone
 abbrev pub moment_of_words : DateWords → Option Moment
 moment_of_words w = option_and_then (λ date. option_and_then (λ minute. option_and_then (λ second. option_map (moment_at (day_number date) minute second) (zone_of_words w.zone)) (second_of_word w.second)) (minute_of_words w)) (date_of_words w)
 
--- the moment of a text without comments: its words are those of a date and a time, maybe after a weekday
+-- The moment of a text without comments. Its words are those of a date and a time,
+-- maybe after a weekday.
 abbrev pub moment_read : List ℕ → Option Moment
 moment_read text = option_and_then moment_of_words (date_words (after_weekday (words_of text)))
 
--- the moment of a field's value: of what stands after its last `;`, or of all of it (RFC 5322, section 3.6.7; RFC 5260, section 4)
+-- The moment of a field's value (RFC 5322, 3.6.7; RFC 5260, section 4). The text after its last `;`
+-- is read, or all of it where there is none.
 abbrev pub date_in : List ℕ → Option Moment
 date_in value = option_and_then moment_read (without_comments (after_last (λ c. c == octet_of ";") value))

@@ -1,4 +1,4 @@
--- The parts of a date as they are shown (RFC 5260, section 4.2).
+-- The parts of a date as they are shown (RFC 5260, 4.2).
 use Rattle.std.specs.Prelude.{ℕ, ◌+◌, ◌-◌, ◌/◌, ◌%◌, ℤ, pos, ◌+ℤ◌, List, [], ◌∷◌, ◌++◌, Option, Some, None, codes, get_or, if◌then◌else◌}
 use Rattle.std.specs.Fmt.{signed_decimal}
 use Rattle.date_text.specs.Calendar.{CivilDate, date_at, is_in_years, weekday_at}
@@ -9,7 +9,7 @@ use Rattle.date_text.specs.Zone.{Zone, zone_text, zone_text_with_colon}
 use Rattle.date_text.specs.declared.part.DatePart.{DatePart}
 use Rattle.date_text.specs.declared.part.DatePart.TheVariants.{Date, Day, Hour, Iso8601, Julian, Minute, Month, Second, Std11, Time, Weekday, Year, Zone as ZonePart}
 
--- the date, its weekday and its day number, the minute of the day and the second, as the clocks of a zone have them
+-- a time on a zone's clocks: date, weekday, day number, minute of the day, second, and that zone
 pub record LocalTime : Type 0 where
   pub date : CivilDate
   pub weekday : ℕ
@@ -34,7 +34,7 @@ date_text date = four_digits date.year ++ codes "-" ++ two_digits date.month ++ 
 abbrev pub time_text : (minute second : ℕ) → List ℕ
 time_text minute second = two_digits (minute / 60) ++ codes ":" ++ two_digits (minute % 60) ++ codes ":" ++ two_digits second
 
--- the name of the weekday, from Monday on, and that of the month, from 1 on
+-- the name of a weekday, from 0 for Sunday, and that of a month, from 1
 abbrev pub weekday_name : ℕ → List ℕ
 weekday_name weekday = get_or weekday_names ((weekday + 6) % 7) []
 
@@ -61,6 +61,6 @@ part_text Std11 l = day_text l.weekday l.date ++ codes " " ++ time_text l.minute
 part_text ZonePart l = zone_text l.zone
 part_text Weekday l = digit l.weekday ∷ []
 
--- the part of a moment in a zone, or nothing where its date there lies before the year 0 or past 9999
+-- The part of a moment in a zone. None where its date there lies before the year 0 or after 9999.
 abbrev pub shown : Moment → Zone → DatePart → Option (List ℕ)
 shown moment zone part = if is_in_years (day_in moment zone) then Some (part_text part (local moment zone)) else None

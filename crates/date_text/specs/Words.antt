@@ -1,4 +1,5 @@
--- The words of a field's value (RFC 5322, sections 3.2.2 and 4.3): between any two of them white space and comments may stand.
+-- The words of a field's value (RFC 5322, 3.2.2 and 4.3). White space and comments may stand
+-- between any two of them.
 use Rattle.std.specs.Prelude.{ℕ, ◌+◌, ◌-◌, Bool, true, false, ◌&&◌, ◌||◌, ◌==◌, List, [], ◌∷◌, ◌++◌, Option, Some, None, if◌then◌else◌}
 use Rattle.std.specs.List.{onto_first}
 use Rattle.octets.specs.Octet.{is_between, is_digit, is_white, octet_of}
@@ -7,8 +8,8 @@ use Rattle.date_text.specs.declared.spot.CommentSpot.TheVariants.{Escaped, Insid
 
 -- COMMENTS
 
--- An octet stands outside comments, or in a comment with so many others round it, or after a `\` there. Where the next octet
--- stands: comments nest, and a `\` in one protects the octet after it.
+-- The state after an octet. Comments nest: the state in a comment has the number of other comments
+-- around it. A `\` in a comment protects the octet after it.
 abbrev pub after_octet : CommentSpot → ℕ → CommentSpot
 after_octet Outside c = if c == octet_of "(" then Inside 0 else Outside
 after_octet (Inside others) c =
@@ -18,13 +19,13 @@ after_octet (Inside others) c =
     else Inside others
 after_octet (Escaped others) c = Inside others
 
--- what stays of an octet: outside comments itself, and of a comment a space
+-- the octets that stay of one: outside comments itself, and of a comment a space
 abbrev pub kept_of : CommentSpot → ℕ → List ℕ
 kept_of Outside c = (if c == octet_of "(" then octet_of " " else c) ∷ []
 kept_of (Inside others) c = []
 kept_of (Escaped others) c = []
 
--- what stays of a text from such a spot on
+-- the octets that stay of a text that begins in this state
 unfoldable pub kept : CommentSpot → List ℕ → List ℕ
 kept spot [] = []
 kept spot (c ∷ rest) = kept_of spot c ++ kept (after_octet spot c) rest
@@ -34,12 +35,12 @@ is_outside Outside = true
 is_outside (Inside others) = false
 is_outside (Escaped others) = false
 
--- whether each comment of a text is closed
+-- whether each comment of a text that begins in this state is closed
 unfoldable pub is_closed : CommentSpot → List ℕ → Bool
 is_closed spot [] = is_outside spot
 is_closed spot (c ∷ rest) = is_closed (after_octet spot c) rest
 
--- a text with a space for each comment, or nothing where one isn't closed (RFC 5322, sections 3.2.2 and 4.3)
+-- a text with a space for each comment, or none where one isn't closed (RFC 5322, 3.2.2 and 4.3)
 abbrev pub without_comments : List ℕ → Option (List ℕ)
 without_comments text = if is_closed Outside text then Some (kept Outside text) else None
 
@@ -60,7 +61,7 @@ abbrev pub is_joined_to : ℕ → List ℕ → Bool
 is_joined_to c [] = false
 is_joined_to c (d ∷ rest) = is_joined c d
 
--- an octet before the words of what stands after it
+-- the words of an octet and a text after it, by the words of that text
 abbrev pub word_before : ℕ → (joined : Bool) → List DateWord → List DateWord
 word_before c joined words =
     if is_white c then words

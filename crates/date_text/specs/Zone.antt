@@ -1,4 +1,4 @@
--- Zones (RFC 5322, sections 3.3 and 4.3).
+-- Zones (RFC 5322, 3.3 and 4.3).
 use Rattle.std.specs.Prelude.{ℕ, ◌+◌, ◌*◌, ◌/◌, ◌%◌, Bool, true, false, ◌||◌, ◌==◌, ℤ, pos, neg_ℤ, List, [], ◌∷◌, ◌++◌, Option, Some, None, codes, if◌then◌else◌}
 use Rattle.std.specs.List.{list_all}
 use Rattle.std.specs.Option.{option_and_then, option_map}
@@ -7,8 +7,8 @@ use Rattle.octets.specs.Octet.{octet_of}
 use Rattle.date_text.specs.Number.{pair_number, two_digits, up_to}
 use Rattle.date_text.specs.Words.{DateWord, is_letter}
 
--- How many minutes the clocks of a zone go before those of UTC, or after them where it lies to the west. West with none is
--- `-0000`: nothing is said of the zone.
+-- The minutes that a zone's clocks add to the time of UTC, or take from it to the west. West with 0
+-- minutes is `-0000`, which says nothing of the zone.
 pub record Zone : Type 0 where
   pub west : Bool
   pub minutes : ℕ
@@ -19,7 +19,7 @@ east minutes = record { west = false; minutes = minutes }
 abbrev pub west : ℕ → Zone
 west minutes = record { west = true; minutes = minutes }
 
--- how many minutes are to be added to the time of UTC
+-- the minutes to add to the time of UTC
 abbrev pub shift_of : Zone → ℤ
 shift_of zone = if zone.west then neg_ℤ (pos zone.minutes) else pos zone.minutes
 
@@ -30,7 +30,7 @@ abbrev pub zone_minutes : List ℕ → Option ℕ
 zone_minutes (a ∷ b ∷ c ∷ d ∷ []) = option_and_then (λ hours. option_map (λ minutes. 60 * hours + minutes) (up_to 59 (pair_number c d))) (pair_number a b)
 zone_minutes digits = None
 
--- the zone of a sign and digits
+-- the zone of a sign and four digits
 abbrev pub zone_of_sign : ℕ → List ℕ → Option Zone
 zone_of_sign sign digits =
     if sign == octet_of "+" then option_map east (zone_minutes digits)
@@ -45,7 +45,7 @@ zone_named (sign ∷ digits) = zone_of_sign sign digits
 abbrev pub is_same_name : DateWord → List ℕ → Bool
 is_same_name word name = str_eq_ignore_ascii_case name word
 
--- the zone of letters (RFC 5322, section 4.3): all but these say nothing
+-- the zone of letters; letters other than these say nothing of it (RFC 5322, 4.3)
 abbrev pub zone_of_letters : DateWord → Zone
 zone_of_letters word =
     if is_same_name word (codes "UT") || is_same_name word (codes "GMT") then east 0
@@ -56,11 +56,11 @@ zone_of_letters word =
     else if is_same_name word (codes "PST") then west (8 * 60)
     else west 0
 
--- the zone of one word
+-- the zone of one word, if it has letters alone
 abbrev pub zone_of_word : DateWord → Option Zone
 zone_of_word word = if list_all is_letter word then Some (zone_of_letters word) else None
 
--- the zone of a word of one octet and another
+-- the zone of two words, of which the first has one octet
 abbrev pub zone_of_two : (sign digits : DateWord) → Option Zone
 zone_of_two [] digits = None
 zone_of_two (sign ∷ []) digits = zone_of_sign sign digits
@@ -82,6 +82,6 @@ zone_sign zone = if zone.west then octet_of "-" else octet_of "+"
 abbrev pub zone_text : Zone → List ℕ
 zone_text zone = zone_sign zone ∷ two_digits (zone.minutes / 60) ++ two_digits (zone.minutes % 60)
 
--- the same with a `:` between the hours and the minutes (RFC 3339, section 5.6: time-numoffset)
+-- a zone with a `:` between the hours and the minutes (RFC 3339, 5.6: time-numoffset)
 abbrev pub zone_text_with_colon : Zone → List ℕ
 zone_text_with_colon zone = zone_sign zone ∷ two_digits (zone.minutes / 60) ++ octet_of ":" ∷ two_digits (zone.minutes % 60)

@@ -51,7 +51,7 @@ pub(crate) fn day_of_minutes(minutes: i64) -> i64
     minutes.div_euclid(1440)
 }
 
-/// The minute of that day.
+/// The minute of the day of minutes since 1970-01-01 00:00.
 pub(crate) fn minute_of_minutes(minutes: i64) -> u16
     ensures is { result ≡ unsigned_abs (int_rem_euclid minutes (pos 1440)) }
     ensures small { result < 1440 }

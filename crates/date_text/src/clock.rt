@@ -1,4 +1,4 @@
-//! Clocks: what time it is where the current date is asked for.
+//! Clocks: the time and the zone of the current date.
 ghost use Rattle.std.specs.Prelude.{◌≡◌};
 ghost use Rattle.date_text.specs.Clock.{clock_at, moment_of};
 ghost use Rattle.date_text.specs.view.Moment.{moment_as, zone_as};
@@ -30,7 +30,7 @@ impl Model for Clock {
 }
 
 impl Clock {
-    /// The clock that shows so many seconds since 1970-01-01 00:00 UTC, in a zone, or nothing where that is past the year 9999.
+    /// A clock in a zone, by the seconds since 1970-01-01 00:00 UTC. None past the year 9999.
     pub fn new(seconds: u64, zone: Zone) -> Option<Clock>
         ensures { result ≡ clock_at seconds (zone_as zone) }
     {
@@ -41,7 +41,7 @@ impl Clock {
         }
     }
 
-    /// A clock that shows the same. Takes no memory.
+    /// A clock that shows the same.
     pub fn copied(&self) -> Clock
         ensures { result ≡ self.now }
     {

@@ -8,7 +8,7 @@ use crate::clock::{Clock, LAST_SECOND};
 use crate::number::digit_number;
 use crate::zone_words::zone_named;
 
-/// The seconds with a digit more, which aren't past the year 9999.
+/// The seconds with a digit more. None past the year 9999.
 fn with_digit(seconds: u64, octet: u8) -> Option<u64>
     requires { seconds ≤ last_second }
     ensures is { result
@@ -24,7 +24,8 @@ fn with_digit(seconds: u64, octet: u8) -> Option<u64>
     }
 }
 
-/// The seconds that digits tell, which aren't past the year 9999. Digits after one that leads past it aren't read.
+/// The seconds that digits spell. None where there is no digit, and none past the year 9999. Digits
+/// after one that leads there aren't read.
 fn seconds_named(digits: &[u8]) -> Option<u64>
     ensures is { result ≡ seconds_named digits.now }
 {
@@ -41,8 +42,9 @@ fn seconds_named(digits: &[u8]) -> Option<u64>
     Some(seconds)
 }
 
-/// The clock of a text of digits, which tell the seconds since 1970-01-01 00:00 UTC, and of one that is a sign and four digits, which tell the
-/// zone, or nothing: there is a digit or more, any number of zeros may stand in front, and the seconds are up to `LAST_SECOND`. Takes no memory.
+/// The clock of two texts. One has the digits of the seconds since 1970-01-01 00:00 UTC, up to
+/// [`LAST_SECOND`]. It has one digit or more, of which any number of zeros may stand first. The
+/// other is the zone: a sign and four digits. None where a text is otherwise.
 pub fn clock_named(digits: &[u8], zone: &[u8]) -> Option<Clock>
     ensures { result ≡ clock_named digits.now zone.now }
 {

@@ -1,4 +1,4 @@
-//! The words of a date and a time, by what they stand for (RFC 5322, sections 3.3 and 4.3).
+//! The words of a date and a time, by their meaning (RFC 5322, 3.3 and 4.3).
 ghost use Rattle.std.specs.Prelude.{◌≡◌, true, IfSome, length};
 ghost use Rattle.std.specs.Option.{option_map};
 ghost use Rattle.date_text.specs.Reading.{after_second, after_weekday, date_words, is_sign, is_weekday, second_word};
@@ -7,7 +7,7 @@ ghost use Rattle.date_text.specs.view.Words.{closes, date_words_as, words_in};
 use crate::words::next_word;
 use crate::zone_words::is_one_of;
 
-/// The words of a date and a time, and the text whose words tell the zone.
+/// The words of a date and a time. The words of `zone` say the zone.
 #[derive(Clone, Copy)]
 pub(crate) struct DateSlices<'a> {
     pub(crate) day: &'a [u8],
@@ -31,7 +31,7 @@ fn is_weekday(word: &[u8]) -> bool
     is_one_of(word, &WEEKDAY_NAMES)
 }
 
-/// Whether a word is one such octet.
+/// Whether a word is this one octet.
 fn is_sign(sign: u8, word: &[u8]) -> bool
     ensures { result ≡ is_sign sign word.now }
 {
@@ -41,7 +41,7 @@ fn is_sign(sign: u8, word: &[u8]) -> bool
     }
 }
 
-/// What stands after a weekday and a comma, if a text begins with them.
+/// The text after a weekday and a comma, if it begins with them.
 fn after_weekday(text: &[u8]) -> &[u8]
     requires { closes text.now ≡ true }
     ensures words { words_in result.now ≡ after_weekday (words_in text.now) }
@@ -60,7 +60,7 @@ fn after_weekday(text: &[u8]) -> &[u8]
     }
 }
 
-/// The second with which a text begins, with a `:` before it, if it does, and what stands after it.
+/// The second with which a text begins, after a `:`, if it does, and the text after it.
 fn cut_second(text: &[u8]) -> (Option<&[u8]>, &[u8])
     requires { closes text.now ≡ true }
     ensures second { option_map (λ word. word.now) result.0 ≡ second_word (words_in text.now) }

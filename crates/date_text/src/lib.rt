@@ -1,4 +1,4 @@
-//! Dates of messages (RFC 5322, sections 3.3 and 4.3): reads them, and shows parts of them (RFC 5260, section 4.2).
+//! Dates of messages (RFC 5322, 3.3 and 4.3): reads them, and shows parts of them (RFC 5260, 4.2).
 #![tactic(auto)]
 
 mod calendar;

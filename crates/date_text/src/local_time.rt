@@ -9,7 +9,7 @@ use crate::calendar::{date_at, day_of_minutes, minute_of_minutes, weekday_of};
 use crate::moment::Moment;
 use crate::zone::Zone;
 
-/// A date with its weekday and its day number, a minute of the day and a second, as the clocks of a zone have them.
+/// A time on a zone's clocks: date, weekday, day number, minute of the day, second, and that zone.
 #[derive(Clone, Copy)]
 pub(crate) struct LocalTime {
     pub(crate) year: u16,
@@ -36,7 +36,7 @@ impl LocalTime {
     ghost use Rattle.date_text.specs.view.LocalTime.{local_as};
     ghost use Rattle.date_text.specs.view.Moment.{moment_as, zone_as};
 
-    /// A moment in a zone, or nothing where its date there lies before the year 0 or past 9999.
+    /// A moment in a zone. None where its date there lies before the year 0 or after 9999.
     pub(crate) fn new(moment: &Moment, zone: Zone) -> Option<LocalTime>
         ensures none { MatchOption result
             (is_in_years (day_in (moment_as moment.now) (zone_as zone)) ≡ false)

@@ -11,7 +11,7 @@ use crate::zone::Zone;
 pub struct Moment {
     /// The minutes since 1970-01-01 00:00 UTC.
     pub minutes: i64,
-    /// The second of the minute: 60 where one is put in.
+    /// The second of the minute: 60 where a leap second is put in.
     pub second: u8,
     /// The zone in which it was written.
     pub zone: Zone,
@@ -39,7 +39,7 @@ impl Moment {
         self.minutes + zone.shift()
     }
 
-    /// The moment of a day, by its number since 1970-01-01, and a minute of the day, as a zone has them.
+    /// The moment of a day, by its number from 1970-01-01, and a minute and second, in a zone.
     pub(crate) fn at(day: i32, minute: u16, second: u8, zone: Zone) -> Moment
         requires day { IsEpochDay day }
         requires minute { minute < 1440 }

@@ -1,11 +1,11 @@
-//! Numbers of as many digits as dates and zones have.
+//! Numbers with the digits that dates and zones have.
 ghost use Rattle.std.specs.Prelude.{◌≡◌, ◌<◌, ◌≤◌, ◌++◌, IfSome, OnOk};
 ghost use Rattle.date_text.specs.Number.{digit, digit_number, four_digits, four_number, pair_number, two_digits, up_to};
 
 use octets::is_digit;
 use std::alloc::AllocError;
 
-/// The number of a digit.
+/// The number of a digit; none for another octet.
 pub(crate) fn digit_number(octet: u8) -> Option<u8>
     ensures is { result ≡ digit_number octet }
     ensures small { IfSome result (λ n. n < 10) }
@@ -17,7 +17,7 @@ pub(crate) fn digit_number(octet: u8) -> Option<u8>
     }
 }
 
-/// The number of two digits.
+/// The number of two digits; none where an octet is no digit.
 pub(crate) fn pair_number(high: u8, low: u8) -> Option<u8>
     ensures is { result ≡ pair_number high low }
     ensures small { IfSome result (λ n. n < 100) }
@@ -27,7 +27,7 @@ pub(crate) fn pair_number(high: u8, low: u8) -> Option<u8>
     Some(10 * high + low)
 }
 
-/// The number of four digits.
+/// The number of four digits; none where an octet is no digit.
 pub(crate) fn four_number(a: u8, b: u8, c: u8, d: u8) -> Option<u16>
     ensures is { result ≡ four_number a b c d }
     ensures small { IfSome result (λ n. n < 10000) }
@@ -37,7 +37,7 @@ pub(crate) fn four_number(a: u8, b: u8, c: u8, d: u8) -> Option<u16>
     Some(100 * u16::from(high) + u16::from(low))
 }
 
-/// The number, if it is up to the limit.
+/// The number, if there is one that isn't above the limit.
 pub(crate) fn up_to(limit: u8, number: Option<u8>) -> Option<u8>
     ensures is { result ≡ up_to limit number }
     ensures small { IfSome result (λ n. n ≤ limit) }

@@ -1,9 +1,9 @@
-//! The parts of a date by their names (RFC 5260, section 4.2).
+//! The parts of a date by their names (RFC 5260, 4.2).
 ghost use Rattle.std.specs.Prelude.{◌≡◌};
 ghost use Rattle.std.specs.Str.{str_eq_ignore_ascii_case};
 ghost use Rattle.date_text.specs.Part.{part_name, part_named};
 
-/// A part of a date.
+/// A part of a date (RFC 5260, 4.2).
 #[derive(Clone, Copy, Debug, PartialEq, Eq)]
 pub enum DatePart {
     /// `year`: four digits.
@@ -12,7 +12,7 @@ pub enum DatePart {
     Month,
     /// `day`: two digits.
     Day,
-    /// `date`: year, month and day.
+    /// `date`: year, month and day, as `2026-07-05`.
     Date,
     /// `julian`: the modified Julian day.
     Julian,
@@ -22,19 +22,19 @@ pub enum DatePart {
     Minute,
     /// `second`: two digits.
     Second,
-    /// `time`: hour, minute and second.
+    /// `time`: hour, minute and second, as `12:00:00`.
     Time,
-    /// `iso8601`: date, time and zone by RFC 3339.
+    /// `iso8601`: date, time and zone by RFC 3339, as `2026-07-05T12:00:00+02:00`.
     Iso8601,
-    /// `std11`: weekday, date, time and zone by RFC 5322.
+    /// `std11`: weekday, date, time and zone by RFC 5322, as `Sun, 05 Jul 2026 12:00:00 +0200`.
     Std11,
-    /// `zone`: a sign and four digits.
+    /// `zone`: a sign and four digits, as `+0200`.
     Zone,
     /// `weekday`: a digit, from 0 for Sunday.
     Weekday,
 }
 
-/// All of them.
+/// All parts, in the order of the enum.
 pub const DATE_PARTS: [DatePart; 13] = [
     DatePart::Year,
     DatePart::Month,
@@ -51,7 +51,7 @@ pub const DATE_PARTS: [DatePart; 13] = [
     DatePart::Weekday,
 ];
 
-/// Whether a text is its name, in any case of letters.
+/// Whether a text is the part's name, in any case of letters.
 fn is_name_of(name: &[u8], part: DatePart) -> bool
     ensures { result ≡ str_eq_ignore_ascii_case (part_name part) name.now }
 {
@@ -59,7 +59,7 @@ fn is_name_of(name: &[u8], part: DatePart) -> bool
 }
 
 impl DatePart {
-    /// The name of the part.
+    /// The name of the part, in lower case.
     pub fn name(self) -> &'static [u8]
         ensures { result.now ≡ part_name self }
     {
@@ -80,7 +80,7 @@ impl DatePart {
         }
     }
 
-    /// The part of a name, in any case of letters, or nothing.
+    /// The part of a name, in any case of letters; none for another text.
     pub fn named(name: &[u8]) -> Option<DatePart>
         ensures { result ≡ part_named name.now }
     {

@@ -1,4 +1,4 @@
-//! The parts of a date as they are shown (RFC 5260, section 4.2).
+//! The parts of a date as they are shown (RFC 5260, 4.2).
 ghost use Rattle.std.specs.Prelude.{◌≡◌, ◌++◌, ◌<◌, ◌≤◌, ◌+◌, codes, IfOk, OnOk};
 ghost use Rattle.std.specs.Int.{IsInRange};
 ghost use Rattle.std.specs.Option.{option_map};
@@ -107,7 +107,6 @@ fn push_std11(text: &mut Vec<u8>, time: &LocalTime) -> Result<(), AllocError>
     Ok(())
 }
 
-/// Adds a part.
 fn push_part(text: &mut Vec<u8>, part: DatePart, time: &LocalTime) -> Result<(), AllocError>
     ensures { OnOk result (text.new.items ≡ text.old.items ++ part_text part (local_as time.now)) }
 {
@@ -131,7 +130,8 @@ fn push_part(text: &mut Vec<u8>, part: DatePart, time: &LocalTime) -> Result<(),
     }
 }
 
-/// The text of a part of the moment in that zone, or nothing where the date there lies before the year 0 or past 9999.
+/// The text of a part of the moment in that zone (RFC 5260, 4.2). None where the date there lies
+/// before the year 0 or after 9999.
 pub fn shown(
     alloc: Global,
     moment: &Moment,

@@ -1,4 +1,4 @@
-//! Dates as they are written (RFC 5322, sections 3.3 and 4.3).
+//! Dates as they are written (RFC 5322, 3.3 and 4.3).
 ghost use Rattle.std.specs.Prelude.{◌≡◌, ◌≤◌, ◌<◌, ◌==◌, pos, true, IfSome, not, unsigned_abs};
 ghost use Rattle.std.specs.Int.{IsInRange};
 ghost use Rattle.std.specs.List.{after_last, suffix_len};
@@ -57,7 +57,7 @@ fn year_of_pair(high: u8, low: u8) -> Option<u16>
     })
 }
 
-/// The year of four digits, of three, which are added to 1900, or of two.
+/// The year of four digits, three or two. Four are 1900 or later, and three are added to 1900.
 fn year_of_word(word: &[u8]) -> Option<u16>
     ensures is { result ≡ year_of_word word.now }
     ensures small { IfSome result (λ n. IsInRange 1900 9999 n) }
@@ -84,7 +84,7 @@ fn pair_of_word(limit: u8, word: &[u8]) -> Option<u8>
     }
 }
 
-/// The date of words.
+/// The date of words, if the month has that day in that year.
 fn date_of_words(words: &DateSlices<'_>) -> Option<Date>
     ensures is { option_map date_as result ≡ date_of_words (date_words_as words.now) }
     ensures year { IfSome result (λ date. date.year ≡ pos (unsigned_abs date.year)) }
@@ -95,7 +95,7 @@ fn date_of_words(words: &DateSlices<'_>) -> Option<Date>
     date_of(year, month, day)
 }
 
-/// The minute of the day.
+/// The minute of the day, of an hour up to 23 and a minute up to 59.
 fn minute_of_words(words: &DateSlices<'_>) -> Option<u16>
     ensures is { result ≡ minute_of_words (date_words_as words.now) }
     ensures small { IfSome result (λ n. n < 1440) }
@@ -105,7 +105,7 @@ fn minute_of_words(words: &DateSlices<'_>) -> Option<u16>
     Some(60 * u16::from(hour) + u16::from(minute))
 }
 
-/// The second, which is 0 where none is written.
+/// The second up to 60; it is 0 where none is written.
 fn second_of_word(word: Option<&[u8]>) -> Option<u8>
     ensures is { result ≡ second_of_word (option_map (λ found. found.now) word.entry) }
     ensures small { IfSome result (λ n. n ≤ 60) }
@@ -116,7 +116,7 @@ fn second_of_word(word: Option<&[u8]>) -> Option<u8>
     }
 }
 
-/// The moment of a date, a time and a zone, if they are such.
+/// The moment of words, if they are a date, a time and a zone.
 fn moment_of_words(words: &DateSlices<'_>) -> Option<Moment>
     requires { closes words.now.zone.now ≡ true }
     ensures { option_map moment_as result ≡ moment_of_words (date_words_as words.now) }
@@ -128,14 +128,13 @@ fn moment_of_words(words: &DateSlices<'_>) -> Option<Moment>
     Some(Moment::at(date.to_unix_epoch_day(), minute, second, zone))
 }
 
-/// Whether an octet is no `;`.
 fn is_no_semicolon(octet: u8) -> bool
     ensures { result ≡ not (octet == octet_of ";") }
 {
     octet != b';'
 }
 
-/// How many octets stand after the last `;`, or how many there are where there is none.
+/// The number of octets after the last `;`, or of all octets where there is none.
 fn tail_len(value: &[u8]) -> usize
     ensures { result ≡ suffix_len (λ octet. not (octet == octet_of ";")) value.now }
 {
@@ -146,7 +145,8 @@ fn tail_len(value: &[u8]) -> usize
         .count()
 }
 
-/// What stands after the last `;`, or all where there is none. A `;` in a comment counts too: a value is cut before its comments are found.
+/// The text after the last `;`, or all of it where there is none. A `;` in a comment counts too: a
+/// value is cut before its comments are found.
 fn after_last_semicolon(value: &[u8]) -> &[u8]
     ensures { result.now ≡ after_last (λ c. c == octet_of ";") value.now }
 {
@@ -154,12 +154,15 @@ fn after_last_semicolon(value: &[u8]) -> &[u8]
     text
 }
 
-/// The date of a field's value: what follows its last `;`, or all of it, read as a date and a time of RFC 5322, section 3.3, or
-/// of its obsolete forms (section 4.3). Takes no memory.
+/// The date of a field's value: the text after its last `;`, or all of it. That is read as a date
+/// and a time, also in the obsolete forms (RFC 5322, 3.3 and 4.3).
 ///
-/// There is a moment exactly where it is a weekday with a comma, which need not fit the date and may lack, a day that the month
-/// has in that year, the name of a month, a year of four digits, which is 1900 or later, of three or of two, an hour up to 23, a
-/// minute up to 59, maybe a second up to 60, and maybe a zone. White space and closed comments may stand between any two words.
+/// There is a moment exactly where the text is as follows. It may begin with a weekday and a
+/// comma, and the weekday need not fit the date. Then come a day, the name of a month and a year.
+/// The month must have that day in that year. The year has four digits and is 1900 or later, or it
+/// has three digits or two. Then come an hour up to 23, a `:` and a minute up to 59. A `:` and a
+/// second up to 60 may follow. A zone may come last. White space and closed comments may stand
+/// between any two words.
 pub fn date_in(value: &[u8]) -> Option<Moment>
     ensures { option_map moment_as result ≡ date_in value.now }
 {

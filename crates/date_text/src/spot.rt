@@ -1,22 +1,22 @@
-//! Comments, which nest (RFC 5322, section 3.2.2).
+//! Comments, which nest (RFC 5322, 3.2.2).
 ghost use Rattle.std.specs.Prelude.{◌≡◌, ◌+◌, ◌<◌, ◌≤◌, ◌^◌};
 ghost use Rattle.octets.specs.Octet.{octet_of};
 ghost use Rattle.date_text.specs.Words.{after_octet, is_closed, is_outside};
 ghost use Rattle.date_text.specs.declared.spot.CommentSpot.TheVariants.{Inside, Outside};
 ghost use Rattle.date_text.specs.view.Words.{depth_of};
 
-/// Where an octet stands.
+/// The state before an octet.
 #[derive(Clone, Copy)]
 pub(crate) enum CommentSpot {
     /// Outside comments.
     Outside,
-    /// In a comment with so many others round it.
+    /// In a comment that has this many others around it.
     Inside(usize),
-    /// After a `\` there.
+    /// After a `\` in such a comment.
     Escaped(usize),
 }
 
-/// Where what stands after a comment stands.
+/// The state after a comment's `)`.
 fn after_comment(others: usize) -> CommentSpot
     ensures is { result ≡ after_octet (Inside others) (octet_of ")") }
     ensures depth { depth_of result ≤ others }
@@ -28,7 +28,7 @@ fn after_comment(others: usize) -> CommentSpot
     }
 }
 
-/// Where what stands after an octet of a comment stands.
+/// The state after an octet of a comment.
 fn after_inner(others: usize, octet: u8) -> CommentSpot
     requires { others + 1 < 2 ^ 63 }
     ensures is { result ≡ after_octet (Inside others) octet }
@@ -43,7 +43,7 @@ fn after_inner(others: usize, octet: u8) -> CommentSpot
 }
 
 impl CommentSpot {
-    /// Where the next octet stands.
+    /// The state after an octet.
     pub(crate) fn after(self, octet: u8) -> CommentSpot
         requires { depth_of self < 2 ^ 63 }
         ensures is { result ≡ after_octet self octet }

@@ -1,4 +1,4 @@
-//! The words of a field's value, one after another (RFC 5322, sections 3.2.2 and 4.3).
+//! The words of a field's value, one after another (RFC 5322, 3.2.2 and 4.3).
 ghost use Rattle.std.specs.Prelude.{◌≡◌, ◌+◌, ◌<◌, ◌≤◌, ◌^◌, [], ◌∷◌, true, IfSome, MatchOption, length, ⊤};
 ghost use Rattle.std.specs.List.{list_all, prefix_len};
 ghost use Rattle.date_text.specs.Words.{is_closed, is_joined, is_letter};
@@ -8,7 +8,7 @@ ghost use Rattle.date_text.specs.view.Words.{begins_word, closes, depth_of, is_o
 use crate::spot::CommentSpot;
 use octets::{is_digit, is_white};
 
-/// A letter (RFC 5234, appendix B.1: ALPHA).
+/// Whether an octet is a letter (RFC 5234, appendix B.1: ALPHA).
 fn is_letter(octet: u8) -> bool
     ensures { result ≡ is_letter octet }
 {
@@ -22,14 +22,14 @@ pub(crate) fn are_letters(word: &[u8]) -> bool
     word.iter().all(|octet| is_letter(*octet))
 }
 
-/// Whether two octets side by side are of one word.
+/// Whether two octets side by side are of one word: two letters, or two digits.
 fn is_joined(first: u8, second: u8) -> bool
     ensures { result ≡ is_joined first second }
 {
     (is_letter(first) && is_letter(second)) || (is_digit(first) && is_digit(second))
 }
 
-/// How many octets are of one word with the one before them.
+/// The number of octets that are of one word with the octet before them.
 fn joined_len(first: u8, rest: &[u8]) -> usize
     ensures { result ≡ prefix_len (is_joined first) rest.now }
 {
@@ -45,14 +45,15 @@ fn is_of_word(octet: u8) -> bool
     !is_white(octet) && octet != b'('
 }
 
-/// Whether an octet that stands there is one of a word.
+/// Whether an octet in this state is one of a word.
 fn is_word_at(spot: CommentSpot, octet: u8) -> bool
     ensures { result ≡ is_word_at spot octet }
 {
     spot.is_outside() && is_of_word(octet)
 }
 
-/// What stands after the first octet of a text, if it is no octet of a word, and where that stands.
+/// The state after the first octet of a text, and the rest of the text. None where that octet is
+/// one of a word, or there is none.
 fn after_blank(spot: CommentSpot, text: &[u8]) -> Option<(CommentSpot, &[u8])>
     requires { depth_of spot < 2 ^ 63 }
     ensures words { IfSome result
@@ -73,7 +74,7 @@ fn after_blank(spot: CommentSpot, text: &[u8]) -> Option<(CommentSpot, &[u8])>
     Some((spot.after(*octet), rest))
 }
 
-/// What stands after the white space and the comments with which a text begins.
+/// The text after the white space and the comments with which it begins.
 fn without_blanks(text: &[u8]) -> &[u8]
     requires { closes text.now ≡ true }
     ensures closed { closes result.now ≡ true }
@@ -89,7 +90,7 @@ fn without_blanks(text: &[u8]) -> &[u8]
     left
 }
 
-/// The first word of a text whose comments are closed, and what stands after it, or nothing where it has no words.
+/// The first word of a text whose comments are closed, and the text after it, if it has words.
 pub(crate) fn next_word(text: &[u8]) -> Option<(&[u8], &[u8])>
     requires { closes text.now ≡ true }
     ensures is { MatchOption result (words_in text.now ≡ [])

@@ -1,4 +1,4 @@
-//! Zones (RFC 5322, sections 3.3 and 4.3).
+//! Zones (RFC 5322, 3.3 and 4.3).
 ghost use Rattle.std.specs.Prelude.{◌≡◌, ◌≤◌, ◌++◌, OnOk};
 ghost use Rattle.jiff_core.specs.Calendar.{IsWithin};
 ghost use Rattle.date_text.specs.Zone.{east, shift_of, west, zone_sign, zone_text, zone_text_with_colon};
@@ -6,11 +6,13 @@ ghost use Rattle.date_text.specs.Zone.{east, shift_of, west, zone_sign, zone_tex
 use crate::number::{digit, push_pair};
 use std::alloc::AllocError;
 
-/// A zone: how many minutes its clocks go before those of UTC, or after them where it lies to the west. West with none is
-/// `-0000`, which says nothing of the zone and is shifted by nothing.
+/// A zone: the minutes that its clocks add to the time of UTC, or take from it to the west. West
+/// with 0 minutes is `-0000`, which says nothing of the zone.
 #[derive(Clone, Copy, Debug)]
 pub struct Zone {
+    /// Whether it lies to the west.
     pub west: bool,
+    /// The minutes, up to 5,999.
     pub minutes: u16,
     pub ghost minutes_in: { minutes ≤ 5999 },
 }
@@ -46,7 +48,7 @@ impl Zone {
         }
     }
 
-    /// How many minutes are to be added to the time of UTC.
+    /// The minutes to add to the time of UTC.
     pub(crate) fn shift(&self) -> i64
         ensures is { result ≡ shift_of (zone_as self.now) }
         ensures small { IsWithin 5999 result }
@@ -55,14 +57,14 @@ impl Zone {
         if self.west { -minutes } else { minutes }
     }
 
-    /// The sign of the zone.
+    /// `-` to the west, and else `+`.
     fn sign(&self) -> u8
         ensures { result ≡ zone_sign (zone_as self.now) }
     {
         if self.west { b'-' } else { b'+' }
     }
 
-    /// The zone as a sign and four digits.
+    /// The zone as a sign and four digits: hours and minutes.
     pub fn text(&self) -> [u8; 5]
         ensures { result ≡ zone_text (zone_as self.now) }
     {
@@ -85,7 +87,7 @@ impl Zone {
         Ok(())
     }
 
-    /// Adds the zone to a text, with a `:` between hours and minutes (RFC 3339, section 5.6: time-numoffset).
+    /// Adds the zone to a text, with a `:` after the hours (RFC 3339, 5.6: time-numoffset).
     pub(crate) fn push_with_colon_to(&self, text: &mut Vec<u8>) -> Result<(), AllocError>
         ensures { OnOk result
             (text.new.items ≡ text.old.items ++ zone_text_with_colon (zone_as self.now)) }

@@ -1,4 +1,4 @@
-//! Zones as they are written (RFC 5322, sections 3.3 and 4.3).
+//! Zones as they are written (RFC 5322, 3.3 and 4.3).
 ghost use Rattle.std.specs.Prelude.{◌≡◌, ◌≤◌, true, IfSome, position};
 ghost use Rattle.std.specs.List.{list_any};
 ghost use Rattle.std.specs.Option.{option_map};
@@ -11,7 +11,7 @@ use crate::number::{pair_number, up_to};
 use crate::words::{are_letters, next_word};
 use crate::zone::Zone;
 
-/// The minutes of four digits.
+/// The minutes of four digits: hours, and minutes up to 59.
 fn zone_minutes(digits: &[u8]) -> Option<u16>
     ensures is { result ≡ zone_minutes digits.now }
     ensures small { IfSome result (λ n. n ≤ 5999) }
@@ -24,7 +24,7 @@ fn zone_minutes(digits: &[u8]) -> Option<u16>
     Some(60 * u16::from(hours) + u16::from(minutes))
 }
 
-/// The zone of a sign and digits.
+/// The zone of a sign and four digits.
 fn zone_of_sign(sign: u8, digits: &[u8]) -> Option<Zone>
     ensures { option_map zone_as result ≡ zone_of_sign sign digits.now }
 {
@@ -56,7 +56,7 @@ pub(crate) fn place_of(word: &[u8], names: &[&[u8]]) -> Option<usize>
     names.iter().position(|name| is_same_name(word, name))
 }
 
-/// The zone of letters.
+/// The zone of letters. Letters without a known meaning give `-0000`.
 fn zone_of_letters(word: &[u8]) -> Zone
     ensures { zone_as result ≡ zone_of_letters word.now }
 {
@@ -77,7 +77,7 @@ fn zone_of_letters(word: &[u8]) -> Zone
     }
 }
 
-/// The zone of one word.
+/// The zone of one word, if it has letters alone.
 fn zone_of_word(word: &[u8]) -> Option<Zone>
     ensures { option_map zone_as result ≡ zone_of_word word.now }
 {
@@ -88,7 +88,7 @@ fn zone_of_word(word: &[u8]) -> Option<Zone>
     }
 }
 
-/// The zone of two words.
+/// The zone of two words: a sign, and four digits.
 fn zone_of_two(sign: &[u8], digits: &[u8]) -> Option<Zone>
     ensures { option_map zone_as result ≡ zone_of_two sign.now digits.now }
 {
@@ -98,7 +98,7 @@ fn zone_of_two(sign: &[u8], digits: &[u8]) -> Option<Zone>
     zone_of_sign(*sign, digits)
 }
 
-/// The zone that the words of a text tell: none, letters, or a sign and four digits.
+/// The zone that the words of a text say: none, letters, or a sign and four digits.
 pub(crate) fn zone_in(text: &[u8]) -> Option<Zone>
     requires { closes text.now ≡ true }
     ensures { option_map zone_as result ≡ zone_of_words (words_in text.now) }
@@ -115,7 +115,8 @@ pub(crate) fn zone_in(text: &[u8]) -> Option<Zone>
     }
 }
 
-/// The zone of a text that is exactly a sign and four digits, hours and minutes, these up to 59, or nothing. Takes no memory.
+/// The zone of a text that is exactly a sign and four digits: hours, and minutes up to 59.
+/// None for another text.
 pub fn zone_named(text: &[u8]) -> Option<Zone>
     ensures { option_map zone_as result ≡ zone_named text.now }
 {

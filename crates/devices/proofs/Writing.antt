@@ -1,4 +1,4 @@
--- What texts written one after another make when they are joined: a text that was written, or a front of one.
+-- Texts written one after another, joined: a text that was written, or a front of one.
 use Rattle.std.proofs.Common.{◌≡◌, ℕ, ◌≤◌, List, [], ◌∷◌, ◌++◌, sym, ap, ◌∙◌, subst, append_assoc, append-nil, arith, Option, Result, Ok, Err, OnErr, IsErr, take, drop, length, get_or, ◌<◌, ◌+◌, take-append-drop}
 use Rattle.std.specs.List.{flat_map}
 use Rattle.std.proofs.lemmas.Grind.{flat_map-append}
@@ -64,7 +64,7 @@ wrote_front_of contents fault_count a b s t first = record {
   fault_counted = first.fault_counted;
 }
 
--- what holds in any case holds on an error
+-- a fact that holds in any case holds on an error
 pub on_err_from : {T E P : Type 0} (r : Result T E) → P → OnErr r P
 on_err_from (Ok x) p = tt
 on_err_from (Err e) p = p
@@ -117,15 +117,16 @@ wrote_items_then_front contents fault_count a b c f xs i d within first second =
     wrote_front_of_items contents fault_count a c f xs (i + 1)
     (subst (WroteFront contents fault_count a c) (sym joined) (wrote_then_front contents fault_count a b c _ _ first second))
 
--- the texts of the items before an item were written, and then a front of the text of what equals that item
+-- the texts of the items before an item were written, and then a front of an equal item's text
 pub wrote_items_then_front_at : {S X : Type 0} (contents : S → Option (List ℕ)) (fault_count : S → ℕ) (a b c : S) (f : X → List ℕ) (xs : List X) (i : ℕ) (d x : X)
     → i < length xs → x ≡ get_or xs i d → Wrote contents fault_count a b (flat_map f (take i xs)) → WroteFront contents fault_count b c (f x)
     → WroteFront contents fault_count a c (flat_map f xs)
 wrote_items_then_front_at contents fault_count a b c f xs i d x within same first second =
     wrote_items_then_front contents fault_count a b c f xs i d within first (subst (λ y. WroteFront contents fault_count b c (f y)) same second)
 
--- For `using(..)` on a function that writes up to three texts, one after another, and gives up at the first fault.
--- Each text is a call of a definition that does not unfold there: one that computes to single octets hides where the texts join.
+-- For `using(..)` on a function that writes up to three texts in turn and gives up at the first
+-- fault. Each text is a call of a definition that does not unfold there. A text that computes to
+-- single octets hides where the texts join.
 pub ruleset writing = (last_of_two, last_of_three, wrote_nothing, wrote_both, wrote_then_front, wrote_front_of, on_err_from, writes_failed)
 
 -- For `using(..)` on a function that writes the text of each item of a slice.

@@ -1,4 +1,4 @@
--- What a device counts: its faults, and the calls that were made of it.
+-- The counts of a device: its faults, and the calls that were made of it.
 use Rattle.std.specs.Prelude.{◌≡◌, ℕ, ◌+◌, ◌-◌, ◌^◌, ◌≤◌, ◌==◌, if◌then◌else◌, min, max, Result, MatchResult}
 
 -- the count after one more event; at the greatest u64 it stays

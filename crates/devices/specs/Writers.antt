@@ -1,4 +1,4 @@
--- What is written: octets, their quoted form, and pieces of text.
+-- The texts that are written: octets, their quoted form, and pieces of text.
 use Rattle.std.specs.Prelude.{◌≡◌, ℕ, ◌/◌, ◌%◌, ◌≤◌, ◌==◌, ◌||◌, nat_lt, if◌then◌else◌, List, [], ◌∷◌, ◌++◌, Option, Result, MatchResult, codes, decimal}
 use Rattle.std.specs.List.{flat_map}
 use Rattle.std.specs.Io.KnownBytes.{Appends}
@@ -10,7 +10,8 @@ use Rattle.script_names.specs.Name.{location_word}
 use Rattle.octets.specs.Hex.{hex_digit}
 use Rattle.octets.specs.Octet.{octet_of}
 
--- how an octet stands between quotes: `"` and `\` after a `\`, an octet that isn't a visible character of ASCII or a space as \x and two digits
+-- The spelling of an octet between quotes. `"` and `\` stand after a `\`. An octet that isn't a
+-- visible character of ASCII or a space is `\x` and two digits.
 abbrev pub octet_spelling : ℕ → List ℕ
 octet_spelling octet =
     if octet == octet_of "\"" || octet == octet_of "\\" then octet_of "\\" ∷ octet ∷ []
@@ -25,14 +26,14 @@ quoted octets = codes "\"" ++ flat_map octet_spelling octets ++ codes "\""
 unfoldable pub name_text : ScriptName → List ℕ
 name_text name = location_word name.location ++ codes " " ++ quoted name.name
 
--- what a piece prints
+-- the text of a piece
 abbrev pub piece_text : Piece → List ℕ
 piece_text (Raw octets) = octets.now
 piece_text (Quoted octets) = quoted octets.now
 piece_text (Name name) = name_text name.now
 piece_text (Number n) = decimal n
 
--- what pieces print, in order
+-- the text of pieces, in order
 abbrev pub pieces_text : List Piece → List ℕ
 pieces_text pieces = flat_map piece_text pieces
 
@@ -49,7 +50,8 @@ pub record WroteFront {S : Type 0} (contents : S → Option (List ℕ)) (fault_c
   pub front_appended : Appends (contents old) (contents new) front
   pub fault_counted : HasRisen (fault_count old) (fault_count new)
 
--- What a function that writes this text has done: it answers `Ok` and has written the text, or `Err` and has written a front of it.
+-- The work of a function that writes this text. If it answers `Ok`, it has written the text, and if
+-- it answers `Err`, a front of it.
 abbrev pub Writes : {S T E : Type 0} → (S → Option (List ℕ)) → (S → ℕ) → Result T E → S → S → List ℕ → Type 0
 Writes contents fault_count result old new text =
     MatchResult result (λ _. Wrote contents fault_count old new text) (λ _. WroteFront contents fault_count old new text)

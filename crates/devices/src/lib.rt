@@ -1,4 +1,4 @@
-//! The devices that are read and written, and how octets, their quoted form and lines are written to them.
+//! The devices that are read and written, and how octets, their quoted form and lines are written.
 #![tactic(auto)]
 
 mod devices;

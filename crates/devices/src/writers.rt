@@ -1,4 +1,4 @@
-//! Writing octets, their quoted form, and lines of several pieces. None of it takes memory.
+//! Writing octets, their quoted form, and lines of several pieces.
 ghost use Rattle.std.specs.Prelude.{◌≡◌, ◌<◌, ◌≤◌, [], take, length, IfOk, OnErr, IsTrue, ◌↔◌, ◌∷◌};
 ghost use Rattle.std.specs.List.{flat_map};
 ghost use Rattle.devices.specs.Writers.{Wrote, WroteFront, Writes, octet_spelling, quoted, name_text, piece_text, pieces_text};
@@ -10,7 +10,7 @@ use script_names::ScriptName;
 use std::io::ErrorKind;
 use thiserror::Error;
 
-/// A device did not take all that was to be written to it.
+/// A device did not take all octets that were to be written to it.
 #[derive(Debug, Drop, Error)]
 #[error("the writer failed")]
 pub struct WriteFault;
@@ -28,7 +28,7 @@ pub enum Piece<'a> {
     Number(u64),
 }
 
-/// How many times in a row an interrupted write is tried again.
+/// The number of times in a row that an interrupted write is tried again.
 const MAX_RETRIES: u32 = 1_000;
 
 /// Writes some octets from the front, one at least, and answers how many.
@@ -58,6 +58,7 @@ fn write_front<W: Sink>(bytes: &[u8], writer: &mut W) -> Result<usize, WriteFaul
 }
 
 /// Writes the octets. A write that was interrupted is tried again, at most 1,000 times in a row.
+/// When it fails, a front of the octets is written.
 #[tactic(auto, using(crate::proofs::Writing::writing))]
 pub fn write_out<W: Sink>(bytes: &[u8], writer: &mut W) -> Result<(), WriteFault>
     ensures { Writes W.contents W.fault_count result writer.old writer.new bytes.now }
@@ -77,7 +78,7 @@ fn is_plain(octet: u8) -> bool
     is_printable(octet) && octet != b'"' && octet != b'\\'
 }
 
-/// How many octets at the front stand between quotes as they are.
+/// The number of octets at the front that stand between quotes as they are.
 fn plain_len(bytes: &[u8]) -> usize
     ensures within { result ≤ length bytes.now }
     ensures plain { flat_map octet_spelling (take result bytes.now) ≡ take result bytes.now }
@@ -90,7 +91,7 @@ fn plain_len(bytes: &[u8]) -> usize
     bytes.len()
 }
 
-/// Writes how an octet stands between quotes.
+/// Writes the spelling of an octet between quotes.
 #[tactic(auto, using(crate::proofs::Writing::writing))]
 fn write_spelling<W: Sink>(octet: u8, writer: &mut W) -> Result<(), WriteFault>
     ensures { Writes W.contents W.fault_count result writer.old writer.new (octet_spelling octet) }
@@ -140,8 +141,8 @@ fn write_spelled<W: Sink>(bytes: &[u8], writer: &mut W) -> Result<(), WriteFault
     Ok(())
 }
 
-/// Writes the octets between quotes: `"` and `\` after a `\`, octets outside 32 to 126 as `\x` and
-/// two hexadecimal digits in lower case.
+/// Writes the octets between quotes. `"` and `\` stand after a `\`. Octets outside 32 to 126 stand
+/// as `\x` and two hexadecimal digits in lower case.
 #[tactic(auto, using(crate::proofs::Writing::writing), unfolding(crate::specs::Writers::quoted))]
 pub fn write_quoted<W: Sink>(bytes: &[u8], writer: &mut W) -> Result<(), WriteFault>
     ensures { Writes W.contents W.fault_count result writer.old writer.new (quoted bytes.now) }

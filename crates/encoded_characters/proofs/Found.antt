@@ -1,4 +1,4 @@
--- The sequence with which a text begins is found exactly where it is one as it is written.
+-- A text is found to begin with a sequence exactly where one is written there.
 use Rattle.std.proofs.Common.{◌≡◌, ℕ, zero, suc, ◌+◌, ◌<◌, Bool, true, false, ◌&&◌, ◌||◌, ◌==◌, cond, List, [], ◌∷◌, ◌++◌, length, map, take, drop, Option, None, Some, refl, sym, ◌∙◌, ap, subst, append_assoc, length-append, codes, inl, inr, arith}
 use Rattle.std.specs.Char.{to_ascii_lowercase}
 use Rattle.std.specs.List.{flat_map, list_all, prefix_len}
@@ -236,7 +236,7 @@ sequence_at-written s rest legal =
     ∙ ap (before_brace s.word (inside_written s.inside)) (after_run-is (inside_written s.inside) rest stands)
     ∙ brace_found s rest inside
 
--- what is found is a sequence as it is written
+-- a sequence that is found is written there
 
 -- octets that go on after `${` as a sequence does
 record GoesOn (octets : List ℕ) (s : EncodedSequence) : Type 0 where

@@ -1,4 +1,4 @@
--- Octets as runs of digits, each with what stands before it.
+-- Octets as runs of digits, each with the octets before it.
 use Rattle.std.proofs.Common.{◌≡◌, ℕ, suc, ◌+◌, ◌<◌, Bool, true, false, not, ◌&&◌, ◌||◌, cond, List, [], ◌∷◌, ◌++◌, length, take, drop, refl, sym, ◌∙◌, ap, append-nil, arith}
 use Rattle.std.specs.List.{list_all, prefix_len, take_while}
 use Rattle.std.proofs.lemmas.Bool.{not-true, not_from_false}
@@ -67,7 +67,7 @@ last_run (c ∷ gap) are =
     gap_step c (inside_of gap) (first_of_both (not_hex c) (list_all not_hex gap) are)
     ∙ ap (λ (one : InsideSequence). blank_before c one.items one.last) (last_run gap (last_of_both (not_hex c) (list_all not_hex gap) are))
 
--- a run of digits, with what stands before it, and what stands after it
+-- a run of digits, with the octets before it, and the octets after it
 pub item_run : (gap digits rest : List ℕ) → list_all not_hex gap ≡ true → 0 < length digits → list_all is_hex_digit digits ≡ true → no_digit rest ≡ true → inside_of (gap ++ (digits ++ rest)) ≡ item_before (record { blanks = gap; digits = digits }) (inside_of rest)
 item_run gap [] rest blank some are apart = absurd (omega arith)
 item_run gap (c ∷ digits) rest blank some are apart =
@@ -104,7 +104,7 @@ whole_step c octets true is after none =
 whole_step c octets false is after none =
     after (ap (λ n. prefix_len is_hex_digit (drop n (c ∷ octets))) (sym (one_more (prefix_len not_hex octets))) ∙ none)
 
--- where no digit stands after the first octets that are none, there is none
+-- where no digit stands after the first octets that are no digits, there is none
 pub whole_gap : (octets : List ℕ) → prefix_len is_hex_digit (drop (prefix_len not_hex octets) octets) ≡ 0 → list_all not_hex octets ≡ true
 whole_gap [] none = refl
 whole_gap (c ∷ octets) none = whole_step c octets (is_hex_digit c) refl (whole_gap octets) none
@@ -123,7 +123,7 @@ next_some octets blanks further digits rest blanks_is further_is digits_is rest_
     ap inside_of (sym whole)
     ∙ item_run blanks digits rest (ap (list_all not_hex) blanks_is ∙ run_all not_hex octets) some (ap (list_all is_hex_digit) digits_is ∙ run_all is_hex_digit further) (ap no_digit rest_is ∙ digits_end further)
 
--- what octets are as runs is written as they are
+-- the runs of octets are written as these octets
 
 onto_written : (c : ℕ) (items : List Item) (last : List ℕ) (b : Bool) → inside_written (cond b (record { items = digit_before c items; last = last }) (blank_before c items last)) ≡ c ∷ inside_written (record { items = items; last = last })
 onto_written c [] last true = refl
@@ -140,7 +140,7 @@ unfolding inside_of
 written_again [] = refl
 written_again (c ∷ rest) = onto_written c (inside_of rest).items (inside_of rest).last (is_hex_digit c) ∙ ap (λ octets. c ∷ octets) (written_again rest)
 
--- between two runs of digits something stands
+-- between two runs of digits there are octets
 
 abbrev is_apart : Item → Bool
 is_apart item = is_filled item.blanks

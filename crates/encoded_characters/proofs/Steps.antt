@@ -31,7 +31,7 @@ replaced_sequence (c ∷ rest) s n found count =
     ap octets_of_pieces (pieces-sequence sequence_at further c rest s (sym found))
     ∙ ap (λ m. octets_before (octets_of_sequence s) (characters_replaced (drop m (c ∷ rest)))) (sym count)
 
--- how many octets a sequence has, by those between its `:` and `}`
+-- the number of octets of a sequence, by those between its `:` and `}`
 count_of : (word octets : List ℕ) (n : ℕ) → n ≡ length word + length octets + 4 → n ≡ suc (further (record { word = word; inside = inside_of octets }))
 count_of word octets n is = omega (arith, ap length (written_again octets))
 
@@ -93,7 +93,7 @@ unchanged_pieces (octet c ∷ pieces) text (nowhere, rest, is, cut) none =
 pub unchanged : (text : List ℕ) → has_sequence text ≡ false → characters_replaced text ≡ Some text
 unchanged text none = unchanged_pieces (pieces_of text) text (cuts_from finds 0 text) none
 
--- whether a sequence is found, by what stands for it in the program
+-- whether a sequence is found, by the program's sequence
 
 pub some_found : {X : Type 0} (shown : X → EncodedSequence) (found : Option X) (text : List ℕ) → option_map shown found ≡ sequence_at text → is_some found ≡ true → has_sequence text ≡ true
 some_found shown None text is some = absurd cc

@@ -1,4 +1,4 @@
--- What digits and items stand for.
+-- The octets that digits and items stand for.
 use Rattle.std.proofs.Common.{◌≡◌, ℕ, zero, suc, ◌+◌, ◌*◌, ◌<◌, Bool, false, cond, List, [], ◌∷◌, ◌++◌, length, drop, get_or, Option, None, Some, refl, sym, ◌∙◌, ap, append_assoc, arith}
 use Rattle.std.specs.Option.{option_and_then, option_map}
 use Rattle.std.proofs.lemmas.Bool.Decides.{nat_tests}
@@ -8,7 +8,7 @@ use Rattle.encoded_characters.specs.Sequence.{InsideSequence}
 use Rattle.encoded_characters.specs.Value.{character_of, if_character, is_character, joined, number_from, octets_before, octets_of_digits}
 use Rattle.encoded_characters.specs.view.Sequence.{grown}
 
--- what items stand for
+-- the octets that items stand for
 abbrev pub octets_of_items : (hex : Bool) → InsideSequence → Option (List ℕ)
 octets_of_items hex inside = joined (λ item. octets_of_digits hex item.digits) inside.items
 

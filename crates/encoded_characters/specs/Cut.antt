@@ -1,4 +1,4 @@
--- A text that is cut into encoded characters and single octets (RFC 5228, section 2.4.2.4), and what it stands for.
+-- A text cut into encoded characters and octets (RFC 5228, 2.4.2.4), and the octets it stands for.
 use Rattle.std.specs.Prelude.{◌≡◌, ℕ, true, List, [], ◌∷◌, Option, Some}
 use Rattle.text_cut.specs.Cut as cut
 use Rattle.text_cut.specs.Cut.{TextPiece, octet, sequence}
@@ -13,16 +13,17 @@ IsLegalEncoded s = is_legal s ≡ true
 abbrev pub EncodedPiece : Type 0
 EncodedPiece = TextPiece EncodedSequence
 
--- A text is cut from the left into sequences and single octets, and no sequence begins where an octet stands alone: what isn't
--- a sequence stays as it is written.
+-- A text is cut from the left into sequences and single octets. No sequence begins where an octet
+-- stands alone: all that isn't a sequence stays as it is written.
 abbrev pub CutsEncoded : List EncodedPiece → List ℕ → Type 0
 CutsEncoded pieces text = cut.Cuts written IsLegalEncoded pieces text
 
--- what a piece stands for
+-- the octets that a piece stands for, if it stands for any
 abbrev pub octets_of_piece : EncodedPiece → Option (List ℕ)
 octets_of_piece (sequence s) = octets_of_sequence s
 octets_of_piece (octet c) = Some (c ∷ [])
 
--- What pieces stand for, in turn, or nothing where one of them stands for nothing. It isn't looked at again.
+-- The octets that pieces stand for, in turn. None where one of them stands for nothing. They
+-- aren't looked at again.
 abbrev pub octets_of_pieces : List EncodedPiece → Option (List ℕ)
 octets_of_pieces pieces = joined octets_of_piece pieces

@@ -1,4 +1,5 @@
--- The one cut of a text into encoded characters and octets, computed, and the text with what they stand for in their place.
+-- The one cut of a text into encoded characters and octets, computed. Also the text with
+-- its encoded characters replaced.
 use Rattle.std.specs.Prelude.{ℕ, ◌+◌, Bool, true, false, ◌&&◌, ◌||◌, ◌==◌, List, [], ◌∷◌, length, take, drop, Option, None, Some, if◌then◌else◌}
 use Rattle.std.specs.List.{list_any, prefix_len, take_while}
 use Rattle.octets.specs.Octet.{is_white, octet_of}
@@ -7,7 +8,7 @@ use Rattle.text_cut.specs.Scan as scan
 use Rattle.encoded_characters.specs.Cut.{EncodedPiece, octets_of_pieces}
 use Rattle.encoded_characters.specs.Sequence.{InsideSequence, Item, EncodedSequence, inside_written, is_hex, is_hex_digit, is_inside, is_unicode}
 
--- what stands between `:` and `}`, by its octets
+-- the octets between `:` and `}`, one by one
 
 -- a digit before items
 abbrev pub digit_to : ℕ → (blanks digits : List ℕ) → List Item → List Item
@@ -18,7 +19,7 @@ abbrev pub digit_before : ℕ → List Item → List Item
 digit_before c [] = record { blanks = []; digits = c ∷ [] } ∷ []
 digit_before c (item ∷ items) = digit_to c item.blanks item.digits items
 
--- another octet before them, and before what stands after the last
+-- another octet before items, and before the octets after the last
 abbrev pub blank_before : ℕ → List Item → (last : List ℕ) → InsideSequence
 blank_before c [] last = record { items = []; last = c ∷ last }
 blank_before c (item ∷ items) last = record { items = record { blanks = c ∷ item.blanks; digits = item.digits } ∷ items; last = last }
@@ -26,32 +27,32 @@ blank_before c (item ∷ items) last = record { items = record { blanks = c ∷ 
 abbrev pub octet_onto : ℕ → InsideSequence → InsideSequence
 octet_onto c inside = if is_hex_digit c then record { items = digit_before c inside.items; last = inside.last } else blank_before c inside.items inside.last
 
--- octets as runs of digits, each with what stands before it, and what stands after the last
+-- octets as runs of digits, each with the octets before it, and the octets after the last run
 unfoldable pub inside_of : List ℕ → InsideSequence
 inside_of [] = record { items = []; last = [] }
 inside_of (c ∷ rest) = octet_onto c (inside_of rest)
 
 -- the sequence with which a text begins
 
--- an octet that may stand between `:` and `}`
+-- whether an octet may stand between `:` and `}`
 abbrev pub may_stand : ℕ → Bool
 may_stand c = is_hex_digit c || is_white c
 
--- the first octets that may, up to one that may not
+-- the first octets that may stand there, up to one that may not
 abbrev pub run : List ℕ → List ℕ
 run octets = take_while may_stand octets
 
--- what stands after them
+-- the octets after those
 abbrev pub after_run : List ℕ → List ℕ
 after_run octets = drop (prefix_len may_stand octets) octets
 
--- a sequence, by its word, the octets between `:` and `}`, and what stands after these: `}`
+-- a sequence, by its word, the octets up to `}`, and the octets after them, which begin with `}`
 abbrev pub before_brace : (word octets rest : List ℕ) → Option EncodedSequence
 before_brace word octets [] = None
 before_brace word octets (c ∷ rest) =
     if c == octet_of "}" && is_inside (is_hex word) (inside_of octets) then Some (record { word = word; inside = inside_of octets }) else None
 
--- a sequence, by its word and what stands after that: `:`, and so on
+-- a sequence, by its word and the octets after it, which begin with `:`
 abbrev pub after_word : (word rest : List ℕ) → Option EncodedSequence
 after_word word [] = None
 after_word word (c ∷ rest) = if c == octet_of ":" then before_brace word (run rest) (after_run rest) else None
@@ -71,7 +72,7 @@ sequence_at [] = None
 sequence_at (c ∷ []) = None
 sequence_at (c ∷ d ∷ rest) = if c == octet_of "$" && d == octet_of "{" then by_word (word_at rest) rest else None
 
--- how many octets of a sequence stand after its first: `{`, its word, `:`, what stands inside, and `}`
+-- the number of octets of a sequence after its first: `{`, its word, `:`, the inside, and `}`
 abbrev pub further : EncodedSequence → ℕ
 further s = length s.word + length (inside_written s.inside) + 3
 
@@ -79,7 +80,8 @@ further s = length s.word + length (inside_written s.inside) + 3
 abbrev pub pieces_of : List ℕ → List EncodedPiece
 pieces_of text = scan.pieces_of sequence_at further text
 
--- a text with its encoded characters replaced, or nothing where one isn't a character (RFC 5228, section 2.4.2.4)
+-- A text with its encoded characters replaced (RFC 5228, 2.4.2.4). None where one of
+-- them isn't a character.
 abbrev pub characters_replaced : List ℕ → Option (List ℕ)
 characters_replaced text = octets_of_pieces (pieces_of text)
 

@@ -24,7 +24,7 @@ fn has_sequence(text: &[u8]) -> bool
     false
 }
 
-/// A text with its encoded characters replaced.
+/// A text with its encoded characters replaced. None where one of them isn't a character.
 fn all_replaced(alloc: Global, text: &[u8]) -> Result<Option<Vec<u8>>, AllocError>
     ensures { IfOk result (λ found. octets_of found ≡ characters_replaced text.now) }
 {
@@ -51,12 +51,12 @@ fn all_replaced(alloc: Global, text: &[u8]) -> Result<Option<Vec<u8>>, AllocErro
     Ok(Some(octets))
 }
 
-/// The text with its encoded characters (RFC 5228, section 2.4.2.4) replaced by what they stand for: `${hex:..}` by the octets
-/// of these numbers, and `${unicode:..}` by these characters in UTF-8. What isn't so stays as it is written, and what they stand
-/// for isn't looked at again.
+/// The text with its encoded characters (RFC 5228, 2.4.2.4) replaced. `${hex:..}` stands for the
+/// octets of these numbers, and `${unicode:..}` for these characters in UTF-8. Any other text stays
+/// as it is written. The octets put in aren't looked at again.
 ///
-/// The result is `None` where a character isn't one: a number from D800 to DFFF, or above 10FFFF. Memory is taken only where
-/// the text has encoded characters; else the result is borrowed.
+/// The result is `None` where a number isn't that of a character: from D800 to DFFF, or above
+/// 10FFFF. Memory is taken only where the text has encoded characters; else the result is borrowed.
 pub fn replaced(alloc: Global, text: &[u8]) -> Result<Option<CowSlice<'_, u8>>, AllocError>
     ensures is { IfOk result (λ found. octets_shown found ≡ characters_replaced text.now) }
     ensures borrowed { has_sequence text.now ≡ false

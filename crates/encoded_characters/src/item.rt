@@ -1,4 +1,5 @@
-//! What stands between the `:` and the `}` of encoded characters: runs of hexadecimal digits with blanks between.
+//! The octets between the `:` and the `}` of encoded characters: runs of hexadecimal
+//! digits with blanks between.
 ghost use Rattle.std.specs.Prelude.{◌≡◌, ◌<◌, true, not, nat_eq, IfSome, MatchOption, length};
 ghost use Rattle.std.specs.List.{list_all, prefix_len};
 ghost use Rattle.encoded_characters.specs.Scan.{inside_of};
@@ -7,23 +8,23 @@ ghost use Rattle.encoded_characters.specs.view.Sequence.{item_before, item_of, l
 
 use octets::{hex_octet, is_blank};
 
-/// A run of digits, with what stands before it.
+/// A run of digits, with the octets before it.
 #[derive(Clone, Copy)]
 pub(crate) struct EncodedItem<'a> {
-    /// What stands before the digits.
+    /// The octets before the digits.
     pub(crate) blanks: &'a [u8],
     /// The digits.
     pub(crate) digits: &'a [u8],
 }
 
-/// A hexadecimal digit.
+/// Whether an octet is a hexadecimal digit, in either case.
 pub(crate) fn is_hex_digit(octet: u8) -> bool
     ensures { result ≡ is_hex_digit octet }
 {
     hex_octet(b'0', octet).is_some()
 }
 
-/// How many octets stand before the first digit.
+/// The number of octets before the first digit.
 fn gap_len(octets: &[u8]) -> usize
     ensures { result ≡ prefix_len (λ octet. not (is_hex_digit octet)) octets.now }
 {
@@ -33,7 +34,7 @@ fn gap_len(octets: &[u8]) -> usize
         .count()
 }
 
-/// How many digits octets begin with.
+/// The number of digits with which octets begin.
 fn digit_count(octets: &[u8]) -> usize
     ensures { result ≡ prefix_len is_hex_digit octets.now }
 {
@@ -43,7 +44,8 @@ fn digit_count(octets: &[u8]) -> usize
         .count()
 }
 
-/// The first run of digits with what stands before it, and what stands after it.
+/// The first run of digits with the octets before it, and the octets after it. None where
+/// there is no digit.
 pub(crate) fn next_item(octets: &[u8]) -> Option<(EncodedItem<'_>, &[u8])>
     ensures is { MatchOption result (inside_of octets.now ≡ last_alone octets.now)
         (λ found. inside_of octets.now ≡ item_before (item_of found.0) (inside_of found.1.now)) }
@@ -59,7 +61,7 @@ pub(crate) fn next_item(octets: &[u8]) -> Option<(EncodedItem<'_>, &[u8])>
     Some((EncodedItem { blanks, digits }, rest))
 }
 
-/// What stands after the blank with which octets begin.
+/// The octets after the blank with which octets begin, if they begin with one.
 #[tactic(auto, unfolding(crate::specs::EncodedSequence::are_blanks))]
 fn after_blank(octets: &[u8]) -> Option<&[u8]>
     ensures is { MatchOption result (are_blanks octets.now ≡ nat_eq (length octets.now) 0)
@@ -84,7 +86,8 @@ fn are_blanks(octets: &[u8]) -> bool
     left.is_empty()
 }
 
-/// Whether digits, with what stands before them, are an item.
+/// Whether octets before digits are blanks, and the digits are no more than two where they
+/// stand for an octet.
 fn is_item(hex: bool, item: &EncodedItem<'_>) -> bool
     requires some { 0 < length item.now.digits.now }
     requires digits { list_all is_hex_digit item.now.digits.now ≡ true }
@@ -93,7 +96,7 @@ fn is_item(hex: bool, item: &EncodedItem<'_>) -> bool
     are_blanks(item.blanks) && (!hex || item.digits.len() <= 2)
 }
 
-/// Whether what stands between `:` and `}` is that of a sequence.
+/// Whether the octets between `:` and `}` are those of a sequence.
 pub(crate) fn is_inside(hex: bool, inside: &[u8]) -> bool
     ensures { result ≡ is_inside hex (inside_of inside.now) }
 {

@@ -1,5 +1,4 @@
-//! Encoded characters in the strings of scripts (RFC 5228, section 2.4.2.4): what they stand for, and strings in which that
-//! stands in their place.
+//! Encoded characters in scripts' strings (RFC 5228, 2.4.2.4), and strings with them replaced.
 #![tactic(auto)]
 
 mod characters;

@@ -1,4 +1,4 @@
-//! What encoded characters stand for.
+//! The octets that encoded characters stand for.
 ghost use Rattle.std.specs.Prelude.{◌≡◌, true, false, IfOk};
 ghost use Rattle.encoded_characters.specs.Value.{character_of, octets_of_digits, octets_of_sequence, pair_octet};
 ghost use Rattle.encoded_characters.specs.view.Sequence.{grown, if_right, sequence_of};
@@ -22,7 +22,8 @@ fn pair_octet(digits: &[u8]) -> Option<u8>
 /// The greatest number of a character.
 const MAX_CHARACTER: u32 = 0x10_FFFF;
 
-/// The character whose number the digits are. A number that is too great stays so with more digits, so the rest isn't read.
+/// The character whose number the digits are. A number that is too great stays so with more digits,
+/// so the rest isn't read.
 fn character(digits: &[u8]) -> Option<char>
     ensures { result ≡ character_of digits.now }
 {
@@ -62,7 +63,7 @@ fn push_character(octets: &mut Vec<u8>, digits: &[u8]) -> Result<bool, AllocErro
     Ok(true)
 }
 
-/// Adds what digits stand for, and says whether they stand for something.
+/// Adds the octets that digits stand for, and says whether there are any.
 fn push_digits(octets: &mut Vec<u8>, hex: bool, digits: &[u8]) -> Result<bool, AllocError>
     ensures { IfOk result (λ pushed. if_right pushed octets.new.items
         ≡ grown octets.old.items (octets_of_digits hex digits.now)) }
@@ -74,7 +75,7 @@ fn push_digits(octets: &mut Vec<u8>, hex: bool, digits: &[u8]) -> Result<bool, A
     }
 }
 
-/// Adds what a sequence stands for, and says whether it stands for something.
+/// Adds the octets that a sequence stands for, and says whether each of its numbers has some.
 pub(crate) fn push_sequence(
     octets: &mut Vec<u8>,
     sequence: &EncodedSequence<'_>,

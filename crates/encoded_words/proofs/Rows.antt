@@ -1,4 +1,4 @@
--- Worked rows of whether a value has a word of a known charset, which no output tells.
+-- Worked rows of whether a value has a word of a known charset, which no output shows.
 use Rattle.std.specs.Prelude.{◌≡◌, codes, true, false, refl}
 use Rattle.sieve_profile.specs.Profile.{empty_profile, with_extension}
 use Rattle.sieve_profile.specs.declared.extension.Extension.TheVariants.{Charsets}

@@ -32,7 +32,7 @@ octet_step done next c None whole is so_far = so_far
 octet_step done next c (Some more) whole is so_far =
     ap (λ one. Some (one ++ more)) is ∙ ap Some (append_assoc done (c ∷ []) more) ∙ so_far
 
--- octets are the first one and what stands after it
+-- octets are the first one and the octets after it
 pub first_and_after : (octets : List ℕ) → 1 ≤ length octets → get_or octets 0 0 ∷ take (length octets - 1) (drop 1 octets) ≡ octets
 first_and_after [] some = absurd (omega arith)
 first_and_after (c ∷ octets) some = ap (λ after. c ∷ after) (take_all (length (c ∷ octets) - 1) octets (omega arith))
@@ -43,7 +43,7 @@ pub none_at : (profile : Profile) (value : List ℕ) → 0 < length value → No
 none_at profile [] some is = absurd (omega arith)
 none_at profile (c ∷ rest) some is = pieces-octet (replaced_at profile) further c rest (ap (with_meaning profile) (sym is))
 
--- a word, with what it stands for
+-- a word, with the octets that it stands for
 abbrev by_meaning : EncodedWord → Option (List ℕ) → Option ReplacedWord
 by_meaning word meant = option_map (λ octets. record { word = word; octets = octets }) meant
 
@@ -104,12 +104,12 @@ signs_alone profile (c ∷ rest) (suc n) within nowhere =
     ap (λ pieces. octet c ∷ pieces) (signs_alone profile rest n (omega arith) (sign_after c rest n nowhere))
     ∙ sym (none_at profile (c ∷ rest) (omega arith) (sign_here c rest other))
 
--- no `=` stands before what a search for `=` found, or before the end where it found nothing
+-- no `=` stands before the one that a search found, or before the end where it found none
 pub front_of : (value : List ℕ) (found : Option ℕ) → IsFirstByte (is_byte (octet_of "=")) value found → (unwrap_or found (length value) ≤ length value) × Nowhere (Passes (is_byte (octet_of "=")) value) 0 (unwrap_or found (length value))
 front_of value None nowhere = (omega arith, nowhere)
 front_of value (Some n) (first, here) = (omega (arith, first.high), first.before)
 
--- what pieces stand for
+-- the octets that pieces stand for
 
 leads_gap : (gap meant : List ℕ) (word : EncodedWord) (pieces : List ValuePiece) → leads_to_word (put_before gap (replaced word meant ∷ pieces)) ≡ list_all is_blank gap
 leads_gap [] meant word pieces = refl
@@ -217,14 +217,14 @@ not_there : (found : Option Charset) → is_some found ≡ false → found ≡ N
 not_there None none = refl
 not_there (Some charset) none = absurd cc
 
--- where no word of a known charset is written, the charset of a word in front isn't known
+-- where no word of a known charset is written, the charset of a word at the start isn't known
 pub unknown_here : (profile : Profile) (rest : List ℕ) (word : EncodedWord) → Some word ≡ word_at rest → has_known profile rest ≡ false → charset_named profile word.charset ≡ None
 unfolding has_known word_at
 unknown_here profile [] word is none = absurd cc
 unknown_here profile (c ∷ rest) word is none =
     not_there (charset_named profile word.charset) (ap (is_known profile) is ∙ or_first (is_known profile (word_at (c ∷ rest))) (has_known profile rest) none)
 
--- where no word of a known charset is written, a word in front stands for nothing
+-- where no word of a known charset is written, a word at the start stands for nothing
 pub unknown_means : (profile : Profile) (rest meant : List ℕ) (word : EncodedWord) → Some word ≡ word_at rest → Some meant ≡ meaning profile word → has_known profile rest ≡ false → ⊥
 unfolding meaning
 unknown_means profile rest meant word is means none =

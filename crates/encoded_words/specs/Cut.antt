@@ -27,8 +27,9 @@ ValuePiece = TextPiece ReplacedWord
 abbrev pub replaced : (word : EncodedWord) (octets : List ℕ) → ValuePiece
 replaced word octets = sequence (record { word = word; octets = octets })
 
--- A value is cut from the left into words that can be decoded and single octets, and no such word begins where an octet stands
--- alone. So one is replaced even where it begins inside a word that can't be decoded, which stays as it is written.
+-- A value is cut from the left into words that can be decoded and single octets. No such word
+-- begins where an octet stands alone. So one is replaced even where it begins inside a word that
+-- can't be decoded. The octets of the latter around it stay as they are written.
 abbrev pub CutsWords : Profile → List ValuePiece → List ℕ → Type 0
 CutsWords profile pieces value = cut.Cuts word_written (IsReplacedWord profile) pieces value
 
@@ -38,12 +39,13 @@ leads_to_word [] = false
 leads_to_word (sequence found ∷ pieces) = true
 leads_to_word (octet c ∷ pieces) = is_blank c && leads_to_word pieces
 
--- The octets that pieces stand for. After a word, spaces and tabs that lead to a further one are dropped (RFC 2047, section 6.2).
+-- The octets that pieces stand for. After a word, spaces and tabs that lead to another one are
+-- dropped (RFC 2047, 6.2).
 abbrev pub joined : (after_word : Bool) → List ValuePiece → List ℕ
 joined after_word [] = []
 joined after_word (sequence found ∷ pieces) = found.octets ++ joined true pieces
 joined after_word (octet c ∷ pieces) = if after_word && leads_to_word (octet c ∷ pieces) then joined true pieces else c ∷ joined false pieces
 
--- what stays of the octets before a word: after another, not spaces and tabs alone
+-- the octets before a word that stay; after another word, spaces and tabs alone don't
 abbrev pub kept : (after_word : Bool) → List ℕ → List ℕ
 kept after_word gap = if after_word && list_all is_blank gap then [] else gap

@@ -7,11 +7,12 @@ use Rattle.base64.specs.GeneralPurpose.{decode_of}
 use Rattle.octets.specs.Hex.{hex_octet}
 use Rattle.octets.specs.Octet.{octet_of}
 
--- B is base64 (RFC 2047, section 4.1; RFC 4648, section 4), with its padding and with zeros in the bits that are left over
+-- B is base64 (RFC 2047, 4.1; RFC 4648, section 4). It has its padding, and zeros in the bits
+-- that are left over.
 unfoldable pub b_octets : List ℕ → Option (List ℕ)
 b_octets text = result_ok (decode_of standard text)
 
--- what a letter of Q stands for that isn't `=`
+-- the octet that a letter of Q other than `=` stands for
 abbrev pub plain_octet : ℕ → ℕ
 plain_octet c = if c == octet_of "_" then octet_of " " else c
 
@@ -19,7 +20,7 @@ plain_octet c = if c == octet_of "_" then octet_of " " else c
 abbrev pub octet_before : ℕ → Option (List ℕ) → Option (List ℕ)
 octet_before c octets = option_map (λ after. c ∷ after) octets
 
--- In Q `_` is a space, and `=` with two hexadecimal digits is the octet of that number (RFC 2047, section 4.2).
+-- In Q `_` is a space, and `=` before two hexadecimal digits is their octet (RFC 2047, 4.2).
 unfoldable pub q_octets : List ℕ → Option (List ℕ)
 q_octets [] = Some []
 q_octets (c ∷ []) = if c == octet_of "=" then None else Some (plain_octet c ∷ [])

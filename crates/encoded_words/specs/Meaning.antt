@@ -10,6 +10,6 @@ use Rattle.encoded_words.specs.Word.{EncodedWord, is_b}
 abbrev pub octets_in : EncodedWord → Option (List ℕ)
 octets_in word = if is_b word.letter then b_octets word.text else q_octets word.text
 
--- what a word stands for, if it can be decoded (RFC 2047, sections 3 and 4)
+-- the octets that a word stands for, if it can be decoded (RFC 2047, sections 3 and 4)
 unfoldable pub meaning : Profile → EncodedWord → Option (List ℕ)
 meaning profile word = option_and_then (λ charset. option_and_then (in_utf8 charset) (octets_in word)) (charset_named profile word.charset)

@@ -1,4 +1,5 @@
--- The one cut of a value into words that can be decoded and octets, computed, and the value with its words replaced.
+-- The one cut of a value into words that can be decoded and octets, computed. Also the value
+-- with its words replaced.
 use Rattle.std.specs.Prelude.{ℕ, ◌+◌, Bool, true, false, ◌==◌, ◌&&◌, List, [], ◌∷◌, length, drop, Option, None, Some, is_some, ◌||◌, if◌then◌else◌}
 use Rattle.std.specs.List.{list_any, prefix_len, take_while}
 use Rattle.std.specs.Option.{option_and_then, option_map}
@@ -11,21 +12,21 @@ use Rattle.encoded_words.specs.Cut.{ReplacedWord, ValuePiece, joined}
 use Rattle.octets.specs.Octet.{is_filled, octet_of}
 use Rattle.encoded_words.specs.Word.{EncodedWord, is_letter, is_word_octet}
 
--- the octets of a charset or a text that stand in front
+-- the octets at the start that may stand in a charset or a text
 abbrev pub run : List ℕ → List ℕ
 run octets = take_while is_word_octet octets
 
--- what stands after them
+-- the octets after those
 abbrev pub after_run : List ℕ → List ℕ
 after_run octets = drop (prefix_len is_word_octet octets) octets
 
--- a word, by what stands after its text: `?=`
+-- a word, if the octets after its text begin with `?=`
 abbrev pub word_before : EncodedWord → List ℕ → Option EncodedWord
 word_before word [] = None
 word_before word (q ∷ []) = None
 word_before word (q ∷ e ∷ rest) = if q == octet_of "?" && e == octet_of "=" then Some word else None
 
--- a word, by its charset and what stands after that: `?`, a letter, `?` and a text
+-- a word, by its charset and the octets after it, which begin with `?`, a letter, `?` and a text
 abbrev pub word_after : (charset rest : List ℕ) → Option EncodedWord
 word_after charset [] = None
 word_after charset (q ∷ []) = None
@@ -49,7 +50,7 @@ with_meaning profile found = option_and_then (λ word. option_map (λ octets. re
 abbrev pub replaced_at : Profile → List ℕ → Option ReplacedWord
 replaced_at profile value = with_meaning profile (word_at value)
 
--- how many octets of a word stand after its first
+-- the number of octets of a word after its first
 abbrev pub further : ReplacedWord → ℕ
 further found = length found.word.charset + length found.word.text + 6
 
@@ -79,7 +80,7 @@ abbrev pub is_known : Profile → Option EncodedWord → Bool
 is_known profile None = false
 is_known profile (Some word) = is_some (charset_named profile word.charset)
 
--- whether a word of a charset that is known is written in a value, whether or not it can be decoded
+-- whether a word of a known charset is written in a value, whether or not it can be decoded
 unfoldable pub has_known : Profile → List ℕ → Bool
 has_known profile [] = false
 has_known profile (c ∷ rest) = is_known profile (word_at (c ∷ rest)) || has_known profile rest

@@ -1,5 +1,4 @@
-//! Encoded words (RFC 2047) in the values of header fields, and values in which their octets in UTF-8
-//! stand in their place.
+//! Encoded words in the values of header fields (RFC 2047), and values with these decoded to UTF-8.
 #![tactic(auto)]
 
 mod encoding;

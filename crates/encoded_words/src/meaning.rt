@@ -23,7 +23,8 @@ fn octets_in(alloc: Global, word: &EncodedWord<'_>) -> Result<Option<Vec<u8>>, A
     }
 }
 
-/// What a word stands for, if it can be decoded. The charset comes first: a text of one that isn't known isn't read.
+/// The octets in UTF-8 that a word stands for, if it can be decoded. The charset comes first: where
+/// it isn't known, the text isn't read.
 #[tactic(auto, unfolding(crate::specs::Meaning::meaning))]
 pub(crate) fn meaning(
     alloc: Global,

@@ -25,7 +25,8 @@ fn are_blank(octets: &[u8]) -> bool
     octets.iter().all(|octet| is_blank(*octet))
 }
 
-/// Adds what a word stands for, and the octets before it. After a word, spaces and tabs alone are dropped.
+/// Adds the octets before a word, and those that it stands for. After another word, spaces and tabs
+/// alone before it are dropped.
 fn push_word(
     octets: &mut Vec<u8>,
     after_word: bool,
@@ -41,7 +42,7 @@ fn push_word(
     octets.extend_from_slice(meant)
 }
 
-/// How many octets stand before the first `=`. No word begins among them.
+/// The number of octets before the first `=`. No word begins among them.
 fn before_sign(value: &[u8]) -> usize
     ensures within { result ≤ length value.now }
     ensures alone { (profile : profiles.Profile) → map octet (take result value.now)
@@ -56,12 +57,13 @@ fn before_sign(value: &[u8]) -> usize
 fn replaced(alloc: Global, profile: Profile, value: &[u8]) -> Result<Option<Vec<u8>>, AllocError>
     ensures is { IfOk result
         (λ found. octets_of found ≡ replaced_of (profile_as profile) value.now) }
-    // A value in which no word of a known charset is written takes no memory, so it is never out of memory.
+    // Where no word of a known charset is written in the value, the error doesn't come.
     ensures unknown { has_known (profile_as profile) value.now ≡ false → IsOk result }
 {
     let mut octets = Vec::new(alloc);
     let mut after_word = false;
-    // What isn't yet in the octets, and how many of it are known to stand for themselves.
+    // The rest of the value, which isn't yet in `octets`. Its first `plain` octets are known
+    // to stand for themselves.
     let mut left = value;
     let mut plain = before_sign(value);
     while plain < left.len() {
@@ -87,7 +89,7 @@ fn replaced(alloc: Global, profile: Profile, value: &[u8]) -> Result<Option<Vec<
     Ok(Some(octets))
 }
 
-/// A value with its encoded words replaced. It is borrowed exactly where none was.
+/// A value with its encoded words replaced. It is borrowed exactly where no word was replaced.
 #[tactic(auto, using(crate::proofs::Steps::unchanged, crate::proofs::Steps::none_replaced, crate::proofs::Steps::some_replaced))]
 fn decoded(alloc: Global, profile: Profile, value: &[u8]) -> Result<CowSlice<'_, u8>, AllocError>
     ensures octets { IfOk result
@@ -103,14 +105,16 @@ fn decoded(alloc: Global, profile: Profile, value: &[u8]) -> Result<CowSlice<'_,
     }
 }
 
-/// The value with its encoded words (RFC 2047, section 2) replaced by what they stand for, in UTF-8.
+/// The value with its encoded words (RFC 2047, section 2) replaced by the octets that they
+/// stand for, in UTF-8.
 ///
-/// From the left each word that can be decoded is replaced, wherever it stands, and spaces and tabs alone between
-/// two such words are dropped (RFC 2047, section 6.2). A word whose charset the profile doesn't know, or whose text isn't of its
-/// encoding or charset, stays as it is written, and another may begin inside it. The value is one of unfolded lines.
+/// From the left, each word that can be decoded is replaced, wherever it stands. Spaces and tabs
+/// alone between two such words are dropped (RFC 2047, 6.2). A word stays as it is written if the
+/// profile doesn't know its charset. So does one whose text isn't of its encoding or charset.
+/// Another word may begin inside such a word. The value is one of unfolded lines.
 ///
-/// The result is borrowed exactly where the value was and no word was replaced. No memory is taken where no word of a
-/// charset that is known is written in the value.
+/// The result is borrowed exactly where the value was and no word was replaced. Memory is taken
+/// only where a word of a known charset is written in the value.
 #[tactic(auto, using(crate::proofs::Steps::unchanged, crate::proofs::Steps::none_replaced, crate::proofs::Steps::some_replaced))]
 pub fn decoded_value(
     alloc: Global,

@@ -18,31 +18,31 @@ pub(crate) struct EncodedWord<'a> {
     pub(crate) text: &'a [u8],
 }
 
-/// How many octets of a word aren't its charset or text: `=?`, `?`, a letter, `?` and `?=`.
+/// The number of octets of `=?`, `?`, a letter, `?` and `?=`: those around a charset and a text.
 pub(crate) const SIGN_COUNT: usize = 7;
 
-/// An octet of a charset or of a text.
+/// Whether an octet may stand in a charset or a text.
 fn is_word_octet(octet: u8) -> bool
     ensures { result ≡ is_word_octet octet }
 {
     is_visible(octet) && octet != b'?'
 }
 
-/// The letter of the encoding B.
+/// Whether a letter is that of the encoding B, in either case.
 pub(crate) fn is_b(letter: u8) -> bool
     ensures { result ≡ is_b letter }
 {
     matches!(letter, b'B' | b'b')
 }
 
-/// The letter of an encoding.
+/// Whether a letter is that of an encoding, in either case.
 fn is_letter(letter: u8) -> bool
     ensures { result ≡ is_letter letter }
 {
     is_b(letter) || matches!(letter, b'Q' | b'q')
 }
 
-/// How many octets of a charset or a text stand in front.
+/// The number of octets at the start that may stand in a charset or a text.
 fn run_len(octets: &[u8]) -> usize
     ensures { result ≡ length (run octets.now) }
 {
@@ -52,7 +52,7 @@ fn run_len(octets: &[u8]) -> usize
         .count()
 }
 
-/// Cuts after the octets of a charset or a text that stand in front.
+/// Cuts octets before the first that may not stand in a charset or a text.
 #[tactic(auto, using(crate::proofs::Steps::run_len))]
 fn cut_run(octets: &[u8]) -> (&[u8], &[u8])
     ensures run { result.0.now ≡ run octets.now }
@@ -64,9 +64,10 @@ fn cut_run(octets: &[u8]) -> (&[u8], &[u8])
 
 /// The word with which the octets begin, whether or not it can be decoded.
 ///
-/// Trying each place of a value takes time linear in its length. A charset and a text are whole runs of octets of words: one ends
-/// where such octets do, and one begins after a `?`. A run after `=?` is the charset of one word at most, and one after `B?` or
-/// `Q?` the text of one at most. So each octet is read twice at most, in all tries together.
+/// Trying each place of a value takes time linear in its length. A charset or a text is a whole run
+/// of octets that may stand in one. It begins after a `?`, and ends where the run ends. A run after
+/// `=?` is the charset of one word at most. A run after `B?` or `Q?` is the text of one at most. So
+/// each octet is read twice at most, in all tries together.
 #[tactic(auto, unfolding(crate::specs::Scan::word_at))]
 pub(crate) fn word_at(octets: &[u8]) -> Option<EncodedWord<'_>>
     ensures is { option_map word_of result ≡ word_at octets.now }

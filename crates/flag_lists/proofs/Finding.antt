@@ -6,13 +6,13 @@ use Rattle.flag_lists.specs.Flags.{AreDistinct, flags_without, has_flag, has_key
 use Rattle.flag_lists.specs.view.Hashing.{same_equiv}
 use Rattle.match_text.proofs.Deciding.{same-Decides}
 
--- texts that are equal octet for octet are equal with no regard to case too
+-- texts that are equal octet for octet are equal in any case of letters too
 octet_folds : (a b : List ℕ) → same octet a b ≡ true → same ascii_casemap a b ≡ true
 octet_folds a b is =
     let s = (same-Decides octet a b).0 is in
     (same-Decides ascii_casemap a b).1 (record { equal_lengths = s.equal_lengths; equal_octets = λ i below. ap ascii_casemap (s.equal_octets i below) })
 
--- texts that aren't equal with no regard to case aren't equal octet for octet
+-- texts that aren't equal in any case of letters aren't equal octet for octet
 differs : (a b : List ℕ) → same ascii_casemap b a ≡ false → same octet a b ≡ false
 differs a b none = by (same octet a b) refl
   where
@@ -24,12 +24,12 @@ or_none : (s t : Bool) → (s || t) ≡ false → (s ≡ false) × (t ≡ false)
 or_none true t e = absurd (true≢false e)
 or_none false t e = (refl, e)
 
--- with no regard to case, a flag of the list is equal to a key exactly where the key is the same as a flag of the list
+-- in any case of letters, a flag is equal to a key exactly if the list has the key
 pub has_key-folded : (flags : List (List ℕ)) (key : List ℕ) → has_key (same ascii_casemap) flags key ≡ has_flag flags key
 has_key-folded [] key = refl
 has_key-folded (x ∷ flags) key = λ j. same_equiv.symm x key j || has_key-folded flags key j
 
--- no flag is a key octet for octet where none is with no regard to case
+-- no flag is a key octet for octet if none is in any case of letters
 has_key-none : (flags : List (List ℕ)) (key : List ℕ) → has_flag flags key ≡ false → has_key (same octet) flags key ≡ false
 has_key-none [] key none = refl
 has_key-none (x ∷ flags) key none =
@@ -41,7 +41,8 @@ others_differ : (x key : List ℕ) → same ascii_casemap key x ≡ true → (fl
 others_differ x key is [] all = refl
 others_differ x key is (y ∷ flags) all = λ j. (same_equiv.congr key x y is ∙ all.0) j || others_differ x key is flags all.1 j
 
--- of flags of which no two are the same, the one that is found is the only one that the key may be octet for octet
+-- Let no two flags be the same. Then the flag that is found is the only one that the key may be
+-- octet for octet.
 pub has_key-found : (flags : List (List ℕ)) (key found : List ℕ) → AreDistinct flags → find (same ascii_casemap key) flags ≡ Some found → has_key (same octet) flags key ≡ same octet found key
 unfolding IsDistinct
 has_key-found [] key found h is = absurd cc
@@ -68,13 +69,13 @@ found_none (x ∷ flags) key none = by (same ascii_casemap key x) refl none (λ 
     by true e at more = absurd cc
     by false e at more = ap (λ b. b || has_flag flags key) e ∙ more at
 
--- no flag is a key octet for octet where none is found with no regard to case
+-- no flag is a key octet for octet if none is found in any case of letters
 pub none_has : (flags : List (List ℕ)) (key : List ℕ) → find (same ascii_casemap key) flags ≡ None → false ≡ has_key (same octet) flags key
 none_has flags key none = sym (has_key-none flags key (found_none flags key none))
 
 -- TAKEN OUT
 
--- of flags of which no two are the same, one is taken out by removing it where it stands
+-- if no two flags are the same, to take one out is to remove it where it stands
 pub taken_out : (flags : List (List ℕ)) (flag : List ℕ) (i : ℕ) (d : List ℕ) → AreDistinct flags → i < length flags → same ascii_casemap flag (get_or flags i d) ≡ true
     → ((k : ℕ) → k < i → same ascii_casemap flag (get_or flags k d) ≡ false) → flags_without flags (flag ∷ []) ≡ remove flags i
 unfolding IsDistinct flags_without

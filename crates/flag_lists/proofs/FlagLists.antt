@@ -25,7 +25,7 @@ module _ {X : Type 0} (p q r : X → Bool) where
       by true e rest = λ j. cond (e j) (x ∷ rest j) (rest j)
       by false e rest = λ j. cond (e j) (x ∷ rest j) (rest j)
 
--- THOSE THAT AREN'T AMONG OTHERS
+-- FLAGS THAT AREN'T AMONG OTHERS
 
 abbrev other : List (List ℕ) → List ℕ → Bool
 other others flag = not (has_flag others flag)
@@ -78,7 +78,7 @@ or_swap true false = refl
 or_swap false true = refl
 or_swap false false = refl
 
--- a flag is in the union with one flag exactly where it is in the list with that flag in front
+-- a flag is in the union with one flag exactly if it is in the list with that flag added
 has_one_more : (a : List (List ℕ)) (flag x : List ℕ) → has_flag (flag_union a (flag ∷ [])) x ≡ has_flag (flag ∷ a) x
 unfolding flag_union distinct flags_without
 has_one_more a flag x = by (has_flag a flag) refl
@@ -109,7 +109,7 @@ union_append a (flag ∷ b) c =
     ap (λ l. flag_union l c) (sym (union_step a flag b))
     ∙ union_append (flag_union a (flag ∷ [])) b c ∙ union_step a flag (b ++ c)
 
--- the union with the first i flags, and then with the next one, is the union with the first i + 1
+-- the union with the first i flags and then the next is the union with the first i + 1
 pub union_so_far : (a flags : List (List ℕ)) (i : ℕ) (d : List ℕ) (old new : List (List ℕ)) → i < length flags → new ≡ flag_union old (get_or flags i d ∷ [])
     → old ≡ flag_union a (take i flags) → new ≡ flag_union a (take (i + 1) flags)
 union_so_far a flags i d old new below made is =
@@ -136,14 +136,15 @@ in_two (suc n) (x ∷ xs) = ap (λ l. x ∷ l) (in_two n xs)
 pub union_after : (a flags : List (List ℕ)) (n : ℕ) → n ≤ length flags → All (λ flag. has_flag a flag ≡ true) (take n flags) → flag_union a (drop n flags) ≡ flag_union a flags
 union_after a flags n within known = sym (union_known a (take n flags) (drop n flags) known) ∙ ap (flag_union a) (in_two n flags)
 
--- where a list has the first n flags of a slice, its union with the flags after these is its union with all
+-- if a list has the first n of some flags, its union with the rest is its union with all
 pub union_slice : (a flags items : List (List ℕ)) (n : ℕ) → items ≡ flags → n ≤ length flags → All (λ flag. has_flag a flag ≡ true) (take n flags)
     → flag_union a (take (length items - n) (drop n items)) ≡ flag_union a flags
 union_slice a flags items n are within known =
     let long = length-drop n flags in
     ap (λ l. flag_union a (take (length l - n) (drop n l))) are ∙ ap (flag_union a) (take_all (length flags - n) (drop n flags) (omega arith)) ∙ union_after a flags n within known
 
--- where a list has the first n flags, its union with a front of those from n on is its union with a front of all, of `known` at least
+-- Let a list have the first n of some flags. A union with a front of the rest is one with a front
+-- of all, at least `known` long.
 pub union_after_some : (a flags items : List (List ℕ)) (known n : ℕ) (new : List (List ℕ)) → items ≡ flags → known ≤ n → n ≤ length flags
     → All (λ flag. has_flag a flag ≡ true) (take n flags)
     → SomeIndex (take (length items - n) (drop n items)) (λ i. new ≡ flag_union a (take i (take (length items - n) (drop n items))))
@@ -189,7 +190,8 @@ union_has a (flag ∷ b) =
     (ap (λ l. has_flag l flag) (sym (union_step a flag b)) ∙ union_keeps (flag_union a (flag ∷ [])) b flag (has_one_more a flag flag ∙ ap (λ s. s || has_flag a flag) (same_equiv.refl flag)))
     (subst (λ l. All (λ x. has_flag l x ≡ true) b) (union_step a flag b) more)
 
--- A union with the flags of items, one item more: F gives the flags of the items that are left, and each those of one item.
+-- A union with the flags of items, one item more. F gives the flags of the items that are left, and
+-- each those of one item.
 module _ {X : Type 0} (F : List X → List (List ℕ)) where
   pub union_more : (each : X → List (List ℕ)) → ((x : X) (rest : List X) → F (x ∷ rest) ≡ each x ++ F rest)
       → (items : List X) (i : ℕ) (d : X)
@@ -200,7 +202,7 @@ module _ {X : Type 0} (F : List X → List (List ℕ)) where
       ap (λ l. flag_union l (F rest)) made ∙ union_append old (each x) (F rest)
       ∙ ap (flag_union old) (sym (at_drop_more F items i d below ∙ first x rest)) ∙ is
 
-  -- no items are left: the union is whole
+  -- if no items are left, the union is whole
   pub union_end : F [] ≡ [] → (items : List X) (n : ℕ) (old whole : List (List ℕ)) → length items ≤ n
       → flag_union old (F (drop n items)) ≡ whole → old ≡ whole
   union_end none items n old whole past is =
@@ -235,7 +237,7 @@ module _ {X : Type 0} (P : X → Type 0) (p : X → Bool) where
       by true rest = (all.0, rest)
       by false rest = rest
 
--- what is left of a list without repeats has no repeats
+-- the rest of a list without repeats has no repeats
 pub distinct_without : (a b : List (List ℕ)) → AreDistinct a → AreDistinct (flags_without a b)
 unfolding flags_without IsDistinct
 distinct_without [] b h = tt

@@ -33,7 +33,7 @@ pieces_some text k first space =
 
 -- FLAGS THAT ARE ADDED IN TURN
 
--- the flags before those that are left have been added
+-- the flags before the rest have been added
 abbrev pub AddedSoFar : (all left old new : List (List ℕ)) → Type 0
 AddedSoFar all left old new = (done : List (List ℕ)) × (all ≡ done ++ left) × (new ≡ flag_union old done)
 

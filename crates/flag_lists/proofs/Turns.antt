@@ -29,7 +29,7 @@ has_without (y ∷ flags) flag x = by (same ascii_casemap y flag) refl (same asc
     by false e true f t g rest = refl
     by false e false f t g rest = ap (λ b. b || has_flag (flags_without flags (flag ∷ [])) x) g ∙ ap (λ b. t || b) (others f rest)
 
--- a list in which each flag is taken once has the flags that the list has
+-- a list in which each flag is taken once has the same flags as the whole list
 has_distinct : (flags : List (List ℕ)) (x : List ℕ) → has_flag (distinct flags) x ≡ has_flag flags x
 unfolding distinct
 has_distinct [] x = refl

@@ -1,5 +1,5 @@
--- Flags of messages (RFC 5232, sections 2 and 3): which texts are flags, how texts are cut into them, and lists of flags.
--- A flag is known by its spelling: two are the same where they are equal under i;ascii-casemap.
+-- Which texts are flags, how texts are cut into them, and lists of flags (RFC 5232, sections 2 to
+-- 4). A flag is known by its spelling. Two are the same if they are equal under i;ascii-casemap.
 use Rattle.std.specs.Prelude.{ℕ, Bool, not, ◌&&◌, ◌||◌, ◌==◌, List, [], ◌∷◌, ◌++◌, filter, codes}
 use Rattle.std.specs.List.{IsDistinct, flat_map, list_all, list_any, slice_split}
 use Rattle.octets.specs.Octet.{is_filled, is_visible, octet_of}
@@ -7,7 +7,7 @@ use Rattle.match_text.specs.Comparator.{ascii_casemap, same}
 
 -- FLAGS (RFC 3501, section 9: flag, without flag-extension)
 
--- what no atom has of the visible characters: atom-specials
+-- the visible characters that no atom has: atom-specials
 abbrev pub is_special : ℕ → Bool
 is_special b =
     b == octet_of "(" || (b == octet_of ")" || (b == octet_of "{" || (b == octet_of "%" || (b == octet_of "*"
@@ -21,7 +21,8 @@ is_flag_octet b = is_visible b && not (is_special b)
 abbrev pub is_keyword : List ℕ → Bool
 is_keyword text = is_filled text && list_all is_flag_octet text
 
--- whether a text is one of the flags with a `\` that a script may set, in any case of letters; `\Recent` is none of them
+-- Whether a text is a flag with a `\` that a script may set, in any case of letters. `\Recent` is
+-- none of them.
 abbrev pub is_system_flag : List ℕ → Bool
 is_system_flag text =
     same ascii_casemap text (codes "\\Answered") || (same ascii_casemap text (codes "\\Flagged")
@@ -37,7 +38,7 @@ is_flag text = is_system_flag text || is_keyword text
 abbrev pub has_flag : List (List ℕ) → List ℕ → Bool
 has_flag flags flag = list_any (same ascii_casemap flag) flags
 
--- whether a member of the list is equal to a key, by what decides that two texts are equal
+-- whether a member of the list is equal to a key, by a test that decides equality of texts
 abbrev pub has_key : (List ℕ → List ℕ → Bool) → List (List ℕ) → List ℕ → Bool
 has_key equal flags key = list_any (λ flag. equal flag key) flags
 
@@ -63,7 +64,7 @@ flag_union first second = first ++ flags_without (distinct second) first
 abbrev pub is_space : ℕ → Bool
 is_space b = b == octet_of " "
 
--- what stands between the spaces of a text
+-- the texts between the spaces of a text
 abbrev pub pieces : List ℕ → List (List ℕ)
 pieces text = slice_split is_space text
 
@@ -71,11 +72,11 @@ pieces text = slice_split is_space text
 abbrev pub flags_in : List ℕ → List (List ℕ)
 flags_in text = filter is_flag (pieces text)
 
--- the flags of a text, each once; what isn't a flag is left out
+-- the flags of a text, each once, where it stands first; pieces that aren't flags are left out
 unfoldable pub flag_list : List ℕ → List (List ℕ)
 flag_list text = distinct (flags_in text)
 
--- the flags of several texts
+-- the flags of several texts, each once, where it stands first
 unfoldable pub flags_of_texts : List (List ℕ) → List (List ℕ)
 flags_of_texts texts = distinct (flat_map flags_in texts)
 
@@ -90,7 +91,8 @@ flag_text (flag ∷ flags) = flag ++ flat_map (λ next. octet_of " " ∷ next) f
 abbrev pub filled_pieces : List ℕ → List (List ℕ)
 filled_pieces text = filter is_filled (pieces text)
 
--- What a key of a test stands for: its pieces, whether they are flags or not. The empty key stands for itself.
+-- The texts that a key of a test stands for: its pieces that have octets, whether flags or not. The
+-- empty key stands for itself.
 unfoldable pub flag_keys : List ℕ → List (List ℕ)
 flag_keys [] = [] ∷ []
 flag_keys (b ∷ rest) = filled_pieces (b ∷ rest)

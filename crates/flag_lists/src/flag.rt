@@ -1,4 +1,4 @@
-//! Flags, equal and hashed with no regard to case (RFC 5232, section 2).
+//! Flags, equal and hashed in any case of letters (RFC 5232, section 2).
 ghost use Rattle.std.specs.Prelude.{◌≡◌, IfOk, fold};
 ghost use Rattle.match_text.specs.Comparator.{ascii_casemap, same};
 ghost use Rattle.flag_lists.specs.view.Hashing.{flag_hash, same_alike, same_equiv, same_per};
@@ -11,7 +11,7 @@ use std::alloc::{AllocError, Global};
 use std::hash::{Hash, Hasher};
 use std::marker::Model;
 
-/// A flag as it is spelled. Two are equal where they are under `i;ascii-casemap`.
+/// A flag as it is spelled. Two are equal if they are under `i;ascii-casemap`.
 #[derive(Drop)]
 pub(crate) struct Flag {
     spelling: Octets,
@@ -26,7 +26,7 @@ impl Model for Flag {
 }
 
 impl Flag {
-    /// A copy of a spelling.
+    /// A flag with a copy of a spelling.
     pub(crate) fn copied(alloc: Global, spelling: &[u8]) -> Result<Flag, AllocError>
         ensures { IfOk result (λ flag. flag ≡ spelling.now) }
     {
@@ -35,7 +35,7 @@ impl Flag {
         })
     }
 
-    /// The octets of the spelling. Takes no memory.
+    /// The octets of the spelling.
     pub(crate) fn as_slice(&self) -> &[u8]
         ensures { result.now ≡ self.now }
     {
@@ -109,7 +109,7 @@ impl Equivalent<Flag> for SoughtFlag<'_> {
     }
 }
 
-/// Feeds a hasher the octets in upper case.
+/// Feeds a hasher the number of the octets, and then the octets in upper case.
 fn write_folded<H: Hasher>(octets: &[u8], state: &mut H)
     ensures { state.new ≡ fold H.write state.old (flag_hash octets.now) }
 {

@@ -15,7 +15,8 @@ fn is_flag_octet(octet: u8) -> bool
     is_visible(octet) && !is_special(octet)
 }
 
-/// Whether an octet is one of those that no atom has.
+/// Whether an octet is one of the visible characters that no atom has: `atom-specials` (RFC 3501,
+/// section 9).
 fn is_special(octet: u8) -> bool
     ensures { result ≡ is_special octet }
 {
@@ -25,14 +26,14 @@ fn is_special(octet: u8) -> bool
     )
 }
 
-/// Whether a text is a flag.
+/// Whether a text is a flag: a system flag or a keyword.
 pub(crate) fn is_flag(text: &[u8]) -> bool
     ensures { result ≡ is_flag text.now }
 {
     is_system_flag(text) || is_keyword(text)
 }
 
-/// Whether a text is one of the flags with a `\`.
+/// Whether a text is a flag with a `\` that a script may set, in any case of letters.
 fn is_system_flag(text: &[u8]) -> bool
     ensures { result ≡ is_system_flag text.now }
 {
@@ -43,7 +44,7 @@ fn is_system_flag(text: &[u8]) -> bool
         || is::<AsciiCasemap>(text, b"\\Draft")
 }
 
-/// Whether a text is an atom, as a keyword is (RFC 3501, section 9). Takes no memory.
+/// Whether a text is an atom, as a keyword is (RFC 3501, section 9).
 pub fn is_keyword(text: &[u8]) -> bool
     ensures { result ≡ is_keyword text.now }
 {
@@ -57,7 +58,7 @@ fn are_flag_octets(text: &[u8]) -> bool
     text.iter().all(|octet| is_flag_octet(*octet))
 }
 
-/// The first piece of a text, and what stands after the space that ends it, where one does.
+/// The first piece of a text, and the text after the space that ends it, if a space does.
 pub(crate) fn next_piece(text: &[u8]) -> (&[u8], Option<&[u8]>)
     ensures pieces { pieces text.now ≡ result.0.now ∷ pieces_after result.1 }
     ensures shorter { IfSome result.1 (λ rest. length rest.now < length text.now) }
@@ -69,7 +70,7 @@ pub(crate) fn next_piece(text: &[u8]) -> (&[u8], Option<&[u8]>)
     }
 }
 
-/// The first flag of a text, and what stands after it (RFC 5232, section 2). Takes no memory.
+/// The first flag of a text, and the text after it (RFC 5232, section 2).
 pub fn next_flag(text: &[u8]) -> Option<(&[u8], &[u8])>
     ensures some { IfSome result (λ found. flags_in text.now ≡ found.0.now ∷ flags_in found.1.now) }
     ensures shorter { IfSome result (λ found. length found.1.now < length text.now) }
@@ -90,7 +91,7 @@ pub fn next_flag(text: &[u8]) -> Option<(&[u8], &[u8])>
     }
 }
 
-/// The flag that a text without a space is, if it is one, and nothing after it.
+/// The whole of a text without a space, if it is a flag, and nothing after it.
 fn last_flag(piece: &[u8]) -> Option<(&[u8], &[u8])>
     requires { pieces piece.now ≡ piece.now ∷ [] }
     ensures some { IfSome result

@@ -15,7 +15,8 @@ use std::alloc::{AllocError, Global};
 use std::borrow::CowSlice;
 use std::marker::Model;
 
-/// Flags in the order in which they came, no two of them equal under `i;ascii-casemap`. Contracts see their spellings.
+/// Flags in the order in which they came. No two are equal under `i;ascii-casemap`. Contracts see
+/// their spellings.
 #[derive(Drop)]
 pub struct FlagList {
     flags: IndexSet<Flag>,
@@ -33,7 +34,7 @@ impl Model for FlagList {
 }
 
 impl FlagList {
-    /// No flags. Takes no memory.
+    /// A list of no flags.
     pub fn new(alloc: Global) -> FlagList
         ensures { result ≡ [] }
     {
@@ -57,7 +58,7 @@ impl FlagList {
         self.len() == 0
     }
 
-    /// The flag at a place. Takes no memory.
+    /// The flag at a place, as it is spelled. The first place is 0.
     pub fn get(&self, i: usize) -> &[u8]
         requires { i < length self.now }
         ensures { slice_get self.now i ≡ Some result.now }
@@ -65,8 +66,8 @@ impl FlagList {
         self.flags.as_slice()[i].as_slice()
     }
 
-    /// Whether a flag of the list is equal to a key under a comparator. Takes no memory. Under `i;ascii-numeric` each flag is
-    /// compared in turn.
+    /// Whether a flag of the list is equal to a key under a comparator. Under `i;ascii-numeric`
+    /// each flag is compared in turn.
     pub fn has(&self, collation: Collation, key: &[u8]) -> bool
         ensures { result ≡ has_key (are_equal collation) self.now key.now }
     {
@@ -77,7 +78,7 @@ impl FlagList {
         }
     }
 
-    /// Whether a flag of the list is spelled so, octet for octet. Takes no memory.
+    /// Whether a flag of the list is spelled so, octet for octet.
     fn has_spelling(&self, key: &[u8]) -> bool
         ensures { result ≡ has_key (same octet) self.now key.now }
     {
@@ -87,15 +88,16 @@ impl FlagList {
         }
     }
 
-    /// Whether a flag of the list is spelled so in any case of letters. Takes no memory.
+    /// Whether a flag of the list is spelled so in any case of letters.
     fn has_in_any_case(&self, key: &[u8]) -> bool
         ensures { result ≡ has_key (same ascii_casemap) self.now key.now }
     {
         self.flags.contains(SoughtFlag { spelling: key })
     }
 
-    /// Adds the flags of another list that aren't there yet (RFC 5232, section 3.2). The first of them, as many as `known`, are there
-    /// and aren't looked at. Where memory is refused, those before some place have been added. Takes no memory where all are there.
+    /// Adds the flags of another list that aren't there yet (RFC 5232, 3.2). The first `known`
+    /// flags of that list must be there; they aren't looked at. If memory is refused, those before
+    /// some place have been added. If all are there, it succeeds.
     pub fn add(&mut self, alloc: Global, flags: &FlagList, known: usize) -> Result<(), AllocError>
         requires within { known ≤ length flags.now }
         requires known { All (λ flag. has_flag self.old flag ≡ true) (take known flags.now) }
@@ -107,13 +109,13 @@ impl FlagList {
     {
         let known = self.first_missing(flags, known);
         let added = insert_each(alloc, &mut self.flags, &flags.flags.as_slice()[known..]);
-        // The set says here that no two of them are the same.
+        // The contract of `len` says that no two of them are the same.
         let _count = self.flags.len();
         added
     }
 
-    /// The place of the first flag of another list that isn't there, or the length of that list. The first, as many as `known`, are there
-    /// and aren't looked at. Takes no memory.
+    /// The place of the first flag of another list that isn't there, or the length of that list.
+    /// The first `known` flags of that list are there and aren't looked at.
     fn first_missing(&self, flags: &FlagList, known: usize) -> usize
         requires within { known ≤ length flags.now }
         requires known { All (λ flag. has_flag self.now flag ≡ true) (take known flags.now) }
@@ -134,8 +136,8 @@ impl FlagList {
         flags.len()
     }
 
-    /// Adds the flags of a text that aren't there yet (RFC 5232, sections 2 and 3.2). Where memory is refused, those before some place
-    /// have been added. Takes no memory where all are there.
+    /// Adds the flags of a text that aren't there yet (RFC 5232, sections 2 and 3.2). If memory is
+    /// refused, those before some place have been added. If all are there, it succeeds.
     pub fn add_text(&mut self, alloc: Global, text: &[u8]) -> Result<(), AllocError>
         ensures union { OnOk result (self.new ≡ flag_union self.old (flags_in text.now)) }
         ensures err { OnErr result (SomeIndex (flags_in text.now)
@@ -144,13 +146,13 @@ impl FlagList {
             → IsOk result }
     {
         let added = insert_text(alloc, &mut self.flags, text);
-        // The set says here that no two of them are the same.
+        // The contract of `len` says that no two of them are the same.
         let _count = self.flags.len();
         added
     }
 
-    /// Takes a flag out, in whatever case it is spelled, and gives the place where it stood (RFC 5232, section 3.3). The others stay in
-    /// their order. Takes no memory.
+    /// Takes a flag out, in whatever case it is spelled, and gives the place where it stood (RFC
+    /// 5232, 3.3). The others stay in their order.
     pub fn take_out(&mut self, flag: &[u8]) -> Option<usize>
         ensures without { self.new ≡ flags_without self.old (flag.now ∷ []) }
         ensures some { IfSome result (λ i. (i < length self.old) × (self.new ≡ remove self.old i)) }
@@ -172,7 +174,7 @@ impl FlagList {
     }
 }
 
-/// Whether a flag stands for the number of a key.
+/// Whether a flag is equal to a key under `i;ascii-numeric`.
 fn has_number(flags: &[Flag], key: &[u8]) -> bool
     ensures { result ≡ has_key (are_equal Collation.Numeric) flags.now key.now }
 {
@@ -185,12 +187,12 @@ fn has_number(flags: &[Flag], key: &[u8]) -> bool
 fn list_of(flags: IndexSet<Flag>) -> FlagList
     ensures { result ≡ flags.keys }
 {
-    // The set says here that no two of them are the same.
+    // The contract of `len` says that no two of them are the same.
     let _count = flags.len();
     FlagList { flags }
 }
 
-/// Adds a flag at the end, where it isn't there yet.
+/// Adds a flag at the end, if it isn't there yet.
 fn insert(alloc: Global, flags: &mut IndexSet<Flag>, flag: &[u8]) -> Result<(), AllocError>
     ensures ok { OnOk result (flags.new.keys ≡ flag_union flags.old.keys (flag.now ∷ [])) }
     ensures err { OnErr result (flags.new.keys ≡ flags.old.keys) }
@@ -214,7 +216,7 @@ fn insert_each(alloc: Global, flags: &mut IndexSet<Flag>, list: &[Flag]) -> Resu
     Ok(())
 }
 
-/// Adds a flag at the end, where it isn't there yet. One that is there isn't copied.
+/// Adds a flag at the end, if it isn't there yet. One that is there isn't copied.
 fn insert_missing(alloc: Global, flags: &mut IndexSet<Flag>, flag: &[u8]) -> Result<(), AllocError>
     ensures ok { OnOk result (flags.new.keys ≡ flag_union flags.old.keys (flag.now ∷ [])) }
     ensures err { OnErr result (flags.new.keys ≡ flags.old.keys) }
@@ -242,8 +244,8 @@ fn insert_text(alloc: Global, flags: &mut IndexSet<Flag>, text: &[u8]) -> Result
     Ok(())
 }
 
-/// The flags of a text: what stands between spaces, each flag once, where it stands first. What isn't a flag is left out
-/// (RFC 5232, section 2).
+/// The flags of a text: its pieces between spaces that are flags. Each is listed once, where it
+/// stands first (RFC 5232, section 2).
 #[tactic(auto, using(crate::proofs::FlagLists::union_from_none), unfolding(crate::specs::Flags::flag_list))]
 pub fn flags_of(alloc: Global, text: &[u8]) -> Result<FlagList, AllocError>
     ensures { IfOk result (λ list. list ≡ flag_list text.now) }
@@ -265,7 +267,7 @@ pub fn flags_of_texts(alloc: Global, texts: &[CowSlice<'_, u8>]) -> Result<FlagL
     Ok(list_of(flags))
 }
 
-/// The flags of `a`, and after them those of `b` that aren't there yet (RFC 5232, section 3.2).
+/// The flags of `a`, and after them those of `b` that aren't there yet (RFC 5232, 3.2).
 #[tactic(auto, using(crate::proofs::FlagLists::union_copies))]
 pub fn union(alloc: Global, a: &FlagList, b: &FlagList) -> Result<FlagList, AllocError>
     ensures { IfOk result (λ list. list ≡ flag_union a.now b.now) }
@@ -276,7 +278,7 @@ pub fn union(alloc: Global, a: &FlagList, b: &FlagList) -> Result<FlagList, Allo
     Ok(list_of(flags))
 }
 
-/// The flags of `a` that aren't in `b` (RFC 5232, section 3.3).
+/// The flags of `a` that aren't in `b` (RFC 5232, 3.3).
 pub fn without(alloc: Global, a: &FlagList, b: &FlagList) -> Result<FlagList, AllocError>
     ensures { IfOk result (λ list. list ≡ flags_without a.now b.now) }
 {
@@ -287,7 +289,7 @@ pub fn without(alloc: Global, a: &FlagList, b: &FlagList) -> Result<FlagList, Al
     Ok(list_of(flags))
 }
 
-/// Adds a flag that isn't among the others.
+/// Adds a flag, if it is neither there nor among the others.
 fn insert_other(
     alloc: Global,
     flags: &mut IndexSet<Flag>,
@@ -304,7 +306,8 @@ fn insert_other(
     }
 }
 
-/// The flags as a variable holds them, with one space between two (RFC 5232, section 2). Takes no memory where there is no flag.
+/// The flags as a variable holds them, with one space between two (RFC 5232, section 2). If there
+/// is no flag, it succeeds.
 #[tactic(auto, unfolding(crate::specs::Flags::flag_text))]
 pub fn flag_text(alloc: Global, list: &FlagList) -> Result<Vec<u8>, AllocError>
     ensures exact { IfOk result (λ text. text.items ≡ flag_text list.now) }

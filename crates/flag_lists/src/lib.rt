@@ -1,5 +1,5 @@
-//! Lists of flags (RFC 5232, sections 2 to 4): which texts are flags, and how lists of them are joined,
-//! made less, and searched.
+//! Flags (RFC 5232, sections 2 to 4): which texts are flags, and how lists are joined, shortened
+//! and searched.
 #![tactic(auto)]
 
 mod flag;

@@ -8,8 +8,9 @@ use crate::flag_spelling::next_piece;
 use std::alloc::{AllocError, Global};
 use std::borrow::CowSlice;
 
-/// What a key of a test stands for: what stands between spaces, whether it is a flag or not. The empty key stands for itself,
-/// and spaces alone stand for nothing (RFC 5232, section 4).
+/// The texts that a key of a test stands for: its pieces between spaces, whether they are flags or
+/// not. An empty piece is left out, so spaces alone stand for no text. The empty key stands for
+/// itself (RFC 5232, section 4).
 pub fn flag_keys(alloc: Global, key: &[u8]) -> Result<Vec<CowSlice<'_, u8>>, AllocError>
     ensures { IfOk result (λ keys. octets_of_each keys.items ≡ flag_keys key.now) }
 {
@@ -18,7 +19,8 @@ pub fn flag_keys(alloc: Global, key: &[u8]) -> Result<Vec<CowSlice<'_, u8>>, All
     Ok(keys)
 }
 
-/// What each key of a test stands for, in order (RFC 5232, section 4).
+/// The texts that each key of a test stands for, in order, as in [`flag_keys`] (RFC 5232, section
+/// 4).
 #[tactic(auto, unfolding(crate::specs::Flags::flag_keys_of_texts))]
 pub fn flag_keys_of_texts<'a>(
     alloc: Global,
@@ -34,8 +36,9 @@ pub fn flag_keys_of_texts<'a>(
     Ok(found)
 }
 
-/// The first piece of a key of a test that has octets, and what stands after it: what a key that isn't empty stands for, one after
-/// another (RFC 5232, section 4). Takes no memory.
+/// The first piece of a key of a test that has octets, and the text after it. Called again on that
+/// text, it gives the next such piece. A key that isn't empty stands for these pieces (RFC 5232,
+/// section 4).
 pub fn next_key(key: &[u8]) -> Option<(&[u8], &[u8])>
     ensures some { IfSome result
         (λ found. filled_pieces key.now ≡ found.0.now ∷ filled_pieces found.1.now) }
@@ -58,7 +61,7 @@ pub fn next_key(key: &[u8]) -> Option<(&[u8], &[u8])>
     }
 }
 
-/// The piece that a text without a space is, if it has octets, and nothing after it.
+/// The whole of a text without a space, if it has octets, and nothing after it.
 fn last_key(piece: &[u8]) -> Option<(&[u8], &[u8])>
     requires { pieces piece.now ≡ piece.now ∷ [] }
     ensures some { IfSome result
@@ -73,7 +76,7 @@ fn last_key(piece: &[u8]) -> Option<(&[u8], &[u8])>
     }
 }
 
-/// Adds what a key stands for.
+/// Adds the texts that a key stands for.
 #[tactic(auto, unfolding(crate::specs::Flags::flag_keys))]
 fn push_keys<'a>(found: &mut Vec<CowSlice<'a, u8>>, key: &'a [u8]) -> Result<(), AllocError>
     ensures { OnOk result
@@ -94,7 +97,7 @@ fn push_keys<'a>(found: &mut Vec<CowSlice<'a, u8>>, key: &'a [u8]) -> Result<(),
     }
 }
 
-/// Adds a piece that has octets.
+/// Adds a piece, if it has octets.
 fn push_filled<'a>(found: &mut Vec<CowSlice<'a, u8>>, piece: &'a [u8]) -> Result<(), AllocError>
     ensures { OnOk result (octets_of_each found.new.items
         ≡ octets_of_each found.old.items ++ filter is_filled (piece.now ∷ [])) }

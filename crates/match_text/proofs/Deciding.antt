@@ -1,4 +1,4 @@
--- The tests of equality and of parts decide what they test.
+-- The tests of equality and of parts are exact.
 use Rattle.std.proofs.Common.{◌≡◌, ℕ, true, zero, suc, ◌-◌, ◌<◌, ◌≤◌, ◌⊎◌, inl, inr, ⊎_elim, List, [], ◌∷◌, length, slice_index, slice_range, take, Decides, refl, ap, arith}
 use Rattle.std.proofs.lemmas.Bool.{false≢true}
 use Rattle.std.proofs.lemmas.Bool.Decides.{Decides-and, Decides-or, Decides-eqb, Decides-like}
@@ -11,7 +11,7 @@ module _ (fold : ℕ → ℕ) where
   Same-cons x y a b first rest zero below = first
   Same-cons x y a b first rest (suc i) below = rest.equal_octets i (omega arith)
 
-  -- two texts are equal exactly where their first octets and their rests are
+  -- two texts are equal exactly if their first octets and their rests are
   Same-join : (x y : ℕ) (a b : List ℕ) → (fold x ≡ fold y) × Same fold a b → Same fold (x ∷ a) (y ∷ b)
   Same-join x y a b both = record { equal_lengths = ap suc both.1.equal_lengths; equal_octets = Same-cons x y a b both.0 both.1 }
 
@@ -27,7 +27,7 @@ module _ (fold : ℕ → ℕ) where
   same-Decides (x ∷ a) [] = (λ is. absurd (false≢true is), λ s. absurd (omega (arith, s.equal_lengths)))
   same-Decides (x ∷ a) (y ∷ b) = Decides-like _ (Same-join x y a b) (Same-split x y a b) (Decides-and _ _ (Decides-eqb (fold x) (fold y)) (same-Decides a b))
 
-  -- an empty value has an empty part alone
+  -- an empty value has only the empty part
   IsPart-empty : (key : List ℕ) → Same fold [] key → IsPart fold [] key
   IsPart-empty key s = record { start = 0; end = 0; ordered = omega arith; within = omega arith; same = s }
 
@@ -37,7 +37,7 @@ module _ (fold : ℕ → ℕ) where
       let within = p.within in
       record { equal_lengths = omega (arith, p.same.equal_lengths); equal_octets = λ i below. absurd (omega arith) }
 
-  -- a part of a value stands at the front of the value or in its rest
+  -- a part of a value stands at the start of the value or in its rest
   IsPart-front : (value key : List ℕ) → Same fold (take (length key) value) key → IsPart fold value key
   IsPart-front value key s =
       let len = length-take (length key) value in

@@ -25,7 +25,7 @@ module _ (fold : ℕ → ℕ) where
   least_fit-map (Star ∷ items) value =
       star_fit-map (least_fit octet (map (folded_item fold) items)) (least_fit fold items) (least_fit-map items) value
 
-  -- folding the items changes nothing of what their wildcards take
+  -- folding the items doesn't change the texts that their wildcards take
   taken-map : (items : List Item) (lengths value : List ℕ) → taken (map (folded_item fold) items) lengths value ≡ taken items lengths value
   taken-map [] lengths value = refl
   taken-map (Literal b ∷ items) lengths value = taken-map items lengths (drop 1 value)

@@ -4,7 +4,7 @@ use Rattle.std.proofs.lemmas.List.{length-map, take-map}
 use Rattle.match_text.specs.Comparator.{ascii_casemap, is_part, octet, same}
 
 module _ (fold : ℕ → ℕ) where
-  -- texts are equal under a fold exactly where the folded texts are equal octet for octet
+  -- texts are equal under a fold exactly if the folded texts are equal octet for octet
   pub folded_same : (a b : List ℕ) → same octet (map fold a) (map fold b) ≡ same fold a b
   folded_same [] [] = refl
   folded_same [] (y ∷ b) = refl
@@ -17,7 +17,7 @@ module _ (fold : ℕ → ℕ) where
       ∙ ap (λ l. same octet l (map fold key)) (take-map fold (length key) xs)
       ∙ folded_same (take (length key) xs) key
 
-  -- a key is part of a value under a fold exactly where the folded key is part of the folded value octet for octet
+  -- a key is part of a value under a fold exactly if this is so of the folded texts
   pub folded_part : (value key : List ℕ) → is_part octet (map fold value) (map fold key) ≡ is_part fold value key
   folded_part [] key = folded_same [] key
   folded_part (x ∷ rest) key =
@@ -27,7 +27,7 @@ module _ (fold : ℕ → ℕ) where
 settles : (b : ℕ) → ascii_casemap (ascii_casemap b) ≡ ascii_casemap b
 settles b = search rules
 
--- octets that are folded stay as they are when they are folded again
+-- folding folded octets again leaves them as they are
 pub folded_twice : (xs : List ℕ) → map ascii_casemap (map ascii_casemap xs) ≡ map ascii_casemap xs
 folded_twice [] = refl
 folded_twice (x ∷ xs) = ap (λ y. y ∷ map ascii_casemap (map ascii_casemap xs)) (settles x) ∙ ap (λ rest. ascii_casemap x ∷ rest) (folded_twice xs)

@@ -1,4 +1,5 @@
--- The least fit goes from star to star: each segment after a star stands at its first place, the last one at the end.
+-- The least fit goes from star to star. Each segment after a star stands at its first place, and
+-- the last one at the end.
 use Rattle.std.proofs.Common.{◌≡◌, ℕ, zero, suc, ◌+◌, ◌<◌, ◌≤◌, Bool, true, false, ◌&&◌, ◌==◌, cond, List, [], ◌∷◌, ◌++◌, length, take, drop, Option, None, Some, refl, sym, ◌∙◌, ap, subst, arith}
 use Rattle.std.specs.Option.{option_and_then, option_map, option_or}
 use Rattle.std.proofs.lemmas.Bool.{and_parts, eqb-false, eqb-true, false≢true}
@@ -34,7 +35,7 @@ ones (Star ∷ segment) = ones segment
 ones (Literal b ∷ segment) = ones segment
 ones (Question ∷ segment) = 1 ∷ ones segment
 
--- the lengths of the `?` of the segment in front, and after them the least fit of the items from the first star on
+-- the lengths of the first segment's `?`, then the least fit of the items from the first star on
 abbrev segment_rest : List Item → List ℕ → Option (List ℕ)
 segment_rest items text =
     after (ones (before_star items)) (least_fit octet (from_star items) (drop (length (before_star items)) text))
@@ -44,7 +45,7 @@ with_one false front r = refl
 with_one true front None = refl
 with_one true front (Some lengths) = refl
 
--- items fit where the text begins with the segment in front and what is left of it fits the items from the first star on
+-- items fit if the text begins with the first segment, and its rest fits the items from the star on
 least_fit-segment : (items : List Item) (text : List ℕ) → least_fit octet items text ≡ cond (begins (before_star items) text) (segment_rest items text) None
 unfolding least_fit
 least_fit-segment [] text = sym (after-nil (least_fit octet [] text))
@@ -70,7 +71,7 @@ star_fit-drop r zero text is = is
 star_fit-drop r (suc m) [] is = is
 star_fit-drop r (suc m) (x ∷ text) is = star_fit-drop r m text (star_fit-tail r x text (r (x ∷ text)) (star_fit r text) is)
 
--- the least fit where the star takes the octets up to a place
+-- the least fit if the star takes the octets up to a place
 abbrev placed : (List ℕ → Option (List ℕ)) → List ℕ → Option ℕ → Option (List ℕ)
 placed rest text place = option_and_then (λ p. with_length p (rest (drop p text))) place
 
@@ -98,7 +99,8 @@ star_end : (rest : List ℕ → Option (List ℕ)) (b : Bool) → with_length 0 
 star_end rest false = refl
 star_end rest true = refl
 
--- a star takes up to the first place from which the test passes, if a rest that doesn't fit at such a place fits nowhere further on
+-- A star takes up to the first place from which the test passes. This needs that a rest that
+-- doesn't fit at such a place fits nowhere further on.
 star_fit-first : (r rest : List ℕ → Option (List ℕ)) (here : List ℕ → Bool) → ((text : List ℕ) → r text ≡ cond (here text) (rest text) None) → ((text : List ℕ) (p : ℕ) → here text ≡ true → rest text ≡ None → rest (drop p text) ≡ None) → (text : List ℕ) → star_fit r text ≡ placed rest text (first_place here text)
 star_fit-first r rest here is settled [] = ap (with_length 0) (is []) ∙ star_end rest (here [])
 star_fit-first r rest here is settled (x ∷ text) =
@@ -106,13 +108,13 @@ star_fit-first r rest here is settled (x ∷ text) =
     ∙ ap (λ found. option_or (with_length 0 (cond (here (x ∷ text)) (rest (x ∷ text)) None)) (option_map one_more found)) (star_fit-first r rest here is settled text)
     ∙ star_step rest x text (first_place here text) (here (x ∷ text)) (λ stands none p. settled (x ∷ text) (suc p) stands none)
 
--- SEGMENTS BEHIND A STAR
+-- SEGMENTS AFTER A STAR
 
--- the lengths of the `?` of a segment of n items, and after them the least fit of the items after this segment
+-- the lengths of the `?` of a segment of n items, then the least fit of the items after it
 abbrev rest_of : (front : List ℕ) (n : ℕ) → List Item → List ℕ → Option (List ℕ)
 rest_of front n items text = after front (least_fit octet items (drop n text))
 
--- there are no items, or a star is in front
+-- there are no items, or the first is a star
 abbrev pub IsStarred : List Item → Type 0
 IsStarred [] = Unit {0}
 IsStarred (Star ∷ items) = Unit {0}
@@ -214,7 +216,7 @@ map_cond : (f : List ℕ → List (List ℕ)) (b : Bool) (r : Option (List ℕ))
 map_cond f false r = refl
 map_cond f true r = refl
 
--- the captures of items with a segment in front
+-- the captures of items that begin with a segment
 pub captures_of-segment : (items : List Item) (text value : List ℕ) → captures_of items text value ≡ cond (begins (before_star items) text) (after (questions (before_star items) value) (captures_of (from_star items) (drop (length (before_star items)) text) (drop (length (before_star items)) value))) None
 unfolding captures_of
 captures_of-segment items text value =
@@ -222,7 +224,7 @@ captures_of-segment items text value =
     ∙ map_cond (λ lengths. taken items lengths value) (begins (before_star items) text) (segment_rest items text)
     ∙ ap (λ r. cond (begins (before_star items) text) r None) (captured-segment items value (least_fit octet (from_star items) (drop (length (before_star items)) text)))
 
--- what a star and the `?` of the segment after it take
+-- the texts that a star and the `?` of the segment after it take
 abbrev pub step_texts : (segment : List Item) (value : List ℕ) (p : ℕ) → List (List ℕ)
 step_texts segment value p = take p value ∷ questions segment (drop p value)
 
@@ -290,7 +292,7 @@ first_later : (place : Option ℕ) (p : ℕ) (b : Bool) → b ≡ false → plac
 first_later place p false at is = ap (option_map suc) is
 first_later place p true at is = cc
 
--- the first place is the one from which the test passes, and before which it never does
+-- the first place is the one from which the test passes, if it never passes before
 pub first_place-at : (here : List ℕ → Bool) (text : List ℕ) (p : ℕ) → p ≤ length text → here (drop p text) ≡ true → ((k : ℕ) → k < p → here (drop k text) ≡ false) → first_place here text ≡ Some p
 first_place-at here [] zero within at before = first_at here [] None (here []) refl at
 first_place-at here (x ∷ text) zero within at before = first_at here (x ∷ text) (option_map suc (first_place here text)) (here (x ∷ text)) refl at

@@ -11,11 +11,11 @@ record IsLeast (P : List ℕ → Type 0) (lengths : List ℕ) : Type 0 where
   pub fits : P lengths
   pub least : (others : List ℕ) → P others → AtMost lengths others
 
--- an answer is the least of the lengths that fit, or none where none fit
+-- an answer is the least of the lengths that fit, or none if none fit
 abbrev Answers : (List ℕ → Type 0) → Option (List ℕ) → Type 0
 Answers P r = MatchOption r ((lengths : List ℕ) → P lengths → ⊥) (IsLeast P)
 
--- the lengths fit a star before items, where P says what fits these
+-- the lengths fit a star before items, if P says which lengths fit these
 abbrev StarFits : (List ℕ → List ℕ → Type 0) → List ℕ → List ℕ → Type 0
 StarFits P value [] = ⊥
 StarFits P value (n ∷ lengths) = (n ≤ length value) × P (drop n value) lengths
@@ -75,7 +75,7 @@ star_answers P after answers [] = answers_at_end P (after []) (answers [])
 star_answers P after answers (x ∷ value) =
     answers_further P x value (after (x ∷ value)) (star_fit after value) (answers (x ∷ value)) (star_answers P after answers value)
 
--- the least fit of all items, by whether an octet, a `?` or a star is in front
+-- the least fit of all items, by whether the first is an octet, a `?` or a star
 
 module _ (fold : ℕ → ℕ) where
   literal_answers : (b x : ℕ) (items : List Item) (value : List ℕ) (same : Bool) (r : Option (List ℕ)) → (fold x == fold b) ≡ same → Answers (Fits fold items value) r → Answers (Fits fold (Literal b ∷ items) (x ∷ value)) (cond same r None)
@@ -202,12 +202,12 @@ module _ (fold : ℕ → ℕ) where
   none_matched items value None nowhere = (λ is. nowhere, λ none. refl)
   none_matched items value (Some lengths) least = (λ is. cc, λ none. absurd (none lengths least.fits))
 
-  -- nothing is matched exactly where no fit exists
+  -- nothing is matched exactly if no fit exists
   pub matched-none : (value pattern : List ℕ) → (matched fold value pattern ≡ None → (lengths : List ℕ) → Fits fold (items_of pattern) value lengths → ⊥) × (((lengths : List ℕ) → Fits fold (items_of pattern) value lengths → ⊥) → matched fold value pattern ≡ None)
   unfolding matched
   matched-none value pattern = none_matched (items_of pattern) value (least_fit fold (items_of pattern) value) (answers (items_of pattern) value)
 
-  -- an answer is absent exactly where no fit exists
+  -- an answer is absent exactly if no fit exists
   pub none_answered : (value pattern : List ℕ) (r : Option (List (List ℕ))) → r ≡ matched fold value pattern → (is_some r ≡ false → (lengths : List ℕ) → Fits fold (items_of pattern) value lengths → ⊥) × (((lengths : List ℕ) → Fits fold (items_of pattern) value lengths → ⊥) → is_some r ≡ false)
   none_answered value pattern None is = (λ none. (matched-none value pattern).0 (sym is), λ none. refl)
   none_answered value pattern (Some captures) is = (λ none. absurd (false≢true (sym none)), λ none. let nothing = (matched-none value pattern).1 none in cc)

@@ -1,11 +1,12 @@
--- The two octets that are equal to a given one under i;ascii-casemap, and searches by tests that answer alike.
+-- The octets that are equal to a given one under i;ascii-casemap, and searches by tests that answer
+-- alike.
 use Rattle.std.proofs.Common.{◌≡◌, ℕ, Bool, ◌==◌, List, Option, None, Some, sym, ◌∙◌, arith}
 use Rattle.std.specs.Char.{to_ascii_lowercase, to_ascii_uppercase}
 use Rattle.std.proofs.lemmas.Bool.Decides.{nat_tests}
 use Rattle.memchr.specs.Find.{IsFirstByte, is_byte2}
 use Rattle.match_text.specs.Comparator.{ascii_casemap}
 
--- an octet is equal to b where it is b in upper or in lower case
+-- an octet is equal to b exactly if it is b in upper or in lower case
 pub letter : (b x : ℕ) → is_byte2 (to_ascii_uppercase b) (to_ascii_lowercase b) x ≡ (ascii_casemap x == ascii_casemap b)
 letter b x = grind (arith, nat_tests)
 

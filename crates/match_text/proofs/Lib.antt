@@ -13,3 +13,4 @@ pub mod Numerals
 pub mod Ordered
 pub mod Relations
 pub mod Rooms
+pub mod Named

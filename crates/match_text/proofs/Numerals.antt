@@ -60,7 +60,7 @@ without_zeros-begin (b ∷ rest) all = by (b == octet_of "0") refl (without_zero
     by true is more = more
     by false is more = let other = eqb-false b (octet_of "0") is in omega arith
 
--- zeros that begin digits don't count
+-- zeros at the start of digits don't count
 without_zeros-value : (digits : List ℕ) → decimal_from 0 (without_zeros digits) ≡ decimal_from 0 digits
 without_zeros-value [] = refl
 without_zeros-value (b ∷ rest) = by (b == octet_of "0") refl (without_zeros-value rest)
@@ -75,7 +75,7 @@ without_zeros-value (b ∷ rest) = by (b == octet_of "0") refl (without_zeros-va
 
 -- THE ORDER
 
--- what is less before the digits is less after them, where the other has at least as many
+-- a number that is less before its digits is less after them, if the other has at least as many
 less_after : (m n : ℕ) (a b : List ℕ) → AreDigits a → m < n → length a ≤ length b → decimal_from m a < decimal_from n b
 less_after m n [] [] all below short = below
 less_after m n [] (y ∷ b) all below short = less_after m (10 * n + (y - octet_of "0")) [] b tt (omega arith) (omega arith)
@@ -83,7 +83,7 @@ less_after m n (x ∷ a) [] all below short = absurd (omega arith)
 less_after m n (x ∷ a) (y ∷ b) all below short =
     less_after (10 * m + (x - octet_of "0")) (10 * n + (y - octet_of "0")) a b all.1 (omega arith) (omega arith)
 
--- the number of more digits is greater where no zero begins them
+-- the number of more digits is greater if no zero begins them
 longer : (a b : List ℕ) → AreDigits a → BeginsWithNoZero b → length a < length b → decimal_from 0 a < decimal_from 0 b
 longer a [] all begins short = absurd (omega arith)
 longer a (y ∷ b) all begins short = less_after 0 (10 * 0 + (y - octet_of "0")) a b all (omega arith) (omega arith)
@@ -166,11 +166,11 @@ no_digits : (digits : List ℕ) → (number_of_digits digits ≡ None) ↔ (digi
 no_digits [] = (λ is. refl, λ is. refl)
 no_digits (b ∷ rest) = (λ is. absurd cc, λ is. absurd cc)
 
--- a text is infinite where it begins with no digit
+-- a text is infinite exactly if it begins with no digit
 pub number_of-none : (text : List ℕ) → (number_of text ≡ None) ↔ (first_digits text ≡ [])
 number_of-none text = no_digits (first_digits text)
 
--- texts are in the order of what their numbers are
+-- texts are in the order of their numbers
 pub order_of-numbers : (a b : List ℕ) (m n : Option ℕ) → number_of a ≡ m → number_of b ≡ n → order_of Numeric a b ≡ number_cmp m n
 order_of-numbers a b m n first second = λ i. number_cmp (first i) (second i)
 
@@ -194,7 +194,8 @@ of_filled : (digits : List ℕ) → 0 < length digits → number_of_digits digit
 of_filled [] filled = absurd (omega arith)
 of_filled (b ∷ digits) filled = refl
 
--- a decimal text of at most 64 digits stands for its number, whatever comes after it that doesn't begin with a digit
+-- A decimal text of at most 64 digits stands for its number. So it does with a text after it that
+-- begins with no digit.
 pub number_of-decimal : (n : ℕ) (rest : List ℕ) → n < 10 ^ 64 → first_digits rest ≡ [] → number_of (decimal n ++ rest) ≡ Some n
 number_of-decimal n rest small none =
     let numeral = decimal_is_IsNumeral_wide n small in

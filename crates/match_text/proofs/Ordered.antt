@@ -15,7 +15,7 @@ use Rattle.match_text.proofs.Deciding.{same-Decides}
 use Rattle.match_text.proofs.Folding.{folded_same}
 
 module _ (fold : ℕ → ℕ) where
-  -- a text is greater than one that has come to its end before it
+  -- a text is greater than one that has ended before it
   pub goes_on : (a b : List ℕ) → 0 < length a → length b < 1 → Greater ≡ slice_cmp nat_cmp (map fold a) (map fold b)
   goes_on [] b some ended = absurd (omega arith)
   goes_on (x ∷ a) [] some ended = refl
@@ -23,7 +23,7 @@ module _ (fold : ℕ → ℕ) where
 
 -- ALL ORDERS ARE TOTAL
 
--- the order of numbers is that of options turned twice, since what is infinite stands last
+-- the order of numbers is that of options turned twice, since infinite stands last
 turned_twice : (m n : Option ℕ) → flip_args (option_cmp (flip_args nat_cmp)) m n ≡ number_cmp m n
 turned_twice None None = refl
 turned_twice None (Some n) = refl
@@ -86,21 +86,21 @@ transitive collation a b c first second =
 
 -- EQUAL
 
--- numbers are equal where neither is less
+-- numbers are equal exactly if neither is less
 number_ties : (m n : Option ℕ) → option_eq nat_eq m n ≡ is_eq (number_cmp m n)
 number_ties None None = refl
 number_ties None (Some n) = refl
 number_ties (Some m) None = refl
 number_ties (Some m) (Some n) = unsigned_ties m n
 
--- under each comparator texts are equal where they are in its order
+-- under each comparator, texts are equal exactly if they are in its order
 pub are_equal-ties : (collation : Collation) (a b : List ℕ) → are_equal collation a b ≡ is_eq (order_of collation a b)
 are_equal-ties Octet a b = lists_ties nat_cmp unsigned_ties a b
 are_equal-ties Casemap a b =
     sym (folded_same ascii_casemap a b) ∙ lists_ties nat_cmp unsigned_ties (map ascii_casemap a) (map ascii_casemap b)
 are_equal-ties Numeric a b = number_ties (number_of a) (number_of b)
 
--- what is tied is the same where the test of sameness goes by the order
+-- if the test of sameness goes by the order, texts are equal in it exactly if they are the same
 tied_same : (fold : ℕ → ℕ) (a b : List ℕ) (order : Ordering) → same fold a b ≡ is_eq order → (order ≡ Equal) ↔ Same fold a b
 tied_same fold a b order alike =
     let decides = same-Decides fold a b in

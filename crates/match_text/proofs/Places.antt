@@ -72,7 +72,7 @@ abbrev pub StandsNowhere : (ℕ → ℕ) → List ℕ → List ℕ → ℕ → T
 StandsNowhere fold value key past =
     (k : ℕ) → k < past → Same fold (slice_range value k (k + length key)) key → ⊥
 
--- where no octet ahead is equal to the key's first, the key doesn't stand there either
+-- if no octet ahead is equal to the key's first, the key doesn't stand there either
 pub stands_nowhere_ahead : (fold : ℕ → ℕ) (value key : List ℕ) (from ahead : ℕ) → 0 < length key → StandsNowhere fold value key from → Nowhere (λ k. (fold (slice_index (slice_range value from (length value)) k) == fold (slice_index key 0)) ≡ true) 0 ahead → StandsNowhere fold value key (from + ahead)
 stands_nowhere_ahead fold value key from ahead some earlier nowhere k below same = ⊎_elim
     (λ (lt : k < from). earlier k lt same)

@@ -46,7 +46,7 @@ word_found Le = refl
 word_found Eq = refl
 word_found Ne = refl
 
--- one relation of the list: it is found by its word, or else one of the rest is
+-- one relation of the list is found by its word, or else one of the rest is
 found_or : (word : List ℕ) (relation this : Relation) (rest : Option Relation) → (rest ≡ Some relation → is_word_of relation word ≡ true)
     → (s : Bool) → is_word_of this word ≡ s → (if s then Some this else rest) ≡ Some relation → is_word_of relation word ≡ true
 found_or word relation this rest more true is found =
@@ -80,7 +80,7 @@ named_by word =
     if bytes_eq (str_to_ascii_lowercase (relation_word Eq)) word then Some Eq else
     if bytes_eq (str_to_ascii_lowercase (relation_word Ne)) word then Some Ne else None
 
--- a word finds what is found by the word of the relation that it is equal to in small letters
+-- a word that is a relation's in any case of letters finds that relation
 word_finds : (relation : Relation) (word : List ℕ) → is_word_of relation word ≡ true → relation_named word ≡ Some relation
 unfolding named_by
 word_finds relation word is =

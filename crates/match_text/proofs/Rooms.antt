@@ -28,7 +28,7 @@ fit_needs fold (Star ∷ items) value [] fits = absurd fits
 fit_needs fold (Star ∷ items) value (n ∷ lengths) fits =
     let rest = fit_needs fold items (drop n value) lengths fits.1 in omega (arith, rest, length-drop n value)
 
--- how many of the items that an octet of a pattern begins take one, by whether it is one that does
+-- how many items take an octet, by whether the item of a pattern's first octet does
 took_by : (b : ℕ) (items : List Item) (p s q k : Bool) → (p || (not s && not k)) ≡ true → length (filter takes_one (option_to_list (if p then Some (Literal b) else if s then Some Star else if q then Some Question else if k then None else Some (Literal b)) ++ items)) ≡ suc (length (filter takes_one items))
 took_by b items true s q k is = refl
 took_by b items false true q k is = absurd (false≢true is)

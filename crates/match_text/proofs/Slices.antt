@@ -1,4 +1,4 @@
--- What is taken under a fit are slices of the value, in turn.
+-- The texts that are taken under a fit are slices of the value, in turn.
 use Rattle.std.proofs.Common.{◌≡◌, ℕ, List, [], ◌∷◌, length, map, take, drop, refl, sym, ap, subst}
 use Rattle.std.proofs.lemmas.List.{length-take-le, take-append-drop}
 use Rattle.match_text.specs.Wildcard.{Fits, TakeInTurn, taken}

@@ -10,7 +10,7 @@ use Rattle.match_text.proofs.Greedy.{begins-within, first_place-at, first_place-
 
 -- THE END OF A TEXT
 
--- no segment with items stands where no text is left
+-- no segment with items stands in an empty text
 pub begins-ended : (segment : List Item) (text : List ℕ) → 0 < length segment → length text ≡ 0 → begins segment text ≡ false
 begins-ended [] text some ended = absurd (omega arith)
 begins-ended (item ∷ segment) [] some ended = refl

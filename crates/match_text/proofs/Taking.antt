@@ -1,4 +1,4 @@
--- What the `?` of a segment take, one after another.
+-- The octets that the `?` of a segment take, one after another.
 use Rattle.std.proofs.Common.{◌≡◌, ℕ, ◌+◌, ◌<◌, Bor, List, [], ◌∷◌, ◌++◌, length, get_or, take, drop, refl, sym, ◌∙◌, ap}
 use Rattle.std.proofs.lemmas.List.{append_assoc, at_drop_more, map_push}
 use Rattle.match_text.specs.view.Segment.{questions, texts_of}

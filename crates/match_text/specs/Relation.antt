@@ -1,4 +1,5 @@
--- The relations of `:value` and `:count` (RFC 5231, section 4): their words, and in which order of two texts each of them holds.
+-- The relations of `:value` and `:count` (RFC 5231, section 4): their words, and the orders in
+-- which each holds.
 use Rattle.std.specs.Prelude.{ℕ, Bool, if◌then◌else◌, List, Option, Some, None, codes}
 use Rattle.std.specs.declared.cmp.Ordering.{Ordering}
 use Rattle.std.specs.Ordering.{is_eq, is_ge, is_gt, is_le, is_lt, is_ne}
@@ -15,7 +16,7 @@ relation_word Le = codes "le"
 relation_word Eq = codes "eq"
 relation_word Ne = codes "ne"
 
--- whether a word is that of a relation, in any case of letters, as all that ABNF quotes (RFC 5234, section 2.3)
+-- whether a word is that of a relation, in any case of letters, as in ABNF (RFC 5234, 2.3)
 abbrev pub is_word_of : Relation → List ℕ → Bool
 is_word_of relation word = str_eq_ignore_ascii_case (relation_word relation) word
 
@@ -29,7 +30,7 @@ relation_named word =
     if is_word_of Eq word then Some Eq else
     if is_word_of Ne word then Some Ne else None
 
--- whether a relation holds of two things, by the order in which the first stands to the second
+-- whether a relation holds of two things, by the order of the first to the second
 abbrev pub stands_in : Relation → Ordering → Bool
 stands_in Gt order = is_gt order
 stands_in Ge order = is_ge order

@@ -1,15 +1,15 @@
--- Which patterns a value matches (`:matches` of RFC 5228, section 2.7.1), and what their wildcards take (match variables of
--- RFC 5229, section 3.2).
+-- Which patterns a value matches under `:matches` (RFC 5228, 2.7.1). Their wildcards take the texts
+-- of match variables (RFC 5229, 3.2).
 use Rattle.std.specs.Prelude.{◌≡◌, ℕ, suc, ◌<◌, ◌≤◌, Bool, true, false, not, ◌&&◌, ◌==◌, ◌⊎◌, if◌then◌else◌, List, [], ◌∷◌, ◌++◌, length, take, drop, filter, option_to_list, Option, None, Some}
 use Rattle.std.specs.Option.{option_map, option_or}
 use Rattle.octets.specs.Octet.{octet_of}
 use Rattle.match_text.specs.declared.pattern.Item.{Item}
 use Rattle.match_text.specs.declared.pattern.Item.TheVariants.{Star, Question, Literal}
 
--- PATTERNS (RFC 5228, section 2.7.1)
+-- PATTERNS (RFC 5228, 2.7.1)
 
--- What an octet of a pattern is: a `*`, a `?` or an octet that stands for itself, as each octet does that a `\` protects. A `\`
--- that protects the octet after it is nothing by itself.
+-- The item that an octet of a pattern is: a `*`, a `?` or an octet that stands for itself. Each
+-- octet that a `\` protects stands for itself. A `\` that protects the octet after it is no item.
 abbrev pub item_at : (protected : Bool) → ℕ → Option Item
 item_at protected b =
     if protected then Some (Literal b) else
@@ -17,7 +17,8 @@ item_at protected b =
     if b == octet_of "?" then Some Question else
     if b == octet_of "\\" then None else Some (Literal b)
 
--- the items of the rest of a pattern, by whether its first octet is protected; a last `\` stands for itself
+-- The items of the rest of a pattern, by whether its first octet is protected. A last `\` stands
+-- for itself.
 abbrev pub items_from : (protected : Bool) → List ℕ → List Item
 items_from protected [] = if protected then Literal (octet_of "\\") ∷ [] else []
 items_from protected (b ∷ rest) =
@@ -37,8 +38,9 @@ wildcard_count items = length (filter is_wildcard items)
 
 -- FITS
 
--- A fit has one length for each wildcard. Under these lengths the items in turn cover exactly the value: a `*` takes as many
--- octets as its length says, a `?` takes one, and an octet takes one that is equal to it after folding.
+-- A fit has one length for each wildcard. Under these lengths the items in turn cover exactly the
+-- value. A `*` takes as many octets as its length says, and a `?` takes one. An octet takes one
+-- that is equal to it after folding.
 abbrev pub Fits : (fold : ℕ → ℕ) → List Item → (value lengths : List ℕ) → Type 0
 Fits fold [] [] [] = Unit {0}
 Fits fold [] [] (n ∷ lengths) = ⊥
@@ -57,7 +59,7 @@ AtMost [] others = Unit {0}
 AtMost (m ∷ lengths) [] = ⊥
 AtMost (m ∷ lengths) (n ∷ others) = (m < n) ⊎ ((m ≡ n) × AtMost lengths others)
 
--- the first wildcard takes as little as it can, then the second, and so on (RFC 5229, section 3.2)
+-- the first wildcard takes as little as it can, then the second, and so on (RFC 5229, 3.2)
 pub record IsLeastFit (fold : ℕ → ℕ) (items : List Item) (value lengths : List ℕ) : Type 0 where
   pub fits : Fits fold items value lengths
   pub least : (others : List ℕ) → Fits fold items value others → AtMost lengths others
@@ -69,7 +71,8 @@ abbrev pub one_more : List ℕ → List ℕ
 one_more [] = []
 one_more (n ∷ lengths) = suc n ∷ lengths
 
--- the least fit of a `*` before items whose least fits are known: it takes nothing, or if it can't, then one octet more
+-- The least fit of a `*` before items whose least fits are known. It takes nothing if it can, or
+-- else one octet more than in the rest of the value.
 abbrev pub star_fit : (List ℕ → Option (List ℕ)) → List ℕ → Option (List ℕ)
 star_fit after [] = option_map (λ lengths. 0 ∷ lengths) (after [])
 star_fit after (x ∷ value) =
@@ -85,7 +88,7 @@ least_fit fold (Question ∷ items) [] = None
 least_fit fold (Question ∷ items) (x ∷ value) = option_map (λ lengths. 1 ∷ lengths) (least_fit fold items value)
 least_fit fold (Star ∷ items) value = star_fit (least_fit fold items) value
 
--- CAPTURES (RFC 5229, section 3.2)
+-- CAPTURES (RFC 5229, 3.2)
 
 -- the slice of the value that each wildcard takes, in order
 abbrev pub taken : List Item → (lengths value : List ℕ) → List (List ℕ)
@@ -96,8 +99,9 @@ taken (Question ∷ items) (n ∷ lengths) value = take n value ∷ taken items 
 taken (Star ∷ items) [] value = []
 taken (Star ∷ items) (n ∷ lengths) value = take n value ∷ taken items lengths (drop n value)
 
--- The items take the value in turn: each wildcard the text beside it, a `?` one of one octet, and an octet one that is equal to
--- it after folding. This is what slices are taken under a fit, by `laws::captures_are_slices`.
+-- The items take the value in turn. Each wildcard takes its text, and a `?` one of one octet. An
+-- octet takes one that is equal to it after folding. The slices that are taken under a fit are such
+-- texts, by `laws::captures_are_slices`.
 abbrev pub TakeInTurn : (fold : ℕ → ℕ) → List Item → (value : List ℕ) → (texts : List (List ℕ)) → Type 0
 TakeInTurn fold [] value texts = (value ≡ []) × (texts ≡ [])
 TakeInTurn fold (Literal b ∷ items) [] texts = ⊥
@@ -109,7 +113,8 @@ TakeInTurn fold (Star ∷ items) value [] = ⊥
 TakeInTurn fold (Star ∷ items) value (text ∷ texts) =
     (rest : List ℕ) × ((value ≡ text ++ rest) × TakeInTurn fold items rest texts)
 
--- What the wildcards of a pattern take under the least fit, after the whole value; nothing where no fit exists.
+-- The whole value, and after it the slices that the wildcards of a pattern take under the least
+-- fit. None if no fit exists.
 unfoldable pub matched : (fold : ℕ → ℕ) → (value pattern : List ℕ) → Option (List (List ℕ))
 matched fold value pattern =
     option_map (λ lengths. value ∷ taken (items_of pattern) lengths value) (least_fit fold (items_of pattern) value)

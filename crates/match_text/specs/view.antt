@@ -1,4 +1,5 @@
--- What the program's types stand for in contracts, and facts of one function alone. The other files of specs/ restate the subject.
+-- The meanings of the program's types in contracts, and facts of one function alone. The other
+-- files of specs/ restate the subject.
 pub mod Digits
 pub mod Room
 pub mod Search

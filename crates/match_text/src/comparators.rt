@@ -1,4 +1,4 @@
-//! Comparators, and what they say of two texts.
+//! Comparators, and how they compare two texts (RFC 4790, section 9).
 ghost use Rattle.std.specs.Prelude.{◌≡◌, ◌==◌, ◌↔◌, ◌≤◌, ℕ, IfOk, IsOk, IsTrue, length, map, true};
 ghost use Rattle.std.proofs.Common.{rules};
 ghost use Rattle.memchr.specs.Find.{IsFirstByte};
@@ -9,10 +9,10 @@ use memchr::{memchr2, memmem};
 use std::alloc::{AllocError, Global};
 use std::marker::Model;
 
-/// Which octets are equal.
+/// A comparator that folds octets, which says which octets are equal (RFC 4790, section 9).
 ///
-/// Two octets are equal where [`fold`](Comparator::fold) takes them to the same octet. A comparator
-/// needs no more than its fold; it may bring a faster way to compare or to search.
+/// Two octets are equal if [`fold`](Comparator::fold) takes them to the same octet. A comparator
+/// needs no more than its fold. It may have a faster way to compare or to search.
 pub trait Comparator {
     /// The fold, as contracts see it.
     ghost folded: { ℕ → ℕ };
@@ -38,7 +38,7 @@ pub trait Comparator {
 
     /// Whether some slice of `value` is the same as `key`.
     ///
-    /// As written here it tries each place in turn.
+    /// This default tries each place in turn.
     fn contains(value: &[u8], key: &[u8]) -> bool
         ensures { IsTrue result ↔ IsPart folded value.now key.now }
     {
@@ -53,11 +53,11 @@ pub trait Comparator {
         false
     }
 
-    /// The law of folding: an octet that is folded stays as it is.
+    /// The law of folding: to fold a folded octet again leaves it as it is.
     ghost settles: { (b : ℕ) → folded (folded b) ≡ folded b };
 }
 
-/// The comparator `i;octet`: each octet is equal to itself alone.
+/// The comparator `i;octet` (RFC 4790, 9.3). Each octet is equal to itself alone.
 #[derive(Clone, Copy)]
 pub struct Octet;
 
@@ -79,7 +79,7 @@ impl Comparator for Octet {
     ghost settles = { λ b. Prim.search rules };
 }
 
-/// The comparator `i;ascii-casemap`: A to Z are equal to a to z.
+/// The comparator `i;ascii-casemap` (RFC 4790, 9.2). A to Z are equal to a to z.
 #[derive(Clone, Copy)]
 pub struct AsciiCasemap;
 
@@ -114,25 +114,26 @@ impl Comparator for AsciiCasemap {
     ghost settles = { λ b. Prim.search rules };
 }
 
-/// The first place of `value` whose octet is equal to `b` under `i;ascii-casemap`: at most two are.
+/// The first place of `value` whose octet is equal to `b` under `i;ascii-casemap`. At most two
+/// octets are equal to it.
 fn find_letter(value: &[u8], b: u8) -> Option<usize>
     ensures { IsFirstByte (λ x. ascii_casemap x == ascii_casemap b) value.now result }
 {
     memchr2(b.to_ascii_uppercase(), b.to_ascii_lowercase(), value)
 }
 
-/// The name of a comparator, where it is known only when the program runs.
+/// The name of a comparator, if it is known only when the program runs (RFC 4790, section 9).
 #[derive(Clone, Copy, Debug, PartialEq, Eq)]
 pub enum Collation {
     /// `i;octet`, which is [`Octet`].
     Octet,
     /// `i;ascii-casemap`, which is [`AsciiCasemap`].
     Casemap,
-    /// `i;ascii-numeric`, which compares numbers and has no fold (RFC 4790, section 9.1).
+    /// `i;ascii-numeric`, which compares numbers and has no fold (RFC 4790, 9.1).
     Numeric,
 }
 
-/// The comparator of that name, octet for octet (RFC 4790, section 9). Takes no memory.
+/// The comparator of that name, octet for octet (RFC 4790, section 9).
 pub fn collation_named(name: &[u8]) -> Option<Collation>
     ensures { result ≡ collation_named name.now }
 {
@@ -147,7 +148,7 @@ pub fn collation_named(name: &[u8]) -> Option<Collation>
     }
 }
 
-/// Whether `value` is `key` under the comparator: the match type `:is`. It takes no memory.
+/// Whether `value` is `key` under the comparator: the match type `:is` (RFC 5228, 2.7.1).
 pub fn is<C: Comparator>(value: &[u8], key: &[u8]) -> bool
     ensures same { IsTrue result ↔ Same C.folded value.now key.now }
     ensures exact { result ≡ same C.folded value.now key.now }
@@ -155,8 +156,8 @@ pub fn is<C: Comparator>(value: &[u8], key: &[u8]) -> bool
     C::is(value, key)
 }
 
-/// Whether some slice of `value` is `key` under the comparator: the match type `:contains`. It takes
-/// no memory.
+/// Whether some slice of `value` is `key` under the comparator: the match type `:contains` (RFC
+/// 5228, 2.7.1).
 pub fn contains<C: Comparator>(value: &[u8], key: &[u8]) -> bool
     ensures part { IsTrue result ↔ IsPart C.folded value.now key.now }
     ensures exact { result ≡ is_part C.folded value.now key.now }
@@ -164,10 +165,11 @@ pub fn contains<C: Comparator>(value: &[u8], key: &[u8]) -> bool
     C::contains(value, key)
 }
 
-/// The longest key that is looked for without copies wherever it may begin.
+/// The length of the longest key that is looked for without copies, wherever it may begin.
 const SHORT: usize = 64;
 
-/// Whether the key is looked for without copies: it is short, or it can begin nowhere but where the value does.
+/// Whether the key is looked for without copies. It is if it is short, or if it can begin only
+/// where the value does.
 fn is_in_place(value: &[u8], key: &[u8]) -> bool
     ensures { result ≡ is_in_place (length value.now) (length key.now) }
 {
@@ -192,8 +194,9 @@ pub(crate) fn folded<C: Comparator>(alloc: Global, octets: &[u8]) -> Result<Vec<
     Ok(copy)
 }
 
-/// As [`contains`], in time linear in the octets of `value` and `key`. A key of at most 64 octets takes no memory, nor does one that
-/// isn't shorter than the value. Any other is looked for in folded copies, for which memory may be refused.
+/// As [`contains`], in time linear in the octets of `value` and `key`. For a key of at most 64
+/// octets it succeeds, and for one that isn't shorter than the value. Any other is looked for in
+/// folded copies, for which memory may be refused.
 #[tactic(auto, using(crate::proofs::Folding::folded_part))]
 pub fn contains_in<C: Comparator>(
     alloc: Global,
@@ -211,7 +214,8 @@ pub fn contains_in<C: Comparator>(
     Ok(contains::<Octet>(&value, &key))
 }
 
-/// A value in which keys are looked for, one after another, under `i;ascii-casemap`. It is folded once, for the first key that needs it.
+/// A value in which keys are looked for, one after another, under `i;ascii-casemap`. It is folded
+/// once, for the first key that needs it.
 #[derive(Drop)]
 pub struct SearchedValue<'a> {
     octets: &'a [u8],
@@ -230,7 +234,7 @@ impl<'a> Model for SearchedValue<'a> {
 }
 
 impl<'a> SearchedValue<'a> {
-    /// The value of these octets, in which nothing was looked for yet. Takes no memory.
+    /// The value of these octets, in which nothing was looked for yet.
     pub fn new(octets: &'a [u8]) -> SearchedValue<'a>
         ensures { result ≡ octets.now }
     {
@@ -240,14 +244,14 @@ impl<'a> SearchedValue<'a> {
         }
     }
 
-    /// The octets of the value. Takes no memory.
+    /// The octets of the value.
     pub fn octets(&self) -> &'a [u8]
         ensures { result.now ≡ self.now }
     {
         self.octets
     }
 
-    /// The folds of the octets, taken out where they were made before.
+    /// The folds of the octets. If they were made before, they are taken out.
     fn take_folded(&mut self, alloc: Global) -> Result<Vec<u8>, AllocError>
         ensures folds { IfOk result (λ copy. copy.items ≡ map ascii_casemap self.old) }
         ensures kept { self.new ≡ self.old }
@@ -258,8 +262,9 @@ impl<'a> SearchedValue<'a> {
         }
     }
 
-    /// Whether some slice of the value is `key`, as [`contains_in`] answers. The key may be folded in place, and so needs no copy; the
-    /// first that is takes memory for one of the value.
+    /// Whether some slice of the value is `key`, as [`contains_in`] answers. The key may be folded
+    /// in place, so it needs no copy. The first key that is folded takes memory for a copy of the
+    /// value.
     #[tactic(auto, using(crate::proofs::Folding::folded_part, crate::proofs::Folding::folded_twice))]
     pub fn contains(&mut self, alloc: Global, key: &mut Vec<u8>) -> Result<bool, AllocError>
         ensures exact { IfOk result

@@ -1,11 +1,13 @@
 //! Laws over the definitions. Each of these functions does nothing: its contract is the law.
-ghost use Rattle.std.specs.Prelude.{◌≡◌, ◌∷◌, ◌++◌, ◌<◌, ◌^◌, ◌↔◌, ◌⊎◌, ◌||◌, ℕ, IsSome, List, [], None, Some, decimal, false, length, map, not, true};
+ghost use Rattle.std.specs.Prelude.{◌≡◌, ◌∷◌, ◌++◌, ◌<◌, ◌^◌, ◌↔◌, ◌⊎◌, ◌||◌, ℕ, IsSome, List, [], None, Some, codes, decimal, false, is_some, length, map, nat_eq, not, true};
 ghost use Rattle.std.specs.Cmp.{IsEquivalence, IsTotalOrder};
 ghost use Rattle.std.specs.Ordering.{nat_cmp};
 ghost use Rattle.std.specs.declared.cmp.Ordering as orderings;
 ghost use Rattle.std.specs.declared.cmp.Ordering.TheVariants.{Equal, Greater, Less};
 ghost use Rattle.octets.specs.Octet.{octet_of};
-ghost use Rattle.match_text.specs.Comparator.{IsPart, Same, ascii_casemap, is_part, octet, same};
+ghost use lib.Pointwise.{pointwise};
+ghost use Rattle.std.specs.List.{list_any};
+ghost use Rattle.match_text.specs.Comparator.{IsPart, Same, ascii_casemap, collation_named, is_part, octet, same};
 ghost use Rattle.match_text.specs.Order.{are_equal, first_digits, number_of, order_of};
 ghost use Rattle.match_text.specs.Relation.{is_word_of, relation_named, relation_word, stands_in};
 ghost use Rattle.match_text.specs.Room.{may_match};
@@ -17,8 +19,9 @@ ghost use Rattle.match_text.specs.declared.relation.Relation.{Relation};
 ghost use Rattle.match_text.specs.declared.relation.Relation.TheVariants.{Eq, Ge, Gt, Le, Lt, Ne};
 ghost use Rattle.match_text.specs.declared.room.KeyKind.TheVariants.{Part, Pattern, Whole};
 
-/// Whether two texts are the same, and whether one is part of the other, is decided exactly (`:is` and `:contains` of RFC 5228,
-/// section 2.7.1). No octets at all are part of every value, the empty one too.
+/// The tests of `:is` and `:contains` are exact (RFC 5228, 2.7.1). They decide whether two texts
+/// are the same, and whether one is part of the other. The empty key is part of every value, the
+/// empty one too.
 pub fn sameness_is_decided()
     ensures same { (fold : ℕ → ℕ) (a b : List ℕ) → (same fold a b ≡ true) ↔ Same fold a b }
     ensures part { (fold : ℕ → ℕ) (value key : List ℕ)
@@ -26,8 +29,8 @@ pub fn sameness_is_decided()
     ensures empty { (fold : ℕ → ℕ) (value : List ℕ) → is_part fold value [] ≡ true }
 {}
 
-/// The order of each comparator is total (RFC 4790, section 4.2.4). Of two texts one is at most the other, those of which each is at
-/// most the other are equal in it, and at most is transitive.
+/// The order of each comparator is total (RFC 4790, 4.2.4). Of two texts, one is at most the other.
+/// If each is at most the other, they are equal in it. At most is transitive.
 pub fn texts_are_in_a_total_order()
     ensures total { (collation : Collation) → IsTotalOrder (order_of collation) }
     ensures either { (collation : Collation) (a b : List ℕ) → (stands_in Le (order_of collation a b)
@@ -40,8 +43,9 @@ pub fn texts_are_in_a_total_order()
         ≡ true → stands_in Le (order_of collation a c) ≡ true }
 {}
 
-/// Equal in the order of a comparator is an equivalence, and is what `:is` calls equal (RFC 4790, section 4.2.2). Under `i;octet` and
-/// `i;ascii-casemap` it is that the octets are equal after folding.
+/// Equality in the order of a comparator is an equivalence, and `:is` goes by it (RFC 4790, 4.2.2).
+/// Under `i;octet` and `i;ascii-casemap`, texts are equal exactly if their octets are equal after
+/// folding.
 pub fn equality_goes_by_the_order()
     ensures equivalence { (collation : Collation)
         → IsEquivalence (λ a b. stands_in Eq (order_of collation a b)) }
@@ -51,9 +55,9 @@ pub fn equality_goes_by_the_order()
     ensures casemap { (a b : List ℕ) → (order_of Casemap a b ≡ Equal) ↔ Same ascii_casemap a b }
 {}
 
-/// What each relation says of an order (RFC 5231, section 4): `ne` is that `eq` doesn't hold, `ge` that `lt` doesn't, and `le` that `gt`
-/// doesn't. Seen from the other text, `gt` is `lt`. `gt` holds only where the first is greater, and `eq`
-/// only where the two are equal.
+/// How relations go by an order (RFC 5231, section 4). `ne` holds if `eq` doesn't, `ge` if `lt`
+/// doesn't, and `le` if `gt` doesn't. `le` holds if `lt` or `eq` does. Seen from the other text,
+/// `gt` is `lt`. `gt` holds only if the first is greater, and `eq` only if the two are equal.
 pub fn relations_go_by_the_order()
     ensures ne { (order : orderings.Ordering) → stands_in Ne order ≡ not (stands_in Eq order) }
     ensures ge { (order : orderings.Ordering) → stands_in Ge order ≡ not (stands_in Lt order) }
@@ -69,8 +73,8 @@ pub fn relations_go_by_the_order()
         → (stands_in Eq order ≡ true) ↔ (order ≡ Equal) }
 {}
 
-/// Each relation is found by its word. A relation is what a word finds exactly where the word is that of the relation, in any case of
-/// letters (RFC 5231, section 4).
+/// Each relation is found by its word. A word finds a relation exactly if it is its word, in any
+/// case of letters (RFC 5231, section 4).
 pub fn relations_have_their_words()
     ensures found { (relation : Relation)
         → relation_named (relation_word relation) ≡ Some relation }
@@ -78,9 +82,10 @@ pub fn relations_have_their_words()
         → (relation_named word ≡ Some relation) ↔ (is_word_of relation word ≡ true) }
 {}
 
-/// What stands after the first digits of a text doesn't change its number, nor do zeros before a number. A text is infinite, which is
-/// no number, exactly where it begins with no digit (RFC 4790, section 9.1.1). The decimal text of a number of at most 64 digits
-/// stands for that number, whatever comes after it that doesn't begin with a digit.
+/// The number of a text is that of the digits it begins with. Zeros before a number don't change
+/// it. A text is infinite, which is no number, exactly if it begins with no digit (RFC 4790,
+/// 9.1.1). The decimal text of a number of at most 64 digits stands for that number. So it does
+/// with a text after it that begins with no digit.
 pub fn numbers_are_those_of_their_digits()
     ensures digits { (text : List ℕ) → number_of (first_digits text) ≡ number_of text }
     ensures zeros { (text : List ℕ) → IsSome (number_of text)
@@ -90,8 +95,8 @@ pub fn numbers_are_those_of_their_digits()
         → number_of (decimal n ++ rest) ≡ Some n }
 {}
 
-/// Under `i;ascii-numeric` two texts are in the order of their numbers (RFC 4790, section 9.1). What is infinite is greater than each
-/// number, and all that is infinite is equal.
+/// Under `i;ascii-numeric` two texts are in the order of their numbers (RFC 4790, 9.1). An infinite
+/// text is greater than each number. All infinite texts are equal.
 pub fn numbers_are_ordered_by_what_they_are()
     ensures infinite { (a b : List ℕ) (n : ℕ) → number_of a ≡ None → number_of b ≡ Some n
         → order_of Numeric a b ≡ Greater }
@@ -101,8 +106,8 @@ pub fn numbers_are_ordered_by_what_they_are()
         → order_of Numeric a b ≡ Equal }
 {}
 
-/// The least fit of a pattern's items is the fit that is least in dictionary order, and is absent exactly where no fit exists
-/// (RFC 5229, section 3.2).
+/// The least fit of a pattern's items is the fit that is least in dictionary order. It is absent
+/// exactly if no fit exists (RFC 5229, 3.2).
 pub fn the_least_fit_is_least()
     ensures least { (fold : ℕ → ℕ) (items : List Item) (value lengths : List ℕ)
         → (least_fit fold items value ≡ Some lengths) ↔ IsLeastFit fold items value lengths }
@@ -110,8 +115,8 @@ pub fn the_least_fit_is_least()
         ≡ None) ↔ ((lengths : List ℕ) → ¬ Fits fold items value lengths) }
 {}
 
-/// Under a fit the slices that are taken stand in the value in turn, with the octets of the pattern between them, and have the
-/// lengths of the fit (RFC 5229, section 3.2).
+/// Under a fit, the slices that are taken stand in the value in turn. The octets of the pattern
+/// stand between them. The slices have the lengths of the fit (RFC 5229, 3.2).
 pub fn captures_are_slices()
     ensures slices { (fold : ℕ → ℕ) (items : List Item) (value lengths : List ℕ)
         → Fits fold items value lengths → TakeInTurn fold items value (taken items lengths value) }
@@ -119,8 +124,9 @@ pub fn captures_are_slices()
         → Fits fold items value lengths → map length (taken items lengths value) ≡ lengths }
 {}
 
-/// A value that matches a key under a comparator that folds octets has the octets that the key needs (RFC 5228, section 2.7.1): under
-/// `:is` as many as the key has, under `:contains` no fewer, and under `:matches` one for each item of the pattern that takes one.
+/// A value that matches a key has the octets that the key needs (RFC 5228, 2.7.1). This is so under
+/// a comparator that folds octets. Under `:is` it has as many as the key, and under `:contains` no
+/// fewer. Under `:matches` it has at least one for each item of the pattern that takes one.
 pub fn keys_need_octets()
     ensures is { (fold : ℕ → ℕ) (value key : List ℕ) → same fold value key ≡ true
         → may_match Whole (length value) key ≡ true }
@@ -128,4 +134,12 @@ pub fn keys_need_octets()
         → may_match Part (length value) key ≡ true }
     ensures matches { (fold : ℕ → ℕ) (value key : List ℕ) → IsSome (matched fold value key)
         → may_match Pattern (length value) key ≡ true }
+{}
+
+/// A comparator is known exactly by one of these names, octet for octet (RFC 4790, section 9).
+#[tactic(auto, using(crate::proofs::Named::comparators_known))]
+pub fn comparators_are_known_by_their_names()
+    ensures { (name : List ℕ) → is_some (collation_named name)
+        ≡ list_any (λ known. pointwise nat_eq known name)
+        (codes "i;octet" ∷ codes "i;ascii-casemap" ∷ codes "i;ascii-numeric" ∷ []) }
 {}

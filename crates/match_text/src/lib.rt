@@ -1,9 +1,9 @@
 //! How Sieve compares texts: comparators, equality, search and patterns.
 //!
-//! Texts are octet strings. A [`Comparator`] says which octets are equal (RFC 4790); [`is`],
-//! [`contains`] and [`matches`] are the match types of RFC 5228, section 2.7.1, at a comparator.
-//! [`equals`] and [`stands`] compare whole texts by a comparator's name, the latter by a [`Relation`]
-//! of RFC 5231 in the comparator's order.
+//! Texts are octet strings. A [`Comparator`] says which octets are equal (RFC 4790, section 9).
+//! [`is`], [`contains`] and [`matches`] are the match types at a comparator (RFC 5228, 2.7.1).
+//! [`equals`] and [`stands`] compare whole texts by a comparator's name. [`stands`] goes by a
+//! [`Relation`] in the comparator's order (RFC 5231, section 4).
 #![tactic(auto)]
 
 mod comparators;

@@ -1,4 +1,5 @@
-//! Texts as the numbers of `i;ascii-numeric` (RFC 4790, section 9.1). Numbers are of any size, so they are compared by their digits.
+//! Texts as the numbers of `i;ascii-numeric` (RFC 4790, 9.1). Numbers are of any size, so they are
+//! compared by their digits.
 ghost use Rattle.std.specs.Prelude.{◌≡◌};
 ghost use Rattle.match_text.specs.Order.{first_digits, number_cmp, number_of};
 ghost use Rattle.match_text.specs.view.Digits.{digits_cmp, without_zeros};
@@ -29,7 +30,8 @@ fn without_zeros(digits: &[u8]) -> &[u8]
     rest
 }
 
-/// The order of numbers whose digits begin with no zero: the one of more digits is greater, and of as many the first that differ decide.
+/// The order of numbers whose digits begin with no zero. The one of more digits is greater. If they
+/// have as many, the first digits that differ decide.
 fn digits_cmp(a: &[u8], b: &[u8]) -> Ordering
     ensures { result ≡ digits_cmp a.now b.now }
 {
@@ -39,8 +41,9 @@ fn digits_cmp(a: &[u8], b: &[u8]) -> Ordering
     }
 }
 
-/// The order of the numbers that two texts begin with. A text that begins with no digit is infinite, which is greater than each
-/// number (RFC 4790, section 9.1.1). Linear in the octets of both; takes no memory.
+/// The order of the numbers that two texts begin with. A text that begins with no digit is
+/// infinite, which is greater than each number (RFC 4790, 9.1.1). The time is linear in the octets
+/// of both.
 pub(crate) fn number_cmp(a: &[u8], b: &[u8]) -> Ordering
     ensures { result ≡ number_cmp (number_of a.now) (number_of b.now) }
 {

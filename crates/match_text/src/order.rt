@@ -1,4 +1,4 @@
-//! What each comparator says of two whole texts, where it is known only when the program runs.
+//! How each comparator compares two whole texts, if it is known only when the program runs.
 ghost use Rattle.std.specs.Prelude.{◌≡◌, map};
 ghost use Rattle.std.specs.Cmp.Lexicographic.{slice_cmp};
 ghost use Rattle.std.specs.Ordering.{nat_cmp};
@@ -10,7 +10,8 @@ use crate::number::number_cmp;
 use crate::relation::Relation;
 use std::cmp::Ordering;
 
-/// The order of two texts by their folded octets: the first that differ decide, and a front comes before what it is a front of.
+/// The order of two texts by their folded octets. The first that differ decide, and a front of a
+/// text comes before that text.
 fn folded_cmp<C: Comparator>(a: &[u8], b: &[u8]) -> Ordering
     ensures { result ≡ slice_cmp nat_cmp (map C.folded a.now) (map C.folded b.now) }
 {
@@ -42,7 +43,7 @@ fn order_of(collation: Collation, a: &[u8], b: &[u8]) -> Ordering
     }
 }
 
-/// Whether `value` is `key` under a comparator: the match type `:is` (RFC 5228, section 2.7.1). It takes no memory.
+/// Whether `value` is `key` under a comparator: the match type `:is` (RFC 5228, 2.7.1).
 pub fn equals(collation: Collation, value: &[u8], key: &[u8]) -> bool
     ensures { result ≡ are_equal collation value.now key.now }
 {
@@ -53,8 +54,8 @@ pub fn equals(collation: Collation, value: &[u8], key: &[u8]) -> bool
     }
 }
 
-/// Whether `value` stands to `key` as the relation says, in the order of a comparator: the match type `:value` (RFC 5231, section 4).
-/// Linear in the octets of both; takes no memory.
+/// Whether `value` stands to `key` as the relation says, in a comparator's order. This is the match
+/// type `:value` (RFC 5231, section 4). The time is linear in the octets of both.
 pub fn stands(relation: Relation, collation: Collation, value: &[u8], key: &[u8]) -> bool
     ensures { result ≡ stands_in relation (order_of collation value.now key.now) }
 {

@@ -1,4 +1,4 @@
-//! Patterns, read into their items.
+//! Patterns, read into their items (RFC 5228, 2.7.1).
 ghost use Rattle.std.specs.Prelude.{◌≡◌, IfOk, map};
 ghost use Rattle.std.specs.Option.{option_map};
 ghost use Rattle.match_text.specs.Wildcard.{item_at, items_of};
@@ -7,7 +7,7 @@ ghost use Rattle.match_text.specs.view.Segment.{folded_item};
 use crate::comparators::Comparator;
 use std::alloc::{AllocError, Global};
 
-/// A piece of a pattern (RFC 5228, section 2.7.1).
+/// A piece of a pattern (RFC 5228, 2.7.1).
 #[derive(Clone, Copy)]
 pub(crate) enum Item {
     /// Any octets, or none.
@@ -40,7 +40,7 @@ pub(crate) fn folded_items<C: Comparator>(
     Ok(items)
 }
 
-/// The item that an octet of a pattern is; none where it only protects the next one.
+/// The item that an octet of a pattern is, or none if it only protects the next one.
 fn item_at<C: Comparator>(is_protected: bool, octet: u8) -> Option<Item>
     ensures { result ≡ option_map (folded_item C.folded) (item_at is_protected octet) }
 {

@@ -4,20 +4,20 @@ ghost use Rattle.match_text.specs.Relation.{is_word_of, relation_named, relation
 
 use std::cmp::Ordering;
 
-/// How a value is to stand to a key.
+/// How a value is to stand to a key (RFC 5231, section 4).
 #[derive(Clone, Copy, Debug, PartialEq, Eq)]
 pub enum Relation {
     /// The value is greater than the key: `gt`.
     Gt,
-    /// It is greater or equal: `ge`.
+    /// The value is greater than the key, or equal to it: `ge`.
     Ge,
     /// It is less than the key: `lt`.
     Lt,
-    /// It is less or equal: `le`.
+    /// The value is less than the key, or equal to it: `le`.
     Le,
-    /// Both are equal: `eq`.
+    /// The value is equal to the key: `eq`.
     Eq,
-    /// They aren't equal: `ne`.
+    /// The value isn't equal to the key: `ne`.
     Ne,
 }
 
@@ -43,7 +43,7 @@ impl Relation {
         self.word().eq_ignore_ascii_case(word)
     }
 
-    /// Whether the relation holds of two things, the first of which stands in this order to the second.
+    /// Whether the relation holds of two things, by the order of the first to the second.
     pub(crate) fn holds(self, order: Ordering) -> bool
         ensures { result ≡ stands_in self order }
     {
@@ -58,7 +58,7 @@ impl Relation {
     }
 }
 
-/// The relation of that word, in any case of letters (RFC 5231, section 4). Takes no memory.
+/// The relation of that word, in any case of letters (RFC 5231, section 4).
 pub fn relation_named(word: &[u8]) -> Option<Relation>
     ensures { result ≡ relation_named word.now }
 {

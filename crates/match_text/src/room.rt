@@ -1,33 +1,34 @@
-//! Which keys can match a value at all, by how many octets they have.
+//! Which keys can match a value at all, by how many octets they have (RFC 5228, 2.7.1).
 ghost use Rattle.std.specs.Prelude.{◌≡◌, ◌++◌, ℕ, List, Some, [], false, true};
 ghost use Rattle.match_text.specs.Room.{may_match};
 ghost use Rattle.match_text.specs.declared.room.KeyKind.TheVariants.{Pattern};
 ghost use Rattle.match_text.specs.view.Room.{has_room, is_room, takes_octet};
 
-/// What a key is to a value under a comparator that folds octets (RFC 5228, section 2.7.1); `i;ascii-numeric` doesn't go by lengths.
+/// How a key is to match a value under a comparator that folds octets (RFC 5228, 2.7.1). There is
+/// no kind for `i;ascii-numeric`, which doesn't go by lengths.
 #[derive(Clone, Copy)]
 pub enum KeyKind {
-    /// All of it: the match type `:is`.
+    /// The whole of the value: the match type `:is`.
     Whole,
-    /// A part of it: the match type `:contains`.
+    /// A part of the value: the match type `:contains`.
     Part,
-    /// A pattern that it matches: the match type `:matches`.
+    /// A pattern that the value matches: the match type `:matches`.
     Pattern,
 }
 
-/// How many octets of a value are left for the rest of a key. It says of a key that comes in pieces whether it can match the value,
-/// so that a key which can't is never put together.
+/// How many octets of a value are left for the rest of a key. For a key that comes in pieces, it
+/// says whether the key can match the value. So a key that can't is never put together.
 #[derive(Clone, Copy)]
 pub struct Room {
     kind: KeyKind,
-    // None where the key needs more than the value has.
+    // None if the key needs more octets than the value has.
     left: Option<usize>,
     // Whether a `\` of a pattern protects the next octet.
     is_protected: bool,
 }
 
 impl Room {
-    /// The room that a value of so many octets has for a key. Takes no memory.
+    /// The room that a value of so many octets has for a key.
     pub fn new(kind: KeyKind, size: usize) -> Room
         ensures { (key : List ℕ) → has_room result key ≡ may_match kind size key }
     {
@@ -38,8 +39,9 @@ impl Room {
         }
     }
 
-    /// What is left after the next octets of a key. Takes no memory; its time is linear in the octets of a pattern, as far as
-    /// there is room for them, and under the other match types the same for any number.
+    /// The room that is left after the next octets of a key. For a pattern its time is linear in
+    /// those octets for which there is room. For the other match types it is the same for any
+    /// number of octets.
     pub fn after(self, octets: &[u8]) -> Room
         ensures { (rest : List ℕ) → has_room result rest ≡ has_room self (octets.now ++ rest) }
     {
@@ -62,14 +64,15 @@ impl Room {
         }
     }
 
-    /// Whether the octets of a key so far are more than the value has room for, whatever comes after them. Takes no memory.
+    /// Whether the octets of a key so far need more than the value has. If so, the key can't match,
+    /// whatever comes after them.
     pub fn is_exceeded(self) -> bool
         ensures { result ≡ true → (rest : List ℕ) → has_room self rest ≡ false }
     {
         self.left.is_none()
     }
 
-    /// Whether the value can match the key, all of whose octets the room has seen. Takes no memory.
+    /// Whether the value can match the key, if the room has seen all octets of the key.
     pub fn is_enough(self) -> bool
         ensures { result ≡ has_room self [] }
     {
@@ -91,7 +94,8 @@ fn takes_octet(is_protected: bool, octet: u8) -> bool
     is_protected || (octet != b'*' && octet != b'\\')
 }
 
-/// How many of these octets are left after some of a pattern, and whether the last of those protects the next.
+/// How many of `size` octets are left after some octets of a pattern, or none if they are too few.
+/// Also whether the last of these protects the next.
 fn after_items(size: usize, was_protected: bool, octets: &[u8]) -> (Option<usize>, bool)
     ensures { (rest : List ℕ) → is_room Pattern result.1 result.0 rest
         ≡ is_room Pattern was_protected (Some size) (octets.now ++ rest) }

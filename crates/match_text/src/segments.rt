@@ -6,7 +6,8 @@ use crate::pattern::Item;
 use memchr::memmem;
 use std::alloc::{AllocError, Global};
 
-/// Cuts before the first star: the segment in front, and what begins with a star or is empty.
+/// Cuts items before the first star. It gives the segment before the star, and the rest, which
+/// begins with the star or is empty.
 pub(crate) fn cut(items: &[Item]) -> (&[Item], &[Item])
     ensures segment { result.0.now ≡ before_star items.now }
     ensures after { result.1.now ≡ from_star items.now }
@@ -47,8 +48,8 @@ pub(crate) fn begins(segment: &[Item], text: &[u8]) -> bool
     true
 }
 
-/// The place of a segment that stands after a star: its first place in the text, or the one at the end of the text where
-/// nothing stands after the segment.
+/// The place of a segment after a star: its first place in the text. If no item follows the
+/// segment, it is the place at the end of the text.
 pub(crate) fn place_of(
     alloc: Global,
     segment: &[Item],
@@ -63,8 +64,8 @@ pub(crate) fn place_of(
     first_place(alloc, segment, text)
 }
 
-/// The first place where the segment stands. Octets alone are looked for in linear time; a segment with a `?` is tried at
-/// each place.
+/// The first place where the segment stands. Octets alone are looked for in linear time. A segment
+/// with a `?` is tried at each place.
 fn first_place(alloc: Global, segment: &[Item], text: &[u8]) -> Result<Option<usize>, AllocError>
     ensures { IfOk result (λ place. place ≡ first_place (begins segment.now) text.now) }
 {
@@ -89,7 +90,7 @@ fn end_place(segment: &[Item], text: &[u8]) -> Option<usize>
     }
 }
 
-/// The first place where the segment stands: each place is tried.
+/// The first place where the segment stands. Each place is tried.
 fn find_place(segment: &[Item], text: &[u8]) -> Option<usize>
     ensures { result ≡ first_place (begins segment.now) text.now }
 {
@@ -107,7 +108,7 @@ fn find_place(segment: &[Item], text: &[u8]) -> Option<usize>
     }
 }
 
-/// The octets of a segment without a wildcard.
+/// The octets of a segment, or none if it has a wildcard.
 fn literals(alloc: Global, segment: &[Item]) -> Result<Option<Vec<u8>>, AllocError>
     ensures { IfOk result (λ found. IfSome found (λ octets. segment.now ≡ literals octets.items)) }
 {

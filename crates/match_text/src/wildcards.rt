@@ -1,4 +1,4 @@
-//! Patterns with wildcards, and what the wildcards take.
+//! Patterns with wildcards, and the texts that the wildcards take.
 ghost use Rattle.std.specs.Prelude.{◌≡◌, ◌↔◌, ◌+◌, ◌≤◌, ◌++◌, ℕ, List, [], ◌∷◌, IfOk, IfSome, IsNone, None, Some, drop, length, slice_get, take, unwrap_or};
 ghost use Rattle.std.specs.Option.{option_map};
 ghost use Rattle.match_text.specs.Wildcard.{Fits, items_of, matched, wildcard_count};
@@ -10,10 +10,10 @@ use crate::segments::{begins, cut, place_of};
 use std::alloc::{AllocError, Global};
 use std::marker::Model;
 
-/// What the wildcards of a pattern took of a value (RFC 5229, section 3.2).
+/// The texts that the wildcards of a pattern took of a value (RFC 5229, 3.2).
 #[derive(Drop)]
 pub struct Captures<'v> {
-    // The whole value, then what each wildcard took.
+    // The whole value, and then the text that each wildcard took.
     texts: Vec<&'v [u8]>,
 }
 
@@ -36,8 +36,8 @@ impl<'v> Captures<'v> {
         self.texts.len() - 1
     }
 
-    /// The octets that the wildcard of this number took, the first being 1; the whole value at 0, and
-    /// no octets past the count. It takes no memory.
+    /// The octets that the wildcard of this number took, the first being 1. At 0 it is the whole
+    /// value, and past the count no octets.
     pub fn get(&self, k: usize) -> &'v [u8]
         ensures { result.now ≡ unwrap_or (slice_get self.now k) [] }
     {
@@ -48,16 +48,18 @@ impl<'v> Captures<'v> {
     }
 }
 
-/// Whether the whole value matches the pattern under the comparator, and what the wildcards then take: the match type
-/// `:matches` (RFC 5228, section 2.7.1; RFC 5229, section 3.2).
+/// Whether the whole value matches the pattern under the comparator, and the texts that the
+/// wildcards then take. This is the match type `:matches` (RFC 5228, 2.7.1; RFC 5229, 3.2).
 ///
-/// In a pattern `*` stands for any octets or none, `?` for one octet, and any other octet for those equal to it. `\` takes its
-/// meaning from the octet after it, and at the end of the pattern it stands for itself. The first wildcard takes as little as
-/// it can, then the second, and so on.
+/// In a pattern `*` stands for any octets or none, and `?` for one octet. Any other octet stands
+/// for those equal to it. A `\` takes its meaning from the octet after it. At the end of the
+/// pattern it stands for itself. The first wildcard takes as little as it can, then the second, and
+/// so on.
 ///
-/// A match takes memory in the octets of the value and of the pattern, and fails only when out of it. Its time is linear in both,
-/// however many stars there are, but for octets between two stars with a `?` among them: these are tried at each place, which
-/// takes at worst as many steps as the product of their number and the value's.
+/// A match takes memory in the octets of the value and of the pattern. It fails only if it is out
+/// of memory. Its time is linear in both, however many stars there are, with one exception. Octets
+/// between two stars with a `?` among them are tried at each place. This takes at worst as many
+/// steps as the product of their number and the value's.
 pub fn matches<'v, C: Comparator>(
     alloc: Global,
     value: &'v [u8],
@@ -77,7 +79,7 @@ pub fn matches<'v, C: Comparator>(
     }
 }
 
-/// The whole value and what the wildcards take of it, for items and a text that are folded.
+/// The whole value and the texts that the wildcards take of it. The items and `text` are folded.
 fn captured_texts<'v>(
     alloc: Global,
     items: &[Item],
@@ -112,8 +114,8 @@ fn captured_texts<'v>(
     }
 }
 
-/// Adds what a star takes of the value up to a place, and then what the `?` of the segment that stands there take; what
-/// stands after the segment, of the text and of the value.
+/// Adds the text that a star takes of the value up to a place. Then adds the texts that the `?` of
+/// the segment at that place take. The result is the text and the value after the segment.
 fn take_star<'t, 'v>(
     texts: &mut Vec<&'v [u8]>,
     place: usize,
@@ -136,8 +138,8 @@ fn take_star<'t, 'v>(
     take_segment(texts, segment, text_left, value_left)
 }
 
-/// Adds what the `?` of a segment take of the value, which begins with it; what stands after the segment, of the text and
-/// of the value.
+/// Adds the texts that the `?` of a segment take of the value, which begins with it. The result is
+/// the text and the value after the segment.
 fn take_segment<'t, 'v>(
     texts: &mut Vec<&'v [u8]>,
     segment: &[Item],
@@ -156,7 +158,8 @@ fn take_segment<'t, 'v>(
     Ok((text_left, value_left))
 }
 
-/// Adds what the `?` of a segment take of the value, which begins with it; what stands after the segment.
+/// Adds the texts that the `?` of a segment take of the value, which begins with it. The result is
+/// the value after the segment.
 fn push_questions<'v>(
     texts: &mut Vec<&'v [u8]>,
     segment: &[Item],

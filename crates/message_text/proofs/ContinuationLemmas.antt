@@ -1,4 +1,4 @@
--- The lines at the front of a text that are continuations.
+-- The lines at the start of a text that are continuations.
 use Rattle.std.proofs.Common.{◌≡◌, ℕ, true, false, not, cond, ◌==◌, List, [], ◌∷◌, ◌++◌, length, refl, ap, ◌∙◌, arith}
 use Rattle.std.specs.List.{concat, take_while}
 use Rattle.std.proofs.lemmas.Bool.{cond-false, cond-true, ne_eqb}

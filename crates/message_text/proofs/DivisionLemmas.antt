@@ -16,7 +16,8 @@ divided-both all [] domain front back = absurd (omega arith)
 divided-both all (b ∷ bs) [] front back = absurd (omega arith)
 divided-both all (b ∷ bs) (c ∷ cs) front back = refl
 
--- the address of marked octets, by what stands before and after the last free `@`; `place` is after this one
+-- The address of marked octets, by the octets before and after the last free `@`. `place` is after
+-- this one.
 address_at : (marks : List Marked) (place : ℕ) → 0 < length marks → IsAfterLast (is_free (octet_of "@")) marks place → address_by marks ≡ Some (divided (octets_of marks) (take (place - 1) (octets_of marks)) (drop place (octets_of marks)))
 address_at [] place some is = absurd (omega arith)
 address_at (m ∷ ms) place some is =

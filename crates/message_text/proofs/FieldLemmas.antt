@@ -40,7 +40,7 @@ more_lines octets i group is folded none =
     let not_none : (length group.continuations == 0) ≡ false = cc in
     eqb-false (length group.continuations) 0 not_none (ap length none)
 
--- where the octets of an answer are known, they are what a look-up finds
+-- if the octets of an answer are known, a look-up finds them
 pub some_octets : {X E : Type 0} (r : Result X E) (octets_of : X → List ℕ) (octets : List ℕ) → IfOk r (λ x. octets_of x ≡ octets) → IfOk r (λ x. Some octets ≡ Some (octets_of x))
 some_octets (Ok x) octets_of octets is = ap Some (sym is)
 some_octets (Err e) octets_of octets is = is

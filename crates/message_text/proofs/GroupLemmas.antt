@@ -13,7 +13,7 @@ use Rattle.message_text.proofs.ContinuationLemmas.{none_continues}
 use Rattle.message_text.specs.view.Spans.{AreSpans, IsSpan, continues, field_here, group_at}
 use Rattle.message_text.specs.declared.fields.FieldSpan.{FieldSpan}
 
--- a line that isn't empty is of the header section where it stands first
+-- a line that isn't empty is in the header section if it stands first
 filled_first : (line : List ℕ) (text : List (List ℕ)) → is_filled line ≡ true → take_while is_filled (line ∷ text) ≡ line ∷ take_while is_filled text
 filled_first line text filled =
     take_while-cons is_filled line text ∙ cond-true (is_filled line) (line ∷ take_while is_filled text) [] filled
@@ -28,7 +28,8 @@ continuations_kept ((b ∷ line) ∷ text) =
     ∙ ap (λ (kept : List (List ℕ)). cond (is_continuation (b ∷ line)) ((b ∷ line) ∷ kept) []) (continuations_kept text)
     ∙ sym (take_while-cons is_continuation (b ∷ line) text)
 
--- the groups of a header section that are fields: that of its first line, where this begins a field, and those of the lines after it
+-- The groups of a header section that are fields. They are that of its first line, if this begins a
+-- field, and those of the lines after it.
 one_group : (line : List ℕ) (more : List (List ℕ)) → filter is_field (groups_of (line ∷ take_while is_filled more)) ≡ field_here line more ++ filter is_field (groups_of (take_while is_filled more))
 one_group line more =
     let kept = take_while is_filled more in
@@ -91,13 +92,13 @@ slice-empty octets start =
     let none : start - start ≡ 0 = omega arith in
     ap (λ n. is_filled (take n (drop start octets))) none
 
--- the spans found so far are those of a message, where what is left of it has no field
+-- the spans found so far are those of a message, if the rest of it has no field
 pub are_spans : (octets : List ℕ) (spans : List FieldSpan) (start : ℕ) → map (group_at octets) spans ++ field_groups (drop start octets) ≡ field_groups octets → field_groups (drop start octets) ≡ [] → All (IsSpan octets) spans → AreSpans octets spans
 are_spans octets spans start found none each =
     let so_far = map (group_at octets) spans in
     record { groups = sym found ∙ ap (λ (rest : List Group). so_far ++ rest) none ∙ append-nil so_far; each = each }
 
--- where two joined lists of groups are empty, each of the two is empty
+-- if two joined lists of groups are empty, each of the two is empty
 pub none_first : (first others : List Group) → first ++ others ≡ [] → first ≡ []
 none_first [] others none = refl
 none_first (group ∷ first) others none = cc
@@ -106,7 +107,7 @@ pub none_after : (first others : List Group) → first ++ others ≡ [] → othe
 none_after [] others none = none
 none_after (group ∷ first) others none = cc
 
--- where no group has a field, there are no groups
+-- if a list of groups has no fields, it has no groups
 no_group : (groups : List Group) → map field_of groups ≡ [] → groups ≡ []
 no_group [] none = refl
 no_group (group ∷ groups) none = cc

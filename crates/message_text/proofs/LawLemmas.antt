@@ -1,4 +1,4 @@
--- What holds of the marks and of the addresses of any value.
+-- Facts of the marks and of the addresses of any value.
 use Rattle.std.proofs.Common.{◌≡◌, ℕ, ◌+◌, ◌-◌, ◌<◌, ◌==◌, Bool, true, not, List, [], ◌∷◌, ◌++◌, Option, None, Some, IfSome, length, take, drop, reverse, get_or, refl, sym, ap, ◌∙◌, arith}
 use Rattle.std.specs.List.{All, after_last, before_last, cons_option, filter_map, slice_split, suffix_len}
 use Rattle.std.proofs.lemmas.Bool.{and_parts, eqb-true, not-false}
@@ -18,7 +18,7 @@ octets_of-marks_from spot (b ∷ rest) = ap (λ (octets : List ℕ). b ∷ octet
 pub marks_are_of_the_octets : (value : List ℕ) → octets_of (marks_of value) ≡ value
 marks_are_of_the_octets value = octets_of-marks_from value_start value
 
--- the place of the last element that passes, where one does
+-- the place of the last element that passes, if one does
 last_place : {X : Type 0} (p : X → Bool) (xs : List X) → ℕ
 last_place p xs = length xs - suffix_len (λ x. not (p x)) xs - 1
 

@@ -21,7 +21,7 @@ line_before part (b ∷ text) =
     (λ parts. lines_of_parts (part ∷ parts) ≡ strip_carriage_return part ∷ lines_of_parts parts)
     (λ _. refl) (λ _. line_onto part b (slice_split (λ b. b == octet_of "\n") text))
 
--- the first line of a text goes up to the first line feed, without a carriage return directly before it
+-- the first line of a text goes up to the first line feed, without a carriage return before that
 pub lines-feed : (line rest : List ℕ) → All (λ b. (b == octet_of "\n") ≡ false) line → lines (line ++ octet_of "\n" ∷ rest) ≡ strip_carriage_return line ∷ lines rest
 lines-feed line rest plain = ap lines_of_parts (slice_split_at (λ b. b == octet_of "\n") line (octet_of "\n") rest plain refl) ∙ line_before line rest
 

@@ -11,7 +11,7 @@ use Rattle.message_text.specs.declared.marks.Surroundings.{Surroundings}
 abbrev pub marked_at : Surroundings → (is_last : Bool) → ℕ → Marked
 marked_at spot is_last b = record { octet = b; mark = mark_at spot is_last b; in_angle = spot.in_angle }
 
--- nothing is left after octet i exactly where the place after it is the end
+-- no octet is left after octet i exactly if the place after it is the end
 last_by : (n i len : ℕ) → n ≡ len - (i + 1) → i < len → (n == 0) ≡ (i + 1 == len)
 last_by n i len is within =
     elim (cases_eq n 0) [
@@ -27,7 +27,7 @@ marks_from-drop spot xs i within =
     ap (marks_from spot) (drop_more xs i 0 within)
     ∙ ap (λ is_last. marked_at spot is_last b ∷ marks_from (surroundings_after spot b) rest) (last_by (length rest) i (length xs) (length-drop (i + 1) xs) within)
 
--- the marks so far take one octet more, and the surroundings are those after it
+-- the marks so far take one octet more, and the state is the one after it
 pub marks_more : (so_far : List Marked) (m : Marked) (spot next : Surroundings) (xs : List ℕ) (i : ℕ) → i < length xs → m ≡ marked_at spot (i + 1 == length xs) (get_or xs i 0) → next ≡ surroundings_after spot (get_or xs i 0) → so_far ++ marks_from spot (drop i xs) ≡ marks_of xs → (so_far ++ m ∷ []) ++ marks_from next (drop (i + 1) xs) ≡ marks_of xs
 marks_more so_far m spot next xs i within is after so =
     append_assoc so_far (m ∷ []) (marks_from next (drop (i + 1) xs))

@@ -6,7 +6,7 @@ use Rattle.std.proofs.lemmas.List.{take_all}
 use Rattle.std.proofs.lemmas.List.Folds.{list_any_at, list_any_none}
 use Rattle.std.proofs.lemmas.List.Sums.{fails_before_first, passes_at_first}
 
--- what `position` answers
+-- the place that `position` finds
 abbrev pub first_place : {X : Type 0} (p : X → Bool) (xs : List X) → Option ℕ
 first_place p xs = cond (ltb (position_or_len p xs) (length xs)) (Some (position_or_len p xs)) None
 
@@ -31,7 +31,7 @@ some_passes p (x ∷ xs) k is =
     let within = place_within p (x ∷ xs) k is in
     list_any_at p (x ∷ xs) (position_or_len p (x ∷ xs)) x within (passes_at_first p (x ∷ xs) x within)
 
--- where no place is found, no element passes the test
+-- if no place is found, no element passes the test
 pub none_before : {X : Type 0} (p : X → Bool) (xs : List X) → None ≡ first_place p xs → length xs ≤ position_or_len p xs
 none_before p xs is = ltb-false _ _ (none_by _ _ is)
 

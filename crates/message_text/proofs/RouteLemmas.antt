@@ -1,4 +1,4 @@
--- What of a piece is its address, by where the signs of the first angle and of its source route stand.
+-- The address in a piece, by the places of the signs of the first angle and of its source route.
 use Rattle.std.proofs.Common.{◌≡◌, ℕ, ◌+◌, ◌-◌, Bool, true, List, length, take, drop, None, Some, sym, ap, ◌∙◌, arith}
 use Rattle.std.specs.List.{after_first, before_first, list_any}
 use Rattle.std.proofs.lemmas.Bool.{and_from, and_right, cond-false, cond-true}
@@ -12,7 +12,7 @@ use Rattle.message_text.proofs.PieceLemmas.{first_place, none_passes, place_is, 
 pub rest_from : {X : Type 0} (n : ℕ) (xs : List X) → take (length xs - n) (drop n xs) ≡ drop n xs
 rest_from n xs = take_all (length xs - n) (drop n xs) (omega (arith, length-drop n xs))
 
--- what stands after the first element that passes
+-- the elements after the first one that passes
 after_first-place : {X : Type 0} (p : X → Bool) (xs : List X) (k : ℕ) → Some k ≡ first_place p xs → after_first p xs ≡ drop (k + 1) xs
 after_first-place p xs k is = ap (λ n. drop (n + 1) xs) (place_is p xs k is)
 

@@ -13,7 +13,7 @@ drop_by false n x xs = refl
 trim_start-cons : (x : ℕ) (xs : List ℕ) → trim_start (x ∷ xs) ≡ cond (is_blank x) (trim_start xs) (x ∷ xs)
 trim_start-cons x xs = drop_by (is_blank x) (prefix_len is_blank xs) x xs
 
--- the front of a text may be trimmed before more is added
+-- the start of a text may be trimmed before more is added
 pub trim_start-append : (a b : List ℕ) → trim_start (trim_start a ++ b) ≡ trim_start (a ++ b)
 trim_start-append [] b = refl
 trim_start-append (x ∷ a) b =
@@ -27,7 +27,7 @@ trim_start-append (x ∷ a) b =
 pub trim_start-trim_start : (a : List ℕ) → trim_start (trim_start a) ≡ trim_start a
 trim_start-trim_start a = ap trim_start (sym (append-nil (trim_start a))) ∙ trim_start-append a [] ∙ ap trim_start (append-nil a)
 
--- a text that begins with neither space nor tab keeps its front, whatever follows it
+-- a text that begins with neither space nor tab keeps its start, whatever follows it
 trim_start-onto : (x : ℕ) (a b : List ℕ) → trim_start (x ∷ a) ≡ x ∷ a → trim_start ((x ∷ a) ++ b) ≡ (x ∷ a) ++ b
 trim_start-onto x a b trimmed =
     let shorter : length (trim_start a) ≤ length a = omega (arith, length-drop (prefix_len is_blank a) a) in

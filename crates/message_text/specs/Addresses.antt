@@ -1,5 +1,6 @@
--- The addresses of a value (RFC 5322, sections 3.4 and 4.4) and of an envelope, and their parts (RFC 5228, section 2.7.4). Each
--- octet of a value is marked with what it stands in; what follows are steps over marked octets.
+-- The addresses of a value (RFC 5322, 3.4 and 4.4) and of an envelope. Their parts are those of a
+-- test (RFC 5228, 2.7.4; RFC 5233, section 4). Each octet of a value is marked with the construct
+-- in which it stands. Steps over marked octets come after that.
 use Rattle.std.specs.Prelude.{◌≡◌, ℕ, ◌+◌, ◌-◌, ◌<◌, nat_le, nat_eq, Bool, true, false, not, ◌&&◌, ◌||◌, ◌==◌, if◌then◌else◌, length, List, [], ◌∷◌, ◌++◌, map, filter, Option, None, Some, codes}
 use Rattle.std.specs.List.{after_first, after_last, before_first, before_last, filter_map, list_any, slice_split}
 use Rattle.std.specs.Option.{option_and_then, option_map}
@@ -14,7 +15,7 @@ use Rattle.message_text.specs.declared.marks.AddressMark.TheVariants as mark
 use Rattle.message_text.specs.declared.marks.Marked.{Marked}
 use Rattle.message_text.specs.declared.marks.Surroundings.{Surroundings}
 
--- an address: its whole text, and its local part and its domain where it has them (RFC 5322, section 3.4.1)
+-- an address: its whole text, and its local part and its domain if it has them (RFC 5322, 3.4.1)
 pub record AddrSpec : Type 0 where
   pub all : List ℕ
   pub local_part : Option (List ℕ)
@@ -24,15 +25,16 @@ pub record AddrSpec : Type 0 where
 abbrev pub is_separator : ℕ → Bool
 is_separator octet = octet == octet_of "+"
 
--- the user in a local part: what stands before its first separator, or all of it (RFC 5233, section 4)
+-- the user in a local part: the octets before its first separator, or all (RFC 5233, section 4)
 abbrev pub user_in : List ℕ → List ℕ
 user_in local_part = before_first is_separator local_part
 
--- the detail in a local part: what stands after its first separator, if it has one (RFC 5233, section 4)
+-- The detail in a local part: the octets after its first separator, if it has one (RFC 5233,
+-- section 4).
 abbrev pub detail_in : List ℕ → Option (List ℕ)
 detail_in local_part = if list_any is_separator local_part then Some (after_first is_separator local_part) else None
 
--- what a test sees of an address (RFC 5228, section 2.7.4; RFC 5233, section 4)
+-- the part of an address that a test sees (RFC 5228, 2.7.4; RFC 5233, section 4)
 abbrev pub part_of_address : AddressPart → AddrSpec → Option (List ℕ)
 part_of_address part.All address = Some address.all
 part_of_address part.Local address = address.local_part
@@ -42,12 +44,13 @@ part_of_address part.Detail address = option_and_then detail_in address.local_pa
 
 -- MARKS
 
--- the surroundings at the start of a value, where nothing is open; what is opened and not closed lasts to its end
+-- The state at the start of a value, with nothing open. A construct that is opened and not closed
+-- lasts to the end of the value.
 abbrev pub value_start : Surroundings
 value_start = record { inside = inside.Nothing; is_protected = false; in_angle = false }
 
--- An octet outside of quoted strings, comments and literals opens one of these, or an angle, or closes the angle, or stands for
--- itself. In an angle no other opens.
+-- An octet outside of quoted strings, comments and literals may open one of these or an angle. It
+-- may close the angle, or stand for itself. In an angle no other opens.
 abbrev pub free_mark : (in_angle : Bool) → ℕ → AddressMark
 free_mark in_angle b =
     if b == octet_of "\"" then mark.QuoteSign else
@@ -56,55 +59,58 @@ free_mark in_angle b =
     if b == octet_of "<" && not in_angle then mark.AngleOpen else
     if b == octet_of ">" && in_angle then mark.AngleClose else mark.Plain
 
--- An octet in a quoted string (RFC 5322, section 3.2.4): the sign that closes it, and a backslash that protects the next octet,
--- are signs; all others stand for themselves, a backslash at the end of the value too.
+-- An octet in a quoted string (RFC 5322, 3.2.4). The sign that closes it, and a backslash that
+-- protects the next octet, are signs. All others stand for themselves, a backslash at the end of
+-- the value too.
 abbrev pub quoted_mark : (is_protected is_last : Bool) → ℕ → AddressMark
 quoted_mark is_protected is_last b =
     if is_protected then mark.Quoted else
     if b == octet_of "\"" || (b == octet_of "\\" && not is_last) then mark.QuoteSign else mark.Quoted
 
--- the mark of an octet by what is open before it
+-- the mark of an octet by the construct that is open before it
 abbrev pub mark_in : Inside → (is_protected in_angle is_last : Bool) → ℕ → AddressMark
 mark_in inside.Nothing is_protected in_angle is_last b = free_mark in_angle b
 mark_in inside.QuotedString is_protected in_angle is_last b = quoted_mark is_protected is_last b
 mark_in (inside.Comment depth) is_protected in_angle is_last b = mark.Comment
 mark_in inside.DomainLiteral is_protected in_angle is_last b = mark.Literal
 
--- the mark of the octet at a place
+-- the mark of an octet in a state
 abbrev pub mark_at : Surroundings → (is_last : Bool) → ℕ → AddressMark
 mark_at spot is_last b = mark_in spot.inside spot.is_protected spot.in_angle is_last b
 
--- what is open after an octet that stands outside of these
+-- the state after an octet, if nothing is open before it
 abbrev pub opened_by : ℕ → Inside
 opened_by b =
     if b == octet_of "\"" then inside.QuotedString else
     if b == octet_of "(" then inside.Comment 1 else
     if b == octet_of "[" then inside.DomainLiteral else inside.Nothing
 
--- what is open after an octet that stands in so many comments in one another (RFC 5322, section 3.2.2)
+-- the state after an octet of so many comments in one another (RFC 5322, 3.2.2)
 abbrev pub comment_after : (depth : ℕ) → ℕ → Inside
 comment_after depth b =
     if b == octet_of "(" then inside.Comment (depth + 1) else
     if b == octet_of ")" then (if nat_le depth 1 then inside.Nothing else inside.Comment (depth - 1)) else inside.Comment depth
 
--- what is open after an octet that isn't protected
+-- the state after an octet that isn't protected
 abbrev pub inside_after : Inside → ℕ → Inside
 inside_after inside.Nothing b = opened_by b
 inside_after inside.QuotedString b = if b == octet_of "\"" then inside.Nothing else inside.QuotedString
 inside_after (inside.Comment depth) b = comment_after depth b
 inside_after inside.DomainLiteral b = if b == octet_of "]" then inside.Nothing else inside.DomainLiteral
 
--- whether a backslash protects the next octet there: not outside of quoted strings, comments and literals (RFC 5322, section 3.2.1)
+-- Whether a backslash protects the next octet in a state. It does in quoted strings, comments and
+-- literals (RFC 5322, 3.2.1).
 abbrev pub is_protecting : Inside → Bool
 is_protecting inside.Nothing = false
 is_protecting other = true
 
--- whether an angle is open after an octet; one in a quoted string, a comment or a literal opens and closes none
+-- Whether an angle is open after an octet. An octet in a quoted string, a comment or a literal
+-- opens and closes none.
 abbrev pub angle_after : Inside → (in_angle : Bool) → ℕ → Bool
 angle_after inside.Nothing in_angle b = if b == octet_of "<" then true else if b == octet_of ">" then false else in_angle
 angle_after other in_angle b = in_angle
 
--- what is open after an octet; one that is protected opens and closes nothing
+-- the whole state after an octet; one that is protected opens and closes nothing
 abbrev pub surroundings_after : Surroundings → ℕ → Surroundings
 surroundings_after spot b = record {
   inside = if spot.is_protected then spot.inside else inside_after spot.inside b;
@@ -123,24 +129,25 @@ marks_of value = marks_from value_start value
 
 -- STEPS
 
--- neither in a quoted string, a comment or a literal, nor a sign of one, nor of an angle
+-- neither in a quoted string, a comment or a literal, nor a sign of one or of an angle
 abbrev pub is_mark_plain : AddressMark → Bool
 is_mark_plain mark.Plain = true
 is_mark_plain other = false
 
--- whether a marked octet is this one, outside of quoted strings, comments and literals, and no sign of these or of an angle
+-- Whether a marked octet is this one and free. A free octet is outside of quoted strings, comments
+-- and literals, and no sign of these or of an angle.
 abbrev pub is_free : ℕ → Marked → Bool
 is_free b m = is_mark_plain m.mark && m.octet == b
 
--- whether a marked octet is this one, outside of an angle too
+-- whether a marked octet is this one, free and outside of an angle too
 abbrev pub is_bare : ℕ → Marked → Bool
 is_bare b m = is_free b m && not m.in_angle
 
--- a comma or a semicolon ends an address, a semicolon also a group (RFC 5322, section 3.4)
+-- a comma or a semicolon ends an address, a semicolon also a group (RFC 5322, 3.4)
 abbrev pub separates : Marked → Bool
 separates m = is_bare (octet_of ",") m || is_bare (octet_of ";") m
 
--- a piece without the name of a group, which a colon ends (RFC 5322, section 3.4)
+-- a piece without the name of a group, which a colon ends (RFC 5322, 3.4)
 abbrev pub without_group : List Marked → List Marked
 without_group piece = after_last (is_bare (octet_of ":")) piece
 
@@ -164,21 +171,22 @@ abbrev pub is_quoted : AddressMark → Bool
 is_quoted mark.Quoted = true
 is_quoted other = false
 
--- white space outside of quoted strings (RFC 5322, section 3.2.2)
+-- white space outside of quoted strings (RFC 5322, 3.2.2)
 abbrev pub is_gap : Marked → Bool
 is_gap m = is_white m.octet && not (is_quoted m.mark)
 
--- the first octet after such white space is an `@`
+-- the first octet after such white space is a free `@`
 abbrev pub begins_route : List Marked → Bool
 begins_route [] = false
 begins_route (m ∷ ms) = if is_gap m then begins_route ms else is_free (octet_of "@") m
 
--- what stands in angle brackets, without a source route, which begins with `@` and ends with a colon (RFC 5322, section 4.4);
--- without the colon there is none
+-- The octets in angle brackets, without a source route. A route begins with `@` and ends with a
+-- colon, and without the colon there is none (RFC 5322, 4.4).
 abbrev pub without_route : List Marked → List Marked
 without_route inside = if begins_route inside && list_any (is_free (octet_of ":")) inside then after_first (is_free (octet_of ":")) inside else inside
 
--- where there is an angle, what stands in the first one (RFC 5322, section 3.4), without its source route
+-- the inside of the first angle, without its source route, or a piece without angles (RFC 5322,
+-- 3.4)
 abbrev pub in_first_angle : List Marked → List Marked
 in_first_angle piece =
     if list_any (λ m. opens_angle m.mark) piece
@@ -189,7 +197,8 @@ abbrev pub is_sign : AddressMark → Bool
 is_sign mark.QuoteSign = true
 is_sign other = false
 
--- neither white space outside of quoted strings nor a sign of one (RFC 5322, section 3.2.4: these are no part of its content)
+-- Neither white space outside of quoted strings nor a sign of one. These are no part of the content
+-- (RFC 5322, 3.2.4).
 abbrev pub stays : Marked → Bool
 stays m = not (is_gap m) && not (is_sign m.mark)
 
@@ -200,13 +209,15 @@ address_marks piece = filter stays (in_first_angle (without_comments (without_gr
 abbrev pub octets_of : List Marked → List ℕ
 octets_of marked = map (λ m. m.octet) marked
 
--- an address with a local part and a domain where both have octets, and else with neither (RFC 5322, section 3.4.1)
+-- an address with a local part and a domain if both have octets, else with neither (RFC 5322,
+-- 3.4.1)
 abbrev pub divided : (all local_part domain : List ℕ) → AddrSpec
 divided all [] domain = record { all = all; local_part = None; domain = None }
 divided all (b ∷ bs) [] = record { all = all; local_part = None; domain = None }
 divided all (b ∷ bs) (c ∷ cs) = record { all = all; local_part = Some (b ∷ bs); domain = Some (c ∷ cs) }
 
--- the address of such octets, if there are any: the last free `@` stands between local part and domain (RFC 5322, section 3.4.1)
+-- The address of such octets, if there are any. The last free `@` stands between local part and
+-- domain (RFC 5322, 3.4.1).
 abbrev pub address_by : List Marked → Option AddrSpec
 address_by [] = None
 address_by (m ∷ ms) = Some (divided (octets_of (m ∷ ms)) (octets_of (before_last (is_free (octet_of "@")) (m ∷ ms))) (octets_of (after_last (is_free (octet_of "@")) (m ∷ ms))))
@@ -220,40 +231,45 @@ addresses_of value = filter_map address_in (slice_split separates (marks_of valu
 
 -- AN ENVELOPE'S ADDRESS
 
--- no address, or the null path (RFC 5321, section 4.5.5)
+-- no address, or the null path (RFC 5321, 4.5.5)
 abbrev pub is_null_path : List ℕ → Bool
 is_null_path text = length text == 0 || pointwise nat_eq (codes "<>") text
 
--- a text that isn't one address is seen as a whole alone
+-- the one address of a text; a text that isn't one address is a whole without parts
 abbrev pub the_only : (text : List ℕ) → List AddrSpec → AddrSpec
 the_only text [] = record { all = text; local_part = None; domain = None }
 the_only text (one ∷ []) = one
 the_only text (one ∷ two ∷ more) = record { all = text; local_part = None; domain = None }
 
--- A part of the address of an envelope (RFC 5228, section 5.4): a null path is the empty string, whatever part is asked for.
+-- A part of the address of an envelope (RFC 5228, 5.4). Any part of a null path is the empty
+-- string.
 unfoldable pub part_of_path : AddressPart → List ℕ → Option (List ℕ)
 part_of_path part text = if is_null_path text then Some [] else part_of_address part (the_only text (addresses_of text))
 
 -- LAWS
 
--- the parts of an address are there both or not at all; joined by `@` they are the whole, and neither is empty
+-- The parts of an address are there both or not at all. Joined by `@` they are the whole, and
+-- neither is empty.
 abbrev pub PartsJoin : (all : List ℕ) → (local_part domain : Option (List ℕ)) → Type 0
 PartsJoin all None None = Unit {0}
 PartsJoin all None (Some domain) = ⊥
 PartsJoin all (Some local_part) None = ⊥
 PartsJoin all (Some local_part) (Some domain) = (all ≡ local_part ++ octet_of "@" ∷ domain) × ((0 < length local_part) × (0 < length domain))
 
--- an address of a value has octets, and its parts join to it; the null path of an envelope is none
+-- An address of a value has octets, and its parts join to it. The null path of an envelope is no
+-- such address.
 pub record IsAddrSpec (address : AddrSpec) : Type 0 where
   pub filled : 0 < length address.all
   pub parts : PartsJoin address.all address.local_part address.domain
 
--- a local part is its user, where it has no detail, and else user and detail with a separator between them; none stands in a user
+-- A local part without a detail is its user. With one, it is user and detail with a separator
+-- between them. No separator stands in a user.
 abbrev pub UserJoins : (local_part user : List ℕ) → (detail : Option (List ℕ)) → Type 0
 UserJoins local_part user None = (user ≡ local_part) × (list_any is_separator user ≡ false)
 UserJoins local_part user (Some detail) = (local_part ≡ user ++ octet_of "+" ∷ detail) × (list_any is_separator user ≡ false)
 
--- an address without a local part has neither user nor detail; one with a local part has a user, and they join to it
+-- An address without a local part has neither user nor detail. One with a local part has a user,
+-- and user and detail join to it.
 abbrev pub SubpartsJoin : (local_part user detail : Option (List ℕ)) → Type 0
 SubpartsJoin None None None = Unit {0}
 SubpartsJoin None None (Some detail) = ⊥

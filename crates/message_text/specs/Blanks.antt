@@ -1,9 +1,9 @@
--- Spaces and tabs round a text.
+-- Spaces and tabs around a text.
 use Rattle.std.specs.Prelude.{ℕ, ◌-◌, List, length, take, drop}
 use Rattle.std.specs.List.{prefix_len, suffix_len}
 use Rattle.octets.specs.Octet.{is_blank}
 
--- the text without the spaces and tabs at its front
+-- the text without the spaces and tabs at its start
 abbrev pub trim_start : List ℕ → List ℕ
 trim_start xs = drop (prefix_len is_blank xs) xs
 

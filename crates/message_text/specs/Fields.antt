@@ -1,4 +1,4 @@
--- The header fields of a message (RFC 5322, sections 2.1 and 2.2), by whole lines and groups of lines.
+-- The header fields of a message (RFC 5322, 2.1 and 2.2), by whole lines and groups of lines.
 use Rattle.std.specs.Prelude.{◌≡◌, ◌<◌, ◌≤◌, ℕ, Bool, true, false, ◌&&◌, ◌==◌, nat_lt, length, cond, List, [], ◌∷◌, ◌++◌, Some, map, filter}
 use Rattle.std.specs.List.{after_first, before_first, concat, list_all, list_any, slice_get, take_while}
 use Rattle.std.specs.Str.Lines.{lines}
@@ -18,18 +18,19 @@ pub record Group : Type 0 where
   pub first : List ℕ
   pub continuations : List (List ℕ)
 
--- the line begins with space or tab, so that it continues the line before (RFC 5322, section 2.2.3)
+-- the line begins with space or tab, so that it continues the line before (RFC 5322, 2.2.3)
 abbrev pub is_continuation : List ℕ → Bool
 is_continuation [] = false
 is_continuation (b ∷ bs) = is_blank b
 
--- A line is a piece of the message up to a line feed, without it and the carriage return directly before it; so is what
--- follows the last line feed, where a carriage return at its end is an octet like any other. The header section is the
+-- A line is the octets of the message up to a line feed. The line feed and a carriage return
+-- directly before it are no part of the line. The octets after the last line feed, if any, are a
+-- line too. A carriage return at its end is an octet like any other. The header section is the
 -- lines before the first empty one.
 abbrev pub header_lines : List ℕ → List (List ℕ)
 header_lines message = take_while is_filled (lines message)
 
--- the groups of lines (RFC 5322, section 2.2.3); continuations with nothing before them are in none
+-- the groups of lines (RFC 5322, 2.2.3); continuations with no line before them are in none
 abbrev pub groups_of : List (List ℕ) → List Group
 groups_of [] = []
 groups_of (line ∷ more) =
@@ -39,11 +40,12 @@ groups_of (line ∷ more) =
 abbrev pub is_colon : ℕ → Bool
 is_colon b = b == octet_of ":"
 
--- whether a text is a name: one or more octets, all of them visible; a colon ends a name (RFC 5322, section 2.2)
+-- Whether a text is a name: one or more octets, all of them visible. A colon ends a name (RFC 5322,
+-- 2.2).
 abbrev pub is_name : List ℕ → Bool
 is_name text = nat_lt 0 (length text) && list_all is_visible text
 
--- what stands before the first colon of a line, without spaces and tabs at its end
+-- the text before the first colon of a line, without spaces and tabs at its end
 abbrev pub name_in : List ℕ → List ℕ
 name_in line = trim_end (before_first is_colon line)
 
@@ -54,8 +56,9 @@ begins_field line = list_any is_colon line && is_name (name_in line)
 abbrev pub is_field : Group → Bool
 is_field group = begins_field group.first
 
--- The field of such a group. Its value is what follows the first colon, and the other lines as they are (RFC 5322, section
--- 2.2.3: unfolding takes the line ends away), without outer spaces and tabs (RFC 5228, section 5.7).
+-- The field of such a group. Its value is the text after the first colon, and the other lines as
+-- they are. Unfolding takes the line ends away (RFC 5322, 2.2.3). The value is without outer spaces
+-- and tabs (RFC 5228, 5.7).
 abbrev pub field_of : Group → Field
 field_of group = record {
   name = name_in group.first;
@@ -66,7 +69,7 @@ field_of group = record {
 unfoldable pub field_groups : List ℕ → List Group
 field_groups message = filter is_field (groups_of (header_lines message))
 
--- the fields of a message, in order (RFC 5322, section 2.2)
+-- the fields of a message, in order (RFC 5322, 2.2)
 unfoldable pub fields_of : List ℕ → List Field
 fields_of message = map field_of (field_groups message)
 
@@ -74,7 +77,7 @@ fields_of message = map field_of (field_groups message)
 abbrev pub names_of : List ℕ → List (List ℕ)
 names_of message = map (λ field. field.name) (fields_of message)
 
--- the values of the fields, in order (RFC 5322, section 2.2.3)
+-- the values of the fields, in order (RFC 5322, 2.2.3)
 abbrev pub values_of : List ℕ → List (List ℕ)
 values_of message = map (λ field. field.value) (fields_of message)
 
@@ -90,7 +93,7 @@ IsUnfolded message i = slice_get (map is_unfolded (field_groups message)) i ≡ 
 abbrev pub IsFolded : List ℕ → ℕ → Type 0
 IsFolded message i = slice_get (map is_unfolded (field_groups message)) i ≡ Some false
 
--- the values of the fields with their encoded words replaced, in order (RFC 2047)
+-- the values of the fields with their encoded words replaced, in order (RFC 2047, section 2)
 abbrev pub decoded_values_of : Profile → List ℕ → List (List ℕ)
 decoded_values_of profile message = map (decoded_of profile) (values_of message)
 
@@ -102,11 +105,11 @@ IsReplaced profile message i = slice_get (map (has_word profile) (values_of mess
 abbrev pub IsUnreplaced : Profile → List ℕ → ℕ → Type 0
 IsUnreplaced profile message i = slice_get (map (has_word profile) (values_of message)) i ≡ Some false
 
--- no word of a charset that is known is written in the value of field i
+-- no word of a known charset is written in the value of field i
 abbrev pub IsUnknown : Profile → List ℕ → ℕ → Type 0
 IsUnknown profile message i = slice_get (map (has_known profile) (values_of message)) i ≡ Some false
 
--- whether a field has that name; names of fields ignore the case of ASCII (RFC 5228, section 2.4.2.2)
+-- whether a field has that name; names of fields ignore the case of ASCII (RFC 5228, 2.4.2.2)
 abbrev pub is_field_named : List ℕ → Field → Bool
 is_field_named name field = same ascii_casemap field.name name
 

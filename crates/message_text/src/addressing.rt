@@ -1,4 +1,4 @@
-//! The addresses of a value.
+//! The addresses of a value, and their parts.
 ghost use Rattle.std.specs.Prelude.{◌≡◌, ◌<◌, ◌++◌, IfOk, OnOk, Some, length, option_to_list};
 ghost use Rattle.std.specs.Option.{option_map};
 ghost use Rattle.octets.specs.Octet.{octet_of};
@@ -11,18 +11,19 @@ use memchr::memchr;
 use std::alloc::{AllocError, Global};
 use std::marker::Model;
 
-/// Which part of an address a test sees (RFC 5228, section 2.7.4; RFC 5233, section 4).
+/// Which part of an address a test sees (RFC 5228, 2.7.4; RFC 5233, section 4).
 #[derive(Clone, Copy, Debug, PartialEq, Eq)]
 pub enum AddressPart {
     /// The whole address: `:all`.
     All,
-    /// What stands before the `@` that divides it: `:localpart`.
+    /// The octets before the `@` that divides it: `:localpart`.
     Local,
-    /// What stands after that `@`: `:domain`.
+    /// The octets after that `@`: `:domain`.
     Domain,
-    /// What stands before the first `+` of the local part, or all of it (RFC 5233, section 4): `:user`.
+    /// The octets before the first `+` of the local part, or all of it: `:user` (RFC 5233, section
+    /// 4).
     User,
-    /// What stands after that `+` (RFC 5233, section 4): `:detail`.
+    /// The octets after that `+`: `:detail` (RFC 5233, section 4).
     Detail,
 }
 
@@ -46,9 +47,10 @@ impl Model for Address {
 }
 
 impl Address {
-    /// The octets of a part, or nothing where the address has no such part. The whole is always
-    /// there; local part and domain are there both or not at all (RFC 5228, section 2.7.4). The user is there with the local
-    /// part, and the detail where a `+` stands in it; either may be empty (RFC 5233, section 4).
+    /// The octets of a part, or none if the address has no such part. The whole is always there.
+    /// Local part and domain are there both or not at all (RFC 5228, 2.7.4). The user is there with
+    /// the local part, and the detail if a `+` stands in it. Either may be empty (RFC 5233, section
+    /// 4).
     pub fn part(&self, part: AddressPart) -> Option<&[u8]>
         ensures { option_map (λ octets. octets.now) result ≡ part_of_address part self.now }
     {
@@ -79,16 +81,17 @@ fn detail_in(local: &[u8]) -> Option<&[u8]>
     Some(&local[separator + 1..])
 }
 
-/// The addresses of a value, in order (RFC 5322, sections 3.4 and 4.4).
+/// The addresses of a value, in order (RFC 5322, 3.4 and 4.4).
 ///
-/// Any octets are read. A comma or a semicolon ends an address; the name of a group goes, with its
-/// colon, and so do comments. Where there is an angle, the address is what stands in the first one,
-/// without a source route. White space outside of quoted strings goes, and so do quote signs and the
-/// backslashes that protect an octet of a quoted string. What isn't closed lasts to the end of the value.
-/// Where nothing is left, there is no address. The last `@` outside of quoted strings and literals
-/// stands between local part and domain, if there are octets on both sides.
+/// Any octets are read. A comma or a semicolon ends an address. The name of a group goes, with its
+/// colon, and so do comments. If there is an angle, the address is the text in the first one,
+/// without a source route. White space outside of quoted strings goes. So do quote signs, and the
+/// backslashes that protect an octet of a quoted string. A construct that isn't closed lasts to the
+/// end of the value. If no octet is left, there is no address. The last `@` outside of quoted
+/// strings and literals divides local part and domain, if octets stand on both sides.
 ///
-/// The reading takes memory for the marks of all octets and for the addresses, and fails only when out of it.
+/// The reading takes memory for the marks of all octets and for the addresses. It fails only if it
+/// is out of memory.
 pub fn addresses(alloc: Global, value: &[u8]) -> Result<Vec<Address>, AllocError>
     ensures { IfOk result (λ found. found.items ≡ addresses_of value.now) }
 {
@@ -136,7 +139,7 @@ fn dividing_at(marks: &[Marked]) -> Option<usize>
     Some(after - 1)
 }
 
-/// The place after the last free `@`, or 0 where there is none.
+/// The place after the last free `@`, or 0 if there is none.
 fn after_last_at(marks: &[Marked]) -> usize
     ensures { IsAfterLast (is_free (octet_of "@")) marks.now result }
 {

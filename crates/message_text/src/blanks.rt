@@ -1,10 +1,10 @@
-//! Spaces and tabs round a text.
+//! Spaces and tabs around a text.
 ghost use Rattle.std.specs.Prelude.{◌≡◌};
 ghost use Rattle.message_text.specs.Blanks.{trim, trim_end, trim_start};
 
 use octets::is_blank;
 
-/// The text without the spaces and tabs at its front.
+/// The text without the spaces and tabs at its start.
 pub(crate) fn trim_start(text: &[u8]) -> &[u8]
     ensures { result.now ≡ trim_start text.now }
 {

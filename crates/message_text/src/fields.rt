@@ -1,4 +1,4 @@
-//! Where the header fields of a message stand.
+//! The places of the header fields of a message (RFC 5322, 2.2).
 ghost use Rattle.std.specs.Prelude.{◌≡◌, ◌<◌, ◌++◌, [], IfNone, IfOk, IfSome, IsOk, OnOk, Some, false, true, length, map, option_to_list, slice_get, slice_range, drop};
 ghost use Rattle.std.specs.List.{All};
 ghost use Rattle.std.specs.Str.Lines.{lines};
@@ -14,7 +14,7 @@ use memchr::memchr;
 use octets::{is_blank, is_visible};
 use std::alloc::{AllocError, Global};
 
-/// Where a field stands among the octets of its message.
+/// The places of a field among the octets of its message.
 #[derive(Clone, Copy)]
 pub(crate) struct FieldSpan {
     /// Where its first line begins, with its name.
@@ -68,7 +68,7 @@ fn is_name(text: &[u8]) -> bool
     !text.is_empty() && text.iter().all(|octet| is_visible(*octet))
 }
 
-/// The name and the colon of a field's first line, or nothing where no field begins so.
+/// The name and the colon of a field's first line, or none if no field begins so.
 fn head_of(line: &[u8]) -> Option<FieldHead>
     ensures none { IfNone result (begins_field line.now ≡ false) }
     ensures some { IfSome result (λ head. IsHead line.now head.name_len head.colon) }
@@ -84,7 +84,7 @@ fn head_of(line: &[u8]) -> Option<FieldHead>
     })
 }
 
-/// The field whose first line stands at `start`, or nothing where none begins there.
+/// The field whose first line stands at `start`, or none if no field begins there.
 fn span_of(octets: &[u8], start: usize, line: LineSpan) -> Option<FieldSpan>
     requires { IsLineAt octets.now start line.end line.next }
     ensures groups { map (group_at octets.now) (option_to_list result)
@@ -107,7 +107,7 @@ fn span_of(octets: &[u8], start: usize, line: LineSpan) -> Option<FieldSpan>
     })
 }
 
-/// Adds the field whose first line stands at `start`, where one begins there.
+/// Adds the field whose first line stands at `start`, if a field begins there.
 fn push_span(
     spans: &mut Vec<FieldSpan>,
     octets: &[u8],
@@ -129,7 +129,7 @@ fn push_span(
     Ok(())
 }
 
-/// The fields of a message, in order. The body isn't read.
+/// The places of a message's fields, in order. The body isn't read.
 pub(crate) fn spans_of(alloc: Global, octets: &[u8]) -> Result<Vec<FieldSpan>, AllocError>
     ensures spans { IfOk result (λ spans. AreSpans octets.now spans.items) }
     ensures no_field { field_groups octets.now ≡ [] → IsOk result }
@@ -147,7 +147,7 @@ pub(crate) fn spans_of(alloc: Global, octets: &[u8]) -> Result<Vec<FieldSpan>, A
     Ok(spans)
 }
 
-/// The place of field `i`.
+/// The places of field `i`.
 pub(crate) fn span_in(octets: &[u8], spans: &[FieldSpan], i: usize) -> FieldSpan
     requires all { AreSpans octets.now spans.now }
     requires within { i < length (fields_of octets.now) }

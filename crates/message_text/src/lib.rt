@@ -1,7 +1,9 @@
-//! Messages, their header fields and the addresses of a field's value (RFC 5322).
+//! Messages, their header fields (RFC 5322, 2.2) and the addresses of a field's value (RFC 5322,
+//! 3.4).
 //!
-//! Every octet string up to [`MAX_MESSAGE`](sieve_limits::MAX_MESSAGE) is a [`Message`]. It keeps its octets once, with the places
-//! of its fields. [`addresses`] reads any octets as a list of addresses.
+//! Every octet string up to [`MAX_MESSAGE`](sieve_limits::MAX_MESSAGE) is a [`Message`]. It keeps
+//! its octets once, with the places of its fields. [`addresses`] reads any octets as a list of
+//! addresses.
 #![tactic(auto)]
 
 mod addressing;

@@ -33,8 +33,8 @@ pub(crate) fn line_at(text: &[u8], start: usize) -> LineSpan
     }
 }
 
-/// The first line of a text, without its line feed and a carriage return directly before that, and what follows the line; none where the
-/// text is empty. Takes no memory.
+/// The first line of a text, and the text after it. The line is without its line feed and a
+/// carriage return directly before that. None if the text is empty.
 pub fn next_line(text: &[u8]) -> Option<(&[u8], &[u8])>
     ensures lines { MatchOption result (text.now ≡ [])
         (λ cut. lines text.now ≡ cut.0.now ∷ lines cut.1.now) }

@@ -1,11 +1,12 @@
-//! The octets of a value, each marked with what it stands in (RFC 5322, sections 3.2 and 3.4).
+//! The octets of a value, each marked with the construct in which it stands (RFC 5322, 3.2 and
+//! 3.4).
 ghost use Rattle.std.specs.Prelude.{◌≡◌, ◌≤◌, ◌<◌, ◌+◌, ◌^◌, IfOk};
 ghost use Rattle.message_text.specs.Addresses as spec;
 ghost use Rattle.message_text.specs.view.Depths.{depth_of};
 
 use std::alloc::{AllocError, Global};
 
-/// What an octet of an address list is, or what it stands in.
+/// The role of an octet of an address list, or the construct in which it stands.
 #[derive(Clone, Copy)]
 pub(crate) enum AddressMark {
     /// An octet outside of quoted strings, comments and literals that stands for itself.
@@ -16,7 +17,7 @@ pub(crate) enum AddressMark {
     AngleClose,
     /// A quote sign, or a backslash that protects the next octet of a quoted string.
     QuoteSign,
-    /// An octet of a quoted string.
+    /// An octet of a quoted string that stands for itself.
     Quoted,
     /// An octet of a comment, its signs included.
     Comment,
@@ -24,25 +25,25 @@ pub(crate) enum AddressMark {
     Literal,
 }
 
-/// What is open at a place of a value.
+/// The state of the lexer at a place of a value: the construct that is open there.
 #[derive(Clone, Copy)]
 pub(crate) enum Inside {
     /// Neither a quoted string nor a comment nor a literal.
     Nothing,
     /// A quoted string.
     QuotedString,
-    /// Comments, each in the one before, by their number.
+    /// This number of comments, each in the one before.
     Comment(usize),
     /// A literal, as of a domain.
     DomainLiteral,
 }
 
-/// A place of a value.
+/// The whole state of the lexer before an octet of a value.
 #[derive(Clone, Copy)]
 pub(crate) struct Surroundings {
-    /// What is open there.
+    /// The construct that is open there.
     pub(crate) inside: Inside,
-    /// Whether a backslash before it protects its octet.
+    /// Whether a backslash protects that octet.
     pub(crate) is_protected: bool,
     /// Whether an angle is open there.
     pub(crate) in_angle: bool,
@@ -85,7 +86,7 @@ fn quoted_mark(is_protected: bool, is_last: bool, octet: u8) -> AddressMark
     }
 }
 
-/// The mark of the octet at a place.
+/// The mark of an octet in this state.
 fn mark_at(spot: Surroundings, is_last: bool, octet: u8) -> AddressMark
     ensures { result ≡ spec.mark_at spot is_last octet }
 {
@@ -97,7 +98,7 @@ fn mark_at(spot: Surroundings, is_last: bool, octet: u8) -> AddressMark
     }
 }
 
-/// What an octet opens where nothing is open.
+/// The state after an octet, if nothing is open before it.
 fn opened_by(octet: u8) -> Inside
     ensures { result ≡ spec.opened_by octet }
 {
@@ -109,7 +110,7 @@ fn opened_by(octet: u8) -> Inside
     }
 }
 
-/// What is open after an octet of so many comments in one another.
+/// The state after an octet of so many comments in one another.
 fn comment_after(depth: usize, octet: u8) -> Inside
     requires { depth + 1 < 2 ^ 64 }
     ensures { result ≡ spec.comment_after depth octet }
@@ -122,7 +123,7 @@ fn comment_after(depth: usize, octet: u8) -> Inside
     }
 }
 
-/// What is open after an octet that isn't protected.
+/// The state after an octet that isn't protected.
 fn inside_after(inside: Inside, octet: u8) -> Inside
     requires { depth_of inside + 1 < 2 ^ 64 }
     ensures { result ≡ spec.inside_after inside octet }
@@ -136,7 +137,7 @@ fn inside_after(inside: Inside, octet: u8) -> Inside
     }
 }
 
-/// Whether a backslash there protects the next octet.
+/// Whether a backslash in this state protects the next octet.
 fn is_protecting(inside: Inside) -> bool
     ensures { result ≡ spec.is_protecting inside }
 {
@@ -157,7 +158,7 @@ fn angle_after(inside: Inside, in_angle: bool, octet: u8) -> bool
     }
 }
 
-/// The place after an octet.
+/// The whole state after an octet.
 fn surroundings_after(spot: Surroundings, octet: u8) -> Surroundings
     requires { depth_of spot.inside + 1 < 2 ^ 64 }
     ensures spot { result ≡ spec.surroundings_after spot octet }

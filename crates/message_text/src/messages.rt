@@ -1,4 +1,4 @@
-//! A message and its header fields.
+//! A message and its header fields (RFC 5322, section 2).
 ghost use Rattle.std.specs.Prelude.{◌≡◌, ◌<◌, ◌≤◌, ◌↔◌, ◌^◌, ◌-◌, [], IfErr, IfOk, IsErrAnd, IfNone, IfSome, IsOk, IsOkAnd, Some, false, length, map, slice_get, ℕ};
 ghost use Rattle.std.specs.Cow.{IsBorrowedSlice, IsOwnedSlice, cow_slice_items};
 ghost use Rattle.sieve_limits.specs.Limits.{message_limit};
@@ -22,18 +22,18 @@ pub enum MessageFault {
     /// The message has more than [`MAX_MESSAGE`] octets.
     #[error("the message is too large")]
     TooLarge = 1,
-    /// There was no memory for the places of the message's fields.
+    /// Out of memory for the places of the message's fields.
     #[error("out of memory")]
     NoMemory = 2,
 }
 
-/// A message: any octets up to [`MAX_MESSAGE`] of them.
+/// A message: any octets, up to [`MAX_MESSAGE`] of them.
 ///
-/// Its header fields (RFC 5322, section 2.2) stand in the lines before the first empty one. A line
-/// ends by a line feed, and a carriage return directly before that belongs to the line end. A line
-/// that begins with space or tab continues the one before. A field's name is one or more octets of
-/// 33 to 126, up to the first colon of its first line, with spaces and tabs before the colon dropped.
-/// Other lines are skipped, with those that continue them.
+/// Its header fields stand in the lines before the first empty one (RFC 5322, 2.2). A line ends by
+/// a line feed, and a carriage return directly before that belongs to the line end. A line that
+/// begins with space or tab continues the one before. A field's name is the octets before the first
+/// colon of its first line. It has one or more octets, each of 33 to 126. Spaces and tabs before
+/// the colon are dropped. Other lines are skipped, with those that continue them.
 #[derive(Drop)]
 pub struct Message {
     octets: Vec<u8>,
@@ -54,7 +54,8 @@ impl Model for Message {
 impl Message {
     /// The message of these octets. A refusal gives them back.
     ///
-    /// The refusal is [`TooLarge`](MessageFault::TooLarge) exactly past [`MAX_MESSAGE`]. Octets without a field take no memory.
+    /// The refusal is [`TooLarge`](MessageFault::TooLarge) exactly past [`MAX_MESSAGE`]. Up to that
+    /// limit, octets without a field are never refused.
     pub fn new(alloc: Global, bytes: Vec<u8>) -> Result<Message, (MessageFault, Vec<u8>)>
         ensures ok { IfOk result (λ message. message ≡ bytes.items) }
         ensures too_large { IsErrAnd result (λ refused. refused.0 ≡ MessageFault.TooLarge)
@@ -107,8 +108,8 @@ impl Message {
         &octets[span.start..span.name_end]
     }
 
-    /// The place of the first field of that name at or after place `start`, or nothing where no further field has
-    /// it. Names ignore the case of ASCII (RFC 5228, section 2.4.2.2). Takes no memory.
+    /// The place of the first field of that name at or after `start`, or none if there is none.
+    /// Names ignore the case of ASCII (RFC 5228, 2.4.2.2).
     pub fn next_named(&self, name: &FieldName<'_>, start: usize) -> Option<usize>
         ensures some { IfSome result (spec.IsNextNamed (spec.fields_of self.now) name.now start) }
         ensures none { IfNone result ((k : ℕ) → start ≤ k → k < length (spec.fields_of self.now)
@@ -120,11 +121,11 @@ impl Message {
         next_named(self.octets.as_slice(), &self.fields, name, start)
     }
 
-    /// The value of field `i`: what follows the colon, the lines joined as they are, without outer
-    /// spaces and tabs.
+    /// The value of field `i`: the text after the colon, without outer spaces and tabs (RFC 5228,
+    /// 5.7). Its lines are joined as they are (RFC 5322, 2.2.3).
     ///
-    /// The value is borrowed from the message, and no memory is taken, where the field stands on one line; where lines
-    /// continue the field, it is a copy.
+    /// If the field stands on one line, this succeeds, and the value is borrowed from the message.
+    /// If lines continue the field, the value is a copy.
     pub fn value(&self, alloc: Global, i: usize) -> Result<CowSlice<'_, u8>, AllocError>
         requires { i < length (spec.fields_of self.now) }
         ensures octets { IfOk result (λ value. slice_get (spec.values_of self.now) i
@@ -137,14 +138,16 @@ impl Message {
         value_at(alloc, octets, span)
     }
 
-    /// The value of field `i` with its encoded words (RFC 2047) replaced by what they stand for, in UTF-8; the profile says which
-    /// charsets are known.
+    /// The value of field `i`, with its encoded words replaced by the UTF-8 that they stand for.
+    /// The profile says which charsets are known (RFC 2047, section 2).
     ///
-    /// A word is replaced wherever it stands in the unfolded and trimmed value, also inside another that can't be
-    /// decoded; spaces and tabs between two such words are dropped. The result isn't trimmed again.
+    /// A word is replaced wherever it stands in the unfolded and trimmed value, also inside another
+    /// that can't be decoded. Spaces and tabs between two such words are dropped (RFC 2047, 6.2).
+    /// The result isn't trimmed again.
     ///
-    /// The result is borrowed from the message where the field stands on one line and no word was replaced, and else a copy.
-    /// No memory is taken where the field stands on one line in which no word of a charset that is known is written.
+    /// If the field stands on one line and no word was replaced, the result is borrowed from the
+    /// message. Otherwise it is a copy. If the field stands on one line, and no word of a known
+    /// charset is written in it, this succeeds.
     pub fn decoded(
         &self,
         alloc: Global,

@@ -1,4 +1,4 @@
-//! Fields by their names, which ignore the case of ASCII (RFC 5228, section 2.4.2.2).
+//! Fields by their names, which ignore the case of ASCII (RFC 5228, 2.4.2.2).
 ghost use Rattle.std.specs.Prelude.{◌≡◌, ◌^◌, ◌-◌, ◌≤◌, ◌<◌, ℕ, IfNone, IfSome, length, map, slice_get, Some, false};
 ghost use Rattle.message_text.specs.Fields.{IsNextNamed, field_of, fields_of, is_field_named};
 ghost use Rattle.message_text.specs.view.NameHash.{name_hash};
@@ -8,7 +8,8 @@ use crate::fields::{FieldSpan, span_in};
 use match_text::{AsciiCasemap, Comparator, is};
 use std::marker::Model;
 
-/// The hash of a name of fields, the same for names that differ in the case of ASCII alone. Takes no memory.
+/// The hash of a name of fields. Names that differ in the case of ASCII alone have one hash (RFC
+/// 5228, 2.4.2.2).
 pub fn name_hash(name: &[u8]) -> u32
     ensures { result ≡ name_hash name.now }
 {
@@ -21,9 +22,9 @@ pub fn name_hash(name: &[u8]) -> u32
     hash
 }
 
-/// A name of fields to look for. It is any octets, of which those that can't name a field name none.
+/// A name of fields to look for. It is any octets. Those that can't name a field find none.
 ///
-/// A name is prepared once, and then tells most other names apart without their octets.
+/// A name is prepared once. Its hash then rules out most other names without their octets.
 #[derive(Clone, Drop)]
 pub struct FieldName<'a> {
     octets: &'a [u8],
@@ -42,7 +43,7 @@ impl<'a> Model for FieldName<'a> {
 }
 
 impl<'a> FieldName<'a> {
-    /// The name of these octets. Takes no memory.
+    /// The name of these octets.
     pub fn new(octets: &'a [u8]) -> FieldName<'a>
         ensures { result ≡ octets.now }
     {
@@ -52,7 +53,7 @@ impl<'a> FieldName<'a> {
         }
     }
 
-    /// The name of these octets, whose hash is known already, as `name_hash` gives it. Takes no memory.
+    /// The name of these octets, whose hash is known already, as `name_hash` gives it.
     pub fn with_hash(octets: &'a [u8], hash: u32) -> FieldName<'a>
         requires { hash ≡ name_hash octets.now }
         ensures { result ≡ octets.now }
@@ -68,7 +69,7 @@ impl<'a> FieldName<'a> {
     }
 }
 
-/// Whether the field has that name. Where the hashes or the lengths differ, so do the names.
+/// Whether the field has that name. If the hashes or the lengths differ, so do the names.
 pub(crate) fn is_named(octets: &[u8], span: FieldSpan, name: &FieldName<'_>) -> bool
     requires { IsSpan octets.now span }
     ensures { result ≡ is_field_named name.now (field_of (group_at octets.now span)) }

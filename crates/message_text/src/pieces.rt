@@ -1,4 +1,4 @@
-//! The pieces of a marked value, and what of a piece is its address (RFC 5322, sections 3.4 and 4.4).
+//! The pieces of a marked value, and the address in a piece (RFC 5322, 3.4 and 4.4).
 ghost use Rattle.std.specs.Prelude.{◌≡◌, IfOk};
 ghost use Rattle.std.specs.List.{before_first};
 ghost use Rattle.message_text.specs.Addresses as spec;
@@ -7,14 +7,15 @@ use crate::marks::{AddressMark, Marked};
 use octets::is_white;
 use std::alloc::{AllocError, Global};
 
-/// Whether a marked octet is this one, outside of quoted strings, comments and literals, and no sign of an angle.
+/// Whether a marked octet is this one and free. A free octet is outside of quoted strings, comments
+/// and literals, and no sign of an angle.
 pub(crate) fn is_free(octet: u8, marked: Marked) -> bool
     ensures { result ≡ spec.is_free octet marked }
 {
     matches!(marked.mark, AddressMark::Plain) && marked.octet == octet
 }
 
-/// Whether a marked octet is this one, outside of angles too.
+/// Whether a marked octet is this one, free and outside of angles too.
 fn is_bare(octet: u8, marked: Marked) -> bool
     ensures { result ≡ spec.is_bare octet marked }
 {
@@ -56,7 +57,7 @@ fn is_gap(marked: Marked) -> bool
     is_white(marked.octet) && !matches!(marked.mark, AddressMark::Quoted)
 }
 
-/// Whether the first octet after white space is an `@`.
+/// Whether the first octet after white space is a free `@`.
 fn begins_route(inside: &[Marked]) -> bool
     ensures { result ≡ spec.begins_route inside.now }
 {
@@ -68,7 +69,7 @@ fn begins_route(inside: &[Marked]) -> bool
     false
 }
 
-/// The inside of an angle without its source route, which ends with the first colon.
+/// The inside of an angle without its source route, which ends with the first free colon.
 fn without_route(inside: &[Marked]) -> &[Marked]
     ensures { result.now ≡ spec.without_route inside.now }
 {
@@ -81,7 +82,7 @@ fn without_route(inside: &[Marked]) -> &[Marked]
     }
 }
 
-/// The inside of the first angle, or the piece where it has none.
+/// The inside of the first angle without its source route, or the piece if it has no angle.
 fn in_first_angle(piece: &[Marked]) -> &[Marked]
     ensures { result.now ≡ spec.in_first_angle piece.now }
 {
@@ -92,7 +93,7 @@ fn in_first_angle(piece: &[Marked]) -> &[Marked]
     without_route(up_to_close(&piece[open + 1..]))
 }
 
-/// What stands before the first sign that closes an angle.
+/// The octets before the first sign that closes an angle, or all if there is none.
 fn up_to_close(inside: &[Marked]) -> &[Marked]
     ensures { result.now ≡ before_first (λ m. spec.closes_angle m.mark) inside.now }
 {

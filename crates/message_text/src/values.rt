@@ -1,4 +1,4 @@
-//! The value of a field on one line.
+//! The value of a field, unfolded to one line (RFC 5322, 2.2.3).
 ghost use Rattle.std.specs.Prelude.{◌≡◌, ◌≢◌, ◌≤◌, ◌++◌, IfNone, IfOk, IfSome, IsOkAnd, OnOk, [], true, drop, length, slice_range};
 ghost use Rattle.std.specs.Cow.{IsBorrowedSlice, IsOwnedSlice, cow_slice_items};
 ghost use Rattle.std.specs.List.{concat, take_while};
@@ -28,7 +28,7 @@ pub(crate) fn continuation_at(octets: &[u8], start: usize) -> Option<LineSpan>
     Some(line_at(octets, start))
 }
 
-/// The value of a field. It is borrowed exactly where the field stands on one line.
+/// The value of a field. It is borrowed exactly if the field stands on one line.
 pub(crate) fn value_at(
     alloc: Global,
     octets: &[u8],
@@ -72,7 +72,8 @@ pub(crate) fn unfolded(
     Ok(value)
 }
 
-/// Adds a line to a value, whose front stays without spaces and tabs.
+/// Adds a line to a value. If the value is empty, spaces and tabs at the start of the line are
+/// dropped.
 fn push_trimmed(value: &mut Vec<u8>, line: &[u8]) -> Result<(), AllocError>
     requires { trim_start value.old.items ≡ value.old.items }
     ensures { OnOk result (value.new.items ≡ trim_start (value.old.items ++ line.now)) }

@@ -8,3 +8,4 @@ pub mod Digits
 pub mod EndedLines
 pub mod Marked
 pub mod Quoting
+pub mod Encodings

@@ -1,4 +1,4 @@
--- What quoted-printable stands for, piece by piece.
+-- The octets that quoted-printable stands for, piece by piece.
 use Rattle.std.proofs.Common.{◌≡◌, ℕ, suc, ◌+◌, ◌-◌, ◌<◌, ◌≤◌, Bool, true, false, ◌==◌, nat_lt, ◌&&◌, cond, List, [], ◌∷◌, ◌++◌, length, take, drop, get_or, slice_index, None, Some, is_some, option_to_list, refl, sym, ap, ◌∙◌, arith}
 use Rattle.std.specs.List.{prefix_len}
 use Rattle.std.proofs.lemmas.Bool.Decides.{nat_tests}
@@ -21,7 +21,7 @@ sequence_first : (c : ℕ) (rest : List ℕ) (s : QuotedSequence) → sequence_a
 unfolding octets_of_pieces
 sequence_first c rest s found = ap octets_of_pieces (pieces-sequence sequence_at further c rest s found)
 
--- what isn't an `=` stands for itself
+-- an octet that isn't an `=` stands for itself
 pub plain_first : (c : ℕ) (rest : List ℕ) → (c == octet_of "=") ≡ false → octets_of_pieces (pieces_of (c ∷ rest)) ≡ c ∷ octets_of_pieces (pieces_of rest)
 unfolding sequence_at
 plain_first c rest other = octet_first c rest (ap (λ b. cond b (after_sign rest) None) other)
@@ -36,7 +36,7 @@ escape_there (high ∷ []) b long hex = absurd (omega (arith, long))
 escape_there (high ∷ low ∷ rest) b long hex = ap (λ found. cond (is_some found) (Some (escape high low)) None) hex
 
 module _ (c : ℕ) (rest : List ℕ) (is : c ≡ octet_of "=") where
-  -- an `=` before the end of a line goes with it
+  -- an `=` before a line end goes with it
   pub soft_first : 0 < end_len rest → end_len rest ≤ length rest → octets_of_pieces (pieces_of (c ∷ rest)) ≡ octets_of_pieces (pieces_of (drop (end_len rest) rest))
   soft_first some within =
       let yes : nat_lt 0 (end_len rest) ≡ true = grind (arith, nat_tests, some) in
@@ -56,7 +56,7 @@ module _ (c : ℕ) (rest : List ℕ) (is : c ≡ octet_of "=") where
 
 -- BLANKS
 
--- what stays of the blanks in front
+-- the blanks at the start that stay
 abbrev pub stretch : List ℕ → List ℕ
 stretch text = cond (leads_to_end text) [] (take (prefix_len is_blank text) text)
 
@@ -100,7 +100,7 @@ other_first c rest b is other =
     let empty : stretch (c ∷ rest) ≡ [] = ap (λ n. cond (leads_to_end (c ∷ rest)) [] (take n (c ∷ rest))) none ∙ cond-same (leads_to_end (c ∷ rest)) [] in
     sym (ap (λ x. x ++ without_padding (drop (prefix_len is_blank (c ∷ rest)) (c ∷ rest))) empty ∙ ap (λ n. without_padding (drop n (c ∷ rest))) none)
 
--- blanks in front go where an end follows them, and else stay
+-- blanks at the start go where a line end or the end of the text follows them, and else stay
 pub blanks_front : (text : List ℕ) → without_padding text ≡ stretch text ++ without_padding (drop (prefix_len is_blank text) text)
 unfolding without_padding
 blanks_front [] = refl
@@ -114,7 +114,7 @@ pub octet_front : (c : ℕ) (rest : List ℕ) → is_blank c ≡ false → witho
 unfolding without_padding
 octet_front c rest other = ap (λ b. cond (b && leads_to_end rest) (without_padding rest) (c ∷ without_padding rest)) other
 
--- where no blank stands in front, the first octet stays
+-- where no blank stands at the start, the first octet stays
 pub first_stays : (text : List ℕ) → 0 < length text → prefix_len is_blank text ≡ 0 → without_padding text ≡ get_or text 0 0 ∷ without_padding (take (length text - 1) (drop 1 text))
 first_stays [] some none = absurd (omega (arith, some))
 first_stays (c ∷ rest) some none = by_test (is_blank c) refl

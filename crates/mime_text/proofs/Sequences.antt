@@ -1,4 +1,4 @@
--- The sequence with which a text in quoted-printable begins is found exactly where it is one as it is written.
+-- A text in quoted-printable is found to begin with a sequence exactly where one is written there.
 use Rattle.std.proofs.Common.{◌≡◌, ℕ, suc, Bool, true, false, ◌&&◌, ◌||◌, ◌==◌, nat_eq, nat_lt, cond, List, [], ◌∷◌, ◌++◌, length, take, drop, codes, None, Some, is_some, inl, inr, refl, sym, ap, ◌∙◌}
 use Rattle.std.specs.List.{starts_with}
 use Rattle.std.proofs.lemmas.Bool.{eqb-true, or_cases}
@@ -24,7 +24,7 @@ end_there rest false false feed both some = absurd cc
 is_end : (rest : List ℕ) → nat_lt 0 (end_len rest) ≡ true → is_line_end (take (end_len rest) rest) ≡ true
 is_end rest some = end_there rest (starts_with nat_eq rest (codes "\n")) (starts_with nat_eq rest (codes "\r\n")) refl refl some
 
--- WHAT IS FOUND
+-- FOUND SEQUENCES
 
 escape_legal : (rest : List ℕ) (s : QuotedSequence) → escape_at rest ≡ Some s → is_legal s ≡ true
 escape_legal [] s found = absurd cc
@@ -72,7 +72,7 @@ is (c ∷ rest) s found = by_test (c == octet_of "=") refl found
     by_test true same found = let there = after_is rest s (nat_lt 0 (end_len rest)) found in (there.0, ap (λ b. b ∷ rest) (eqb-true c (octet_of "=") same) ∙ there.1)
     by_test false same found = absurd cc
 
--- WHAT IS WRITTEN
+-- WRITTEN SEQUENCES
 
 no_end : (h l : ℕ) (rest : List ℕ) (x y z : Bool) → nat_eq (octet_of "\n") h ≡ x → nat_eq (octet_of "\r") h ≡ y → nat_eq (octet_of "\n") l ≡ z → is_some (hex_octet h l) ≡ true → (let n : ℕ = cond (x && true) 1 (cond (y && (z && true)) 2 0) in n) ≡ 0
 no_end h l rest true y z feed return second hex =

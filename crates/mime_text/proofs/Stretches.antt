@@ -25,7 +25,7 @@ joined_lines (c ∷ rest) = by_test (c == octet_of "\n") ∙ ap (λ (x : List �
     by_test true = refl
     by_test false = onto_joined c (ended_lines rest)
 
--- what stands before a rest
+-- the text before a rest
 pub front_is : (front rest text : List ℕ) → front ++ rest ≡ text → take (length text - length rest) text ≡ front
 front_is front rest text is =
     ap (λ (t : List ℕ). take (length t - length rest) t) (sym is)
@@ -121,7 +121,7 @@ module _ (boundary delimiter closing : List ℕ) (made : IsBoundary boundary del
             ap epilogue_of ending ∙ ap Some (joined_lines after),
           )
 
--- at the end of a text all is one stretch
+-- at the end of a text, all of it is one stretch
 cut_of_nothing : (boundary : List ℕ) → content_cut boundary [] ≡ nothing_cut
 unfolding cut_of ended_lines
 cut_of_nothing boundary = refl

@@ -1,9 +1,9 @@
--- What base64 stands for (RFC 2045, section 6.8).
+-- The octets that base64 stands for (RFC 2045, 6.8).
 use Rattle.std.specs.Prelude.{ℕ, ◌+◌, ◌-◌, ◌*◌, ◌/◌, ◌%◌, ◌==◌, not, Bool, List, [], ◌∷◌, Option, None, Some, if◌then◌else◌}
 use Rattle.std.specs.List.{filter_map, take_while}
 use Rattle.octets.specs.Octet.{is_between, is_digit, octet_of}
 
--- the number of a digit of the alphabet, or nothing where an octet is none
+-- the number of a digit of the alphabet; none for another octet
 abbrev pub digit_value : ℕ → Option ℕ
 digit_value octet =
     if is_between (octet_of "A") (octet_of "Z") octet then Some (octet - octet_of "A")

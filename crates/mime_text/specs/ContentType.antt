@@ -1,4 +1,4 @@
--- The type of a content and its parameters (RFC 2045, section 5.1).
+-- The type of a content and its parameters (RFC 2045, 5.1).
 use Rattle.std.specs.Prelude.{ℕ, ◌-◌, ◌==◌, Bool, true, false, not, ◌&&◌, List, [], ◌∷◌, length, take, drop, slice_index_or, map, Option, Some, None, codes, if◌then◌else◌}
 use Rattle.std.specs.List.{after_first, before_first, list_all, list_any, prefix_len, slice_split, suffix_len}
 use Rattle.std.specs.Option.{option_and_then, option_map}
@@ -10,15 +10,15 @@ use Rattle.mime_text.specs.declared.marks.ValueMark.TheVariants.{Plain, Quote, Q
 
 -- TOKENS
 
--- an octet that has a meaning of its own
+-- an octet that has a meaning of its own, so that no token has it
 abbrev pub is_special : ℕ → Bool
 is_special octet = list_any (λ special. octet == special) (codes "()<>@,;:\\\"/[]?=")
 
--- an octet of a token: a visible one of ASCII that has none
+-- an octet of a token: a visible one of ASCII that isn't special
 abbrev pub is_token_octet : ℕ → Bool
 is_token_octet octet = is_visible octet && not (is_special octet)
 
--- one that stands outside of quoted strings
+-- a token's octet outside of quoted strings
 abbrev pub is_token_mark : ValueMark → Bool
 is_token_mark (Plain octet) = is_token_octet octet
 is_token_mark Quote = false
@@ -35,13 +35,13 @@ is_gap (Plain octet) = is_white octet
 is_gap Quote = false
 is_gap (Quoted octet) = false
 
--- the octet of a mark, which a quote stands for too
+-- the octet of a mark; that of a quote is `"`
 abbrev pub octet_at : ValueMark → ℕ
 octet_at (Plain octet) = octet
 octet_at Quote = octet_of "\""
 octet_at (Quoted octet) = octet
 
--- marks without outer white space
+-- marks without the white space at the start, at the end, or at both
 abbrev pub trim_front : List ValueMark → List ValueMark
 trim_front marks = drop (prefix_len is_gap marks) marks
 
@@ -51,14 +51,14 @@ trim_back marks = take (length marks - suffix_len is_gap marks) marks
 abbrev pub trimmed : List ValueMark → List ValueMark
 trimmed marks = trim_back (trim_front marks)
 
--- a token: one or more such octets
+-- a token: one or more marks of such octets
 abbrev pub is_token : List ValueMark → Bool
 is_token marks = if length marks == 0 then false else list_all is_token_mark marks
 
 abbrev pub token_of : List ValueMark → Option (List ℕ)
 token_of marks = if is_token marks then Some (map octet_at marks) else None
 
--- a token with white space and comments round it
+-- a token without the white space and comments around it
 abbrev pub token_in : List ValueMark → Option (List ℕ)
 token_in marks = token_of (trimmed marks)
 
@@ -74,14 +74,15 @@ is_quoted (Plain octet) = false
 is_quoted Quote = false
 is_quoted (Quoted octet) = true
 
--- the octets before the quote that ends a quoted string, where it stands at the end alone
+-- The octets before a closing quote. The last mark is a quote, and all others are octets
+-- of a quoted string.
 abbrev pub before_quote : List ValueMark → Option (List ℕ)
 before_quote marks =
     if is_quote (slice_index_or marks (length marks - 1) (Plain 0)) && list_all is_quoted (take (length marks - 1) marks)
     then Some (map octet_at (take (length marks - 1) marks))
     else None
 
--- the value of a parameter: a token, or what stands in a quoted string
+-- the value of a parameter: a token, or the octets of a quoted string
 abbrev pub value_of : List ValueMark → Option (List ℕ)
 value_of [] = None
 value_of (Quote ∷ ms) = before_quote ms
@@ -90,7 +91,7 @@ value_of (Quoted octet ∷ ms) = None
 
 -- TYPES
 
--- both, if they are there
+-- a pair of values, if both are there
 abbrev pub both : (first second : Option (List ℕ)) → Option (List ℕ × List ℕ)
 both first second = option_and_then (λ x. option_map (λ y. (x, y)) second) first
 
@@ -122,7 +123,7 @@ parameters_of (piece ∷ more) = with_parameter (parameter_in piece) (parameters
 abbrev pub without_blank_end : List (List ValueMark) → List (List ValueMark)
 without_blank_end pieces = if list_all is_gap (slice_index_or pieces (length pieces - 1) []) then take (length pieces - 1) pieces else pieces
 
--- the parameters of pieces, if they are such
+-- the parameters that pieces are; the last piece may be white space alone
 abbrev pub parameters_in : List (List ValueMark) → Option Parameters
 parameters_in pieces = parameters_of (without_blank_end pieces)
 
@@ -138,7 +139,7 @@ pub record ContentType : Type 0 where
   pub boundary : Option (List ℕ)
   pub charset : Option (List ℕ)
 
--- those of its parameters that are looked at
+-- the values of the parameters that are looked at
 pub record NamedParameters : Type 0 where
   pub boundary : Option (List ℕ)
   pub charset : Option (List ℕ)
@@ -159,11 +160,11 @@ abbrev pub content_type_of : List (List ValueMark) → Option ContentType
 content_type_of [] = None
 content_type_of (piece ∷ more) = with_type (type_in piece) (named_in more)
 
--- the type that a value says, or nothing where it doesn't say one; a `;` stands before each parameter
+-- The type that a value says, or none where it doesn't say one. A `;` stands before each parameter.
 abbrev pub content_type_in : List ℕ → Option ContentType
 content_type_in value = option_and_then (λ marks. content_type_of (slice_split (is_sign (octet_of ";")) marks)) (marks_of value)
 
--- whether it is this type, or a type with this main one, in any case of letters
+-- whether a type has this main type, or also this subtype, in any case of letters
 abbrev pub is_main : (name : List ℕ) → ContentType → Bool
 is_main name type = str_eq_ignore_ascii_case name type.main
 

@@ -1,4 +1,5 @@
--- A structured value with its comments and quoted strings told apart (RFC 2045, section 5.1; RFC 5322, sections 3.2.1 to 3.2.4).
+-- A structured value with its comments and quoted strings told apart (RFC 2045, 5.1;
+-- RFC 5322, 3.2.1 to 3.2.4).
 use Rattle.std.specs.Prelude.{ℕ, ◌+◌, ◌-◌, ◌==◌, Bool, true, false, List, [], ◌∷◌, ◌++◌, Option, Some, None, if◌then◌else◌}
 use Rattle.octets.specs.Octet.{octet_of}
 use Rattle.mime_text.specs.declared.marks.ValueMark.{ValueMark}
@@ -6,8 +7,8 @@ use Rattle.mime_text.specs.declared.marks.ValueMark.TheVariants.{Plain, Quote, Q
 use Rattle.mime_text.specs.declared.marks.ValueSpot.{ValueSpot}
 use Rattle.mime_text.specs.declared.marks.ValueSpot.TheVariants.{Outside, InString, EscapedInString, InComment, EscapedInComment}
 
--- An octet stands outside, in a quoted string, in a comment with so many others round it, or after a `\` in a string or a comment, where
--- any octet may stand. Where the next octet stands: comments nest, and a `\` protects the octet after it.
+-- The state after an octet. Comments nest: the state in a comment has the number of other comments
+-- around it. A `\` in a quoted string or a comment protects the octet after it, which may be any.
 abbrev pub after_octet : ValueSpot → ℕ → ValueSpot
 after_octet Outside c = if c == octet_of "\"" then InString else if c == octet_of "(" then InComment 0 else Outside
 after_octet InString c = if c == octet_of "\"" then Outside else if c == octet_of "\\" then EscapedInString else InString
@@ -19,7 +20,8 @@ after_octet (InComment others) c =
     else InComment others
 after_octet (EscapedInComment others) c = InComment others
 
--- what stays of an octet: of a comment a space, and of a quoted string its quotes and what it stands for
+-- The marks of an octet. A comment leaves a space. A quoted string leaves its quotes and the octets
+-- that it stands for.
 abbrev pub marks_at : ValueSpot → ℕ → List ValueMark
 marks_at Outside c = (if c == octet_of "\"" then Quote else Plain (if c == octet_of "(" then octet_of " " else c)) ∷ []
 marks_at InString c = if c == octet_of "\"" then Quote ∷ [] else if c == octet_of "\\" then [] else Quoted c ∷ []
@@ -27,7 +29,7 @@ marks_at EscapedInString c = Quoted c ∷ []
 marks_at (InComment others) c = []
 marks_at (EscapedInComment others) c = []
 
--- what stays of a text from such a spot on
+-- the marks of a text that begins in this state
 unfoldable pub marks_from : ValueSpot → List ℕ → List ValueMark
 marks_from spot [] = []
 marks_from spot (c ∷ rest) = marks_at spot c ++ marks_from (after_octet spot c) rest
@@ -36,11 +38,11 @@ abbrev pub is_outside : ValueSpot → Bool
 is_outside Outside = true
 is_outside other = false
 
--- whether each comment and each quoted string of a text is closed
+-- whether each comment and each quoted string of a text that begins in this state is closed
 unfoldable pub is_closed : ValueSpot → List ℕ → Bool
 is_closed spot [] = is_outside spot
 is_closed spot (c ∷ rest) = is_closed (after_octet spot c) rest
 
--- the marks of a text, or nothing where something isn't closed
+-- the marks of a text, or none where a comment or a quoted string isn't closed
 abbrev pub marks_of : List ℕ → Option (List ValueMark)
 marks_of text = if is_closed Outside text then Some (marks_from Outside text) else None

@@ -1,4 +1,4 @@
--- A multipart's content, cut by its delimiters into prologue, parts and epilogue (RFC 2046, section 5.1.1).
+-- A multipart's content, cut by its delimiters into prologue, parts and epilogue (RFC 2046, 5.1.1).
 use Rattle.std.specs.Prelude.{◌≡◌, ℕ, nat_eq, Bool, true, false, not, ◌&&◌, ◌||◌, List, [], ◌∷◌, ◌++◌, length, drop, Option, Some, None, codes, if◌then◌else◌}
 use Rattle.std.specs.List.{All, concat, list_all, starts_with}
 use Rattle.octets.specs.Octet.{is_blank}
@@ -7,7 +7,7 @@ use Rattle.mime_text.specs.Lines.{ended_lines, without_end}
 abbrev pub BodyLine : Type 0
 BodyLine = List ℕ
 
--- whether a line, its end aside, is a text and then spaces and tabs
+-- whether a line without its end is the text, then only spaces and tabs
 abbrev pub is_padded : (text : List ℕ) → BodyLine → Bool
 is_padded text line = starts_with nat_eq (without_end line) text && list_all is_blank (drop (length text) (without_end line))
 
@@ -15,11 +15,11 @@ is_padded text line = starts_with nat_eq (without_end line) text && list_all is_
 abbrev pub is_delimiter : (boundary : List ℕ) → BodyLine → Bool
 is_delimiter boundary line = is_padded (codes "--" ++ boundary) line
 
--- a line `--` boundary `--`, which ends the last part; where no part was there, it ends the prologue
+-- a line `--` boundary `--`, which ends the last part, or the prologue where no part came
 abbrev pub is_closing : (boundary : List ℕ) → BodyLine → Bool
 is_closing boundary line = is_padded (codes "--" ++ boundary ++ codes "--") line
 
--- neither
+-- any other line
 abbrev pub is_inner : (boundary : List ℕ) → BodyLine → Bool
 is_inner boundary line = not (is_delimiter boundary line || is_closing boundary line)
 
@@ -28,7 +28,7 @@ pub record BodyPart : Type 0 where
   pub delimiter : BodyLine
   pub lines : List BodyLine
 
--- how what comes last ends: by the end of the text, or by a closing line, and then lines follow
+-- the ending of a content: the end of the text, or a closing line and the lines after it
 pub data MultipartEnding : Type 0 where
   open_end : MultipartEnding
   closed_by : (closing : BodyLine) → (epilogue : List BodyLine) → MultipartEnding
@@ -64,8 +64,9 @@ abbrev pub IsEnding : (boundary : List ℕ) → MultipartEnding → Type 0
 IsEnding boundary open_end = Unit {0}
 IsEnding boundary (closed_by closing epilogue) = (is_delimiter boundary closing ≡ false) × (is_closing boundary closing ≡ true)
 
--- Lines are cut by a boundary: joined, the pieces are these lines, and no line of the prologue, or of a part after its delimiter, is a
--- delimiter or a closing one. After a closing line each line is of the epilogue.
+-- A cut of lines by a boundary. Joined, its pieces are these lines. No line of the prologue, and
+-- none of a part after its delimiter, is a delimiter or a closing one. After a closing line each
+-- line is of the epilogue.
 pub record IsCut (boundary : List ℕ) (lines : List BodyLine) (cut : Cut) : Type 0 where
   pub joined : lines_of cut ≡ lines
   pub prologue : AreInner boundary cut.prologue
@@ -77,7 +78,7 @@ pub record IsCut (boundary : List ℕ) (lines : List BodyLine) (cut : Cut) : Typ
 abbrev pub nothing_cut : Cut
 nothing_cut = record { prologue = []; parts = []; ending = open_end }
 
--- a line before the cut of those after it
+-- the cut of a line and those after it, by the cut of the latter
 abbrev pub with_line : (boundary : List ℕ) → BodyLine → (rest : List BodyLine) → Cut → Cut
 with_line boundary line rest cut =
     if is_delimiter boundary line then record { prologue = []; parts = record { delimiter = line; lines = cut.prologue } ∷ cut.parts; ending = cut.ending }
@@ -90,7 +91,8 @@ cut_of boundary (line ∷ rest) = with_line boundary line rest (cut_of boundary 
 
 -- ITS TEXTS
 
--- what stands before a delimiter or a closing line is without its last line's end, which belongs to that line
+-- The text of lines. Before a delimiter or a closing line it lacks its last line end: that belongs
+-- to the line after it.
 abbrev pub text_of : (is_stopped : Bool) → List BodyLine → List ℕ
 text_of is_stopped lines = if is_stopped then without_end (concat lines) else concat lines
 
@@ -114,7 +116,7 @@ texts_of_parts (part ∷ more) ending = text_of (stops more ending) part.lines �
 abbrev pub part_texts : Cut → List (List ℕ)
 part_texts cut = texts_of_parts cut.parts cut.ending
 
--- what follows the closing line, if one comes
+-- the text after the closing line, if one comes
 abbrev pub epilogue_of : MultipartEnding → Option (List ℕ)
 epilogue_of open_end = None
 epilogue_of (closed_by closing epilogue) = Some (concat epilogue)

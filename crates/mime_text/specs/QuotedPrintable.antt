@@ -1,5 +1,5 @@
--- What quoted-printable stands for (RFC 2045, section 6.7). The blanks at the ends of lines go first, and what is left is cut into escapes,
--- soft line ends and octets.
+-- The octets that quoted-printable stands for (RFC 2045, 6.7). The blanks at the ends of lines go
+-- first. The rest is cut into escapes, soft line ends and octets.
 use Rattle.std.specs.Prelude.{◌≡◌, ℕ, nat_lt, ◌==◌, Bool, true, ◌&&◌, ◌||◌, List, [], ◌∷◌, ◌++◌, length, take, drop, Option, None, Some, is_some, if◌then◌else◌, option_to_list}
 use Rattle.std.specs.List.{prefix_len}
 use Rattle.octets.specs.Hex.{hex_octet}
@@ -11,22 +11,22 @@ use Rattle.mime_text.specs.Lines.{end_len, is_line_end}
 
 -- BLANKS AT THE ENDS OF LINES
 
--- whether the end of a line or of the text stands in front
+-- whether a text is empty or begins with a line end
 abbrev pub is_at_end : List ℕ → Bool
 is_at_end text = length text == 0 || nat_lt 0 (end_len text)
 
--- whether a text begins with blanks, if any, and then has such an end
+-- whether a line end or the end of the text comes after the blanks at the start, if any
 abbrev pub leads_to_end : List ℕ → Bool
 leads_to_end text = is_at_end (drop (prefix_len is_blank text) text)
 
--- a text without the blanks at the ends of its lines, of which the last may end with the text
+-- a text without the blanks at the ends of its lines; the last line may end with the text
 unfoldable pub without_padding : List ℕ → List ℕ
 without_padding [] = []
 without_padding (c ∷ rest) = if is_blank c && leads_to_end rest then without_padding rest else c ∷ without_padding rest
 
 -- SEQUENCES
 
--- an escape by its two digits, or a soft line end by the end that stands there
+-- an escape with its two digits, or a soft line end with the line end in it
 pub data QuotedSequence : Type 0 where
   escape : (high low : ℕ) → QuotedSequence
   soft_end : (end : List ℕ) → QuotedSequence
@@ -36,7 +36,7 @@ abbrev pub written : QuotedSequence → List ℕ
 written (escape high low) = octet_of "=" ∷ high ∷ low ∷ []
 written (soft_end end) = octet_of "=" ∷ end
 
--- which sequences there are: two hexadecimal digits, in either case, or the end of a line
+-- whether a sequence is a legal one: two hexadecimal digits, in either case, or a line end
 abbrev pub is_legal : QuotedSequence → Bool
 is_legal (escape high low) = is_some (hex_octet high low)
 is_legal (soft_end end) = is_line_end end
@@ -44,11 +44,12 @@ is_legal (soft_end end) = is_line_end end
 abbrev pub IsLegalQuoted : QuotedSequence → Type 0
 IsLegalQuoted s = is_legal s ≡ true
 
--- a text is cut from the left into sequences and single octets, and no sequence begins where an octet stands alone
+-- A text is cut from the left into sequences and single octets. No sequence begins where
+-- an octet stands alone.
 abbrev pub CutsQuoted : List (TextPiece QuotedSequence) → List ℕ → Type 0
 CutsQuoted pieces text = cut.Cuts written IsLegalQuoted pieces text
 
--- what a piece stands for: an octet for itself, and a soft line end for nothing
+-- the octets that a piece stands for: an octet for itself, and a soft line end for none
 abbrev pub octets_of_piece : TextPiece QuotedSequence → List ℕ
 octets_of_piece (octet c) = c ∷ []
 octets_of_piece (sequence (escape high low)) = option_to_list (hex_octet high low)
@@ -60,13 +61,13 @@ octets_of_pieces (piece ∷ more) = octets_of_piece piece ++ octets_of_pieces mo
 
 -- THE SAME, COMPUTED
 
--- the escape of an `=` that this text follows
+-- the escape that an `=` begins before this text
 abbrev pub escape_at : List ℕ → Option QuotedSequence
 escape_at [] = None
 escape_at (c ∷ []) = None
 escape_at (c ∷ d ∷ rest) = if is_some (hex_octet c d) then Some (escape c d) else None
 
--- the sequence of an `=` that this text follows
+-- the sequence that an `=` begins before this text
 abbrev pub after_sign : List ℕ → Option QuotedSequence
 after_sign rest = if nat_lt 0 (end_len rest) then Some (soft_end (take (end_len rest) rest)) else escape_at rest
 
@@ -75,7 +76,7 @@ unfoldable pub sequence_at : List ℕ → Option QuotedSequence
 sequence_at [] = None
 sequence_at (c ∷ rest) = if c == octet_of "=" then after_sign rest else None
 
--- how many octets of a sequence stand after its first
+-- the number of octets of a sequence after its first
 abbrev pub further : QuotedSequence → ℕ
 further (escape high low) = 2
 further (soft_end end) = length end
@@ -84,6 +85,6 @@ further (soft_end end) = length end
 abbrev pub pieces_of : List ℕ → List (TextPiece QuotedSequence)
 pieces_of text = scan.pieces_of sequence_at further text
 
--- the octets of a content in quoted-printable
+-- the octets that a content in quoted-printable stands for
 abbrev pub quoted_octets : List ℕ → List ℕ
 quoted_octets text = octets_of_pieces (pieces_of (without_padding text))

@@ -1,5 +1,6 @@
--- The texts that entities give to those who look for words in them (RFC 5173, section 5): prologue and epilogue, or the header section of
--- a held message, as they stand, and any other content decoded, a text in UTF-8.
+-- The texts that entities give to those who look for words in them (RFC 5173, section 5). A
+-- prologue, an epilogue and the header section of a held message stand as they are. Any other
+-- content is decoded, and a text is put into UTF-8.
 use Rattle.std.specs.Prelude.{ℕ, Bool, List, [], ◌∷◌, Option, None, Some, codes, if◌then◌else◌, option_to_list}
 use Rattle.std.specs.List.{flat_map, list_any}
 use Rattle.charsets.specs.Charset.{text_in}
@@ -9,7 +10,7 @@ use Rattle.mime_text.specs.TransferEncoding.{octets_of}
 use Rattle.mime_text.specs.Wanted.{is_wanted, wanted_in}
 use Rattle.sieve_profile.specs.Profile.{Profile}
 
--- the charset of a type, which a text alone has
+-- the charset of a text; other types have none
 abbrev pub charset_of_type : ContentType → Option (List ℕ)
 charset_of_type type = if is_main (codes "text") type then type.charset else None
 
@@ -17,12 +18,12 @@ abbrev pub charset_of : Option ContentType → Option (List ℕ)
 charset_of None = None
 charset_of (Some type) = charset_of_type type
 
--- octets in UTF-8 where they are of a charset that is known, and else as they are
+-- octets in UTF-8 where they are right in a charset that is known, and else as they are
 abbrev pub text_by : Profile → (charset : Option (List ℕ)) → List ℕ → List ℕ
 text_by profile None octets = octets
 text_by profile (Some charset) octets = text_in profile charset octets
 
--- the texts of what an entity of a type gives
+-- the texts of the octets that an entity of a type gives
 abbrev pub texts_given : Profile → Option ContentType → Given → List (List ℕ)
 texts_given profile type (around prologue epilogue) = prologue ∷ option_to_list epilogue
 texts_given profile type (header octets) = octets ∷ []

@@ -1,4 +1,4 @@
--- What the program's types stand for in contracts. The other files of specs/ restate the subject.
+-- The meaning of the program's types in contracts. The other files of specs/ restate the subject.
 pub mod ContentTypes
 pub mod Cuts
 pub mod Entities

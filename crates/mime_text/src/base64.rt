@@ -1,11 +1,11 @@
-//! Base64 (RFC 2045, section 6.8).
+//! Base64 (RFC 2045, 6.8).
 ghost use Rattle.std.specs.Prelude.{◌≡◌, ◌++◌, ◌∷◌, [], ◌<◌, IfOk, IfSome, OnOk, length};
 ghost use Rattle.std.specs.List.{All};
 ghost use Rattle.mime_text.specs.Base64.{base64_octets, digit_value, digits_of, first_octet, second_octet, third_octet, whole_octets};
 
 use std::alloc::{AllocError, Global};
 
-/// The number of a digit of the alphabet.
+/// The number of a digit of the alphabet; none for another octet.
 fn digit_value(octet: u8) -> Option<u8>
     ensures is { result ≡ digit_value octet }
     ensures bits { IfSome result (λ digit. digit < 64) }
@@ -20,7 +20,7 @@ fn digit_value(octet: u8) -> Option<u8>
     }
 }
 
-/// The digits up to the first padding.
+/// The numbers of the digits before the first `=`. Other octets are skipped.
 fn digits_of(alloc: Global, text: &[u8]) -> Result<Vec<u8>, AllocError>
     ensures digits { IfOk result (λ digits. digits.items ≡ digits_of text.now) }
     ensures bits { IfOk result (λ digits. All (λ d. d < 64) digits.items) }
@@ -40,7 +40,7 @@ fn first_octet(a: u8, b: u8) -> u8
     4 * a + b / 16
 }
 
-/// The second.
+/// The second octet of four digits.
 fn second_octet(b: u8, c: u8) -> u8
     requires c_bits { c < 64 }
     ensures { result ≡ second_octet b c }
@@ -48,7 +48,7 @@ fn second_octet(b: u8, c: u8) -> u8
     16 * (b % 16) + c / 4
 }
 
-/// The third.
+/// The third octet of four digits.
 fn third_octet(c: u8, d: u8) -> u8
     requires d_bits { d < 64 }
     ensures { result ≡ third_octet c d }
@@ -69,7 +69,7 @@ fn push_three(octets: &mut Vec<u8>, a: u8, b: u8, c: u8, d: u8) -> Result<(), Al
     octets.extend_from_slice(&three)
 }
 
-/// Adds the whole octets of fewer digits.
+/// Adds the whole octets of fewer than four digits.
 fn push_last(octets: &mut Vec<u8>, digits: &[u8]) -> Result<(), AllocError>
     requires bits { All (λ d. d < 64) digits.now }
     requires few { length digits.now < 4 }
@@ -82,7 +82,7 @@ fn push_last(octets: &mut Vec<u8>, digits: &[u8]) -> Result<(), AllocError>
     }
 }
 
-/// The octets of digits, of which only whole ones are kept.
+/// The octets of digits. Only whole octets are kept.
 fn whole_octets(alloc: Global, digits: &[u8]) -> Result<Vec<u8>, AllocError>
     requires { All (λ d. d < 64) digits.now }
     ensures { IfOk result (λ octets. octets.items ≡ whole_octets digits.now) }
@@ -97,7 +97,7 @@ fn whole_octets(alloc: Global, digits: &[u8]) -> Result<Vec<u8>, AllocError>
     Ok(octets)
 }
 
-/// The octets of a content in base64: those outside the alphabet are skipped, up to the first padding.
+/// Decodes base64 up to the first padding. Octets outside the alphabet are skipped.
 pub(crate) fn base64_octets(alloc: Global, text: &[u8]) -> Result<Vec<u8>, AllocError>
     ensures { IfOk result (λ octets. octets.items ≡ base64_octets text.now) }
 {

@@ -1,4 +1,4 @@
-//! Types of contents and their parameters (RFC 2045, section 5.1).
+//! Types of contents and their parameters (RFC 2045, 5.1).
 ghost use Rattle.std.specs.Prelude.{◌≡◌, true, false, [], ◌∷◌, IfNone, IfOk, IfSome, Some, map};
 ghost use Rattle.std.specs.Option.{option_map};
 ghost use Rattle.std.specs.List.{after_first, before_first, list_all, list_any};
@@ -10,7 +10,7 @@ use crate::marks::{ValueMark, marks_of};
 use octets::{is_visible, is_white};
 use std::alloc::{AllocError, Global};
 
-/// The type of a content, and the parameters that are looked at.
+/// The type of a content, with the values of the parameters that are looked at.
 #[derive(Drop)]
 pub(crate) struct ContentType {
     pub(crate) main: Vec<u8>,
@@ -19,21 +19,21 @@ pub(crate) struct ContentType {
     pub(crate) charset: Option<Vec<u8>>,
 }
 
-/// An octet of a token.
+/// Whether an octet may stand in a token: it is visible and not special.
 fn is_token_octet(octet: u8) -> bool
     ensures { result ≡ spec.is_token_octet octet }
 {
     is_visible(octet) && !is_special(octet)
 }
 
-/// One of the special ones.
+/// Whether an octet has a meaning of its own, so that no token has it.
 fn is_special(octet: u8) -> bool
     ensures { result ≡ spec.is_special octet }
 {
     b"()<>@,;:\\\"/[]?=".contains(&octet)
 }
 
-/// An octet of a token, outside of quoted strings.
+/// Whether a mark is a token's octet outside of quoted strings.
 fn is_token_mark(mark: ValueMark) -> bool
     ensures { result ≡ spec.is_token_mark mark }
 {
@@ -53,7 +53,7 @@ fn is_sign(sign: u8, mark: ValueMark) -> bool
     }
 }
 
-/// White space outside of quoted strings.
+/// Whether a mark is white space outside of quoted strings.
 fn is_gap(mark: ValueMark) -> bool
     ensures { result ≡ spec.is_gap mark }
 {
@@ -63,7 +63,7 @@ fn is_gap(mark: ValueMark) -> bool
     }
 }
 
-/// The octet of a mark.
+/// The octet of a mark; that of a quote is `"`.
 fn octet_at(mark: ValueMark) -> u8
     ensures { result ≡ spec.octet_at mark }
 {
@@ -73,7 +73,7 @@ fn octet_at(mark: ValueMark) -> u8
     }
 }
 
-/// The marks without white space in front.
+/// The marks without white space at the start.
 fn trim_front(marks: &[ValueMark]) -> &[ValueMark]
     ensures { result.now ≡ spec.trim_front marks.now }
 {
@@ -84,7 +84,7 @@ fn trim_front(marks: &[ValueMark]) -> &[ValueMark]
     &marks[start..]
 }
 
-/// The marks without white space at their end.
+/// The marks without white space at the end.
 fn trim_back(marks: &[ValueMark]) -> &[ValueMark]
     ensures { result.now ≡ spec.trim_back marks.now }
 {
@@ -95,28 +95,26 @@ fn trim_back(marks: &[ValueMark]) -> &[ValueMark]
     &marks[..end]
 }
 
-/// The marks without outer white space.
+/// The marks without white space at either end.
 fn trimmed(marks: &[ValueMark]) -> &[ValueMark]
     ensures { result.now ≡ spec.trimmed marks.now }
 {
     trim_back(trim_front(marks))
 }
 
-/// The octets of marks.
 fn octets_of(alloc: Global, marks: &[ValueMark]) -> Result<Vec<u8>, AllocError>
     ensures { IfOk result (λ octets. octets.items ≡ map spec.octet_at marks.now) }
 {
     marks.iter().map(|mark| octet_at(*mark)).collect(alloc)
 }
 
-/// Whether all are of a token.
 fn are_token_marks(marks: &[ValueMark]) -> bool
     ensures { result ≡ list_all spec.is_token_mark marks.now }
 {
     marks.iter().all(|mark| is_token_mark(*mark))
 }
 
-/// Whether they are a token.
+/// Whether marks are one or more octets of a token.
 fn is_token(marks: &[ValueMark]) -> bool
     ensures { result ≡ spec.is_token marks.now }
 {
@@ -127,7 +125,7 @@ fn is_token(marks: &[ValueMark]) -> bool
     }
 }
 
-/// A token, if they are one.
+/// The octets of a token; none where the marks aren't one.
 fn token_of(alloc: Global, marks: &[ValueMark]) -> Result<Option<Vec<u8>>, AllocError>
     ensures { IfOk result (λ token. octets_as token ≡ spec.token_of marks.now) }
 {
@@ -138,35 +136,33 @@ fn token_of(alloc: Global, marks: &[ValueMark]) -> Result<Option<Vec<u8>>, Alloc
     Ok(Some(token))
 }
 
-/// A token with white space and comments round it, if they are one.
+/// A token's octets without the white space and comments around it; none if it isn't a token.
 pub(crate) fn token_in(alloc: Global, marks: &[ValueMark]) -> Result<Option<Vec<u8>>, AllocError>
     ensures { IfOk result (λ token. octets_as token ≡ spec.token_in marks.now) }
 {
     token_of(alloc, trimmed(marks))
 }
 
-/// A quote.
 fn is_quote(mark: ValueMark) -> bool
     ensures { result ≡ spec.is_quote mark }
 {
     matches!(mark, ValueMark::Quote)
 }
 
-/// An octet of a quoted string.
 fn is_quoted(mark: ValueMark) -> bool
     ensures { result ≡ spec.is_quoted mark }
 {
     matches!(mark, ValueMark::Quoted(_))
 }
 
-/// Whether all stand in a quoted string.
 fn are_quoted(marks: &[ValueMark]) -> bool
     ensures { result ≡ list_all spec.is_quoted marks.now }
 {
     marks.iter().all(|mark| is_quoted(*mark))
 }
 
-/// The octets before the quote that ends a quoted string, where it stands at the end alone.
+/// The octets before a closing quote. None unless the last mark is a quote and all others are
+/// octets of a quoted string.
 fn before_quote(alloc: Global, marks: &[ValueMark]) -> Result<Option<Vec<u8>>, AllocError>
     ensures { IfOk result (λ octets. octets_as octets ≡ spec.before_quote marks.now) }
 {
@@ -180,7 +176,7 @@ fn before_quote(alloc: Global, marks: &[ValueMark]) -> Result<Option<Vec<u8>>, A
     Ok(Some(octets))
 }
 
-/// The value of a parameter, if they are one.
+/// A parameter's value: a token, or a quoted string's octets. None where the marks are neither.
 fn value_of(alloc: Global, marks: &[ValueMark]) -> Result<Option<Vec<u8>>, AllocError>
     ensures { IfOk result (λ value. octets_as value ≡ spec.value_of marks.now) }
 {
@@ -190,7 +186,7 @@ fn value_of(alloc: Global, marks: &[ValueMark]) -> Result<Option<Vec<u8>>, Alloc
     }
 }
 
-/// What stands before the first such sign, and after it, where there is one.
+/// The marks before the first such sign, and those after it. None where there is no such sign.
 fn parted(sign: u8, marks: &[ValueMark]) -> Option<(&[ValueMark], &[ValueMark])>
     ensures none { IfNone result (list_any (spec.is_sign sign) marks.now ≡ false) }
     ensures some { IfSome result (λ _. list_any (spec.is_sign sign) marks.now ≡ true) }
@@ -203,7 +199,7 @@ fn parted(sign: u8, marks: &[ValueMark]) -> Option<(&[ValueMark], &[ValueMark])>
     }
 }
 
-/// Two things, if both are there.
+/// A pair of values, if both are there.
 fn both(first: Option<Vec<u8>>, second: Option<Vec<u8>>) -> Option<(Vec<u8>, Vec<u8>)>
     ensures { both_as result ≡ spec.both (octets_as first) (octets_as second) }
 {
@@ -213,7 +209,7 @@ fn both(first: Option<Vec<u8>>, second: Option<Vec<u8>>) -> Option<(Vec<u8>, Vec
     }
 }
 
-/// A type and a subtype, if they are such.
+/// The type and the subtype, before and after the first `/`. None unless both are tokens.
 fn type_in(alloc: Global, piece: &[ValueMark]) -> Result<Option<(Vec<u8>, Vec<u8>)>, AllocError>
     ensures { IfOk result (λ names. both_as names ≡ spec.type_in piece.now) }
 {
@@ -225,7 +221,7 @@ fn type_in(alloc: Global, piece: &[ValueMark]) -> Result<Option<(Vec<u8>, Vec<u8
     Ok(both(main, sub))
 }
 
-/// The name of a parameter and its value, if they are such.
+/// A parameter's name and value, before and after the first `=`. None unless both can be read.
 fn parameter_in(
     alloc: Global,
     piece: &[ValueMark],
@@ -240,14 +236,14 @@ fn parameter_in(
     Ok(both(name, value))
 }
 
-/// The parameters that are looked at.
+/// The values of the parameters that are looked at.
 #[derive(Drop)]
 pub(crate) struct NamedParameters {
     boundary: Option<Vec<u8>>,
     charset: Option<Vec<u8>>,
 }
 
-/// A value, where none was found before.
+/// The value that was found before, or else this one.
 fn or_else(found: Option<Vec<u8>>, value: Vec<u8>) -> Option<Vec<u8>>
     ensures { octets_as result ≡ or_else (octets_as found) (Some value.items) }
 {
@@ -258,7 +254,7 @@ fn or_else(found: Option<Vec<u8>>, value: Vec<u8>) -> Option<Vec<u8>>
 }
 
 impl NamedParameters {
-    /// With a further parameter, which counts where none of its name was there.
+    /// Adds a further parameter. The first of a name counts, and names not looked at are dropped.
     #[tactic(auto, unfolding(crate::specs::ContentType::parameter_named))]
     fn with(self, name: &[u8], value: Vec<u8>) -> NamedParameters
         ensures { named_as result
@@ -281,14 +277,14 @@ impl NamedParameters {
     }
 }
 
-/// Whether a piece is white space alone.
+/// Whether a piece is white space alone, or empty.
 fn is_blank(piece: &[ValueMark]) -> bool
     ensures { result ≡ list_all spec.is_gap piece.now }
 {
     piece.iter().all(|mark| is_gap(*mark))
 }
 
-/// Pieces without a last one that is white space alone.
+/// The pieces without the last one, if that is white space alone.
 fn without_blank_end<'p, 'm>(pieces: &'p [&'m [ValueMark]]) -> &'p [&'m [ValueMark]]
     ensures { map (λ piece. piece.now) result.now
         ≡ spec.without_blank_end (map (λ piece. piece.now) pieces.now) }
@@ -299,7 +295,7 @@ fn without_blank_end<'p, 'm>(pieces: &'p [&'m [ValueMark]]) -> &'p [&'m [ValueMa
     }
 }
 
-/// The parameters of pieces, if each is one.
+/// The parameters that pieces are; none where a piece isn't one.
 fn named_of(alloc: Global, pieces: &[&[ValueMark]]) -> Result<Option<NamedParameters>, AllocError>
     ensures { IfOk result (λ named. option_map named_as named
         ≡ option_map spec.named_of (spec.parameters_of (map (λ piece. piece.now) pieces.now))) }
@@ -319,7 +315,8 @@ fn named_of(alloc: Global, pieces: &[&[ValueMark]]) -> Result<Option<NamedParame
     Ok(Some(named))
 }
 
-/// The parameters of pieces, of which the last may be white space alone, if they are parameters.
+/// The parameters that pieces are, of which the last may be white space alone. None where a
+/// piece isn't a parameter.
 fn named_in(alloc: Global, pieces: &[&[ValueMark]]) -> Result<Option<NamedParameters>, AllocError>
     ensures { IfOk result
         (λ named. option_map named_as named ≡ spec.named_in (map (λ piece. piece.now) pieces.now)) }
@@ -327,7 +324,7 @@ fn named_in(alloc: Global, pieces: &[&[ValueMark]]) -> Result<Option<NamedParame
     named_of(alloc, without_blank_end(pieces))
 }
 
-/// A type with parameters, if both are there.
+/// A type with its parameters, if both are there.
 fn with_type(
     names: Option<(Vec<u8>, Vec<u8>)>,
     named: Option<NamedParameters>,
@@ -344,7 +341,8 @@ fn with_type(
     })
 }
 
-/// The type of pieces, if they are a type and parameters.
+/// The type that pieces say: the first is a type, and the others are its parameters. None where
+/// one can't be read.
 fn content_type_of(
     alloc: Global,
     pieces: &[&[ValueMark]],

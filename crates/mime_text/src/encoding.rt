@@ -16,20 +16,20 @@ use std::borrow::CowSlice;
 pub enum TransferEncoding {
     /// As they are: `7bit`, `8bit` and `binary`.
     Identity,
-    /// In base64 (section 6.8).
+    /// In base64 (RFC 2045, 6.8).
     Base64,
-    /// In quoted-printable (section 6.7).
+    /// In quoted-printable (RFC 2045, 6.7).
     QuotedPrintable,
 }
 
-/// Whether it is this name, in any case of letters.
+/// Whether two names are the same, in any case of letters.
 fn is_named(name: &[u8], other: &[u8]) -> bool
     ensures { result ≡ str_eq_ignore_ascii_case other.now name.now }
 {
     other.eq_ignore_ascii_case(name)
 }
 
-/// A name of one that changes nothing.
+/// Whether a name is of an encoding that changes nothing, in any case of letters.
 #[tactic(auto, unfolding(crate::specs::TransferEncoding::is_identity))]
 fn is_identity(name: &[u8]) -> bool
     ensures { result ≡ is_identity name.now }
@@ -53,7 +53,7 @@ fn encoding_named(name: &[u8]) -> Option<TransferEncoding>
     }
 }
 
-/// The encoding that a value of Content-Transfer-Encoding says, if it is known. Comments are dropped.
+/// The encoding that a Content-Transfer-Encoding says, if it is known. Comments are dropped.
 pub(crate) fn encoding_in(
     alloc: Global,
     value: &[u8],
@@ -70,7 +70,8 @@ pub(crate) fn encoding_in(
 }
 
 impl TransferEncoding {
-    /// The octets of a content that is written so: borrowed where they stand as they are.
+    /// The octets that a content in this encoding stands for (RFC 2045, section 6). They are
+    /// borrowed where they stand in the content as they are.
     pub fn octets_of<'c>(
         self,
         alloc: Global,

@@ -1,4 +1,4 @@
-//! The entities of a message (RFC 2045, section 2.4; RFC 2046, section 5).
+//! The entities of a message (RFC 2045, 2.4; RFC 2046, section 5).
 ghost use Rattle.std.specs.Prelude.{◌≡◌, [], ◌∷◌, ◌++◌, IfOk, OnOk, Some, codes, false, filter, length, map};
 ghost use Rattle.std.specs.Cow.{cow_slice_items};
 ghost use Rattle.std.specs.Option.{option_map};
@@ -19,42 +19,42 @@ use std::borrow::CowSlice;
 /// The type of an entity.
 #[derive(Drop)]
 pub(crate) enum EntityType {
-    /// `text/plain`, where no field says one.
+    /// `text/plain`, where no field says a type.
     Plain,
-    /// `message/rfc822`, where no field says one in a digest.
+    /// `message/rfc822`, where no field says a type in a digest.
     Message,
     /// `application/octet-stream`, where the encoding isn't known.
     Octets,
-    /// None, where the field doesn't say one.
+    /// No type, where the field doesn't say one.
     Unread,
-    /// What the field says.
+    /// The type that the field says.
     Stated(Box<ContentType>),
 }
 
-/// What an entity gives.
+/// The octets that an entity gives, by its shape.
 #[derive(Clone, Copy)]
 pub enum Given<'m> {
-    /// A multipart: what stands before its parts, and what follows its closing line, if one comes.
+    /// A multipart: the octets around its parts.
     Around {
-        /// What stands before its first delimiter or closing line.
+        /// The octets before its first delimiter or closing line, or all if none comes.
         prologue: &'m [u8],
-        /// What follows its closing line, if one comes.
+        /// The octets after its closing line, if one comes.
         epilogue: Option<&'m [u8]>,
     },
-    /// One that holds a message: that message's header section.
+    /// An entity that holds a message: the header section of that message.
     Header(&'m [u8]),
-    /// Any other: its content, as it is written.
+    /// Any other entity: its encoding, and its content as it is written.
     Content(TransferEncoding, &'m [u8]),
 }
 
-/// An entity of a message.
+/// An entity of a message: its type, and the octets that it gives.
 #[derive(Drop)]
 pub struct Entity<'m> {
     pub(crate) stated: EntityType,
     pub(crate) given: Given<'m>,
 }
 
-/// What an entity is made of.
+/// The shape of an entity, by its type.
 #[derive(Clone, Copy)]
 enum EntityShape<'t> {
     Multipart {
@@ -65,7 +65,7 @@ enum EntityShape<'t> {
     Leaf,
 }
 
-/// What an entity gives, and the texts of the entities directly in it.
+/// The octets that an entity gives, and the texts of the entities directly in it.
 #[derive(Drop)]
 struct InnerTexts<'m> {
     given: Given<'m>,
@@ -73,7 +73,7 @@ struct InnerTexts<'m> {
     texts: Vec<&'m [u8]>,
 }
 
-/// What the header of an entity says of its content, and that.
+/// The type and the encoding that an entity's header says, and the entity's content.
 #[derive(Drop)]
 struct EntityHead<'m> {
     stated: EntityType,
@@ -81,7 +81,7 @@ struct EntityHead<'m> {
     content: &'m [u8],
 }
 
-/// The header section of a text, and what follows its first empty line, if there is one.
+/// The header section of a text, and the text after its first empty line, if there is one.
 fn divided(text: &[u8]) -> (&[u8], Option<&[u8]>)
     ensures header { result.0.now ≡ spec.header_of text.now }
     ensures body { option_map (λ body. body.now) result.1 ≡ spec.body_of text.now }
@@ -96,7 +96,7 @@ fn divided(text: &[u8]) -> (&[u8], Option<&[u8]>)
     (text, None)
 }
 
-/// What follows the first empty line of a message, if there is one. Takes no memory.
+/// The octets after the first empty line of a message, if there is one (RFC 5322, 2.1).
 pub fn body_of(message: &[u8]) -> Option<&[u8]>
     ensures { option_map (λ body. body.now) result ≡ spec.body_of message.now }
 {
@@ -104,7 +104,7 @@ pub fn body_of(message: &[u8]) -> Option<&[u8]>
     body
 }
 
-/// The value of the first field of that name.
+/// The value of the first field of a name, if there is one.
 fn value_named<'m>(
     alloc: Global,
     header: &'m Message,
@@ -122,7 +122,7 @@ fn value_named<'m>(
     }
 }
 
-/// The type that a value says.
+/// The type that a value of Content-Type says.
 fn stated_in(alloc: Global, value: &[u8]) -> Result<EntityType, AllocError>
     ensures { IfOk result (λ stated. stated_as stated ≡ spec.type_by false (Some value.now)) }
 {
@@ -135,7 +135,7 @@ fn stated_in(alloc: Global, value: &[u8]) -> Result<EntityType, AllocError>
     }
 }
 
-/// The type where no field says one.
+/// The type of an entity whose header has no Content-Type.
 fn default_type(in_digest: bool) -> EntityType
     ensures { stated_as result ≡ Some (spec.default_type in_digest) }
 {
@@ -146,7 +146,7 @@ fn default_type(in_digest: bool) -> EntityType
     }
 }
 
-/// The type of an entity with that header, whatever its encoding is.
+/// The type that a header says, whatever its encoding is.
 fn type_of(alloc: Global, in_digest: bool, header: &Message) -> Result<EntityType, AllocError>
     ensures { IfOk result (λ stated. stated_as stated ≡ spec.type_by in_digest (spec.first_value
         (filter (is_field_named (codes "Content-Type")) (fields_of header.now)))) }
@@ -157,7 +157,7 @@ fn type_of(alloc: Global, in_digest: bool, header: &Message) -> Result<EntityTyp
     }
 }
 
-/// The encoding that a header says, if it is known.
+/// The encoding that a header says, if it is known. It is `Identity` where no field says one.
 fn encoding_of(alloc: Global, header: &Message) -> Result<Option<TransferEncoding>, AllocError>
     ensures { IfOk result (λ encoding. encoding ≡ spec.encoding_by (spec.first_value
         (filter (is_field_named (codes "Content-Transfer-Encoding")) (fields_of header.now)))) }
@@ -168,7 +168,7 @@ fn encoding_of(alloc: Global, header: &Message) -> Result<Option<TransferEncodin
     }
 }
 
-/// A header section as a message.
+/// A header section as a message. Answers the error also where a message may not be so long.
 fn header_of(alloc: Global, header: &[u8]) -> Result<Message, AllocError>
     ensures { IfOk result (λ message. message ≡ header.now) }
 {
@@ -179,8 +179,8 @@ fn header_of(alloc: Global, header: &[u8]) -> Result<Message, AllocError>
     }
 }
 
-/// What the header of a text says of its content, and that. The encoding is looked at first: octets of an unknown one have no type that tells
-/// what they are.
+/// The type and the encoding that the header of a text says, and the text's content. The encoding
+/// is read first: under an unknown one the type doesn't tell what the octets are.
 fn head_of<'m>(alloc: Global, in_digest: bool, text: &'m [u8]) -> Result<EntityHead<'m>, AllocError>
     ensures { IfOk result (IsEntityHead in_digest text.now) }
 {
@@ -204,7 +204,7 @@ fn head_of<'m>(alloc: Global, in_digest: bool, text: &'m [u8]) -> Result<EntityH
     }
 }
 
-/// A boundary of 1 to 70 octets.
+/// The boundary, if it has 1 to 70 octets.
 fn if_short(boundary: &[u8]) -> Option<&[u8]>
     ensures { option_map (λ boundary. boundary.now) result ≡ spec.if_short boundary.now }
 {
@@ -230,7 +230,7 @@ impl ContentType {
         self.is_main(main) && sub.eq_ignore_ascii_case(&self.sub)
     }
 
-    /// Its boundary, if it has one.
+    /// Its boundary, if it has one of 1 to 70 octets.
     fn boundary(&self) -> Option<&[u8]>
         ensures { option_map (λ boundary. boundary.now) result
             ≡ spec.boundary_of (content_type_as self.now) }
@@ -241,7 +241,7 @@ impl ContentType {
         }
     }
 
-    /// What an entity of the type is made of.
+    /// The shape of an entity of this type.
     fn shape(&self) -> EntityShape<'_>
         ensures { shape_as result ≡ spec.shape_of_type (content_type_as self.now) }
     {
@@ -259,7 +259,7 @@ impl ContentType {
 }
 
 impl EntityType {
-    /// What an entity of the type is made of.
+    /// The shape of an entity of this type.
     fn shape(&self) -> EntityShape<'_>
         ensures { shape_as result ≡ spec.shape_of (stated_as self.now) }
     {
@@ -271,7 +271,7 @@ impl EntityType {
     }
 }
 
-/// One text.
+/// A list of one text.
 fn only<'m>(alloc: Global, text: &'m [u8]) -> Result<Vec<&'m [u8]>, AllocError>
     ensures { IfOk result (λ texts. map (λ text. text.now) texts.items ≡ text.now ∷ []) }
 {
@@ -280,7 +280,7 @@ fn only<'m>(alloc: Global, text: &'m [u8]) -> Result<Vec<&'m [u8]>, AllocError>
     Ok(texts)
 }
 
-/// What a multipart with a boundary gives, and its parts.
+/// The prologue and the epilogue of a multipart with this boundary, and its parts.
 fn cut_inner<'m>(
     alloc: Global,
     is_digest: bool,
@@ -301,7 +301,7 @@ fn cut_inner<'m>(
     })
 }
 
-/// What a multipart gives, and its parts, if it has a boundary.
+/// The prologue and epilogue of a multipart, and its parts. Without a boundary all is prologue.
 fn parts_inner<'m>(
     alloc: Global,
     is_digest: bool,
@@ -325,7 +325,7 @@ fn parts_inner<'m>(
     }
 }
 
-/// What an entity of a shape gives, and the texts of the entities directly in it.
+/// The octets that an entity of a shape gives, and the texts of the entities directly in it.
 fn inner_of<'m>(
     alloc: Global,
     shape: EntityShape<'_>,
@@ -356,7 +356,7 @@ fn inner_of<'m>(
     }
 }
 
-/// An entity, and what is directly in it.
+/// An entity, whether it is a digest, and the texts of the entities directly in it.
 fn entity_of<'m>(
     alloc: Global,
     in_digest: bool,
@@ -376,7 +376,7 @@ fn entity_of<'m>(
     Ok((entity, inner.is_digest, inner.texts))
 }
 
-/// Adds the entities of a text, of which so many lie in one another at most.
+/// Adds the entities of a text, of which at most `depth` lie in one another.
 fn push_entities<'m>(
     alloc: Global,
     depth: usize,
@@ -401,8 +401,11 @@ fn push_entities<'m>(
 /// How many entities lie in one another at most.
 const DEPTH_LIMIT: usize = 32;
 
-/// The entities of a message: the message, the parts of multiparts and held messages, outer before inner ones and in the order of the text.
-/// Those that lie more than 32 deep aren't among them. Takes memory for the entities, and for the header section of one at a time.
+/// The entities of a message (RFC 2045, 2.4; RFC 2046, section 5): itself, parts of multiparts,
+/// and held messages. Outer ones come before inner ones, in the order of the text. Entities
+/// more than 32 deep aren't listed; the message has depth 1. Takes memory for the entities, and
+/// for one header section at a time. Answers the error also where a header section is longer
+/// than a message may be.
 pub fn entities_of(alloc: Global, message: &[u8]) -> Result<Vec<Entity<'_>>, AllocError>
     ensures { IfOk result (λ found. map entity_as found.items ≡ spec.entities_of message.now) }
 {

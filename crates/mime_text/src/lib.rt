@@ -1,4 +1,4 @@
-//! What a message is made of (RFC 2045, RFC 2046): its entities, their types, and the octets that a content stands for.
+//! The entities of a message, their types, and the octets of their contents (RFC 2045, RFC 2046).
 #![tactic(auto)]
 
 mod base64;

@@ -1,11 +1,11 @@
-//! Lines with their ends (RFC 2046, section 5.1.1).
+//! Lines with their ends (RFC 2046, 5.1.1).
 ghost use Rattle.std.specs.Prelude.{◌≡◌, ◌<◌, ◌≤◌, ◌++◌, ◌∷◌, [], IfSome, MatchOption, length};
 ghost use Rattle.mime_text.specs.Lines.{end_len, ended_lines, is_line_end, without_end};
 
 use memchr::memchr;
 use octets::without_return;
 
-/// The first line of a text, with its end, and what follows it; none where the text is empty.
+/// The first line of a text with its end, and the text after it. None where the text is empty.
 pub(crate) fn next_line(text: &[u8]) -> Option<(&[u8], &[u8])>
     ensures lines { MatchOption result (text.now ≡ [])
         (λ cut. ended_lines text.now ≡ cut.0.now ∷ ended_lines cut.1.now) }
@@ -28,7 +28,7 @@ pub(crate) fn is_line_end(text: &[u8]) -> bool
     matches!(text, b"\n" | b"\r\n")
 }
 
-/// How many octets the end of a line has with which a text begins; 0 where it begins with none.
+/// The number of octets of the line end with which a text begins; 0 where it begins with none.
 pub(crate) fn end_len(text: &[u8]) -> usize
     ensures is { result ≡ end_len text.now }
     ensures within { result ≤ length text.now }

@@ -1,4 +1,5 @@
-//! Structured values with their comments and quoted strings told apart (RFC 2045, section 5.1; RFC 5322, sections 3.2.1 to 3.2.4).
+//! Structured values with their comments and quoted strings told apart (RFC 2045, 5.1;
+//! RFC 5322, 3.2.1 to 3.2.4).
 ghost use Rattle.std.specs.Prelude.{◌≡◌, ◌+◌, ◌<◌, ◌≤◌, ◌^◌, ◌++◌, ◌∷◌, [], IfOk, OnOk, Some, length, option_to_list};
 ghost use Rattle.octets.specs.Octet.{octet_of};
 ghost use Rattle.mime_text.specs.Marks.{after_octet, is_outside, marks_at, marks_of};
@@ -8,33 +9,33 @@ ghost use Rattle.mime_text.specs.view.Spots.{depth_of};
 
 use std::alloc::{AllocError, Global};
 
-/// What stays of an octet of a value.
+/// The mark that an octet of a value leaves.
 #[derive(Clone, Copy)]
 pub(crate) enum ValueMark {
-    /// One outside of quoted strings; a comment is a space.
+    /// An octet outside of quoted strings. A comment is one space.
     Plain(u8),
     /// A quote at an end of a quoted string.
     Quote,
-    /// One that stands in a quoted string.
+    /// An octet that stands in a quoted string.
     Quoted(u8),
 }
 
-/// Where an octet stands.
+/// The state before an octet of a value.
 #[derive(Clone, Copy)]
 pub(crate) enum ValueSpot {
     /// Outside of quoted strings and comments.
     Outside,
     /// In a quoted string.
     InString,
-    /// After a `\` there.
+    /// After a `\` in a quoted string.
     EscapedInString,
-    /// In a comment with so many others round it.
+    /// In a comment that has this many others around it.
     InComment(usize),
-    /// After a `\` there.
+    /// After a `\` in such a comment.
     EscapedInComment(usize),
 }
 
-/// Where what stands after a comment stands.
+/// The state after a comment's `)`.
 fn after_comment(others: usize) -> ValueSpot
     ensures is { result ≡ after_octet (InComment others) (octet_of ")") }
     ensures depth { depth_of result ≤ others }
@@ -46,7 +47,7 @@ fn after_comment(others: usize) -> ValueSpot
     }
 }
 
-/// Where what stands after an octet of a comment stands.
+/// The state after an octet of a comment.
 fn after_inner(others: usize, octet: u8) -> ValueSpot
     requires { others + 1 < 2 ^ 63 }
     ensures is { result ≡ after_octet (InComment others) octet }
@@ -60,7 +61,7 @@ fn after_inner(others: usize, octet: u8) -> ValueSpot
     }
 }
 
-/// Where what stands after an octet of a quoted string stands.
+/// The state after an octet of a quoted string.
 fn after_quoted(octet: u8) -> ValueSpot
     ensures is { result ≡ after_octet InString octet }
     ensures depth { depth_of result ≡ 0 }
@@ -72,7 +73,7 @@ fn after_quoted(octet: u8) -> ValueSpot
     }
 }
 
-/// Where what stands after an octet outside stands.
+/// The state after an octet outside of quoted strings and comments.
 fn after_outer(octet: u8) -> ValueSpot
     ensures is { result ≡ after_octet Outside octet }
     ensures depth { depth_of result ≤ 1 }
@@ -85,7 +86,7 @@ fn after_outer(octet: u8) -> ValueSpot
 }
 
 impl ValueSpot {
-    /// Where the next octet stands.
+    /// The state after an octet.
     fn after(self, octet: u8) -> ValueSpot
         requires { depth_of self < 2 ^ 63 }
         ensures is { result ≡ after_octet self octet }
@@ -108,7 +109,7 @@ impl ValueSpot {
     }
 }
 
-/// The mark of an octet outside.
+/// The mark of an octet outside of quoted strings and comments.
 fn outer_mark(octet: u8) -> ValueMark
     ensures { marks_at Outside octet ≡ result ∷ [] }
 {
@@ -119,7 +120,7 @@ fn outer_mark(octet: u8) -> ValueMark
     }
 }
 
-/// The mark of an octet of a quoted string, if one stays.
+/// The mark of an octet of a quoted string, if it leaves one.
 fn quoted_mark(octet: u8) -> Option<ValueMark>
     ensures { option_to_list result ≡ marks_at InString octet }
 {
@@ -130,7 +131,7 @@ fn quoted_mark(octet: u8) -> Option<ValueMark>
     }
 }
 
-/// The mark of an octet, if one stays.
+/// The mark of an octet, if it leaves one.
 fn mark_at(spot: ValueSpot, octet: u8) -> Option<ValueMark>
     ensures { option_to_list result ≡ marks_at spot octet }
 {
@@ -142,7 +143,7 @@ fn mark_at(spot: ValueSpot, octet: u8) -> Option<ValueMark>
     }
 }
 
-/// Adds the mark of an octet, if one stays.
+/// Adds the mark of an octet, if it leaves one.
 fn push_mark(marks: &mut Vec<ValueMark>, spot: ValueSpot, octet: u8) -> Result<(), AllocError>
     ensures { OnOk result (marks.new.items ≡ marks.old.items ++ marks_at spot octet) }
 {
@@ -152,8 +153,9 @@ fn push_mark(marks: &mut Vec<ValueMark>, spot: ValueSpot, octet: u8) -> Result<(
     }
 }
 
-/// The marks of a value, or nothing where a comment or a quoted string isn't closed. A comment is a space, since it may stand between any two
-/// words. In comments and quoted strings any octet may stand, as mail has it.
+/// The marks of a value, or none where a comment or a quoted string isn't closed. A comment is a
+/// space, since it may stand between any two words. Comments and quoted strings may have any
+/// octets, as in real mail.
 pub(crate) fn marks_of(alloc: Global, text: &[u8]) -> Result<Option<Vec<ValueMark>>, AllocError>
     ensures { IfOk result (λ marks. marks_as marks ≡ marks_of text.now) }
 {

@@ -1,4 +1,4 @@
-//! A multipart's content, cut by its delimiters (RFC 2046, section 5.1.1).
+//! A multipart's content, cut by its delimiters (RFC 2046, 5.1.1).
 ghost use Rattle.std.specs.Prelude.{◌≡◌, ◌+◌, ◌-◌, ◌++◌, ◌<◌, ◌≤◌, [], IfOk, List, codes, length, map, take, ℕ};
 ghost use Rattle.std.specs.Option.{option_map};
 ghost use Rattle.mime_text.specs.Multipart.{content_cut, is_padded, prologue_text};
@@ -11,23 +11,23 @@ use crate::lines::{next_line, without_end};
 use octets::is_blank;
 use std::alloc::{AllocError, Global};
 
-/// A boundary, as the lines that have it begin.
+/// The beginnings of the lines that have a boundary.
 #[derive(Drop)]
 struct Boundary {
-    /// `--` and the boundary: a delimiter.
+    /// The beginning of a delimiter: `--` and the boundary.
     delimiter: Vec<u8>,
-    /// And `--`: a closing line.
+    /// The beginning of a closing line: `--`, the boundary and `--`.
     closing: Vec<u8>,
 }
 
-/// What a line is to a multipart.
+/// The kind of a line in a multipart.
 #[derive(Clone, Copy)]
 enum BoundaryKind {
     /// A line that begins a part.
     Delimiter,
     /// A line that ends the last part.
     Closing,
-    /// Neither.
+    /// Any other line.
     Inner,
 }
 
@@ -40,7 +40,7 @@ fn joined(alloc: Global, front: &[u8], back: &[u8]) -> Result<Vec<u8>, AllocErro
     Ok(text)
 }
 
-/// Whether a line, its end aside, is a text and then spaces and tabs.
+/// Whether a line without its end is the text, then only spaces and tabs.
 fn is_padded(text: &[u8], line: &[u8]) -> bool
     ensures { result ≡ is_padded text.now line.now }
 {
@@ -60,7 +60,7 @@ fn are_blank(octets: &[u8]) -> bool
 }
 
 impl Boundary {
-    /// The lines of a boundary.
+    /// The beginnings of the lines that have this boundary.
     fn new(alloc: Global, boundary: &[u8]) -> Result<Boundary, AllocError>
         ensures { IfOk result
             (λ made. IsBoundary boundary.now made.delimiter.items made.closing.items) }
@@ -70,7 +70,6 @@ impl Boundary {
         Ok(Boundary { delimiter, closing })
     }
 
-    /// What a line is.
     fn kind_of(&self, line: &[u8]) -> BoundaryKind
         ensures { result ≡ kind_of self.now.delimiter.items self.now.closing.items line.now }
     {
@@ -84,27 +83,27 @@ impl Boundary {
     }
 }
 
-/// What ends a stretch of lines.
+/// The end of a stretch of lines.
 #[derive(Clone, Copy)]
 enum PartStop<'t> {
     /// The end of the text.
     End,
-    /// A delimiter, and what follows it.
+    /// A delimiter, and the text after it.
     Delimiter(&'t [u8]),
-    /// A closing line, and what follows it.
+    /// A closing line, and the text after it.
     Closing(&'t [u8]),
 }
 
-/// What stands before the next delimiter or closing line, and that.
+/// A stretch of lines up to the next delimiter or closing line, or to the end of the text.
 #[derive(Clone, Copy)]
 struct Stretch<'t> {
-    /// What stands before it.
+    /// Its text. The line end before a delimiter or a closing line isn't part of it.
     text: &'t [u8],
-    /// What ends it.
+    /// Its end.
     stop: PartStop<'t>,
 }
 
-/// What stands in a text before a rest of it, without the end of its last line.
+/// The text before a rest of it, without the end of its last line.
 fn text_before<'t>(text: &'t [u8], rest: &[u8]) -> &'t [u8]
     requires { length rest.now ≤ length text.now }
     ensures { result.now ≡ without_end (take (length text.now - length rest.now) text.now) }
@@ -151,15 +150,16 @@ impl Boundary {
 /// A content that is cut by a boundary.
 #[derive(Drop)]
 pub(crate) struct Pieces<'t> {
-    /// What stands before the first delimiter or closing line.
+    /// The text before the first delimiter or closing line.
     pub(crate) prologue: &'t [u8],
-    /// The parts.
+    /// The texts of the parts, in order.
     pub(crate) parts: Vec<&'t [u8]>,
-    /// What follows the closing line, if one comes.
+    /// The text after the closing line, if one comes.
     pub(crate) epilogue: Option<&'t [u8]>,
 }
 
-/// The further parts of a content, from the first delimiter or closing line on, and the epilogue. A closing line ends them also before any part.
+/// The parts of a content from its first delimiter or closing line on, and the epilogue. A closing
+/// line ends the parts, also before the first one.
 fn parts_from<'t>(
     alloc: Global,
     boundary: &Boundary,
@@ -183,7 +183,7 @@ fn parts_from<'t>(
     }
 }
 
-/// A content that is cut by a boundary.
+/// Cuts a content by a boundary.
 pub(crate) fn pieces_of<'t>(
     alloc: Global,
     boundary: &[u8],

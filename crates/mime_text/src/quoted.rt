@@ -1,4 +1,4 @@
-//! Quoted-printable (RFC 2045, section 6.7).
+//! Quoted-printable (RFC 2045, 6.7).
 ghost use Rattle.std.specs.Prelude.{◌≡◌, ◌++◌, [], ◌∷◌, if◌then◌else◌, ◌<◌, ◌≤◌, IfOk, MatchOption, None, OnOk, Some, drop, length, option_to_list, slice_index};
 ghost use Rattle.std.specs.List.{prefix_len};
 ghost use Rattle.octets.specs.Hex.{hex_octet};
@@ -9,21 +9,21 @@ use crate::lines::end_len;
 use octets::{hex_octet, is_blank};
 use std::alloc::{AllocError, Global};
 
-/// How many blanks stand in front.
+/// The number of blanks at the start of a text.
 fn blank_len(text: &[u8]) -> usize
     ensures { result ≡ prefix_len is_blank text.now }
 {
     text.iter().take_while(|octet| is_blank(**octet)).count()
 }
 
-/// Whether the end of a line or of the text stands in front.
+/// Whether a text is empty or begins with a line end.
 fn is_at_end(text: &[u8]) -> bool
     ensures { result ≡ is_at_end text.now }
 {
     text.is_empty() || end_len(text) > 0
 }
 
-/// Adds blanks, where no end follows them.
+/// Adds blanks, unless a line end or the end of the text follows them.
 fn push_blanks(kept: &mut Vec<u8>, blanks: &[u8], rest: &[u8]) -> Result<(), AllocError>
     ensures { OnOk result
         (kept.new.items ≡ kept.old.items ++ (if is_at_end rest.now then [] else blanks.now)) }
@@ -35,7 +35,8 @@ fn push_blanks(kept: &mut Vec<u8>, blanks: &[u8], rest: &[u8]) -> Result<(), All
     Ok(())
 }
 
-/// Adds the blanks that stand in front, where no end follows them, or the first octet where it is none. Answers what follows.
+/// Adds the blanks at the start of a text, unless they end a line or the text. Where no blank
+/// stands there, adds the first octet. Answers the rest of the text.
 fn push_stretch<'t>(kept: &mut Vec<u8>, text: &'t [u8]) -> Result<&'t [u8], AllocError>
     requires { 0 < length text.now }
     ensures kept { IfOk result (λ rest. kept.new.items ++ without_padding rest.now
@@ -63,7 +64,8 @@ fn without_padding(alloc: Global, text: &[u8]) -> Result<Vec<u8>, AllocError>
     Ok(kept)
 }
 
-/// The octet of the escape whose two digits stand in front, and what follows them.
+/// The octet of the escape whose two digits begin a text, and the text after them. None where
+/// they aren't hexadecimal digits.
 fn escape_at(text: &[u8]) -> Option<(u8, &[u8])>
     ensures { MatchOption result (escape_at text.now ≡ None)
         (λ found. (2 ≤ length text.now) × (found.1.now ≡ drop 2 text.now)
@@ -75,7 +77,7 @@ fn escape_at(text: &[u8]) -> Option<(u8, &[u8])>
     Some((hex_octet(*high, *low)?, rest))
 }
 
-/// The octet that the first piece stands for, if it stands for one, and what follows the piece.
+/// The octet that the first piece stands for, if it stands for one, and the text after the piece.
 fn next_piece(first: u8, text: &[u8]) -> (Option<u8>, &[u8])
     ensures is { octets_of_pieces (pieces_of (first ∷ text.now))
         ≡ option_to_list result.0 ++ octets_of_pieces (pieces_of result.1.now) }
@@ -94,7 +96,7 @@ fn next_piece(first: u8, text: &[u8]) -> (Option<u8>, &[u8])
     }
 }
 
-/// What a text stands for that has no blanks at the ends of its lines.
+/// The octets that the pieces of a text stand for.
 fn unquoted(alloc: Global, text: &[u8]) -> Result<Vec<u8>, AllocError>
     ensures { IfOk result (λ octets. octets.items ≡ octets_of_pieces (pieces_of text.now)) }
 {
@@ -110,7 +112,7 @@ fn unquoted(alloc: Global, text: &[u8]) -> Result<Vec<u8>, AllocError>
     Ok(octets)
 }
 
-/// The octets of a content in quoted-printable.
+/// The octets that a content in quoted-printable stands for.
 pub(crate) fn quoted_octets(alloc: Global, text: &[u8]) -> Result<Vec<u8>, AllocError>
     ensures { IfOk result (λ octets. octets.items ≡ quoted_octets text.now) }
 {

@@ -1,4 +1,4 @@
-//! What entities stand for in UTF-8 (RFC 5173, section 5).
+//! The contents of entities in UTF-8 (RFC 5173, section 5).
 ghost use Rattle.std.specs.Prelude.{◌≡◌, IfOk};
 ghost use Rattle.std.specs.Cow.{cow_slice_items};
 ghost use Rattle.std.specs.Option.{option_map};
@@ -14,7 +14,7 @@ use sieve_profile::Profile;
 use std::alloc::{AllocError, Global};
 use std::borrow::CowSlice;
 
-/// Octets in UTF-8 by a charset, if there is one.
+/// Octets of a charset in UTF-8. Without a charset, the octets as they are.
 fn text_by<'o>(
     alloc: Global,
     profile: Profile,
@@ -31,7 +31,7 @@ fn text_by<'o>(
 }
 
 impl ContentType {
-    /// Its charset, which a text alone has.
+    /// The charset of a text; other types have none.
     fn charset(&self) -> Option<&[u8]>
         ensures { option_map (λ charset. charset.now) result
             ≡ charset_of_type (content_type_as self.now) }
@@ -60,8 +60,9 @@ impl EntityType {
 }
 
 impl Entity<'_> {
-    /// The decoded octets of the entity's content in UTF-8, where it is a text all of which is right in its charset and the profile knows
-    /// that one; else the octets as they are. Takes memory only where the charset is another than UTF-8 and ASCII.
+    /// The decoded octets of the entity's content in UTF-8 (RFC 5173, section 5). They stay as they
+    /// are unless the entity is a text, and all of them are right in its charset. The profile must
+    /// know that charset. Takes memory only where the charset is another than UTF-8 and ASCII.
     pub fn text<'o>(
         &self,
         alloc: Global,

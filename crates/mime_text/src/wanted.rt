@@ -1,4 +1,4 @@
-//! Which entities an entry of `:content` names (RFC 5173, section 5.2).
+//! Which entities an entry of `:content` names (RFC 5173, 5.2).
 ghost use Rattle.std.specs.Prelude.{◌≡◌};
 ghost use Rattle.std.specs.List.{list_any};
 ghost use Rattle.mime_text.specs.Wanted.{is_slash, is_wanted, of_both, of_main, of_type, wanted_in};
@@ -7,27 +7,26 @@ ghost use Rattle.mime_text.specs.view.Wanted.{wanted_as};
 
 use crate::entities::{Entity, EntityType, Given};
 
-/// What an entry names.
+/// The entities that an entry names, by their types.
 #[derive(Clone, Copy)]
 pub enum WantedType<'e> {
-    /// Entities of any type, and those without one.
+    /// Entities of any type, and those without a type.
     Any,
-    /// Those of a main type.
+    /// Entities of this main type.
     Main(&'e [u8]),
-    /// Those of a type and a subtype.
+    /// Entities of this type and subtype.
     Type(&'e [u8], &'e [u8]),
-    /// None.
+    /// No entity.
     Nothing,
 }
 
-/// Whether a slash stands among octets.
 fn has_slash(octets: &[u8]) -> bool
     ensures { result ≡ list_any is_slash octets.now }
 {
     octets.iter().any(|octet| *octet == b'/')
 }
 
-/// A type and a subtype, neither of them empty, the second without a further slash.
+/// A type and a subtype. Nothing where one of them is empty, or the subtype has a slash.
 fn both<'e>(main: &'e [u8], sub: &'e [u8]) -> WantedType<'e>
     ensures { wanted_as result ≡ of_both main.now sub.now }
 {
@@ -39,8 +38,9 @@ fn both<'e>(main: &'e [u8], sub: &'e [u8]) -> WantedType<'e>
 }
 
 impl<'e> WantedType<'e> {
-    /// What an entry names: an empty one any type, one without a slash a main type, one with a slash inside a type and a subtype. Takes no
-    /// memory.
+    /// The entities that an entry of `:content` names (RFC 5173, 5.2). An empty entry names any
+    /// type, and one without a slash a main type. An entry with one slash inside names a type and a
+    /// subtype. Any other names nothing.
     pub fn of_entry(entry: &'e [u8]) -> WantedType<'e>
         ensures { wanted_as result ≡ wanted_in entry.now }
     {
@@ -68,7 +68,7 @@ impl EntityType {
         }
     }
 
-    /// Whether it has that subtype, in any case of letters.
+    /// Whether it is that type and subtype, in any case of letters.
     fn is_type(&self, main: &[u8], sub: &[u8]) -> bool
         ensures { result ≡ is_wanted (of_type main.now sub.now) (stated_as self.now) }
     {
@@ -83,7 +83,8 @@ impl EntityType {
 }
 
 impl Entity<'_> {
-    /// Whether an entry names the entity, in any case of letters. One without a type is named by an entry of any type alone. Takes no memory.
+    /// Whether an entry names the entity, in any case of letters. An entity without a type is named
+    /// by an entry of any type alone.
     pub fn is_wanted(&self, wanted: WantedType<'_>) -> bool
         ensures { result ≡ is_wanted (wanted_as wanted.entry) (entity_as self.now).type }
     {
@@ -95,8 +96,9 @@ impl Entity<'_> {
         }
     }
 
-    /// What the entity gives: a multipart its prologue and its epilogue, one that holds a message that message's header section, and any
-    /// other its content as it is written. Takes no memory.
+    /// The octets that the entity gives. A multipart gives its prologue and its epilogue. An
+    /// entity that holds a message gives that message's header section. Any other gives its
+    /// content as it is written.
     pub fn given(&self) -> Given<'_>
         ensures { given_as result ≡ (entity_as self.now).given }
     {

@@ -1,4 +1,4 @@
--- What calls on slots make of the values in them.
+-- The values in slots after calls on these slots.
 use Rattle.std.proofs.Common.{◌≡◌, ℕ, zero, suc, ◌+◌, ◌-◌, ◌<◌, Bool, true, false, cond, filter, List, [], ◌∷◌, ◌++◌, length, Option, None, Some, is_some, if◌then◌else◌, nat_eq, refl, sym, ap, ◌∙◌, arith, true≢false}
 use Rattle.std.specs.List.{IsDistinct, AllByRecursion}
 use Rattle.std.specs.Map.{keys_of, lookup, remove_entry, set_value, values_of}
@@ -35,7 +35,7 @@ length-slots ((key.Name name, Some value) ∷ ss) filled = let rest = length-slo
 length-slots ((key.Gap number, value) ∷ ss) filled = let rest = length-slots ss filled.1 in omega (arith, rest)
 
 module _ {V : Type 0} (test : SlotKey → Bool) (by : List ℕ → Bool) (named : (name : List ℕ) → test (key.Name name) ≡ by name) (gap : (number : ℕ) → test (key.Gap number) ≡ false) where
-  -- what is found by a name
+  -- the value that is found by a name
   pub lookup-entries : (ss : List (SlotKey × Option V)) → HaveValues ss → lookup by (entries_of ss) ≡ joined (lookup test ss)
   unfolding entries_of HaveValues
   lookup-entries [] filled = refl
@@ -103,7 +103,7 @@ module _ {V : Type 0} where
       at false rest = rest
   remove-gaps test gap ((key.Gap number, value) ∷ ss) = rw (gap number) (ap suc (remove-gaps test gap ss))
 
-  -- one more, where it is left in the place of a name that is there
+  -- one gap more, where it is left in the place of a name that is there
   pub gap_left-gaps : (test : SlotKey → Bool) → ((number : ℕ) → test (key.Gap number) ≡ false) → (number : ℕ) (ss : List (SlotKey × Option V)) → is_some (lookup test ss) ≡ true
       → gaps_of (gap_left test number ss) ≡ suc (gaps_of ss)
   unfolding gaps_of
@@ -167,7 +167,7 @@ module _ {V : Type 0} (eq : SlotKey → SlotKey → Bool) (same : (a b : List �
   distinct-entries ((key.Gap number, value) ∷ ss) distinct = distinct-entries ss distinct.1
 
 module _ {V : Type 0} where
-  -- what is kept of slots without their gaps
+  -- slots without their gaps keep their values
   pub filter-entries : (ss : List (SlotKey × Option V)) → entries_of (filter (λ s. is_name s.0) ss) ≡ entries_of ss
   unfolding entries_of
   filter-entries [] = refl
@@ -187,7 +187,7 @@ module _ {V : Type 0} where
   filter-gaps ((key.Name name, value) ∷ ss) = filter-gaps ss
   filter-gaps ((key.Gap number, value) ∷ ss) = filter-gaps ss
 
--- the slot at the first place whose key passes the test is what a gap is left in
+-- a gap is left in the first slot whose key passes the test
 left_at : {V : Type 0} (test : SlotKey → Bool) (number : ℕ) (ss : List (SlotKey × Option V)) (i : ℕ) (d : SlotKey) → i < length ss → test (slice_index_or (keys_of ss) i d) ≡ true → ((k : ℕ) → k < i → test (slice_index_or (keys_of ss) k d) ≡ false)
     → slice_set ss i (key.Gap number, None) ≡ gap_left test number ss
 left_at test number [] i d within here before = absurd (omega (arith, within))
@@ -215,7 +215,7 @@ pub entries-none : {V : Type 0} → entries_of {V = V} [] ≡ []
 unfolding entries_of
 entries-none = refl
 
--- what is put last, and then in the place of another
+-- an item that is put last, and then in the place of another
 pub gap_put : {X : Type 0} (xs ys zs : List X) (x : X) (i : ℕ) (r : Option X) → ys ≡ xs ++ x ∷ [] → i < length xs → r ≡ slice_get ys i → IfSome r (λ p. zs ≡ swap_remove ys i p) → zs ≡ slice_set xs i x
 gap_put xs ys zs x i None last within at made = absurd (true≢false (sym (ap is_some (at ∙ slice_get-get_or ys i x (omega (arith, within, ap length last, length-append xs (x ∷ [])))))))
 gap_put xs ys zs x i (Some p) last within at made = made ∙ ap (λ l. swap_remove l i p) last ∙ swapped_last xs i x p within

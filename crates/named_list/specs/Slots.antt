@@ -16,7 +16,7 @@ abbrev pub is_gap : ℕ → SlotKey → Bool
 is_gap sought (key.Name name) = false
 is_gap sought (key.Gap number) = nat_eq sought number
 
--- whether a key is what is sought
+-- whether a key is the one that is sought
 abbrev pub is_sought : SoughtKey → SlotKey → Bool
 is_sought (sought.Name octets) = is_named octets.now
 is_sought (sought.Gap number) = is_gap number
@@ -53,12 +53,12 @@ module _ {V : Type 0} where
   HaveValues [] = ⊤
   HaveValues (s ∷ ss) = HasValue s.0 s.1 × HaveValues ss
 
-  -- how many slots are gaps
+  -- the number of slots that are gaps
   unfoldable pub gaps_of : List (SlotKey × Option V) → ℕ
   gaps_of [] = 0
   gaps_of (s ∷ ss) = cond (is_name s.0) (gaps_of ss) (suc (gaps_of ss))
 
-  -- each slot with a name has a value, and so many are gaps
+  -- each slot with a name has a value, and this many are gaps
   abbrev pub AreFilled : List (SlotKey × Option V) → ℕ → Type 0
   AreFilled slots gaps = HaveValues slots × (gaps_of slots ≡ gaps)
 

@@ -1,4 +1,5 @@
-//! A list of values by name, in the order in which the names were put, which removes one without moving the others.
+//! A list of values by name, in the order in which the names were put. Removing a value leaves a
+//! gap, where there is room for one.
 #![tactic(auto)]
 
 mod iter;

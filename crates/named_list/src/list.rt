@@ -17,9 +17,11 @@ use octets::Octets;
 use std::alloc::{AllocError, Global};
 use std::marker::Model;
 
-/// Values by name, in the order in which their names were put. Contracts see the list of the names, each with its value.
+/// Values by name, in the order in which their names were put. Contracts see the list of the names,
+/// each with its value.
 ///
-/// A removed value leaves a gap in its slot, so that no later one moves. The gaps go once they are more than the values.
+/// A removed value leaves a gap in its slot, where there is room for one. Then no later value
+/// moves. The gaps go once they are more than the values.
 #[derive(Drop)]
 pub struct NamedList<V> {
     slots: IndexMap<SlotKey, Option<V>>,
@@ -37,7 +39,7 @@ impl<V> Model for NamedList<V> {
     ghost invariant = { λ a. AreFilled a.slots.entries a.gaps };
 }
 
-/// Whether a gap of this number can be left without memory, and none has its number.
+/// Whether there is room for a gap, and no gap has this number.
 fn can_leave_gap<V>(slots: &IndexMap<SlotKey, Option<V>>, number: usize) -> bool
     ensures room { IsTrue result → 0 < spare slots.now }
     ensures new { IsTrue result → get_by (is_gap number) slots.now ≡ None }
@@ -46,14 +48,14 @@ fn can_leave_gap<V>(slots: &IndexMap<SlotKey, Option<V>>, number: usize) -> bool
     slots.len() < slots.capacity() && !slots.contains_key(SoughtKey::Gap(number))
 }
 
-/// Leaves a gap of this number in a slot. Takes no memory.
+/// Leaves a gap of this number in a slot.
 fn leave_gap<V: Drop>(slots: &mut IndexMap<SlotKey, Option<V>>, number: usize, index: usize)
     requires room { 0 < spare slots.old }
     requires new { get_by (is_gap number) slots.old ≡ None }
     requires within { index < length slots.old.entries }
     ensures { slots.new.entries ≡ slice_set slots.old.entries index (Gap number, None) }
 {
-    // The gap comes last, and then takes the place of what goes.
+    // The gap is put last, and then takes the place of the slot that goes.
     match slots.insert(SlotKey::Gap(number), None) {
         Ok(_) => {}
         Err(_) => unreachable!("there is room"),
@@ -61,7 +63,8 @@ fn leave_gap<V: Drop>(slots: &mut IndexMap<SlotKey, Option<V>>, number: usize, i
     slots.swap_remove_index(index);
 }
 
-/// Takes out the value of a name, if there is one, from slots with so many gaps. Answers how many there are then. Takes no memory.
+/// Takes out the value of a name, if there is one, from slots with this many gaps. Answers the
+/// number of gaps after that.
 fn take_out<V: Drop>(slots: &mut IndexMap<SlotKey, Option<V>>, gaps: usize, name: &[u8]) -> usize
     requires { AreFilled slots.old.entries gaps }
     ensures entries { entries_of slots.new.entries
@@ -79,7 +82,7 @@ fn take_out<V: Drop>(slots: &mut IndexMap<SlotKey, Option<V>>, gaps: usize, name
     gaps
 }
 
-/// Removes the gaps, of which there are so many. Takes no memory.
+/// Removes the gaps, of which there are this many.
 fn close_gaps<V: Drop>(slots: &mut IndexMap<SlotKey, Option<V>>, gaps: usize)
     requires { AreFilled slots.old.entries gaps }
     ensures entries { entries_of slots.new.entries ≡ entries_of slots.old.entries }
@@ -93,7 +96,7 @@ fn close_gaps<V: Drop>(slots: &mut IndexMap<SlotKey, Option<V>>, gaps: usize)
 impl<V: Drop> NamedList<V> {
     ghost use Rattle.named_list.specs.Lends.{lends_at, lends_named};
 
-    /// A list of no values. Takes no memory.
+    /// A list without values.
     #[tactic(auto, unfolding(crate::specs::Slots::entries_of, crate::specs::Slots::HaveValues, crate::specs::Slots::gaps_of))]
     pub fn new(alloc: Global) -> NamedList<V>
         ensures { result ≡ record { entries = [] } }
@@ -123,7 +126,7 @@ impl<V: Drop> NamedList<V> {
         }
     }
 
-    /// The value of a name to write to, where there is one. Takes no memory.
+    /// The value of a name to write to, where there is one.
     pub fn get_mut(&mut self, name: &[u8]) -> Option<&mut V>
         ensures* writes_back { sem 𝓛 (lends_named V.row self.entry name.now result) }
         ensures value { option_copied_mut result
@@ -139,8 +142,8 @@ impl<V: Drop> NamedList<V> {
         }
     }
 
-    /// The value at a place to write to, where there is one. Takes no memory. The gaps go first, so that many calls take no more time each in a
-    /// long list than in a short one.
+    /// The value at a place to write to, where there is one. The gaps go first. So many calls in a
+    /// row take no more time each in a long list than in a short one.
     pub fn get_index_mut(&mut self, index: usize) -> Option<&mut V>
         ensures* writes_back { sem 𝓛 (lends_at V.row self.entry index result) }
         ensures value { option_copied_mut result ≡ slice_get (values_of self.old.entries) index }
@@ -154,14 +157,15 @@ impl<V: Drop> NamedList<V> {
         }
     }
 
-    /// Whether there is a value of a name.
+    /// Whether a name has a value.
     pub fn contains(&self, name: &[u8]) -> bool
         ensures { result ≡ is_some (lookup (pointwise nat_eq name.now) self.now.entries) }
     {
         self.get(name).is_some()
     }
 
-    /// Puts a value at a name: in the place of the one there, or last. An error changes nothing.
+    /// Puts a value at a name: in the place of the one there, or last. When out of memory, answers
+    /// the error and changes nothing.
     pub fn insert(&mut self, name: Octets, value: V) -> Result<(), AllocError>
         ensures ok { OnOk result (self.new.entries
             ≡ insert_entry (pointwise nat_eq) self.old.entries name value) }
@@ -174,8 +178,8 @@ impl<V: Drop> NamedList<V> {
         }
     }
 
-    /// Removes the value of a name, if there is one. The others stay in their order. Takes no memory. Many calls take no more time each in a
-    /// long list than in a short one.
+    /// Removes the value of a name, if there is one. The others stay in their order. Many calls in
+    /// a row take no more time each in a long list than in a short one.
     pub fn remove(&mut self, name: &[u8])
         ensures entries { self.new.entries
             ≡ remove_entry (pointwise nat_eq name.now) self.old.entries }

@@ -1,4 +1,4 @@
-//! What a slot of a list is found by.
+//! The keys by which the slots of a list are found.
 ghost use Rattle.std.specs.Prelude.{◌≡◌};
 ghost use Rattle.named_list.specs.Slots.{is_name, is_sought};
 ghost use Rattle.std.proofs.Common.{rules};
@@ -7,14 +7,14 @@ ghost use Rattle.std.specs.Cmp.Rules.{comparing, hashing};
 use indexmap::Equivalent;
 use octets::Octets;
 
-/// The name of the value in a slot, or the number of a gap, where a value was.
+/// The key of a slot: the name of its value, or the number of a gap, where a value was.
 #[derive(PartialEq, Eq, Hash, Drop)]
 pub(crate) enum SlotKey {
     Name(Octets),
     Gap(usize),
 }
 
-/// A slot's key, looked up by octets that need not be copied.
+/// A key to look a slot up by, of octets that need not be copied.
 #[derive(Clone, Copy, PartialEq, Eq, Hash)]
 pub(crate) enum SoughtKey<'a> {
     Name(&'a [u8]),

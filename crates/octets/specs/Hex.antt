@@ -7,7 +7,7 @@ use Rattle.octets.specs.Octet.{is_between, is_digit, octet_of}
 abbrev pub hex_digit : ℕ → ℕ
 hex_digit n = if nat_lt n 10 then octet_of "0" + n else octet_of "a" + (n - 10)
 
--- the number of a digit, in either case, or nothing where it is none
+-- the number of a digit, in either case; none for another octet
 abbrev pub hex_value : ℕ → Option ℕ
 hex_value octet =
     if is_digit octet then Some (octet - octet_of "0")
@@ -15,6 +15,6 @@ hex_value octet =
     else if is_between (octet_of "a") (octet_of "f") octet then Some (octet - octet_of "a" + 10)
     else None
 
--- the octet of two digits
+-- the octet of two digits, if both are such
 abbrev pub hex_octet : (high low : ℕ) → Option ℕ
 hex_octet high low = option_and_then (λ h. option_map (λ l. 16 * h + l) (hex_value low)) (hex_value high)

@@ -1,5 +1,5 @@
--- Octets by the characters of ASCII that they stand for, classes of octets (RFC 5234, appendix B.1; RFC 5228, section 8.1), and lists
--- of octets.
+-- Octets by their characters of ASCII, classes of octets (RFC 5234, appendix B.1; RFC 5228, 8.1),
+-- and lists of octets.
 use Prim.Native.Char.{Char, code}
 use lib.Pointwise.{pointwise}
 use Rattle.std.specs.Prelude.{ℕ, Bool, ◌&&◌, ◌||◌, ◌==◌, nat_eq, nat_le, nat_lt, List, length}
@@ -21,7 +21,7 @@ is_digit octet = is_between (octet_of "0") (octet_of "9") octet
 abbrev pub is_blank : ℕ → Bool
 is_blank octet = octet == octet_of " " || octet == octet_of "\t"
 
--- white space: a space, a tab, a CR or an LF (RFC 5228, sections 2.2 and 8.1; RFC 5322, section 3.2.2)
+-- white space: a space, a tab, a CR or an LF (RFC 5228, 2.2 and 8.1; RFC 5322, 3.2.2)
 abbrev pub is_white : ℕ → Bool
 is_white octet = octet == octet_of " " || (octet == octet_of "\t" || (octet == octet_of "\r" || (octet == octet_of "\n")))
 
@@ -33,11 +33,11 @@ is_visible octet = is_between (octet_of "!") (octet_of "~") octet
 abbrev pub is_printable : ℕ → Bool
 is_printable octet = is_between (octet_of " ") (octet_of "~") octet
 
--- a letter or `_`, with which an identifier begins (RFC 5228, section 8.1)
+-- a letter or `_`, with which an identifier begins (RFC 5228, 8.1)
 abbrev pub begins_name : ℕ → Bool
 begins_name octet = is_between (octet_of "a") (octet_of "z") octet || (is_between (octet_of "A") (octet_of "Z") octet || (octet == octet_of "_"))
 
--- a letter, a digit or `_`, of which it goes on (RFC 5228, section 8.1)
+-- a letter, a digit or `_`, with which an identifier goes on (RFC 5228, 8.1)
 abbrev pub is_name_octet : ℕ → Bool
 is_name_octet octet = begins_name octet || is_digit octet
 

@@ -1,4 +1,4 @@
-//! Classes of octets (RFC 5234, appendix B.1; RFC 5228, section 8.1).
+//! Classes of octets (RFC 5234, appendix B.1; RFC 5228, 8.1).
 ghost use Rattle.std.specs.Prelude.{◌≡◌};
 ghost use Rattle.octets.specs.Octet.{begins_name, is_blank, is_digit, is_name_octet, is_printable, is_visible, is_white};
 
@@ -18,7 +18,7 @@ pub fn is_blank(octet: u8) -> bool
     matches!(octet, b' ' | b'\t')
 }
 
-/// Whether the octet is one of white space: a space, a tab, a CR or an LF (RFC 5228, section 8.1; RFC 5322, section 3.2.2).
+/// Whether the octet is a space, a tab, a CR or an LF (RFC 5228, 8.1; RFC 5322, 3.2.2).
 #[inline]
 pub fn is_white(octet: u8) -> bool
     ensures { result ≡ is_white octet }
@@ -34,7 +34,7 @@ pub fn is_visible(octet: u8) -> bool
     matches!(octet, b'!'..=b'~')
 }
 
-/// Whether the octet is a visible character of ASCII or a space (RFC 5234, appendix B.1: VCHAR, SP).
+/// Whether the octet is visible ASCII or a space (RFC 5234, appendix B.1: VCHAR, SP).
 #[inline]
 pub fn is_printable(octet: u8) -> bool
     ensures { result ≡ is_printable octet }
@@ -42,7 +42,7 @@ pub fn is_printable(octet: u8) -> bool
     matches!(octet, b' '..=b'~')
 }
 
-/// Whether an identifier begins with the octet: a letter or `_` (RFC 5228, section 8.1).
+/// Whether an identifier begins with the octet: a letter or `_` (RFC 5228, 8.1).
 #[inline]
 pub fn begins_name(octet: u8) -> bool
     ensures { result ≡ begins_name octet }
@@ -50,7 +50,7 @@ pub fn begins_name(octet: u8) -> bool
     octet.is_ascii_alphabetic() || octet == b'_'
 }
 
-/// Whether an identifier continues with the octet: a letter, a digit or `_` (RFC 5228, section 8.1).
+/// Whether an identifier continues with the octet: a letter, a digit or `_` (RFC 5228, 8.1).
 #[inline]
 pub fn is_name_octet(octet: u8) -> bool
     ensures { result ≡ is_name_octet octet }

@@ -12,7 +12,7 @@ pub fn hex_digit(n: u8) -> u8
     if n < 10 { b'0' + n } else { b'a' + (n - 10) }
 }
 
-/// The number of a digit, in either case, or nothing where it is none.
+/// The number of a digit, in either case; none for another octet.
 fn hex_value(octet: u8) -> Option<u8>
     ensures value { result ≡ hex_value octet }
     ensures small { IfSome result (λ value. value < 16) }
@@ -25,7 +25,7 @@ fn hex_value(octet: u8) -> Option<u8>
     }
 }
 
-/// The octet of two digits, in either case, or nothing where one of them is none.
+/// The octet of two digits, in either case. None where one of them is no digit.
 pub fn hex_octet(high: u8, low: u8) -> Option<u8>
     ensures { result ≡ hex_octet high low }
 {

@@ -14,7 +14,8 @@ use std::cmp::Ordering;
 use std::hash::{Hash, Hasher};
 use std::marker::Model;
 
-/// Octets that lie in the value itself where they are sixteen or fewer, as most names and strings of scripts are.
+/// Octets that lie in the value itself where they are sixteen or fewer. Most names and strings of
+/// scripts are so short.
 pub type SmallOctets = SmallVec<u8, 16>;
 
 /// A string of octets of any values. Contracts see the list of the octets.
@@ -32,14 +33,14 @@ impl Model for Octets {
 }
 
 impl Octets {
-    /// The octets of a vector. Takes no memory.
+    /// The string of a vector's octets.
     pub fn from_vec(bytes: Vec<u8>) -> Octets
         ensures { result ≡ bytes.items }
     {
         Octets { bytes }
     }
 
-    /// Gives the vector back. Takes no memory.
+    /// The vector of the string's octets.
     pub fn into_vec(self) -> Vec<u8>
         ensures { result.items ≡ self }
     {
@@ -47,14 +48,14 @@ impl Octets {
         octets
     }
 
-    /// A copy of a slice.
+    /// A copy of a slice. Answers the error when out of memory.
     pub fn copied(alloc: Global, octets: &[u8]) -> Result<Octets, AllocError>
         ensures { IfOk result (λ copy. copy ≡ octets.now) }
     {
         Ok(Octets::from_vec(Vec::from_slice(alloc, octets)?))
     }
 
-    /// The octets. Takes no memory.
+    /// The octets of the string.
     pub fn as_slice(&self) -> &[u8]
         ensures { result.now ≡ self.now }
     {

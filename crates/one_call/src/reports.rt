@@ -8,7 +8,7 @@ use bench::{Bench, TestJob, TestScript, test_bench};
 use devices::Counted;
 use octets::Octets;
 use session_server::{
-    Argument, End, Job, SessionEnd, TestWords, UsageFault, command_of, session, status_of,
+    CommandWord, End, Job, SessionEnd, TestWords, UsageFault, command_of, session, status_of,
 };
 use sieve_profile::Profile;
 use sieve_run::Meter;
@@ -174,7 +174,7 @@ fn tell_test(rt: &impl Print, words: &TestWords) -> io::Result<()> {
 }
 
 /// Prints the value of an option, or `none` if it isn't given.
-fn tell_argument(rt: &impl Print, value: &Option<Argument>) -> io::Result<()> {
+fn tell_argument(rt: &impl Print, value: &Option<CommandWord>) -> io::Result<()> {
     match value {
         Some(value) => println!(rt; "{}", value.as_str()),
         None => println!(rt; "none"),

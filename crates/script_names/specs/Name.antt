@@ -1,4 +1,5 @@
--- The names of scripts: their order and their equality, as the derives compute them, and the words of their locations.
+-- The names of scripts: their order and their equality, as the derives compute them, and the
+-- words of their locations.
 use Rattle.std.specs.Prelude.{Bool, true, false, ◌&&◌, ℕ, List, nat_eq, codes}
 use Rattle.std.specs.Ordering.{nat_cmp, ordering_then}
 use Rattle.std.specs.Cmp.Lexicographic.{slice_cmp}
@@ -9,7 +10,7 @@ use Rattle.script_names.specs.declared.location.Location.{Location}
 use Rattle.script_names.specs.declared.location.Location.TheVariants.{Personal, Global}
 use Rattle.script_names.specs.declared.name.ScriptName.{ScriptName}
 
--- the personal location comes first (the two of RFC 6609, section 3.2)
+-- the personal location comes before the global one (RFC 6609, 3.2)
 abbrev pub location_cmp : Location → Location → Ordering
 location_cmp Personal Personal = Equal
 location_cmp Personal Global = Less

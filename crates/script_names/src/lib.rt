@@ -1,4 +1,4 @@
-//! Where scripts are kept, and how they are named there (RFC 6609, section 3.2).
+//! The places where scripts are kept, and their names there (RFC 6609, 3.2).
 #![tactic(auto)]
 
 pub mod laws;

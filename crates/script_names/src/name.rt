@@ -5,18 +5,18 @@ use crate::location::Location;
 use octets::Octets;
 use std::alloc::{AllocError, Global};
 
-/// The name of a script: the store that it is kept in, and its octets there. Personal names come first, and names
-/// of one store are in the order of their octets.
+/// The name of a script: the location that it is kept in, and its octets there. Personal names come
+/// first. Names of one location are in the order of their octets.
 #[derive(Drop, PartialEq, Eq, PartialOrd, Ord, Hash)]
 pub struct ScriptName {
-    /// The store.
+    /// The location that the script is kept in.
     pub location: Location,
     /// The octets of the name, of any values.
     pub name: Octets,
 }
 
 impl ScriptName {
-    /// The script of these octets in a store (RFC 6609, section 3.2). Takes no memory.
+    /// The name of these octets in a location (RFC 6609, 3.2).
     pub fn new(location: Location, name: Vec<u8>) -> ScriptName
         ensures { result ≡ record { location = location; name = name.items } }
     {
@@ -26,7 +26,7 @@ impl ScriptName {
         }
     }
 
-    /// A copy of the name. Fails where memory is refused.
+    /// A copy of the name. Answers the error when out of memory.
     pub fn copy(&self, alloc: Global) -> Result<ScriptName, AllocError>
         ensures { IfOk result (λ copy. copy ≡ self.now) }
     {

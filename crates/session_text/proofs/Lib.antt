@@ -9,3 +9,4 @@ pub mod Taking
 pub mod Unused
 mod WordRows
 pub mod Words
+pub mod LineWords

@@ -1,6 +1,7 @@
 //! Laws over the definitions. Each of these functions does nothing: its contract is the law.
-ghost use Rattle.std.specs.Prelude.{◌≡◌, ◌<◌, ℕ, List, None, Some, IfSome, map, true};
-ghost use Rattle.std.specs.List.{All, list_all};
+ghost use Rattle.std.specs.Prelude.{◌≡◌, ◌<◌, ◌∷◌, ℕ, List, [], None, Some, IfSome, codes, is_some, map, nat_eq, true};
+ghost use Rattle.std.specs.List.{All, list_all, list_any};
+ghost use lib.Pointwise.{pointwise};
 ghost use Rattle.devices.specs.Writers.{quoted};
 ghost use Rattle.session_text.specs.LineOf.{IsLineOf, IsWord, joined};
 ghost use Rattle.session_text.specs.SessionLine.{SessionCommand, command_of_line, extension_of, line_kind, line_word, line_words, word_value};
@@ -14,9 +15,16 @@ pub fn a_quoted_word_stands_for_its_octets()
         → word_value (quoted octets) ≡ Some octets }
 {}
 
-/// The first word of each line that asks for something is that of no other.
+/// The first word of each line that asks for something is that of no other. A line asks for
+/// something exactly if its first word is one of these.
+#[tactic(auto, using(crate::proofs::LineWords::lines_known))]
 pub fn lines_are_found_by_their_words()
-    ensures { (kind : LineKind) → line_kind (line_word kind) ≡ Some kind }
+    ensures found { (kind : LineKind) → line_kind (line_word kind) ≡ Some kind }
+    ensures these { (word : List ℕ) → is_some (line_kind word) ≡ list_any
+        (λ known. pointwise nat_eq known word) (codes "script" ∷ codes "message" ∷ codes "main" ∷ codes "no-main" ∷ codes "rename"
+        ∷ codes "drop-script" ∷ codes "drop-message" ∷ codes "envelope" ∷ codes "mailbox" ∷ codes "report"
+        ∷ codes "dump" ∷ codes "expect" ∷ codes "no-expect" ∷ codes "mailboxes"
+        ∷ codes "message-envelope" ∷ codes "no-message-envelope" ∷ codes "clock" ∷ codes "no-clock" ∷ []) }
 {}
 
 /// The words of a line that is made of words are these words. Each is bare or in the quoted form

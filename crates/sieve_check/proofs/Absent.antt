@@ -6,7 +6,7 @@ use Rattle.std.specs.List.{All, list_any}
 use Rattle.std.specs.Option.{option_and_then}
 use Rattle.std.specs.Prelude.{if◌then◌else◌}
 use Rattle.sieve_profile.specs.Profile.{Profile}
-use Rattle.sieve_syntax.specs.Tree.{Argument, Block, Node, Tests}
+use Rattle.sieve_syntax.specs.Tree.{Argument, Block, Command, Tests}
 use Rattle.sieve_check.specs.Absent.{command_lacks, comparator_lacks, is_absent_tag, lacks, row_lacks, said_lacks, test_lacks}
 use Rattle.sieve_check.specs.Breach.{breaches_in, breaches_of, breaks, command_breaks, said_breaks, test_breaks}
 use Rattle.sieve_check.specs.Context.{Context, under}
@@ -126,7 +126,7 @@ module _ (p : Profile) where
       let parts = nothing_before (reprofiled p e) (map (reprofiled p) es) none in
       All-cons (λ e. lacks p e ≡ false) (reprofiled p e) (map (reprofiled p) es) (element_there e (keeps (reprofiled p e) parts.0)) (all_there es parts.1)
 
-  pub nothing_absent : (tree : List Node) → breaches_of p tree ≡ [] → All (λ e. lacks p e ≡ false) (elements_of p tree)
+  pub nothing_absent : (tree : List Command) → breaches_of p tree ≡ [] → All (λ e. lacks p e ≡ false) (elements_of p tree)
   nothing_absent tree none =
       let same = elements_again p p refl tree in
       subst (λ es. All (λ e. lacks p e ≡ false) es) (sym same) (all_there (elements_of p tree) (ap breaches_in (sym same) ∙ none))

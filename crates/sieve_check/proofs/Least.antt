@@ -2,7 +2,7 @@
 use Rattle.std.proofs.Common.{◌≡◌, Bool, true, false, List, [], ◌∷◌, ◌++◌, Some, None, refl, ap, ◌∙◌, subst, slice_get}
 use Rattle.std.specs.List.{flat_map}
 use Rattle.sieve_profile.specs.Profile.{Profile}
-use Rattle.sieve_syntax.specs.Tree.{Node}
+use Rattle.sieve_syntax.specs.Tree.{Command}
 use Rattle.sieve_check.specs.Breach.{Breach, breach_if, breaches_at, breaches_by, breaches_in, breaches_of, breaks, first_breach, line_of, IsLeast, IsLeastBreach}
 use Rattle.sieve_table.specs.Rule.{all_rules}
 use Rattle.sieve_check.specs.Element.{Element, elements_of}
@@ -89,10 +89,10 @@ unfolding breaches_in breaches_at
 least_of [] breach first = absurd (none_is breach first)
 least_of (element ∷ after) breach first = at_front element after breach (finding element all_rules (breaches_in after) breach first) (least_of after breach)
 
-pub first_is_least : (profile : Profile) (tree : List Node) (breach : Breach) → first_breach profile tree ≡ Some breach → IsLeastBreach profile tree breach
+pub first_is_least : (profile : Profile) (tree : List Command) (breach : Breach) → first_breach profile tree ≡ Some breach → IsLeastBreach profile tree breach
 first_is_least profile tree breach first = least_of (elements_of profile tree) breach first
 
-pub breaches_order : (profile : Profile) (tree : List Node) → breaches_of profile tree ≡ flat_map breaches_at (elements_of profile tree)
+pub breaches_order : (profile : Profile) (tree : List Command) → breaches_of profile tree ≡ flat_map breaches_at (elements_of profile tree)
 unfolding breaches_in
 breaches_order profile tree = refl
 

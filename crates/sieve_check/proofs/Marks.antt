@@ -3,15 +3,15 @@ use Rattle.std.proofs.Common.{◌≡◌, ℕ, Bool, true, false, List, [], ◌�
 use Rattle.std.proofs.lemmas.List.{append-nil, append_assoc}
 use Rattle.sieve_check.specs.Breach.{breaches_in, breaches_of}
 use Rattle.sieve_check.specs.Context.{Context, after, after_kind, inside, script_start}
-use Rattle.sieve_check.specs.Element.{block_elements, command_arguments, node_elements, nodes_elements, test_arguments, test_elements, test_list_elements, tests_elements, the_command, the_test}
-use Rattle.sieve_check.specs.Marks.{Mark, DoesAll, act_mark, all_mark, always_mark, any_mark, ask_mark, begins_continued, block_end, block_marks, branch_closing, branch_marks, choice_end, closing, condition_marks, conditions_marks, continues, else_mark, join_end, marks, never_mark, node_marks, nodes_marks, not_mark, opening, return_mark, stop_mark, test_closing, test_list_marks, test_mark, test_marks, test_opening, tests_marks}
-use Rattle.sieve_check.specs.Script.{block_commands, chain_of, chain_with, command_reading, condition_of, conditions, conditions_in, node_reading, test_reading}
+use Rattle.sieve_check.specs.Element.{block_elements, command_arguments, command_elements, command_list_elements, test_arguments, test_elements, test_list_elements, tests_elements, the_command, the_test}
+use Rattle.sieve_check.specs.Marks.{Mark, DoesAll, act_mark, all_mark, always_mark, any_mark, ask_mark, begins_continued, block_end, block_marks, branch_closing, branch_marks, choice_end, closing, condition_marks, conditions_marks, continues, else_mark, join_end, marks, never_mark, command_marks, command_list_marks, not_mark, opening, return_mark, stop_mark, test_closing, test_list_marks, test_mark, test_marks, test_opening, tests_marks}
+use Rattle.sieve_check.specs.Script.{block_commands, chain_of, chain_with, command_reading, condition_of, conditions, conditions_in, reading_of, test_reading}
 use Rattle.sieve_check.specs.Use.{block_fits, has_block, tests_fit}
 use Rattle.sieve_profile.specs.Profile.{Profile}
 use Rattle.sieve_script.specs.Reading as reading
 use Rattle.sieve_script.specs.Reading.{CommandReading, TestReading}
 use Rattle.sieve_script.specs.Script.{Chain, Condition, chain_with_command, first_condition, joined}
-use Rattle.sieve_syntax.specs.Tree.{Test, test, Tests, no_tests, one_test, test_list, TestList, end_tests, more_tests, Node, node, Block, no_block, block, Nodes, end_nodes, more_nodes, nodes}
+use Rattle.sieve_syntax.specs.Tree.{Test, test, Tests, no_tests, one_test, test_list, TestList, end_tests, more_tests, Command, command, Block, no_block, block, CommandList, end_commands, more_commands, command_list}
 use Rattle.sieve_table.specs.Known.{known_command, known_test}
 use Rattle.sieve_table.specs.declared.row.Inner.TheVariants as inner
 use Rattle.sieve_check.proofs.Readable.{Joins, Stands, command_is_read, goes_on, may_go_on, test_is_read}
@@ -207,11 +207,11 @@ module _ (line : ℕ) (condition : Condition) (tested : List Mark) (within : Con
 -- THE TREE
 
 mutual
-  unfolding chain_with block_commands chain_of node_marks block_marks nodes_marks node_elements block_elements nodes_elements marks branch_marks
+  unfolding chain_with block_commands chain_of command_marks block_marks command_list_marks command_elements block_elements command_list_elements marks branch_marks
 
-  node_agrees : (n : Node) (context : Context) (continued : Bool) (chain : Chain) (all : List Mark) → breaches_in (node_elements context n) ≡ [] → Agrees (may_go_on (node_reading context n)) continued chain all
-      → Agrees context.follows_if (continues (node_reading context n)) (chain_with context n chain) (node_marks context n continued ++ all)
-  node_agrees (node name line args ts ending) context continued chain all none so =
+  command_agrees : (n : Command) (context : Context) (continued : Bool) (chain : Chain) (all : List Mark) → breaches_in (command_elements context n) ≡ [] → Agrees (may_go_on (reading_of context n)) continued chain all
+      → Agrees context.follows_if (continues (reading_of context n)) (chain_with context n chain) (command_marks context n continued ++ all)
+  command_agrees (command name line args ts ending) context continued chain all none so =
       let k = known_command context.profile name in
       let within = after_kind context k args in
       let inside_it = tests_elements context ts ++ block_elements within ending in
@@ -224,17 +224,17 @@ mutual
 
   block_agrees : (b : Block) (context : Context) → breaches_in (block_elements context b) ≡ [] → marks (block_commands context b) ≡ block_marks context b
   block_agrees no_block context none = refl
-  block_agrees (block ns) context none = let so = nodes_agree ns (inside context) none in so.alone (so.may refl)
+  block_agrees (block ns) context none = let so = commands_agree ns (inside context) none in so.alone (so.may refl)
 
-  nodes_agree : (ns : Nodes) (context : Context) → breaches_in (nodes_elements context ns) ≡ [] → Agrees context.follows_if (begins_continued context ns) (chain_of context ns) (nodes_marks context ns)
-  nodes_agree end_nodes context none = record { same = refl; alone = λ _. refl; may = λ _. refl }
-  nodes_agree (more_nodes n ns) context none =
+  commands_agree : (ns : CommandList) (context : Context) → breaches_in (command_list_elements context ns) ≡ [] → Agrees context.follows_if (begins_continued context ns) (chain_of context ns) (command_list_marks context ns)
+  commands_agree end_commands context none = record { same = refl; alone = λ _. refl; may = λ _. refl }
+  commands_agree (more_commands n ns) context none =
       let next = after context n in
-      let parts = none_in_both (node_elements context n) (nodes_elements next ns) none in
-      node_agrees n context (begins_continued next ns) (chain_of next ns) (nodes_marks next ns) parts.0
-      (subst (λ b. Agrees b (begins_continued next ns) (chain_of next ns) (nodes_marks next ns)) (goes_on context n parts.0) (nodes_agree ns next parts.1))
+      let parts = none_in_both (command_elements context n) (command_list_elements next ns) none in
+      command_agrees n context (begins_continued next ns) (chain_of next ns) (command_list_marks next ns) parts.0
+      (subst (λ b. Agrees b (begins_continued next ns) (chain_of next ns) (command_list_marks next ns)) (goes_on context n parts.0) (commands_agree ns next parts.1))
 
-pub does_all : (profile : Profile) (tree : List Node) → breaches_of profile tree ≡ [] → DoesAll profile tree
-does_all profile tree none = let so = nodes_agree (nodes tree) (script_start profile) none in so.alone (so.may refl)
+pub does_all : (profile : Profile) (tree : List Command) → breaches_of profile tree ≡ [] → DoesAll profile tree
+does_all profile tree none = let so = commands_agree (command_list tree) (script_start profile) none in so.alone (so.may refl)
 
 pub ruleset marks_kept = (does_all)

@@ -5,9 +5,9 @@ use Rattle.std.proofs.lemmas.Grind.{flat_map-append}
 use Rattle.std.proofs.lemmas.List.{length_push, reverse-append, take-append-le, take_at}
 use Rattle.std.specs.List.{before_last, prefix_len, suffix_len}
 use Rattle.std.specs.Prelude.{if◌then◌else◌}
-use Rattle.sieve_syntax.specs.Tree.{Argument, strings, number, tag, Text, Test, test, Tests, no_tests, one_test, test_list, TestList, end_tests, more_tests, Node, node, Block, no_block, block, Nodes, end_nodes, more_nodes, nodes}
+use Rattle.sieve_syntax.specs.Tree.{Argument, strings, number, tag, Text, Test, test, Tests, no_tests, one_test, test_list, TestList, end_tests, more_tests, Command, command, Block, no_block, block, CommandList, end_commands, more_commands, command_list}
 use Rattle.sieve_check.specs.Context.{Context, after, after_kind, inside, script_start}
-use Rattle.sieve_check.specs.Element.{Element, among, argument_elements, block_elements, command_arguments, elements_of, judged_labels, labelled_elements, node_elements, nodes_elements, row_elements, test_arguments, test_elements, test_list_elements, tests_elements, text_elements, the_command, the_number, the_test, the_text}
+use Rattle.sieve_check.specs.Element.{Element, among, argument_elements, block_elements, command_arguments, elements_of, judged_labels, labelled_elements, command_elements, command_list_elements, row_elements, test_arguments, test_elements, test_list_elements, tests_elements, text_elements, the_command, the_number, the_test, the_text}
 use Rattle.sieve_check.specs.Naming.{HasSetBefore, element_mentions, is_command, mentions_in, Mention, command_mentions, set_by}
 use Rattle.sieve_check.specs.Scope.{Scope, no_names}
 use Rattle.sieve_check.specs.Use.{has_block, is_well_used}
@@ -20,7 +20,7 @@ use Rattle.sieve_table.specs.Known.{known_command, known_test}
 use Rattle.sieve_table.specs.declared.row.Role.{Role}
 use Rattle.sieve_table.specs.declared.table.CommandKind.{CommandKind}
 use Rattle.sieve_table.specs.declared.table.TestKind.{TestKind}
-use Rattle.sieve_check.proofs.Naming.{after_mentions, block_writes, in_turn, kind_mentions, node_names, node_writes, nodes_writes, set_so}
+use Rattle.sieve_check.proofs.Naming.{after_mentions, block_writes, in_turn, kind_mentions, command_names, command_writes, commands_writes, set_so}
 
 -- BEFORE EACH ELEMENT
 
@@ -98,10 +98,10 @@ abbrev GoesOn : List Mention → List Element → Type 0
 GoesOn names es = (done own : List Mention) → done ++ own ≡ names → Goes done own es
 
 mutual
-  unfolding node_elements block_elements nodes_elements
+  unfolding command_elements block_elements command_list_elements
 
-  node_goes : (n : Node) (context : Context) (done own : List Mention) → Following context.scope (done ++ own) → (es : List Element) → GoesOn ((done ++ own) ++ node_writes context n) es → Goes done own (node_elements context n ++ es)
-  node_goes (node name line args ts ending) context done own so es goes =
+  command_goes : (n : Command) (context : Context) (done own : List Mention) → Following context.scope (done ++ own) → (es : List Element) → GoesOn ((done ++ own) ++ command_writes context n) es → Goes done own (command_elements context n ++ es)
+  command_goes (command name line args ts ending) context done own so es goes =
       let k = known_command context.profile name in
       let its = command_mentions context.profile context.required k args in
       let within = after_kind context k args in
@@ -121,21 +121,21 @@ mutual
 
   block_goes : (b : Block) (context : Context) (done own : List Mention) → Following context.scope (done ++ own) → (es : List Element) → GoesOn ((done ++ own) ++ block_writes context b) es → Goes done own (block_elements context b ++ es)
   block_goes no_block context done own so es goes = goes done own (sym (append-nil (done ++ own)))
-  block_goes (block ns) context done own so es goes = nodes_go ns (inside context) done own so es goes
+  block_goes (block ns) context done own so es goes = commands_go ns (inside context) done own so es goes
 
-  nodes_go : (ns : Nodes) (context : Context) (done own : List Mention) → Following context.scope (done ++ own) → (es : List Element) → GoesOn ((done ++ own) ++ nodes_writes context ns) es → Goes done own (nodes_elements context ns ++ es)
-  nodes_go end_nodes context done own so es goes = goes done own (sym (append-nil (done ++ own)))
-  nodes_go (more_nodes n ns) context done own so es goes =
+  commands_go : (ns : CommandList) (context : Context) (done own : List Mention) → Following context.scope (done ++ own) → (es : List Element) → GoesOn ((done ++ own) ++ commands_writes context ns) es → Goes done own (command_list_elements context ns ++ es)
+  commands_go end_commands context done own so es goes = goes done own (sym (append-nil (done ++ own)))
+  commands_go (more_commands n ns) context done own so es goes =
       let next = after context n in
-      let rest = nodes_elements next ns in
-      let moved = after_more context.scope next.scope (done ++ own) (node_writes context n) so (node_names n context) in
-      subst (Goes done own) (sym (append_assoc (node_elements context n) rest es))
-      (node_goes n context done own so (rest ++ es)
-      (λ d o e. nodes_go ns next d o (moved ∙ sym (ap (after_mentions no_names) e)) es
-      (λ d' o' e'. goes d' o' (e' ∙ ap (λ l. l ++ nodes_writes next ns) e ∙ append_assoc (done ++ own) (node_writes context n) (nodes_writes next ns)))))
+      let rest = command_list_elements next ns in
+      let moved = after_more context.scope next.scope (done ++ own) (command_writes context n) so (command_names n context) in
+      subst (Goes done own) (sym (append_assoc (command_elements context n) rest es))
+      (command_goes n context done own so (rest ++ es)
+      (λ d o e. commands_go ns next d o (moved ∙ sym (ap (after_mentions no_names) e)) es
+      (λ d' o' e'. goes d' o' (e' ∙ ap (λ l. l ++ commands_writes next ns) e ∙ append_assoc (done ++ own) (command_writes context n) (commands_writes next ns)))))
 
-all_go : (profile : Profile) (tree : List Node) → Goes [] [] (elements_of profile tree)
-all_go profile tree = subst (Goes [] []) (append-nil (elements_of profile tree)) (nodes_go (nodes tree) (script_start profile) [] [] refl [] (λ d o e. tt))
+all_go : (profile : Profile) (tree : List Command) → Goes [] [] (elements_of profile tree)
+all_go profile tree = subst (Goes [] []) (append-nil (elements_of profile tree)) (commands_go (command_list tree) (script_start profile) [] [] refl [] (λ d o e. tt))
 
 -- THE LAST COMMAND
 
@@ -210,5 +210,5 @@ each_goes (the_number value line ∷ es) (suc place) e front done own stands goe
     past front (the_number value line) e (take place es)
     (each_goes es place e (front ++ the_number value line ∷ []) done own (other_stands front done own (the_number value line) refl refl stands) goes is)
 
-pub set_before : (profile : Profile) (tree : List Node) (place : ℕ) (element : Element) → slice_get (elements_of profile tree) place ≡ Some element → HasSetBefore (take place (elements_of profile tree)) element
+pub set_before : (profile : Profile) (tree : List Command) (place : ℕ) (element : Element) → slice_get (elements_of profile tree) place ≡ Some element → HasSetBefore (take place (elements_of profile tree)) element
 set_before profile tree place element is = each_goes (elements_of profile tree) place element [] [] [] (record { all = refl; old = refl }) (all_go profile tree) is

@@ -9,9 +9,9 @@ use Rattle.std.specs.List.{filter, list_any}
 use Rattle.std.specs.Prelude.{if◌then◌else◌, nat_eq}
 use Rattle.std.specs.Str.{str_eq_ignore_ascii_case}
 use lib.Pointwise.{bytes_decides, pointwise}
-use Rattle.sieve_syntax.specs.Tree.{Argument, strings, number, tag, Text, Test, test, Tests, no_tests, one_test, test_list, TestList, end_tests, more_tests, Node, node, Block, no_block, block, Nodes, end_nodes, more_nodes}
-use Rattle.sieve_check.specs.Context.{Context, after, after_block, after_kind, after_nodes, inside, script_start}
-use Rattle.sieve_check.specs.Element.{Element, among, argument_elements, block_elements, command_arguments, judged_labels, labelled_elements, node_elements, nodes_elements, row_elements, test_arguments, test_elements, test_list_elements, tests_elements, text_elements}
+use Rattle.sieve_syntax.specs.Tree.{Argument, strings, number, tag, Text, Test, test, Tests, no_tests, one_test, test_list, TestList, end_tests, more_tests, Command, command, Block, no_block, block, CommandList, end_commands, more_commands}
+use Rattle.sieve_check.specs.Context.{Context, after, after_block, after_kind, past_commands, inside, script_start}
+use Rattle.sieve_check.specs.Element.{Element, among, argument_elements, block_elements, command_arguments, judged_labels, labelled_elements, command_elements, command_list_elements, row_elements, test_arguments, test_elements, test_list_elements, tests_elements, text_elements}
 use Rattle.sieve_check.specs.Naming.{Mention, sets, declares, command_mentions, element_mentions, mentions_in, names_in_role, octets_in, set_by, without_name}
 use Rattle.sieve_check.specs.Said.{said_arguments}
 use Rattle.sieve_check.specs.Scope.{Scope, assigning, assigning_argument, assigning_arguments, assigning_texts, declaring_argument, declaring_texts, is_assigned, no_names, with_declared}
@@ -134,22 +134,22 @@ kind_mentions context (Some kind) args =
 
 -- the names that a command and its block write, in the order of the text, under this context
 abbrev mutual
-  pub node_writes : Context → Node → List Mention
-  node_writes context (node name line args ts ending) = command_mentions context.profile context.required (known_command context.profile name) args ++ block_writes (after_kind context (known_command context.profile name) args) ending
+  pub command_writes : Context → Command → List Mention
+  command_writes context (command name line args ts ending) = command_mentions context.profile context.required (known_command context.profile name) args ++ block_writes (after_kind context (known_command context.profile name) args) ending
 
   pub block_writes : Context → Block → List Mention
   block_writes context no_block = []
-  block_writes context (block ns) = nodes_writes (inside context) ns
+  block_writes context (block ns) = commands_writes (inside context) ns
 
-  pub nodes_writes : Context → Nodes → List Mention
-  nodes_writes context end_nodes = []
-  nodes_writes context (more_nodes n ns) = node_writes context n ++ nodes_writes (after context n) ns
+  pub commands_writes : Context → CommandList → List Mention
+  commands_writes context end_commands = []
+  commands_writes context (more_commands n ns) = command_writes context n ++ commands_writes (after context n) ns
 
 mutual
-  unfolding after after_block after_nodes
+  unfolding after after_block past_commands
 
-  pub node_names : (n : Node) (context : Context) → (after context n).scope ≡ after_mentions context.scope (node_writes context n)
-  node_names (node name line args ts ending) context =
+  pub command_names : (n : Command) (context : Context) → (after context n).scope ≡ after_mentions context.scope (command_writes context n)
+  command_names (command name line args ts ending) context =
       let k = known_command context.profile name in
       let within = after_kind context k args in
       block_names ending within
@@ -158,14 +158,14 @@ mutual
 
   block_names : (b : Block) (context : Context) → (after_block context b).scope ≡ after_mentions context.scope (block_writes context b)
   block_names no_block context = refl
-  block_names (block ns) context = nodes_names ns (inside context)
+  block_names (block ns) context = commands_names ns (inside context)
 
-  nodes_names : (ns : Nodes) (context : Context) → (after_nodes context ns).scope ≡ after_mentions context.scope (nodes_writes context ns)
-  nodes_names end_nodes context = refl
-  nodes_names (more_nodes n ns) context =
-      nodes_names ns (after context n)
-      ∙ ap (λ s. after_mentions s (nodes_writes (after context n) ns)) (node_names n context)
-      ∙ sym (in_turn (node_writes context n) (nodes_writes (after context n) ns) context.scope)
+  commands_names : (ns : CommandList) (context : Context) → (past_commands context ns).scope ≡ after_mentions context.scope (commands_writes context ns)
+  commands_names end_commands context = refl
+  commands_names (more_commands n ns) context =
+      commands_names ns (after context n)
+      ∙ ap (λ s. after_mentions s (commands_writes (after context n) ns)) (command_names n context)
+      ∙ sym (in_turn (command_writes context n) (commands_writes (after context n) ns) context.scope)
 
 -- AMONG ELEMENTS
 
@@ -219,10 +219,10 @@ mutual
       then_mentions (test_elements context t) (test_list_elements context ts) [] [] (test_writes_none t context) (test_list_writes_none ts context)
 
 mutual
-  unfolding node_elements block_elements nodes_elements
+  unfolding command_elements block_elements command_list_elements
 
-  node_among : (n : Node) (context : Context) → mentions_in (node_elements context n) ≡ node_writes context n
-  node_among (node name line args ts ending) context =
+  command_among : (n : Command) (context : Context) → mentions_in (command_elements context n) ≡ command_writes context n
+  command_among (command name line args ts ending) context =
       let k = known_command context.profile name in
       let within = after_kind context k args in
       ap (λ l. command_mentions context.profile context.required k args ++ l)
@@ -232,12 +232,12 @@ mutual
 
   block_among : (b : Block) (context : Context) → mentions_in (block_elements context b) ≡ block_writes context b
   block_among no_block context = refl
-  block_among (block ns) context = nodes_among ns (inside context)
+  block_among (block ns) context = commands_among ns (inside context)
 
-  pub nodes_among : (ns : Nodes) (context : Context) → mentions_in (nodes_elements context ns) ≡ nodes_writes context ns
-  nodes_among end_nodes context = refl
-  nodes_among (more_nodes n ns) context =
-      then_mentions (node_elements context n) (nodes_elements (after context n) ns) (node_writes context n) (nodes_writes (after context n) ns) (node_among n context) (nodes_among ns (after context n))
+  pub commands_among : (ns : CommandList) (context : Context) → mentions_in (command_list_elements context ns) ≡ commands_writes context ns
+  commands_among end_commands context = refl
+  commands_among (more_commands n ns) context =
+      then_mentions (command_elements context n) (command_list_elements (after context n) ns) (command_writes context n) (commands_writes (after context n) ns) (command_among n context) (commands_among ns (after context n))
 
 -- NAMES THAT ARE ONE
 
@@ -381,5 +381,5 @@ mentions_set (declares name ∷ ms) scope =
 pub set_so : (ms : List Mention) → (after_mentions no_names ms).assigned ≡ set_by ms
 set_so ms = mentions_set ms no_names ∙ filter_all (set_by ms)
 
-pub names_set : (profile : Profile) (ns : Nodes) → (after_nodes (script_start profile) ns).scope.assigned ≡ set_by (mentions_in (nodes_elements (script_start profile) ns))
-names_set profile ns = ap (λ s. s.assigned) (nodes_names ns (script_start profile)) ∙ set_so (nodes_writes (script_start profile) ns) ∙ sym (ap set_by (nodes_among ns (script_start profile)))
+pub names_set : (profile : Profile) (ns : CommandList) → (past_commands (script_start profile) ns).scope.assigned ≡ set_by (mentions_in (command_list_elements (script_start profile) ns))
+names_set profile ns = ap (λ s. s.assigned) (commands_names ns (script_start profile)) ∙ set_so (commands_writes (script_start profile) ns) ∙ sym (ap set_by (commands_among ns (script_start profile)))

@@ -1,6 +1,6 @@
 -- The profile by which a script is judged is the same for its whole text.
 use Rattle.std.proofs.Common.{◌≡◌, List, None, Option, Some, refl, ◌∙◌}
-use Rattle.sieve_syntax.specs.Tree.{Argument, Block, no_block, block, Node, node}
+use Rattle.sieve_syntax.specs.Tree.{Argument, Block, no_block, block, Command, command}
 use Rattle.sieve_check.specs.Context.{Context, after, after_block, after_kind}
 use Rattle.sieve_table.specs.Known.{known_command}
 use Rattle.sieve_table.specs.declared.table.CommandKind.{CommandKind}
@@ -14,6 +14,6 @@ unfolding after_block
 block_profile context no_block = refl
 block_profile context (block ns) = refl
 
-pub node_profile : (n : Node) (context : Context) → (after context n).profile ≡ context.profile
+pub command_profile : (n : Command) (context : Context) → (after context n).profile ≡ context.profile
 unfolding after
-node_profile (node name line args ts ending) context = block_profile (after_kind context (known_command context.profile name) args) ending ∙ kind_profile context (known_command context.profile name) args
+command_profile (command name line args ts ending) context = block_profile (after_kind context (known_command context.profile name) args) ending ∙ kind_profile context (known_command context.profile name) args

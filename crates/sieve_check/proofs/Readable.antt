@@ -3,12 +3,12 @@
 use Rattle.std.proofs.Common.{◌≡◌, Bool, true, false, not, ◌&&◌, ◌||◌, List, [], ◌++◌, Option, None, Some, refl, sym, ap, ◌∙◌, subst}
 use Rattle.std.proofs.lemmas.Bool.{and_parts, or_parts}
 use denote.Enum.Bare.{sameb, same_true}
-use Rattle.sieve_syntax.specs.Tree.{Argument, Tests, Node, node, Block, no_block, block}
+use Rattle.sieve_syntax.specs.Tree.{Argument, Tests, Command, command, Block, no_block, block}
 use Rattle.sieve_check.specs.Breach.{breaches_in, command_breaks, test_breaks}
 use Rattle.sieve_check.specs.Context.{Context, allows_else, after, after_block, after_kind, continues_if}
-use Rattle.sieve_check.specs.Element.{block_elements, command_arguments, node_elements, tests_elements, the_command}
+use Rattle.sieve_check.specs.Element.{block_elements, command_arguments, command_elements, tests_elements, the_command}
 use Rattle.sieve_check.specs.Cut.{cut_row}
-use Rattle.sieve_check.specs.Script.{command_kind_reading, command_reading, node_reading, test_reading}
+use Rattle.sieve_check.specs.Script.{command_kind_reading, command_reading, reading_of, test_reading}
 use Rattle.sieve_check.specs.Use.{block_fits, has_bad_arguments, has_bad_tag, has_block, lacks_kind, lacks_own, tests_fit, tests_there}
 use Rattle.sieve_script.specs.CommandReading as commands
 use Rattle.sieve_script.specs.Label.{labels_of, row_is_filled}
@@ -183,9 +183,9 @@ module _ (context : Context) where
   block_keeps before no_block = refl
   block_keeps before (block ns) = refl
 
-  pub goes_on : (n : Node) → breaches_in (node_elements context n) ≡ [] → (after context n).follows_if ≡ may_go_on (node_reading context n)
-  unfolding after node_elements
-  goes_on (node name line args ts ending) none =
+  pub goes_on : (n : Command) → breaches_in (command_elements context n) ≡ [] → (after context n).follows_if ≡ may_go_on (reading_of context n)
+  unfolding after command_elements
+  goes_on (command name line args ts ending) none =
       let k = known_command context.profile name in
       let parts = nothing_before (the_command context name line args ts ending) (command_arguments context k args ts ending ++ (tests_elements context ts ++ block_elements (after_kind context k args) ending)) none in
       block_keeps (after_kind context k args) ending ∙ kind_goes_on k args ts ending (keeps (the_command context name line args ts ending) parts.0 UnknownCommand)

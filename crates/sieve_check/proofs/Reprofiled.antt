@@ -6,12 +6,12 @@ use Rattle.std.specs.List.{list_all, list_any}
 use Rattle.std.specs.Prelude.{if◌then◌else◌}
 use Rattle.std.specs.Option.{option_and_then}
 use Rattle.sieve_profile.specs.Profile.{Profile}
-use Rattle.sieve_syntax.specs.Tree.{Argument, strings, number, tag, Text, Test, test, Tests, no_tests, one_test, test_list, TestList, end_tests, more_tests, Node, node, Block, no_block, block, Nodes, end_nodes, more_nodes, nodes}
+use Rattle.sieve_syntax.specs.Tree.{Argument, strings, number, tag, Text, Test, test, Tests, no_tests, one_test, test_list, TestList, end_tests, more_tests, Command, command, Block, no_block, block, CommandList, end_commands, more_commands, command_list}
 use Rattle.match_text.specs.Comparator.{collation_named}
 use Rattle.sieve_check.specs.Breach.{use_lacks}
 use Rattle.sieve_check.specs.Collating.{argument_lacks, arguments_lack, collation_lacks, known_collation, name_lacks, needed_for, text_lacks}
-use Rattle.sieve_check.specs.Context.{Context, after, after_block, after_kind, after_nodes, inside, naming_said, script_start, under}
-use Rattle.sieve_check.specs.Element.{Element, among, argument_elements, block_elements, command_arguments, elements_of, judged_labels, labelled_elements, node_elements, nodes_elements, row_elements, test_arguments, test_elements, test_list_elements, tests_elements, text_elements, the_command, the_number, the_test, the_text}
+use Rattle.sieve_check.specs.Context.{Context, after, after_block, after_kind, past_commands, inside, naming_said, script_start, under}
+use Rattle.sieve_check.specs.Element.{Element, among, argument_elements, block_elements, command_arguments, elements_of, judged_labels, labelled_elements, command_elements, command_list_elements, row_elements, test_arguments, test_elements, test_list_elements, tests_elements, text_elements, the_command, the_number, the_test, the_text}
 use Rattle.sieve_check.specs.Cut.{cut_argument, cut_labelled, cut_row, cut_said}
 use Rattle.sieve_check.specs.Said.{said, said_arguments}
 use Rattle.sieve_check.specs.Script.{block_commands, chain_of, chain_with, command_reading, condition_of, conditions, conditions_in, script_of, test_reading}
@@ -34,7 +34,7 @@ use Rattle.sieve_table.specs.declared.row.Role.TheVariants.{ComparatorName}
 use Rattle.sieve_table.specs.declared.table.CommandKind.{CommandKind}
 use Rattle.sieve_table.specs.declared.tag.Tag.{Tag}
 use Rattle.sieve_table.specs.declared.table.TestKind.{TestKind}
-use Rattle.sieve_check.proofs.Profiles.{kind_profile, node_profile}
+use Rattle.sieve_check.proofs.Profiles.{kind_profile, command_profile}
 
 -- an element, where the script is judged by another profile
 abbrev pub reprofiled : Profile → Element → Element
@@ -168,10 +168,10 @@ module _ (p q : Profile) (same : is_known p ≡ is_known q) where
   kind_again c (Some kind) args = ap (λ labels. record (after_kind (under p c) (Some kind) args) { scope = naming_said c.required c.scope labels args }) (labels_again (command_row kind) args)
 
   mutual
-    unfolding after after_block after_nodes
+    unfolding after after_block past_commands
 
-    node_after : (n : Node) (c : Context) → after (under p c) n ≡ under p (after (under q c) n)
-    node_after (node name line args ts ending) c =
+    command_after : (n : Command) (c : Context) → after (under p c) n ≡ under p (after (under q c) n)
+    command_after (command name line args ts ending) c =
         ap (λ k. after_block (after_kind (under p c) k args) ending) (command_again name)
         ∙ ap (λ x. after_block x ending) (kind_again c (known_command q name) args)
         ∙ block_after ending (after_kind (under q c) (known_command q name) args)
@@ -180,20 +180,20 @@ module _ (p q : Profile) (same : is_known p ≡ is_known q) where
     -- a block goes by the profile of the command that it belongs to
     block_after : (b : Block) (c : Context) → after_block (under p c) b ≡ under p (after_block (under q c) b)
     block_after no_block c = refl
-    block_after (block ns) c = ap (λ x. record (under p c) { scope = x.scope }) (nodes_after ns (inside c))
+    block_after (block ns) c = ap (λ x. record (under p c) { scope = x.scope }) (commands_after ns (inside c))
 
-    nodes_after : (ns : Nodes) (c : Context) → after_nodes (under p c) ns ≡ under p (after_nodes (under q c) ns)
-    nodes_after end_nodes c = refl
-    nodes_after (more_nodes n ns) c =
-        ap (λ x. after_nodes x ns) (node_after n c)
-        ∙ nodes_after ns (after (under q c) n)
-        ∙ ap (λ x. under p (after_nodes x ns)) (set (after (under q c) n) (node_profile n (under q c)))
+    commands_after : (ns : CommandList) (c : Context) → past_commands (under p c) ns ≡ under p (past_commands (under q c) ns)
+    commands_after end_commands c = refl
+    commands_after (more_commands n ns) c =
+        ap (λ x. past_commands x ns) (command_after n c)
+        ∙ commands_after ns (after (under q c) n)
+        ∙ ap (λ x. under p (past_commands x ns)) (set (after (under q c) n) (command_profile n (under q c)))
 
   mutual
-    unfolding node_elements block_elements nodes_elements
+    unfolding command_elements block_elements command_list_elements
 
-    node_again : (n : Node) (c : Context) → node_elements (under p c) n ≡ map again (node_elements (under q c) n)
-    node_again (node name line args ts ending) c =
+    one_command_again : (n : Command) (c : Context) → command_elements (under p c) n ≡ map again (command_elements (under q c) n)
+    one_command_again (command name line args ts ending) c =
         let k = known_command q name in
         let first = the_command (under p c) name line args ts ending in
         let within = after_kind (under q c) k args in
@@ -208,20 +208,20 @@ module _ (p q : Profile) (same : is_known p ≡ is_known q) where
 
     block_again : (b : Block) (c : Context) → block_elements (under p c) b ≡ map again (block_elements (under q c) b)
     block_again no_block c = refl
-    block_again (block ns) c = nodes_again ns (inside c)
+    block_again (block ns) c = command_list_again ns (inside c)
 
-    nodes_again : (ns : Nodes) (c : Context) → nodes_elements (under p c) ns ≡ map again (nodes_elements (under q c) ns)
-    nodes_again end_nodes c = refl
-    nodes_again (more_nodes n ns) c =
+    command_list_again : (ns : CommandList) (c : Context) → command_list_elements (under p c) ns ≡ map again (command_list_elements (under q c) ns)
+    command_list_again end_commands c = refl
+    command_list_again (more_commands n ns) c =
         let next = after (under q c) n in
-        ap (λ x. node_elements (under p c) n ++ nodes_elements x ns) (node_after n c)
-        ∙ ap (λ l. l ++ nodes_elements (under p next) ns) (node_again n c)
-        ∙ ap (λ l. map again (node_elements (under q c) n) ++ l) (nodes_again ns next ∙ ap (λ x. map again (nodes_elements x ns)) (set next (node_profile n (under q c))))
-        ∙ sym (map-append again (node_elements (under q c) n) (nodes_elements next ns))
+        ap (λ x. command_elements (under p c) n ++ command_list_elements x ns) (command_after n c)
+        ∙ ap (λ l. l ++ command_list_elements (under p next) ns) (one_command_again n c)
+        ∙ ap (λ l. map again (command_elements (under q c) n) ++ l) (command_list_again ns next ∙ ap (λ x. map again (command_list_elements x ns)) (set next (command_profile n (under q c))))
+        ∙ sym (map-append again (command_elements (under q c) n) (command_list_elements next ns))
 
   -- the elements of a script are the same, but for the profile
-  pub elements_again : (tree : List Node) → elements_of p tree ≡ map again (elements_of q tree)
-  elements_again tree = nodes_again (nodes tree) (script_start q)
+  pub elements_again : (tree : List Command) → elements_of p tree ≡ map again (elements_of q tree)
+  elements_again tree = command_list_again (command_list tree) (script_start q)
 
   -- THE SCRIPT
 
@@ -275,8 +275,8 @@ module _ (p q : Profile) (same : is_known p ≡ is_known q) where
   mutual
     unfolding chain_with block_commands chain_of
 
-    node_chain : (n : Node) (c : Context) (chain : Chain) → chain_with (under p c) n chain ≡ chain_with (under q c) n chain
-    node_chain (node name line args ts ending) c chain =
+    command_chain : (n : Command) (c : Context) (chain : Chain) → chain_with (under p c) n chain ≡ chain_with (under q c) n chain
+    command_chain (command name line args ts ending) c chain =
         let k = known_command q name in
         let within = after_kind (under q c) k args in
         ap (λ k. chain_with_command (command_reading (under p c) k args) line (first_condition (conditions_in (under p c) ts)) (block_commands (after_kind (under p c) k args) ending) chain) (command_again name)
@@ -287,16 +287,16 @@ module _ (p q : Profile) (same : is_known p ≡ is_known q) where
 
     block_chain : (b : Block) (c : Context) → block_commands (under p c) b ≡ block_commands (under q c) b
     block_chain no_block c = refl
-    block_chain (block ns) c = ap (λ x. x.rest) (nodes_chain ns (inside c))
+    block_chain (block ns) c = ap (λ x. x.rest) (commands_chain ns (inside c))
 
-    nodes_chain : (ns : Nodes) (c : Context) → chain_of (under p c) ns ≡ chain_of (under q c) ns
-    nodes_chain end_nodes c = refl
-    nodes_chain (more_nodes n ns) c =
+    commands_chain : (ns : CommandList) (c : Context) → chain_of (under p c) ns ≡ chain_of (under q c) ns
+    commands_chain end_commands c = refl
+    commands_chain (more_commands n ns) c =
         let next = after (under q c) n in
-        node_chain n c (chain_of (after (under p c) n) ns)
-        ∙ ap (λ x. chain_with (under q c) n (chain_of x ns)) (node_after n c)
-        ∙ ap (chain_with (under q c) n) (nodes_chain ns next ∙ ap (λ x. chain_of x ns) (set next (node_profile n (under q c))))
+        command_chain n c (chain_of (after (under p c) n) ns)
+        ∙ ap (λ x. chain_with (under q c) n (chain_of x ns)) (command_after n c)
+        ∙ ap (chain_with (under q c) n) (commands_chain ns next ∙ ap (λ x. chain_of x ns) (set next (command_profile n (under q c))))
 
   -- the script is the same
-  pub script_again : (tree : List Node) → script_of p tree ≡ script_of q tree
-  script_again tree = ap (λ x. x.rest) (nodes_chain (nodes tree) (script_start q))
+  pub script_again : (tree : List Command) → script_of p tree ≡ script_of q tree
+  script_again tree = ap (λ x. x.rest) (commands_chain (command_list tree) (script_start q))

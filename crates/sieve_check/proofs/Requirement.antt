@@ -4,9 +4,9 @@ use Rattle.std.proofs.Common.{◌≡◌, suc, ◌+◌, Bool, true, false, cond, 
 use Rattle.std.proofs.lemmas.List.Elements.{All-append, All-cons, All-nil}
 use Rattle.std.specs.List.{All, prefix_len, take_while}
 use Rattle.std.specs.Prelude.{if◌then◌else◌}
-use Rattle.sieve_syntax.specs.Tree.{Text, Argument, strings, number, tag, Test, test, Tests, no_tests, one_test, test_list, TestList, end_tests, more_tests, Block, no_block, block, Node, node, Nodes, end_nodes, more_nodes, nodes}
+use Rattle.sieve_syntax.specs.Tree.{Text, Argument, strings, number, tag, Test, test, Tests, no_tests, one_test, test_list, TestList, end_tests, more_tests, Block, no_block, block, Command, command, CommandList, end_commands, more_commands, command_list}
 use Rattle.sieve_check.specs.Context.{Context, after, after_block, after_kind, inside, requiring_arguments, script_start}
-use Rattle.sieve_check.specs.Element.{Element, among, argument_elements, block_elements, command_arguments, judged_labels, labelled_elements, node_elements, nodes_elements, row_elements, test_arguments, test_elements, test_list_elements, tests_elements, text_elements, the_command, the_number, the_test, the_text}
+use Rattle.sieve_check.specs.Element.{Element, among, argument_elements, block_elements, command_arguments, judged_labels, labelled_elements, command_elements, command_list_elements, row_elements, test_arguments, test_elements, test_list_elements, tests_elements, text_elements, the_command, the_number, the_test, the_text}
 use Rattle.sieve_check.specs.Requirement.{IsJudgedUnder, JudgesAfterRequires, is_require_command, leading_requires, requires_kind, requiring_command, requiring_commands}
 use Rattle.sieve_check.specs.Use.{has_block, is_well_used}
 use Rattle.sieve_script.specs.Role.{first_role}
@@ -17,7 +17,7 @@ use Rattle.sieve_check.proofs.Truth.{not_both}
 use Rattle.sieve_table.specs.Required.{Required}
 use Rattle.sieve_profile.specs.Profile.{Profile}
 use Rattle.sieve_table.specs.Known.{known_command, known_test}
-use Rattle.sieve_check.proofs.Profiles.{node_profile}
+use Rattle.sieve_check.proofs.Profiles.{command_profile}
 use Rattle.sieve_table.specs.declared.row.Role.{Role}
 use Rattle.sieve_table.specs.declared.table.CommandKind.{CommandKind}
 use Rattle.sieve_table.specs.declared.table.TestKind.{TestKind}
@@ -87,15 +87,15 @@ module _ (r : Required) where
   block_requires_none no_block context so = so
   block_requires_none (block ns) context so = so
 
-  node_requires_none : (n : Node) (context : Context) → (context.leads && is_require_command context.profile n) ≡ false → context.required ≡ r → ((after context n).leads ≡ false) × ((after context n).required ≡ r)
+  command_requires_none : (n : Command) (context : Context) → (context.leads && is_require_command context.profile n) ≡ false → context.required ≡ r → ((after context n).leads ≡ false) × ((after context n).required ≡ r)
   unfolding after
-  node_requires_none (node name line args ts ending) context other same = block_requires_none ending (after_kind context (known_command context.profile name) args) (kind_requires_none context (known_command context.profile name) args other same)
+  command_requires_none (command name line args ts ending) context other same = block_requires_none ending (after_kind context (known_command context.profile name) args) (kind_requires_none context (known_command context.profile name) args other same)
 
   mutual
-    unfolding node_elements block_elements nodes_elements
+    unfolding command_elements block_elements command_list_elements
 
-    node_judged : (n : Node) (context : Context) → (context.leads && is_require_command context.profile n) ≡ false → context.required ≡ r → All Judged (node_elements context n)
-    node_judged (node name line args ts ending) context other same =
+    command_judged : (n : Command) (context : Context) → (context.leads && is_require_command context.profile n) ≡ false → context.required ≡ r → All Judged (command_elements context n)
+    command_judged (command name line args ts ending) context other same =
         let within = tests_elements context ts ++ block_elements (after_kind context (known_command context.profile name) args) ending in
         All-cons Judged (the_command context name line args ts ending) (command_arguments context (known_command context.profile name) args ts ending ++ within) same
         (All-append Judged (command_arguments context (known_command context.profile name) args ts ending) within
@@ -106,14 +106,14 @@ module _ (r : Required) where
 
     block_judged : (ending : Block) (context : Context) → context.required ≡ r → All Judged (block_elements context ending)
     block_judged no_block context same = All-nil Judged
-    block_judged (block ns) context same = nodes_judged ns (inside context) refl same
+    block_judged (block ns) context same = commands_judged ns (inside context) refl same
 
-    nodes_judged : (ns : Nodes) (context : Context) → context.leads ≡ false → context.required ≡ r → All Judged (nodes_elements context ns)
-    nodes_judged end_nodes context after_them same = All-nil Judged
-    nodes_judged (more_nodes n ns) context after_them same =
+    commands_judged : (ns : CommandList) (context : Context) → context.leads ≡ false → context.required ≡ r → All Judged (command_list_elements context ns)
+    commands_judged end_commands context after_them same = All-nil Judged
+    commands_judged (more_commands n ns) context after_them same =
         let other = ap (λ b. b && is_require_command context.profile n) after_them in
-        let next = node_requires_none n context other same in
-        All-append Judged (node_elements context n) (nodes_elements (after context n) ns) (node_judged n context other same) (nodes_judged ns (after context n) next.0 next.1)
+        let next = command_requires_none n context other same in
+        All-append Judged (command_elements context n) (command_list_elements (after context n) ns) (command_judged n context other same) (commands_judged ns (after context n) next.0 next.1)
 
 -- THE REQUIRES
 
@@ -137,9 +137,9 @@ block_requires r no_block context so = so
 block_requires r (block ns) context so = so
 
 -- the required capabilities after a `require`
-node_requires : (n : Node) (context : Context) → context.leads ≡ true → is_require_command context.profile n ≡ true → ((after context n).leads ≡ true) × ((after context n).required ≡ requiring_command context.required n)
+command_requires : (n : Command) (context : Context) → context.leads ≡ true → is_require_command context.profile n ≡ true → ((after context n).leads ≡ true) × ((after context n).required ≡ requiring_command context.required n)
 unfolding after
-node_requires (node name line args ts ending) context leads is = block_requires (requiring_arguments context.required args) ending (after_kind context (known_command context.profile name) args) (kind_requires context (known_command context.profile name) args leads is)
+command_requires (command name line args ts ending) context leads is = block_requires (requiring_arguments context.required args) ending (after_kind context (known_command context.profile name) args) (kind_requires context (known_command context.profile name) args leads is)
 
 take_one : {X : Type 0} (x : X) (xs : List X) (n : ℕ) → take (1 + n) (x ∷ xs) ≡ x ∷ take n xs
 take_one x xs n = let one : 1 + n ≡ suc n = omega arith in ap (λ k. take k (x ∷ xs)) one
@@ -153,34 +153,34 @@ front_fails p x xs not = ap (λ b. take (cond b (1 + prefix_len p xs) 0) (x ∷ 
 
 -- The elements from a place at the top of a script on. First are those of the `require` commands
 -- there. For the others, the capabilities that these name are required.
-abbrev Splits : Profile → Context → List Node → Type 0
-Splits p context tree = (rest : List Element) × (nodes_elements context (nodes tree) ≡ nodes_elements context (nodes (leading_requires p tree)) ++ rest) × All (IsJudgedUnder (requiring_commands context.required (leading_requires p tree))) rest
+abbrev Splits : Profile → Context → List Command → Type 0
+Splits p context tree = (rest : List Element) × (command_list_elements context (command_list tree) ≡ command_list_elements context (command_list (leading_requires p tree)) ++ rest) × All (IsJudgedUnder (requiring_commands context.required (leading_requires p tree))) rest
 
-splits : (p : Profile) (tree : List Node) (context : Context) → context.profile ≡ p → context.leads ≡ true → Splits p context tree
-unfolding nodes_elements
+splits : (p : Profile) (tree : List Command) (context : Context) → context.profile ≡ p → context.leads ≡ true → Splits p context tree
+unfolding command_list_elements
 splits p [] context same leads = ([], refl, All-nil (IsJudgedUnder context.required))
-splits p (n ∷ tree) context same leads = by_command (is_require_command p n) refl (splits p tree (after context n) (node_profile n context ∙ same))
+splits p (n ∷ tree) context same leads = by_command (is_require_command p n) refl (splits p tree (after context n) (command_profile n context ∙ same))
   where
     by_command : (b : Bool) → is_require_command p n ≡ b → ((after context n).leads ≡ true → Splits p (after context n) tree) → Splits p context (n ∷ tree)
     by_command true is below =
-        let next = node_requires n context leads (ap (λ q. is_require_command q n) same ∙ is) in
+        let next = command_requires n context leads (ap (λ q. is_require_command q n) same ∙ is) in
         let more = below next.0 in (
           more.0,
-          ap (λ l. node_elements context n ++ l) more.1
-              ∙ sym (append_assoc (node_elements context n) (nodes_elements (after context n) (nodes (leading_requires p tree))) more.0)
-              ∙ sym (ap (λ l. nodes_elements context (nodes l) ++ more.0) (front_passes (is_require_command p) n tree is)),
+          ap (λ l. command_elements context n ++ l) more.1
+              ∙ sym (append_assoc (command_elements context n) (command_list_elements (after context n) (command_list (leading_requires p tree))) more.0)
+              ∙ sym (ap (λ l. command_list_elements context (command_list l) ++ more.0) (front_passes (is_require_command p) n tree is)),
           subst (λ r. All (IsJudgedUnder r) more.0) (ap (λ r. requiring_commands r (leading_requires p tree)) next.1 ∙ sym (ap (requiring_commands context.required) (front_passes (is_require_command p) n tree is))) more.2,
         )
     by_command false not below =
         let other = ap (λ q. context.leads && is_require_command q n) same ∙ ap (λ b. context.leads && b) not ∙ never context.leads in
-        let next = node_requires_none context.required n context other refl in (
-          nodes_elements context (nodes (n ∷ tree)),
-          sym (ap (λ l. nodes_elements context (nodes l) ++ nodes_elements context (nodes (n ∷ tree))) (front_fails (is_require_command p) n tree not)),
-          subst (λ r. All (IsJudgedUnder r) (nodes_elements context (nodes (n ∷ tree)))) (sym (ap (requiring_commands context.required) (front_fails (is_require_command p) n tree not)))
-              (All-append (IsJudgedUnder context.required) (node_elements context n) (nodes_elements (after context n) (nodes tree)) (node_judged context.required n context other refl) (nodes_judged context.required (nodes tree) (after context n) next.0 next.1)),
+        let next = command_requires_none context.required n context other refl in (
+          command_list_elements context (command_list (n ∷ tree)),
+          sym (ap (λ l. command_list_elements context (command_list l) ++ command_list_elements context (command_list (n ∷ tree))) (front_fails (is_require_command p) n tree not)),
+          subst (λ r. All (IsJudgedUnder r) (command_list_elements context (command_list (n ∷ tree)))) (sym (ap (requiring_commands context.required) (front_fails (is_require_command p) n tree not)))
+              (All-append (IsJudgedUnder context.required) (command_elements context n) (command_list_elements (after context n) (command_list tree)) (command_judged context.required n context other refl) (commands_judged context.required (command_list tree) (after context n) next.0 next.1)),
         )
 
-pub judged_after : (profile : Profile) (tree : List Node) → JudgesAfterRequires profile tree
+pub judged_after : (profile : Profile) (tree : List Command) → JudgesAfterRequires profile tree
 judged_after profile tree =
     let so = splits profile tree (script_start profile) refl refl in
     record { rest = so.0; split = so.1; same = so.2 }

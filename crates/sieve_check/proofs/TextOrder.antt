@@ -12,7 +12,7 @@ use Rattle.sieve_syntax.specs.Grammar.{WritesSymbols}
 use Rattle.sieve_syntax.specs.Line.{lines_of}
 use Rattle.sieve_syntax.specs.Spelling.{are_multi_line, is_identifier, is_multi_line, is_number, is_one, is_quoted, is_tag, spells}
 use Rattle.sieve_syntax.specs.Token.{IsBad, IsInside, IsLongest, Spells, SpellsFrom, White, line_at, line_feeds, nothing, white}
-use Rattle.sieve_syntax.specs.Tree.{Node}
+use Rattle.sieve_syntax.specs.Tree.{Command}
 use Rattle.sieve_syntax.specs.Symbol.{Symbol, bad, close_brace, close_bracket, close_parenthesis, comma, identifier, number_symbol, open_brace, open_bracket, open_parenthesis, semicolon, string_symbol, tag_symbol, symbol_at, symbol_of, symbols_of}
 use Rattle.sieve_syntax.specs.declared.token.Token.{Token}
 use Rattle.sieve_syntax.specs.declared.token.TokenKind.{TokenKind}
@@ -195,7 +195,7 @@ module _ (text : List ℕ) where
       by_token true is below = ap (λ n. n ∷ map symbol_line (map (symbol_of text) (filter writes tokens))) (token_line token.kind (slice_range text token.start token.end) token.line is) ∙ ap (λ l. token.line ∷ l) below
       by_token false is below = below
 
-pub in_text_order : (profile : Profile) (tree : List Node) (text : List ℕ) (tokens : List Token) → Spells tokens text → WritesSymbols test_depth block_room tree (symbols_of text tokens) → IsInTextOrder profile tree text tokens
+pub in_text_order : (profile : Profile) (tree : List Command) (text : List ℕ) (tokens : List Token) → Spells tokens text → WritesSymbols test_depth block_room tree (symbols_of text tokens) → IsInTextOrder profile tree text tokens
 in_text_order profile tree text tokens spelled written =
     let stand = stand_from text tokens 0 spelled in
     let same = elements_written profile tree text tokens test_depth block_room written in

@@ -2,7 +2,7 @@
 use Rattle.std.proofs.Common.{◌≡◌, ℕ, Bool, true, false, not, ◌&&◌, List, [], ◌∷◌, ◌++◌, None, Some, slice_get, refl, sym, ap, ◌∙◌, arith}
 use Rattle.std.proofs.lemmas.List.Elements.{All-cons}
 use Rattle.std.specs.List.{All, list_all}
-use Rattle.sieve_syntax.specs.Tree.{Node}
+use Rattle.sieve_syntax.specs.Tree.{Command}
 use Rattle.sieve_profile.specs.Profile.{Profile}
 use Rattle.sieve_check.specs.Breach.{Breach, breach_if, breaches_at, breaches_by, breaches_in, breaches_of, breaks, first_breach, line_of}
 use Rattle.sieve_table.specs.Rule.{all_rules}
@@ -64,7 +64,7 @@ none_first (b ∷ bs) none = absurd (some_none b none)
     some_none : (b : Breach) → Some b ≡ None → ⊥
     some_none b e = cc
 
-pub no_rule_broken : (profile : Profile) (tree : List Node) → first_breach profile tree ≡ None → All (λ e. (rule : Rule) → breaks e rule ≡ false) (elements_of profile tree)
+pub no_rule_broken : (profile : Profile) (tree : List Command) → first_breach profile tree ≡ None → All (λ e. (rule : Rule) → breaks e rule ≡ false) (elements_of profile tree)
 no_rule_broken profile tree none = all_keep (elements_of profile tree) (none_first (breaches_of profile tree) none)
 
 pub ruleset unbroken = (no_rule_broken)

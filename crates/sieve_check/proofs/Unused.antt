@@ -9,7 +9,7 @@ use Rattle.sieve_profile.specs.Profile.{Profile, has, with_extension}
 use Rattle.sieve_profile.specs.declared.extension.Extension.{Extension}
 use Rattle.sieve_profile.specs.declared.extension.Extension.TheVariants.{Unused}
 use Rattle.sieve_syntax.specs.Syntax.{syntax_of}
-use Rattle.sieve_syntax.specs.Tree.{Argument, Block, Node, Tests}
+use Rattle.sieve_syntax.specs.Tree.{Argument, Block, Command, Tests}
 use Rattle.sieve_check.specs.Breach.{Breach, breaches_at, breaches_by, breaches_in, breaches_of, breaks, command_breaks, first_breach, kind_breaks, row_breaks, said_breaks, test_breaks, text_breaks, use_lacks}
 use Rattle.sieve_check.specs.Collating.{lacks_substrings}
 use Rattle.sieve_check.specs.Context.{Context, continues_if, is_require, under}
@@ -149,18 +149,18 @@ module _ (p : Profile) where
       let parts = nothing_before (reprofiled p e) (map (reprofiled p) es) none in
       cons_in (reprofiled lenient e) (map (reprofiled lenient) es) ∙ ap (λ l. l ++ breaches_in (map (reprofiled lenient) es)) (passes_again e parts.0) ∙ all_pass es parts.1
 
-  pub still_none : (tree : List Node) → breaches_of p tree ≡ [] → breaches_of lenient tree ≡ []
+  pub still_none : (tree : List Command) → breaches_of p tree ≡ [] → breaches_of lenient tree ≡ []
   still_none tree none =
       ap breaches_in (elements_again lenient p (known_alike p) tree)
       ∙ all_pass (elements_of p tree) (ap breaches_in (sym (elements_again p p refl tree)) ∙ none)
 
-  pub same_script : (tree : List Node) → script_of lenient tree ≡ script_of p tree
+  pub same_script : (tree : List Command) → script_of lenient tree ≡ script_of p tree
   same_script tree = script_again lenient p (known_alike p) tree
 
   pub same_strings : (context : Context) (row : Row) (args : List Argument) → cut_row (under lenient context) row args ≡ cut_row (under p context) row args
   same_strings context row args = row_cut lenient p (known_alike p) context row args
 
-  by_breach : (tree : List Node) (first : Option Breach) (t : Commands) → first_breach p tree ≡ first → judgement_by first (script_of p tree) ≡ sound t → judgement_by (first_breach lenient tree) (script_of lenient tree) ≡ sound t
+  by_breach : (tree : List Command) (first : Option Breach) (t : Commands) → first_breach p tree ≡ first → judgement_by first (script_of p tree) ≡ sound t → judgement_by (first_breach lenient tree) (script_of lenient tree) ≡ sound t
   by_breach tree None t is so =
       ap (λ bs. judgement_by (slice_get bs 0) (script_of lenient tree)) (still_none tree (none_first (breaches_of p tree) is))
       ∙ ap (λ script. sound script) (same_script tree)
@@ -170,7 +170,7 @@ module _ (p : Profile) where
       not_sound : judgement_by (Some breach) (script_of p tree) ≡ sound t → ⊥
       not_sound e = cc
 
-  by_syntax : (read : Result (List Node) ℕ) (t : Commands) → judgement_from p read ≡ sound t → judgement_from lenient read ≡ sound t
+  by_syntax : (read : Result (List Command) ℕ) (t : Commands) → judgement_from p read ≡ sound t → judgement_from lenient read ≡ sound t
   by_syntax (Ok tree) t so = by_breach tree (first_breach p tree) t refl so
   by_syntax (Err line) t so = so
 

@@ -3,16 +3,16 @@ use Rattle.std.proofs.Common.{◌≡◌, List, [], ◌∷◌, ◌++◌, map, Non
 use Rattle.std.specs.declared.boxed.Box.{Box}
 use Rattle.std.specs.declared.vec.Vec.{Vec}
 use Rattle.std.specs.declared.alloc.Global.{Global}
-use Rattle.sieve_syntax.specs.Tree.{Block, no_block, block, Nodes, end_nodes, nodes, tests}
-use Rattle.sieve_syntax.specs.view.Tree.{argument_of, block_of, node_of, test_of, tests_of}
+use Rattle.sieve_syntax.specs.Tree.{Block, no_block, block, CommandList, end_commands, command_list, tests}
+use Rattle.sieve_syntax.specs.view.Tree.{argument_of, block_of, command_as, test_of, tests_of}
 use Rattle.sieve_syntax.specs.declared.tree.Command as commands
 use Rattle.sieve_syntax.specs.declared.tree.Test as one_tests
 use Rattle.sieve_syntax.specs.declared.tree.Tests.TheVariants as test_variants
 use Rattle.sieve_check.specs.Breach.{breaches_in}
 use Rattle.sieve_check.specs.CheckFault.{IsFirst}
 use Rattle.sieve_check.specs.Scope.{Scope}
-use Rattle.sieve_check.specs.Context.{Context, after, after_block, after_kind, after_nodes, inside}
-use Rattle.sieve_check.specs.Element.{Element, block_elements, node_elements, nodes_elements, test_elements, test_list_elements, tests_elements}
+use Rattle.sieve_check.specs.Context.{Context, after, after_block, after_kind, past_commands, inside}
+use Rattle.sieve_check.specs.Element.{Element, block_elements, command_elements, command_list_elements, test_elements, test_list_elements, tests_elements}
 use Rattle.sieve_check.specs.view.Context.{at_spot}
 use Rattle.sieve_check.specs.Script.{block_commands, chain_of, chain_with, command_kind_reading, command_reading, condition_of, conditions, conditions_in, test_kind_reading, test_reading}
 use Rattle.sieve_check.specs.view.Head.{command_head, test_head}
@@ -106,31 +106,31 @@ list_ends context = none_in
 -- A BLOCK
 
 -- the commands of a block, none where there is no block
-abbrev pub inner_nodes : Block → Nodes
-inner_nodes no_block = end_nodes
-inner_nodes (block ns) = ns
+abbrev pub inner_commands : Block → CommandList
+inner_commands no_block = end_commands
+inner_commands (block ns) = ns
 
-pub some_inside : (b : Option (Vec commands.Command Global)) (v cs : Vec commands.Command Global) → b ≡ Some v → cs ≡ v → nodes (map node_of cs.items) ≡ inner_nodes (block_of b)
-some_inside b v cs is same = ap (λ l. nodes (map node_of l.items)) same ∙ sym (ap (λ x. inner_nodes (block_of x)) is)
+pub some_inside : (b : Option (Vec commands.Command Global)) (v cs : Vec commands.Command Global) → b ≡ Some v → cs ≡ v → command_list (map command_as cs.items) ≡ inner_commands (block_of b)
+some_inside b v cs is same = ap (λ l. command_list (map command_as l.items)) same ∙ sym (ap (λ x. inner_commands (block_of x)) is)
 
-pub none_inside : (b : Option (Vec commands.Command Global)) (v cs : Vec commands.Command Global) → b ≡ None → v.items ≡ [] → cs ≡ v → nodes (map node_of cs.items) ≡ inner_nodes (block_of b)
-none_inside b v cs is empty same = ap (λ l. nodes (map node_of l.items)) same ∙ ap (λ l. nodes (map node_of l)) empty ∙ sym (ap (λ x. inner_nodes (block_of x)) is)
+pub none_inside : (b : Option (Vec commands.Command Global)) (v cs : Vec commands.Command Global) → b ≡ None → v.items ≡ [] → cs ≡ v → command_list (map command_as cs.items) ≡ inner_commands (block_of b)
+none_inside b v cs is empty same = ap (λ l. command_list (map command_as l.items)) same ∙ ap (λ l. command_list (map command_as l)) empty ∙ sym (ap (λ x. inner_commands (block_of x)) is)
 
-in_block : (b : Block) (context : Context) → block_elements context b ≡ nodes_elements (inside context) (inner_nodes b)
-unfolding block_elements nodes_elements
+in_block : (b : Block) (context : Context) → block_elements context b ≡ command_list_elements (inside context) (inner_commands b)
+unfolding block_elements command_list_elements
 in_block no_block context = refl
 in_block (block ns) context = refl
 
 -- the context after commands in a block
-abbrev past_nodes : Context → Nodes → Context
-past_nodes context ns = record context { scope = (after_nodes (inside context) ns).scope }
+abbrev beyond_commands : Context → CommandList → Context
+beyond_commands context ns = record context { scope = (past_commands (inside context) ns).scope }
 
-past_block : (b : Block) (context : Context) → after_block context b ≡ past_nodes context (inner_nodes b)
-unfolding after_block after_nodes
+past_block : (b : Block) (context : Context) → after_block context b ≡ beyond_commands context (inner_commands b)
+unfolding after_block past_commands
 past_block no_block context = refl
 past_block (block ns) context = refl
 
-block_does : (b : Block) (context : Context) → block_commands context b ≡ (chain_of (inside context) (inner_nodes b)).rest
+block_does : (b : Block) (context : Context) → block_commands context b ≡ (chain_of (inside context) (inner_commands b)).rest
 unfolding block_commands chain_of
 block_does no_block context = refl
 block_does (block ns) context = refl
@@ -145,69 +145,69 @@ module _ (c : commands.Command) (context : Context) where
   abbrev of_tests : List Element
   of_tests = tests_elements context (tests_of (commands.out-Command c).tests)
 
-  node_at : node_elements context (node_of c) ≡ command_head context c ++ (of_tests ++ block_elements before_block (block_of (commands.out-Command c).block))
-  unfolding node_elements
-  node_at = ap (node_elements context) (seen_command c)
+  command_at : command_elements context (command_as c) ≡ command_head context c ++ (of_tests ++ block_elements before_block (block_of (commands.out-Command c).block))
+  unfolding command_elements
+  command_at = ap (command_elements context) (seen_command c)
 
   -- the breaches of a command are those of its head, then of its tests, and then of its block
-  pub head_stops : (fault : CheckFault) → IsFirst (breaches_in (command_head context c)) fault → IsFirst (breaches_in (node_elements context (node_of c))) fault
-  head_stops fault h = subst (λ es. IsFirst (breaches_in es) fault) (sym node_at) (front_stops _ _ fault h)
+  pub head_stops : (fault : CheckFault) → IsFirst (breaches_in (command_head context c)) fault → IsFirst (breaches_in (command_elements context (command_as c))) fault
+  head_stops fault h = subst (λ es. IsFirst (breaches_in es) fault) (sym command_at) (front_stops _ _ fault h)
 
-  tests_left : breaches_in (command_head context c) ≡ [] → breaches_in (node_elements context (node_of c)) ≡ breaches_in (of_tests ++ block_elements before_block (block_of (commands.out-Command c).block))
-  tests_left none = ap breaches_in node_at ∙ front_passes _ _ none
+  tests_left : breaches_in (command_head context c) ≡ [] → breaches_in (command_elements context (command_as c)) ≡ breaches_in (of_tests ++ block_elements before_block (block_of (commands.out-Command c).block))
+  tests_left none = ap breaches_in command_at ∙ front_passes _ _ none
 
-  pub tests_stop : (fault : CheckFault) → breaches_in (command_head context c) ≡ [] → IsFirst (breaches_in of_tests) fault → IsFirst (breaches_in (node_elements context (node_of c))) fault
+  pub tests_stop : (fault : CheckFault) → breaches_in (command_head context c) ≡ [] → IsFirst (breaches_in of_tests) fault → IsFirst (breaches_in (command_elements context (command_as c))) fault
   tests_stop fault none h = subst (λ bs. IsFirst bs fault) (sym (tests_left none)) (front_stops _ _ fault h)
 
-  block_left : breaches_in (command_head context c) ≡ [] → breaches_in of_tests ≡ [] → breaches_in (node_elements context (node_of c)) ≡ breaches_in (block_elements before_block (block_of (commands.out-Command c).block))
+  block_left : breaches_in (command_head context c) ≡ [] → breaches_in of_tests ≡ [] → breaches_in (command_elements context (command_as c)) ≡ breaches_in (block_elements before_block (block_of (commands.out-Command c).block))
   block_left none fine = tests_left none ∙ front_passes _ _ fine
 
-  after_at : after context (node_of c) ≡ after_block before_block (block_of (commands.out-Command c).block)
+  after_at : after context (command_as c) ≡ after_block before_block (block_of (commands.out-Command c).block)
   unfolding after
   after_at = ap (after context) (seen_command c)
 
   -- the reading of a command by its parts
   read_at : (chain : Chain) → let o = commands.out-Command c in
-      chain_with_command (command_reading context (known_command context.profile o.name) (map argument_of o.args.items)) o.line (first_condition (conditions_in context (tests_of o.tests))) (block_commands before_block (block_of o.block)) chain ≡ chain_with context (node_of c) chain
+      chain_with_command (command_reading context (known_command context.profile o.name) (map argument_of o.args.items)) o.line (first_condition (conditions_in context (tests_of o.tests))) (block_commands before_block (block_of o.block)) chain ≡ chain_with context (command_as c) chain
   unfolding chain_with
   read_at chain = sym (ap (λ n. chain_with context n chain) (seen_command c))
 
   -- its block; `within` and these names are the context at its start
-  module _ (next within : Spot) (names : Scope) (inner : List commands.Command) (goes : at_spot next names ≡ before_block) (start : (scope : Scope) → at_spot within scope ≡ inside (at_spot next scope)) (is : nodes (map node_of inner) ≡ inner_nodes (block_of (commands.out-Command c).block)) where
+  module _ (next within : Spot) (names : Scope) (inner : List commands.Command) (goes : at_spot next names ≡ before_block) (start : (scope : Scope) → at_spot within scope ≡ inside (at_spot next scope)) (is : command_list (map command_as inner) ≡ inner_commands (block_of (commands.out-Command c).block)) where
     within_block : at_spot within names ≡ inside before_block
     within_block = start names ∙ ap inside goes
 
     abbrev of_inner : List Element
-    of_inner = nodes_elements (at_spot within names) (nodes (map node_of inner))
+    of_inner = command_list_elements (at_spot within names) (command_list (map command_as inner))
 
-    block_found : breaches_in (command_head context c) ≡ [] → breaches_in of_tests ≡ [] → breaches_in (node_elements context (node_of c)) ≡ breaches_in of_inner
+    block_found : breaches_in (command_head context c) ≡ [] → breaches_in of_tests ≡ [] → breaches_in (command_elements context (command_as c)) ≡ breaches_in of_inner
     block_found none fine =
         block_left none fine
         ∙ ap breaches_in (in_block (block_of (commands.out-Command c).block) before_block)
-        ∙ sym (ap (λ w. breaches_in (nodes_elements w (nodes (map node_of inner)))) within_block ∙ ap (λ ns. breaches_in (nodes_elements (inside before_block) ns)) is)
+        ∙ sym (ap (λ w. breaches_in (command_list_elements w (command_list (map command_as inner)))) within_block ∙ ap (λ ns. breaches_in (command_list_elements (inside before_block) ns)) is)
 
-    pub block_stops : (fault : CheckFault) → breaches_in (command_head context c) ≡ [] → breaches_in of_tests ≡ [] → IsFirst (breaches_in of_inner) fault → IsFirst (breaches_in (node_elements context (node_of c))) fault
+    pub block_stops : (fault : CheckFault) → breaches_in (command_head context c) ≡ [] → breaches_in of_tests ≡ [] → IsFirst (breaches_in of_inner) fault → IsFirst (breaches_in (command_elements context (command_as c))) fault
     block_stops fault none fine h = subst (λ bs. IsFirst bs fault) (sym (block_found none fine)) h
 
-    pub block_ends : breaches_in (command_head context c) ≡ [] → breaches_in of_tests ≡ [] → breaches_in of_inner ≡ [] → breaches_in (node_elements context (node_of c)) ≡ []
+    pub block_ends : breaches_in (command_head context c) ≡ [] → breaches_in of_tests ≡ [] → breaches_in of_inner ≡ [] → breaches_in (command_elements context (command_as c)) ≡ []
     block_ends none fine h = block_found none fine ∙ h
 
-    pub block_moves : (scope : Scope) → scope ≡ (after_nodes (at_spot within names) (nodes (map node_of inner))).scope → at_spot next scope ≡ after context (node_of c)
+    pub block_moves : (scope : Scope) → scope ≡ (past_commands (at_spot within names) (command_list (map command_as inner))).scope → at_spot next scope ≡ after context (command_as c)
     block_moves scope ends =
-        ap (at_spot next) (ends ∙ ap (λ w. (after_nodes w (nodes (map node_of inner))).scope) (start names))
-        ∙ ap (λ w. past_nodes w (nodes (map node_of inner))) goes
-        ∙ ap (past_nodes before_block) is
+        ap (at_spot next) (ends ∙ ap (λ w. (past_commands w (command_list (map command_as inner))).scope) (start names))
+        ∙ ap (λ w. beyond_commands w (command_list (map command_as inner))) goes
+        ∙ ap (beyond_commands before_block) is
         ∙ sym (after_at ∙ past_block (block_of (commands.out-Command c).block) before_block)
 
     -- and the reading of the command, by the readings of its parts
     pub block_reads : (kind : CommandKind) (reading : CommandReading) (condition : Condition) (does : Commands) → let o = commands.out-Command c in
-        known_command context.profile o.name ≡ Some kind → reading ≡ command_kind_reading context kind (map argument_of o.args.items) → condition ≡ first_condition (conditions_in context (tests_of o.tests)) → does ≡ (chain_of (at_spot within names) (nodes (map node_of inner))).rest
-        → (chain : Chain) → chain_with_command (Some reading) o.line condition does chain ≡ chain_with context (node_of c) chain
+        known_command context.profile o.name ≡ Some kind → reading ≡ command_kind_reading context kind (map argument_of o.args.items) → condition ≡ first_condition (conditions_in context (tests_of o.tests)) → does ≡ (chain_of (at_spot within names) (command_list (map command_as inner))).rest
+        → (chain : Chain) → chain_with_command (Some reading) o.line condition does chain ≡ chain_with context (command_as c) chain
     block_reads kind reading condition does known read holds same chain =
         let o = commands.out-Command c in
         let args = map argument_of o.args.items in
         let done : does ≡ block_commands before_block (block_of o.block) =
-        same ∙ ap (λ w. (chain_of w (nodes (map node_of inner))).rest) within_block ∙ ap (λ ns. (chain_of (inside before_block) ns).rest) is ∙ sym (block_does (block_of o.block) before_block) in
+        same ∙ ap (λ w. (chain_of w (command_list (map command_as inner))).rest) within_block ∙ ap (λ ns. (chain_of (inside before_block) ns).rest) is ∙ sym (block_does (block_of o.block) before_block) in
         ap (λ r. chain_with_command (Some r) o.line condition does chain) read
         ∙ ap (λ k. chain_with_command (command_reading context k args) o.line condition does chain) (sym known)
         ∙ ap (λ x. chain_with_command (command_reading context (known_command context.profile o.name) args) o.line x does chain) holds
@@ -218,39 +218,39 @@ module _ (c : commands.Command) (context : Context) where
 
 -- the breaches of commands are those of the first, and then of the others
 module _ (context : Context) (all rest : List commands.Command) (c : commands.Command) (same : all ≡ c ∷ rest) where
-  commands_at : nodes_elements context (nodes (map node_of all)) ≡ node_elements context (node_of c) ++ nodes_elements (after context (node_of c)) (nodes (map node_of rest))
-  unfolding nodes_elements
-  commands_at = ap (λ l. nodes_elements context (nodes (map node_of l))) same
+  commands_at : command_list_elements context (command_list (map command_as all)) ≡ command_elements context (command_as c) ++ command_list_elements (after context (command_as c)) (command_list (map command_as rest))
+  unfolding command_list_elements
+  commands_at = ap (λ l. command_list_elements context (command_list (map command_as l))) same
 
-  pub commands_stop : (fault : CheckFault) → IsFirst (breaches_in (node_elements context (node_of c))) fault → IsFirst (breaches_in (nodes_elements context (nodes (map node_of all)))) fault
+  pub commands_stop : (fault : CheckFault) → IsFirst (breaches_in (command_elements context (command_as c))) fault → IsFirst (breaches_in (command_list_elements context (command_list (map command_as all)))) fault
   commands_stop fault first = subst (λ es. IsFirst (breaches_in es) fault) (sym commands_at) (front_stops _ _ fault first)
 
-  pub commands_go_on : (next : Context) → next ≡ after context (node_of c) → breaches_in (node_elements context (node_of c)) ≡ [] → breaches_in (nodes_elements next (nodes (map node_of rest))) ≡ breaches_in (nodes_elements context (nodes (map node_of all)))
+  pub commands_go_on : (next : Context) → next ≡ after context (command_as c) → breaches_in (command_elements context (command_as c)) ≡ [] → breaches_in (command_list_elements next (command_list (map command_as rest))) ≡ breaches_in (command_list_elements context (command_list (map command_as all)))
   commands_go_on next goes none =
-      ap (λ p. breaches_in (nodes_elements p (nodes (map node_of rest)))) goes
+      ap (λ p. breaches_in (command_list_elements p (command_list (map command_as rest)))) goes
       ∙ sym (ap breaches_in commands_at ∙ front_passes _ _ none)
 
-  pub commands_move : (next : Context) → next ≡ after context (node_of c) → after_nodes next (nodes (map node_of rest)) ≡ after_nodes context (nodes (map node_of all))
-  unfolding after_nodes
+  pub commands_move : (next : Context) → next ≡ after context (command_as c) → past_commands next (command_list (map command_as rest)) ≡ past_commands context (command_list (map command_as all))
+  unfolding past_commands
   commands_move next goes =
-      ap (λ p. after_nodes p (nodes (map node_of rest))) goes
-      ∙ sym (ap (λ l. after_nodes context (nodes (map node_of l))) same)
+      ap (λ p. past_commands p (command_list (map command_as rest))) goes
+      ∙ sym (ap (λ l. past_commands context (command_list (map command_as l))) same)
 
-  pub commands_more : (next : Context) → next ≡ after context (node_of c) → chain_of context (nodes (map node_of all)) ≡ chain_with context (node_of c) (chain_of next (nodes (map node_of rest)))
+  pub commands_more : (next : Context) → next ≡ after context (command_as c) → chain_of context (command_list (map command_as all)) ≡ chain_with context (command_as c) (chain_of next (command_list (map command_as rest)))
   unfolding chain_of
   commands_more next goes =
-      ap (λ l. chain_of context (nodes (map node_of l))) same
-      ∙ sym (ap (λ p. chain_with context (node_of c) (chain_of p (nodes (map node_of rest)))) goes)
+      ap (λ l. chain_of context (command_list (map command_as l))) same
+      ∙ sym (ap (λ p. chain_with context (command_as c) (chain_of p (command_list (map command_as rest)))) goes)
 
-pub commands_end : (context : Context) → breaches_in (nodes_elements context (nodes [])) ≡ []
-unfolding nodes_elements
+pub commands_end : (context : Context) → breaches_in (command_list_elements context (command_list [])) ≡ []
+unfolding command_list_elements
 commands_end context = none_in
 
-pub commands_moved : (context : Context) → after_nodes context (nodes []) ≡ context
-unfolding after_nodes
+pub commands_moved : (context : Context) → past_commands context (command_list []) ≡ context
+unfolding past_commands
 commands_moved context = refl
 
-pub commands_read : (context : Context) → chain_of context (nodes []) ≡ record { otherwise = no_branches; rest = no_commands }
+pub commands_read : (context : Context) → chain_of context (command_list []) ≡ record { otherwise = no_branches; rest = no_commands }
 unfolding chain_of
 commands_read context = refl
 

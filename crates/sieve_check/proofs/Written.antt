@@ -4,12 +4,12 @@ use Rattle.std.proofs.Common.{◌≡◌, ℕ, Bool, true, false, cond, List, [],
 use Rattle.std.proofs.lemmas.List.{map-append}
 use Rattle.std.proofs.lemmas.List.Elements.{filter-append}
 use Rattle.std.specs.List.{filter}
-use Rattle.sieve_syntax.specs.Grammar.{WritesSymbols, written_argument, written_arguments, written_block, written_more, written_node, written_nodes, written_test, written_test_list, written_test_rest, written_tests, written_texts}
-use Rattle.sieve_syntax.specs.Tree.{Node, node, Nodes, end_nodes, more_nodes, nodes, Block, no_block, block, Test, test, Tests, no_tests, one_test, test_list, TestList, end_tests, more_tests, Text, Argument, strings, number, tag}
+use Rattle.sieve_syntax.specs.Grammar.{WritesSymbols, written_argument, written_arguments, written_block, written_more, written_command, written_commands, written_test, written_test_list, written_test_rest, written_tests, written_texts}
+use Rattle.sieve_syntax.specs.Tree.{Command, command, CommandList, end_commands, more_commands, command_list, Block, no_block, block, Test, test, Tests, no_tests, one_test, test_list, TestList, end_tests, more_tests, Text, Argument, strings, number, tag}
 use Rattle.sieve_syntax.specs.Symbol.{Symbol, close_bracket, identifier, string_symbol, symbol_of, symbols_of}
 use Rattle.sieve_syntax.specs.declared.token.Token.{Token}
 use Rattle.sieve_check.specs.Context.{Context, after, after_kind, inside, script_start}
-use Rattle.sieve_check.specs.Element.{Element, among, argument_elements, block_elements, command_arguments, elements_of, judged_labels, labelled_elements, node_elements, nodes_elements, test_arguments, test_elements, test_list_elements, tests_elements, text_elements}
+use Rattle.sieve_check.specs.Element.{Element, among, argument_elements, block_elements, command_arguments, elements_of, judged_labels, labelled_elements, command_elements, command_list_elements, test_arguments, test_elements, test_list_elements, tests_elements, text_elements}
 use Rattle.sieve_check.specs.Order.{writes_element, written_by}
 use Rattle.sieve_script.specs.Role.{first_role}
 use Rattle.sieve_profile.specs.Profile.{Profile}
@@ -103,10 +103,10 @@ mutual
 -- COMMANDS
 
 mutual
-  unfolding node_elements block_elements nodes_elements written_node written_block written_nodes
+  unfolding command_elements block_elements command_list_elements written_command written_block written_commands
 
-  node_written : (n : Node) (context : Context) → AreWritten (node_elements context n) (written_node n)
-  node_written (node name line args ts ending) context =
+  command_written : (n : Command) (context : Context) → AreWritten (command_elements context n) (written_command n)
+  command_written (command name line args ts ending) context =
       let args_written = written_arguments args in
       let inner = after_kind context (known_command context.profile name) args in
       ap (λ l. identifier name line ∷ l)
@@ -117,12 +117,12 @@ mutual
 
   block_is_written : (b : Block) (context : Context) → AreWritten (block_elements context b) (written_block b)
   block_is_written no_block context = refl
-  block_is_written (block ns) context = before_close (nodes_elements (inside context) ns) (written_nodes ns) _ refl (nodes_written ns (inside context))
+  block_is_written (block ns) context = before_close (command_list_elements (inside context) ns) (written_commands ns) _ refl (commands_written ns (inside context))
 
-  nodes_written : (ns : Nodes) (context : Context) → AreWritten (nodes_elements context ns) (written_nodes ns)
-  nodes_written end_nodes context = refl
-  nodes_written (more_nodes n ns) context =
-      in_turn (node_elements context n) (nodes_elements (after context n) ns) (written_node n) (written_nodes ns) (node_written n context) (nodes_written ns (after context n))
+  commands_written : (ns : CommandList) (context : Context) → AreWritten (command_list_elements context ns) (written_commands ns)
+  commands_written end_commands context = refl
+  commands_written (more_commands n ns) context =
+      in_turn (command_elements context n) (command_list_elements (after context n) ns) (written_command n) (written_commands ns) (command_written n context) (commands_written ns (after context n))
 
 -- THE TOKENS
 
@@ -136,9 +136,9 @@ filtered view (x ∷ xs) = by_first (writes_element (view x)) (filtered view xs)
     by_first false same = same
 
 -- the elements of a tree are written by those of its tokens that write elements
-pub elements_written : (profile : Profile) (tree : List Node) (text : List ℕ) (tokens : List Token) (depth room : ℕ) → WritesSymbols depth room tree (symbols_of text tokens)
+pub elements_written : (profile : Profile) (tree : List Command) (text : List ℕ) (tokens : List Token) (depth room : ℕ) → WritesSymbols depth room tree (symbols_of text tokens)
     → map written_by (elements_of profile tree) ≡ map (symbol_of text) (filter (λ token. writes_element (symbol_of text token)) tokens)
 elements_written profile tree text tokens depth room writes =
-    nodes_written (nodes tree) (script_start profile)
+    commands_written (command_list tree) (script_start profile)
     ∙ ap (filter writes_element) (sym writes.1)
     ∙ filtered (symbol_of text) tokens

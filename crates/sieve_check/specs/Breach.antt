@@ -3,7 +3,7 @@
 use Rattle.std.specs.Prelude.{◌≡◌, ℕ, Bool, true, false, not, ◌&&◌, ◌||◌, List, [], ◌∷◌, ◌++◌, Option, Some, None, is_none, length, slice_get, nat_lt, if◌then◌else◌}
 use Rattle.std.specs.List.{flat_map}
 use Rattle.sieve_profile.specs.Profile.{Profile}
-use Rattle.sieve_syntax.specs.Tree.{Node, Block, Tests, Argument}
+use Rattle.sieve_syntax.specs.Tree.{Command, Block, Tests, Argument}
 use Rattle.sieve_limits.specs.Limits.{local_limit}
 use Rattle.sieve_table.specs.Address.{is_address_field, is_envelope_part}
 use Rattle.sieve_variables.specs.Name.{is_global_name, is_identifier}
@@ -177,11 +177,11 @@ unfoldable pub breaches_in : List Element → List Breach
 breaches_in elements = flat_map breaches_at elements
 
 -- all breaches of a script, where it is judged by a profile
-abbrev pub breaches_of : Profile → List Node → List Breach
+abbrev pub breaches_of : Profile → List Command → List Breach
 breaches_of profile tree = breaches_in (elements_of profile tree)
 
 -- the first breach: the least by its place in the text, and then by its rule's number
-abbrev pub first_breach : Profile → List Node → Option Breach
+abbrev pub first_breach : Profile → List Command → Option Breach
 first_breach profile tree = slice_get (breaches_of profile tree) 0
 
 -- A breach of one of these elements, in the order of the text. No element before it breaks a rule,
@@ -200,5 +200,5 @@ pub record IsLeast (elements : List Element) (breach : Breach) : Type 0 where
   pub none_lower : breaches_by (breaks broken) (line_of broken) lower ≡ []
 
 -- the breach of a script that is least by its place in the text, and then by its rule's number
-abbrev pub IsLeastBreach : Profile → List Node → Breach → Type 0
+abbrev pub IsLeastBreach : Profile → List Command → Breach → Type 0
 IsLeastBreach profile tree breach = IsLeast (elements_of profile tree) breach

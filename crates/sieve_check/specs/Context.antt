@@ -1,6 +1,6 @@
 -- The context of a command: the text before it, as far as rules ask.
 use Rattle.std.specs.Prelude.{Bool, true, false, ◌&&◌, ◌||◌, List, [], ◌∷◌, Option, Some, None, if◌then◌else◌}
-use Rattle.sieve_syntax.specs.Tree.{Node, node, Nodes, end_nodes, more_nodes, Block, no_block, block, Text, Argument, strings, number, tag}
+use Rattle.sieve_syntax.specs.Tree.{Command, command, CommandList, end_commands, more_commands, Block, no_block, block, Text, Argument, strings, number, tag}
 use Rattle.sieve_table.specs.Role.{is_expanded}
 use Rattle.sieve_check.specs.Said.{said_arguments}
 use Rattle.sieve_check.specs.Scope.{Scope, naming_arguments, no_names}
@@ -97,15 +97,15 @@ inside context = record context { leads = false; follows_if = false }
 
 unfoldable mutual
   -- the context after a whole command
-  pub after : Context → Node → Context
-  after context (node name line args ts ending) = after_block (after_kind context (known_command context.profile name) args) ending
+  pub after : Context → Command → Context
+  after context (command name line args ts ending) = after_block (after_kind context (known_command context.profile name) args) ending
 
   -- the context after a block, in which variables may be set and declared
   pub after_block : Context → Block → Context
   after_block context no_block = context
-  after_block context (block ns) = record context { scope = (after_nodes (inside context) ns).scope }
+  after_block context (block ns) = record context { scope = (past_commands (inside context) ns).scope }
 
   -- the context after commands in turn
-  pub after_nodes : Context → Nodes → Context
-  after_nodes context end_nodes = context
-  after_nodes context (more_nodes n ns) = after_nodes (after context n) ns
+  pub past_commands : Context → CommandList → Context
+  past_commands context end_commands = context
+  past_commands context (more_commands n ns) = past_commands (after context n) ns

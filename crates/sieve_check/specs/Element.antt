@@ -2,7 +2,7 @@
 -- are in the order in which its text writes them, each with its context.
 use Rattle.std.specs.Prelude.{ℕ, Bool, true, false, List, [], ◌∷◌, ◌++◌, ◌||◌, Option, Some, None, drop}
 use Rattle.std.specs.List.{list_any}
-use Rattle.sieve_syntax.specs.Tree.{Node, node, Nodes, end_nodes, more_nodes, nodes, Block, no_block, block, Test, test, Tests, no_tests, one_test, test_list, TestList, end_tests, more_tests, Text, Argument, strings, number, tag}
+use Rattle.sieve_syntax.specs.Tree.{Command, command, CommandList, end_commands, more_commands, command_list, Block, no_block, block, Test, test, Tests, no_tests, one_test, test_list, TestList, end_tests, more_tests, Text, Argument, strings, number, tag}
 use Rattle.sieve_check.specs.Context.{Context, script_start, inside, after, after_kind}
 use Rattle.sieve_profile.specs.Profile.{Profile}
 use Rattle.sieve_script.specs.Role.{first_role}
@@ -88,18 +88,18 @@ unfoldable mutual
 
 unfoldable mutual
   -- a command, its arguments, its tests, and its block
-  pub node_elements : Context → Node → List Element
-  node_elements context (node name line args ts ending) =
+  pub command_elements : Context → Command → List Element
+  command_elements context (command name line args ts ending) =
       the_command context name line args ts ending ∷ command_arguments context (known_command context.profile name) args ts ending ++ (tests_elements context ts ++ block_elements (after_kind context (known_command context.profile name) args) ending)
 
   pub block_elements : Context → Block → List Element
   block_elements context no_block = []
-  block_elements context (block ns) = nodes_elements (inside context) ns
+  block_elements context (block ns) = command_list_elements (inside context) ns
 
-  pub nodes_elements : Context → Nodes → List Element
-  nodes_elements context end_nodes = []
-  nodes_elements context (more_nodes n ns) = node_elements context n ++ nodes_elements (after context n) ns
+  pub command_list_elements : Context → CommandList → List Element
+  command_list_elements context end_commands = []
+  command_list_elements context (more_commands n ns) = command_elements context n ++ command_list_elements (after context n) ns
 
 -- the elements of a script, in the order of its text, where it is judged by a profile
-abbrev pub elements_of : Profile → List Node → List Element
-elements_of profile tree = nodes_elements (script_start profile) (nodes tree)
+abbrev pub elements_of : Profile → List Command → List Element
+elements_of profile tree = command_list_elements (script_start profile) (command_list tree)

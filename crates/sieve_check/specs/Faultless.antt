@@ -8,4 +8,4 @@ use Rattle.sieve_script.specs.Script.{Commands}
 
 -- a script is that of a text's tree without a breach, where it is judged by some profile
 abbrev pub IsFaultless : Commands → Type 0
-IsFaultless script = (profile : Profile) × (tree : List syntax.Node) × (breaches_of profile tree ≡ []) × (script ≡ script_of profile tree)
+IsFaultless script = (profile : Profile) × (tree : List syntax.Command) × (breaches_of profile tree ≡ []) × (script ≡ script_of profile tree)

@@ -32,7 +32,7 @@ judgement_by None script = sound script
 judgement_by (Some breach) script = faulty breach.line (Breach breach.rule)
 
 -- a text that no tree writes has a fault of syntax, on the line that the syntax says
-abbrev pub judgement_from : Profile → Result (List syntax.Node) ℕ → Judgement
+abbrev pub judgement_from : Profile → Result (List syntax.Command) ℕ → Judgement
 judgement_from profile (Ok tree) = judgement_by (first_breach profile tree) (script_of profile tree)
 judgement_from profile (Err line) = faulty line Syntax
 

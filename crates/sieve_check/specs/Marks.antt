@@ -9,10 +9,10 @@ use Rattle.sieve_script.specs.Reading as reading
 use Rattle.sieve_script.specs.Reading.{Ask, TestReading, CommandReading, Leaf}
 use Rattle.sieve_script.specs.Script.{Commands, no_commands, stops, returns, acts, chooses, Branches, no_branches, else_branch, test_branch, Condition, always, never, asks, negated, all_hold, any_holds, Conditions, no_conditions, one_condition}
 use Rattle.sieve_check.specs.Context.{Context, after, after_kind, inside, script_start}
-use Rattle.sieve_check.specs.Script.{command_reading, node_reading, script_of, test_reading}
+use Rattle.sieve_check.specs.Script.{command_reading, reading_of, script_of, test_reading}
 use Rattle.sieve_profile.specs.Profile.{Profile}
 use Rattle.sieve_table.specs.Known.{known_command, known_test}
-use Rattle.sieve_syntax.specs.Tree.{Test, test, Tests, no_tests, one_test, test_list, TestList, end_tests, more_tests, Node, node, Block, no_block, block, Nodes, end_nodes, more_nodes, nodes}
+use Rattle.sieve_syntax.specs.Tree.{Test, test, Tests, no_tests, one_test, test_list, TestList, end_tests, more_tests, Command, command, Block, no_block, block, CommandList, end_commands, more_commands, command_list}
 
 -- `stop_mark`, `return_mark` and `act_mark` are commands that stop, return or act; `act_mark` has
 -- the line too. `test_mark` begins a branch with a test, and `else_mark` an `else`. `block_end`
@@ -140,26 +140,26 @@ closing (Some reading.reads_else) continued = branch_closing continued
 closing other continued = []
 
 -- whether the first of some commands is an `elsif` or `else`
-abbrev pub begins_continued : Context → Nodes → Bool
-begins_continued context end_nodes = false
-begins_continued context (more_nodes n ns) = continues (node_reading context n)
+abbrev pub begins_continued : Context → CommandList → Bool
+begins_continued context end_commands = false
+begins_continued context (more_commands n ns) = continues (reading_of context n)
 
 unfoldable mutual
   -- Of a command: its own mark, those of its tests and its block, and those that end there. An `if`
   -- goes on with each `elsif` and the `else` right after it.
-  pub node_marks : Context → Node → (continued : Bool) → List Mark
-  node_marks context (node name line args ts ending) continued =
+  pub command_marks : Context → Command → (continued : Bool) → List Mark
+  command_marks context (command name line args ts ending) continued =
       opening (command_reading context (known_command context.profile name) args) line
       ++ (tests_marks context ts ++ (block_marks (after_kind context (known_command context.profile name) args) ending ++ closing (command_reading context (known_command context.profile name) args) continued))
 
   pub block_marks : Context → Block → List Mark
   block_marks context no_block = []
-  block_marks context (block ns) = nodes_marks (inside context) ns
+  block_marks context (block ns) = command_list_marks (inside context) ns
 
-  pub nodes_marks : Context → Nodes → List Mark
-  nodes_marks context end_nodes = []
-  nodes_marks context (more_nodes n ns) = node_marks context n (begins_continued (after context n) ns) ++ nodes_marks (after context n) ns
+  pub command_list_marks : Context → CommandList → List Mark
+  command_list_marks context end_commands = []
+  command_list_marks context (more_commands n ns) = command_marks context n (begins_continued (after context n) ns) ++ command_list_marks (after context n) ns
 
 -- the abstract script of a tree has the same marks as the tree, in the order of its text
-abbrev pub DoesAll : Profile → List Node → Type 0
-DoesAll profile tree = marks (script_of profile tree) ≡ nodes_marks (script_start profile) (nodes tree)
+abbrev pub DoesAll : Profile → List Command → Type 0
+DoesAll profile tree = marks (script_of profile tree) ≡ command_list_marks (script_start profile) (command_list tree)

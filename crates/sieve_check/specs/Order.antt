@@ -5,7 +5,7 @@ use Rattle.std.specs.List.{flat_map}
 use Rattle.std.specs.List.Sorted.{IsNonDecreasing}
 use Rattle.sieve_profile.specs.Profile.{Profile}
 use Rattle.sieve_syntax.specs.Token.{IsInside}
-use Rattle.sieve_syntax.specs.Tree.{Node}
+use Rattle.sieve_syntax.specs.Tree.{Command}
 use Rattle.sieve_syntax.specs.Symbol.{Symbol, identifier, tag_symbol, number_symbol, string_symbol, semicolon, open_brace, close_brace, open_parenthesis, close_parenthesis, open_bracket, close_bracket, comma, bad, symbol_of}
 use Rattle.sieve_syntax.specs.declared.token.Token.{Token}
 use Rattle.sieve_check.specs.Breach.{line_of}
@@ -44,7 +44,7 @@ StandApart tokens = IsNonDecreasing (flat_map (λ token. token.start ∷ token.e
 -- order in the text. The lines of the elements never fall. So no identifier, string or number of
 -- a text is left out, or judged out of its place. `elements_of` says which data an element
 -- carries beside its word.
-pub record IsInTextOrder (profile : Profile) (tree : List Node) (text : List ℕ) (tokens : List Token) : Type 0 where
+pub record IsInTextOrder (profile : Profile) (tree : List Command) (text : List ℕ) (tokens : List Token) : Type 0 where
   pub elements : map written_by (elements_of profile tree) ≡ map (symbol_of text) (filter (λ token. writes_element (symbol_of text token)) tokens)
   pub inside : All (IsInside text) tokens
   pub apart : StandApart tokens

@@ -3,7 +3,7 @@
 use Rattle.std.specs.Prelude.{List, Option}
 use Rattle.std.specs.Option.{option_map}
 use Rattle.sieve_profile.specs.Profile.{Profile}
-use Rattle.sieve_syntax.specs.Tree.{Argument, Test, test, Tests, no_tests, one_test, test_list, TestList, end_tests, more_tests, Node, node, Block, no_block, block, Nodes, end_nodes, more_nodes, nodes}
+use Rattle.sieve_syntax.specs.Tree.{Argument, Test, test, Tests, no_tests, one_test, test_list, TestList, end_tests, more_tests, Command, command, Block, no_block, block, CommandList, end_commands, more_commands, command_list}
 use Rattle.sieve_check.specs.Context.{Context, after, after_kind, inside, script_start}
 use Rattle.sieve_check.specs.Cut.{cut_row}
 use Rattle.sieve_script.specs.CommandReading.{command_reading_by}
@@ -48,22 +48,22 @@ unfoldable mutual
 -- COMMANDS
 
 -- the reading of a command
-abbrev pub node_reading : Context → Node → Option CommandReading
-node_reading context (node name line args ts ending) = command_reading context (known_command context.profile name) args
+abbrev pub reading_of : Context → Command → Option CommandReading
+reading_of context (command name line args ts ending) = command_reading context (known_command context.profile name) args
 
 unfoldable mutual
-  pub chain_with : Context → Node → Chain → Chain
-  chain_with context (node name line args ts ending) chain =
+  pub chain_with : Context → Command → Chain → Chain
+  chain_with context (command name line args ts ending) chain =
       chain_with_command (command_reading context (known_command context.profile name) args) line (first_condition (conditions_in context ts)) (block_commands (after_kind context (known_command context.profile name) args) ending) chain
 
   pub block_commands : Context → Block → Commands
   block_commands context no_block = no_commands
   block_commands context (block ns) = (chain_of (inside context) ns).rest
 
-  pub chain_of : Context → Nodes → Chain
-  chain_of context end_nodes = record { otherwise = no_branches; rest = no_commands }
-  chain_of context (more_nodes n ns) = chain_with context n (chain_of (after context n) ns)
+  pub chain_of : Context → CommandList → Chain
+  chain_of context end_commands = record { otherwise = no_branches; rest = no_commands }
+  chain_of context (more_commands n ns) = chain_with context n (chain_of (after context n) ns)
 
 -- the abstract script of a text's tree, where it is judged by a profile
-abbrev pub script_of : Profile → List Node → Commands
-script_of profile tree = (chain_of (script_start profile) (nodes tree)).rest
+abbrev pub script_of : Profile → List Command → Commands
+script_of profile tree = (chain_of (script_start profile) (command_list tree)).rest

@@ -1,10 +1,10 @@
 //! The breaches in commands, and the readings of commands without a breach.
 ghost use Rattle.std.specs.Prelude.{◌≡◌, ◌&&◌, not, map, Some, IfOk, OnOk};
-ghost use Rattle.sieve_syntax.specs.Tree.{nodes};
+ghost use Rattle.sieve_syntax.specs.Tree.{command_list};
 ghost use Rattle.sieve_syntax.specs.view.Tree as seen;
 ghost use Rattle.sieve_syntax.specs.declared.tree.Command.{out-Command};
-ghost use Rattle.sieve_check.specs.Context.{after, after_kind, after_nodes, continues_if, is_require, naming_said};
-ghost use Rattle.sieve_check.specs.Element.{node_elements, nodes_elements, tests_elements};
+ghost use Rattle.sieve_check.specs.Context.{after, after_kind, past_commands, continues_if, is_require, naming_said};
+ghost use Rattle.sieve_check.specs.Element.{command_elements, command_list_elements, tests_elements};
 ghost use Rattle.sieve_check.specs.Cut.{cut_said};
 ghost use Rattle.sieve_check.specs.Script.{chain_of, chain_with, command_kind_reading, conditions_in};
 ghost use Rattle.sieve_script.specs.Script.{Chain, chain_with_command, first_condition};
@@ -215,13 +215,13 @@ fn check_command(
     scope: &mut Scope,
     command: Command,
 ) -> Result<Passed, CheckFault>
-    ensures found { FindsIn (node_elements (at_spot spot scope.old) (seen.node_of command)) result }
+    ensures found { FindsIn (command_elements (at_spot spot scope.old) (seen.command_as command)) result }
     ensures goes { IfOk result (λ passed. at_spot passed.next scope.new
-        ≡ after (at_spot spot scope.old) (seen.node_of command)) }
+        ≡ after (at_spot spot scope.old) (seen.command_as command)) }
     ensures read { IfOk result (λ passed. (chain : Chain) → chain_with_command
         (Some (command_reading_as passed.reading)) passed.line
         (condition_as passed.branch.condition) (commands_as passed.branch.block.items) chain
-        ≡ chain_with (at_spot spot scope.old) (seen.node_of command) chain) }
+        ≡ chain_with (at_spot spot scope.old) (seen.command_as command) chain) }
 {
     let context = Context {
         spot,
@@ -262,12 +262,12 @@ pub(crate) fn check_commands(
     scope: &mut Scope,
     commands: Vec<Command>,
 ) -> Result<Vec<Statement>, CheckFault>
-    ensures found { FindsIn (nodes_elements (at_spot start scope.old)
-        (nodes (map seen.node_of commands.items))) result }
-    ensures goes { OnOk result (scope.new ≡ (after_nodes (at_spot start scope.old)
-        (nodes (map seen.node_of commands.items))).scope) }
+    ensures found { FindsIn (command_list_elements (at_spot start scope.old)
+        (command_list (map seen.command_as commands.items))) result }
+    ensures goes { OnOk result (scope.new ≡ (past_commands (at_spot start scope.old)
+        (command_list (map seen.command_as commands.items))).scope) }
     ensures read { IfOk result (λ read. commands_as read.items
-        ≡ (chain_of (at_spot start scope.old) (nodes (map seen.node_of commands.items))).rest) }
+        ≡ (chain_of (at_spot start scope.old) (command_list (map seen.command_as commands.items))).rest) }
 {
     let mut spot = start;
     let mut script = ScriptBuilder::with_capacity(alloc, commands.len())?;

@@ -8,13 +8,13 @@ ghost use Rattle.sieve_check.specs.Absent.{lacks};
 ghost use Rattle.sieve_check.specs.Judgement.{judgement_of, sound};
 ghost use Rattle.sieve_syntax.specs.Grammar.{WritesSymbols};
 ghost use Rattle.sieve_syntax.specs.Token.{Spells};
-ghost use Rattle.sieve_syntax.specs.Tree.{Argument, Node, Nodes};
+ghost use Rattle.sieve_syntax.specs.Tree.{Argument, Command, CommandList};
 ghost use Rattle.sieve_syntax.specs.Symbol.{symbols_of};
 ghost use Rattle.sieve_syntax.specs.declared.token.Token.{Token};
 ghost use Rattle.sieve_check.specs.Asked.{AreAlike, asked_by_command, asked_by_test, gives_all};
 ghost use Rattle.sieve_check.specs.Breach.{Breach, breaches_at, breaches_of, breaks, first_breach, IsLeastBreach};
-ghost use Rattle.sieve_check.specs.Context.{Context, after_nodes, script_start, takes_references, under};
-ghost use Rattle.sieve_check.specs.Element.{Element, elements_of, nodes_elements};
+ghost use Rattle.sieve_check.specs.Context.{Context, past_commands, script_start, takes_references, under};
+ghost use Rattle.sieve_check.specs.Element.{Element, elements_of, command_list_elements};
 ghost use Rattle.sieve_check.specs.Naming.{HasSetBefore, mentions_in, set_by};
 ghost use Rattle.sieve_check.specs.Order.{IsInTextOrder};
 ghost use Rattle.sieve_check.specs.Cut.{cut_row, parts_in};
@@ -51,9 +51,9 @@ pub fn first_breach_is_least()
         ∷ ElsePlace ∷ BadTag ∷ BadArguments ∷ UnknownComparator ∷ BadVariableName ∷ GlobalAfterSet
         ∷ BadNamespace ∷ MatchIndex ∷ NumberTooLarge ∷ BadEnvelopePart ∷ NotAddressHeader
         ∷ TooManyVariables ∷ BadCharacter ∷ BadRelation ∷ UnfitComparator ∷ BadDatePart ∷ [] }
-    ensures order { (profile : Profile) (tree : List Node)
+    ensures order { (profile : Profile) (tree : List Command)
         → breaches_of profile tree ≡ flat_map breaches_at (elements_of profile tree) }
-    ensures least { (profile : Profile) (tree : List Node) (breach : Breach)
+    ensures least { (profile : Profile) (tree : List Command) (breach : Breach)
         → first_breach profile tree ≡ Some breach → IsLeastBreach profile tree breach }
 {}
 
@@ -81,7 +81,7 @@ pub fn parts_go_by_the_role()
 /// (RFC 5228, section 3.2).
 #[tactic(auto, using(crate::proofs::Requirement::judged_after))]
 pub fn what_is_required_is_named_at_the_top()
-    ensures { (profile : Profile) (tree : List Node) → JudgesAfterRequires profile tree }
+    ensures { (profile : Profile) (tree : List Command) → JudgesAfterRequires profile tree }
 {}
 
 /// The variables that a text sets are the identifiers that it writes to set them (RFC 5229,
@@ -90,10 +90,10 @@ pub fn what_is_required_is_named_at_the_top()
 /// after a text, and before each command, test and string of a script. There, exactly the variables
 /// are set that the commands before the element's own command set.
 pub fn what_is_written_to_be_set_is_set()
-    ensures after { (profile : Profile) (commands : Nodes)
-        → (after_nodes (script_start profile) commands).scope.assigned
-        ≡ set_by (mentions_in (nodes_elements (script_start profile) commands)) }
-    ensures before { (profile : Profile) (tree : List Node) (place : ℕ) (element : Element)
+    ensures after { (profile : Profile) (commands : CommandList)
+        → (past_commands (script_start profile) commands).scope.assigned
+        ≡ set_by (mentions_in (command_list_elements (script_start profile) commands)) }
+    ensures before { (profile : Profile) (tree : List Command) (place : ℕ) (element : Element)
         → slice_get (elements_of profile tree) place ≡ Some element
         → HasSetBefore (take place (elements_of profile tree)) element }
 {}
@@ -105,14 +105,14 @@ pub fn what_is_written_to_be_set_is_set()
 /// another branch. No mark shows that an argument is kept: both sides have the same readings.
 #[tactic(auto, using(crate::proofs::Marks::marks_kept))]
 pub fn a_faultless_script_does_all()
-    ensures { (profile : Profile) (tree : List Node)
+    ensures { (profile : Profile) (tree : List Command)
         → breaches_of profile tree ≡ [] → DoesAll profile tree }
 {}
 
 /// Where a script has no first breach, none of its elements breaks a rule.
 #[tactic(auto, using(crate::proofs::Unbroken::unbroken))]
 pub fn without_a_breach_no_rule_is_broken()
-    ensures { (profile : Profile) (tree : List Node) → first_breach profile tree ≡ None
+    ensures { (profile : Profile) (tree : List Command) → first_breach profile tree ≡ None
         → All (λ e. (rule : Rule) → breaks e rule ≡ false) (elements_of profile tree) }
 {}
 
@@ -121,7 +121,7 @@ pub fn without_a_breach_no_rule_is_broken()
 /// names a capability that may not be required. So by the empty profile a script has only
 /// things that each bench knows.
 pub fn what_is_not_known_is_in_no_script()
-    ensures { (profile : Profile) (tree : List Node) → breaches_of profile tree ≡ []
+    ensures { (profile : Profile) (tree : List Command) → breaches_of profile tree ≡ []
         → All (λ e. lacks profile e ≡ false) (elements_of profile tree) }
 {}
 
@@ -132,7 +132,7 @@ pub fn unused_changes_no_sound_script()
     ensures sound { (profile : Profile) (text : List ℕ) (script : Commands)
         → judgement_of profile text ≡ sound script
         → judgement_of (with_extension profile Unused) text ≡ sound script }
-    ensures tree { (profile : Profile) (tree : List Node)
+    ensures tree { (profile : Profile) (tree : List Command)
         → script_of (with_extension profile Unused) tree ≡ script_of profile tree }
     ensures strings { (profile : Profile) (context : Context) (row : Row) (args : List Argument)
         → cut_row (under (with_extension profile Unused) context) row args
@@ -166,7 +166,7 @@ pub fn rows_give_what_readings_ask_for()
 /// in order. Its tokens aren't empty, and stand apart and in order in the text. The lines of
 /// the elements never fall.
 pub fn elements_are_in_text_order()
-    ensures { (profile : Profile) (tree : List Node) (text : List ℕ) (tokens : List Token)
+    ensures { (profile : Profile) (tree : List Command) (text : List ℕ) (tokens : List Token)
         → Spells tokens text → WritesSymbols test_depth block_room tree (symbols_of text tokens)
         → IsInTextOrder profile tree text tokens }
 {}

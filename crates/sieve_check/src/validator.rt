@@ -1,7 +1,7 @@
 //! The validator of scripts.
 ghost use Rattle.std.specs.Prelude.{◌≡◌, [], MatchResult};
 ghost use Rattle.sieve_profile.specs.view.Profile.{profile_as};
-ghost use Rattle.sieve_syntax.specs.view.Script.{nodes_of};
+ghost use Rattle.sieve_syntax.specs.view.Script.{tree_of};
 ghost use Rattle.sieve_check.specs.Breach.{breaches_of};
 ghost use Rattle.sieve_check.specs.view.Checked.{commands_of};
 ghost use Rattle.sieve_check.specs.CheckFault.{IsFirst};
@@ -42,9 +42,9 @@ impl From<AllocError> for CheckFault {
 /// result is the checked script: the abstract script of the same tree. Otherwise the error is the
 /// least breach of a rule. It is `NoMemory` where memory runs out.
 pub fn check(alloc: Global, profile: Profile, script: ParsedScript) -> Result<Checked, CheckFault>
-    ensures { MatchResult result (λ checked. (breaches_of (profile_as profile) (nodes_of script)
-        ≡ []) × (commands_of checked ≡ script_of (profile_as profile) (nodes_of script)))
-        (IsFirst (breaches_of (profile_as profile) (nodes_of script))) }
+    ensures { MatchResult result (λ checked. (breaches_of (profile_as profile) (tree_of script)
+        ≡ []) × (commands_of checked ≡ script_of (profile_as profile) (tree_of script)))
+        (IsFirst (breaches_of (profile_as profile) (tree_of script))) }
 {
     let commands = script.into_commands();
     let mut scope = Scope::new(alloc);

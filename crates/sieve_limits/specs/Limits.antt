@@ -1,4 +1,4 @@
--- The limits of the project, each once. What is past one of them is refused.
+-- The limits of the project, each once. All past one is refused, but for a variable's value.
 use Rattle.std.specs.Prelude.{ℕ}
 
 -- SCRIPTS
@@ -15,11 +15,11 @@ name_limit = 1024
 abbrev pub script_count_limit : ℕ
 script_count_limit = 4096
 
--- how deep tests may go: a test directly in a command has depth 1 (RFC 5228, section 2.10.7, asks for 15 at least)
+-- the greatest depth of tests: directly in a command it is 1 (RFC 5228, 2.10.7: 15 at least)
 abbrev pub test_depth : ℕ
 test_depth = 32
 
--- how many blocks may stand open at once (RFC 5228, section 2.10.7, asks for 15 at least)
+-- the most blocks that may stand open at once (RFC 5228, 2.10.7: 15 at least)
 abbrev pub block_room : ℕ
 block_room = 32
 
@@ -47,43 +47,45 @@ message_count_limit = 65536
 abbrev pub address_limit : ℕ
 address_limit = 1024
 
--- the most octets of the name of the mailbox that mail is kept in, and of one that it is filed into
+-- the most octets of the name of a mailbox in which mail is kept or filed
 abbrev pub mailbox_limit : ℕ
 mailbox_limit = 255
 
--- the most octets of the list of mailboxes that there are: 2 ^ 20
+-- the most octets of the list of existing mailboxes: 2 ^ 20
 abbrev pub mailboxes_limit : ℕ
 mailboxes_limit = 1048576
 
 -- RUNS
 
--- the most actions of a run (RFC 5228, section 2.10.4)
+-- the most actions of a run (RFC 5228, 2.10.4)
 abbrev pub action_limit : ℕ
 action_limit = 32
 
--- how many scripts may include one another below the main script (RFC 6609, sections 3.1 and 3.2: two at least)
+-- the most scripts that may include one another below the main script (RFC 6609, 3.1 and
+-- 3.2: two at least)
 abbrev pub include_depth : ℕ
 include_depth = 10
 
--- the most includes that a run enters (RFC 6609, sections 3.1 and 3.2, leave it open)
+-- the most includes that a run enters (RFC 6609, 3.1 and 3.2, leave it open)
 abbrev pub include_limit : ℕ
 include_limit = 256
 
 -- VARIABLES
 
--- the most octets of a variable's value; what is longer is cut (RFC 5229, section 6, asks for 4000 characters at least)
+-- The most octets of a variable's value (RFC 5229, section 6: 4000 characters at least). A
+-- longer value is cut.
 abbrev pub value_limit : ℕ
 value_limit = 4096
 
--- the most local variables that a script sets (RFC 5229, section 6, asks for 128 at least)
+-- the most local variables that a script sets (RFC 5229, section 6: 128 at least)
 abbrev pub local_limit : ℕ
 local_limit = 128
 
--- the most variables that scripts share and a run sets (RFC 5229, section 6, asks for 128 at least)
+-- the most variables that scripts share and a run sets (RFC 5229, section 6: 128 at least)
 abbrev pub global_limit : ℕ
 global_limit = 128
 
--- the greatest number of a match variable (RFC 5229, section 6, asks for 9 at least)
+-- the greatest number of a match variable (RFC 5229, section 6: 9 at least)
 abbrev pub match_limit : ℕ
 match_limit = 99
 

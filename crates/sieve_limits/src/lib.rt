@@ -10,7 +10,7 @@ pub const MAX_TEXT: usize = 1_048_576;
 pub const MAX_NAME: usize = 1_024;
 /// The most scripts of a bench.
 pub const MAX_SCRIPTS: usize = 4_096;
-/// How deep tests may go: a test directly in a command has depth 1.
+/// The greatest depth of tests: a test directly in a command has depth 1.
 pub const MAX_TEST_DEPTH: usize = 32;
 /// The most blocks that may stand open at once.
 pub const MAX_OPEN_BLOCKS: usize = 32;
@@ -26,15 +26,15 @@ pub const MAX_MESSAGES: usize = 65_536;
 pub const MAX_ADDRESS: usize = 1_024;
 /// The most octets of the name of a mailbox.
 pub const MAX_MAILBOX: usize = 255;
-/// The most octets of the list of mailboxes that there are.
+/// The most octets of the list of existing mailboxes.
 pub const MAX_MAILBOXES: usize = 1_048_576;
 /// The most actions of a run.
 pub const MAX_ACTIONS: usize = 32;
-/// How many scripts may include one another below the main script.
+/// The most scripts that may include one another below the main script.
 pub const MAX_INCLUDE_DEPTH: usize = 10;
 /// The most includes that a run enters.
 pub const MAX_INCLUDES: usize = 256;
-/// The most octets of a variable's value. What is longer is cut.
+/// The most octets of a variable's value. A longer value is cut.
 pub const MAX_VALUE: usize = 4_096;
 /// The most local variables that a script sets.
 pub const MAX_LOCALS: usize = 128;

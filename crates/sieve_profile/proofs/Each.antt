@@ -1,4 +1,4 @@
--- What is computed of all values of an enum without fields holds of each.
+-- A test that is computed of all values of an enum without fields holds of each.
 use Rattle.std.proofs.Common.{◌≡◌, ℕ, zero, suc, Bool, true, ◌&&◌, List, [], ◌∷◌, map, None, Some, slice_get, refl, sym, ap, ◌∙◌}
 use Rattle.std.specs.List.{list_all}
 use Rattle.std.specs.Option.{option_map}

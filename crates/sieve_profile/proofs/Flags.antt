@@ -29,7 +29,7 @@ each_flag (b ∷ flags) = ap (λ bs. b ∷ bs) (each_flag flags ∙ sym (of_mapp
 two : {b c : Bool} {bs cs : List Bool} → b ≡ c → bs ≡ cs → (b ∷ bs) ≡ (c ∷ cs)
 two {b} {c} {bs} {cs} first rest = ap (λ x. x ∷ bs) first ∙ ap (λ xs. c ∷ xs) rest
 
--- what is set at a place is so there, and elsewhere as before
+-- a flag that is set at a place is set there, and the others are as before
 pub each_set : (flags : List Bool) (k : ℕ) → slice_set flags k true ≡ map (λ n. slice_index_or flags n false || nat_eq k n) (places (length flags))
 each_set [] k = refl
 each_set (b ∷ flags) zero =
@@ -45,7 +45,7 @@ each_set (b ∷ flags) (suc k) =
     (λ n. ap (λ c. slice_index_or flags n false || c) (sym (eqb-suc-suc k n))) (places (length flags))
     ∙ sym (of_mapped (λ n. slice_index_or (b ∷ flags) n false || nat_eq (suc k) n) (places (length flags))))
 
--- what values give in order, at the place of one
+-- the test of a value is the flag at the value's place
 pub flag_at : {E : Type 0} (is_in : E → Bool) (xs : List E) (n : ℕ) (x : E) → slice_get xs n ≡ Some x → slice_index_or (map is_in xs) n false ≡ is_in x
 flag_at is_in [] n x is = absurd (nothing is)
   where

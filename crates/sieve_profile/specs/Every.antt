@@ -1,4 +1,5 @@
--- The values of an enum whose variants have no fields: each once, in the order in which they are written.
+-- The values of an enum whose variants have no fields. Each stands there once, in the order in
+-- which they are written.
 use Rattle.std.specs.Prelude.{List, [], ◌∷◌, map}
 use mathlib.Core.Logic.{inl, inr}
 use denote.Struct.Field.{Field}

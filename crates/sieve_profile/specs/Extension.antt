@@ -1,4 +1,4 @@
--- What a bench may know beyond what it always does, by the names that are asked for.
+-- The extensions that a bench knows only where they are asked for, by their names.
 use Rattle.std.specs.Prelude.{ℕ, Bool, true, false, ◌&&◌, ◌||◌, List, Option, filter, find, nat_eq, codes}
 use denote.Enum.Bare.{sameb}
 use lib.Pointwise.{pointwise}
@@ -25,22 +25,22 @@ extension_name Subaddress = codes "subaddress"
 extension_name Unused = codes "unused"
 extension_name Vacation = codes "vacation"
 
--- all of them, in the order of their names
+-- all extensions, in the order of their names
 abbrev pub extensions : List Extension
 extensions = every enum tt
 
 abbrev pub same_extension : Extension → Extension → Bool
 same_extension a b = sameb the_type a b
 
--- whether octets are its name, octet for octet
+-- whether octets are the extension's name, octet for octet
 abbrev pub is_name_of : List ℕ → Extension → Bool
 is_name_of name extension = pointwise nat_eq (extension_name extension) name
 
--- the one of a name
+-- the extension of a name
 abbrev pub extension_named : List ℕ → Option Extension
 extension_named name = find (is_name_of name) extensions
 
--- whether it is among what Pigeonhole 0.5.19 knows by default, which decodes words of all charsets
+-- whether Pigeonhole 0.5.19 knows the extension by default; it decodes words of all charsets
 abbrev pub is_of_pigeonhole : Extension → Bool
 is_of_pigeonhole Body = true
 is_of_pigeonhole Charsets = true
@@ -59,10 +59,10 @@ is_of_pigeonhole Subaddress = true
 is_of_pigeonhole Unused = false
 is_of_pigeonhole Vacation = true
 
--- whether a name asks for it: its own, `all`, or `pigeonhole`
+-- whether a name asks for an extension: its own name, `all`, or `pigeonhole`
 abbrev pub asks_for : List ℕ → Extension → Bool
 asks_for name extension = is_name_of name extension || pointwise nat_eq (codes "all") name || (is_of_pigeonhole extension && pointwise nat_eq (codes "pigeonhole") name)
 
--- what a name asks for
+-- the extensions that a name asks for
 abbrev pub asked_by : List ℕ → List Extension
 asked_by name = filter (asks_for name) extensions

@@ -7,14 +7,14 @@ use Rattle.sieve_profile.specs.contracts.extension.Extension.{the_type}
 use Rattle.sieve_profile.specs.declared.extension.Extension.{Extension}
 use Rattle.sieve_profile.specs.declared.profile.Profile as profiles
 
--- whether each extension is in it, in their order
+-- whether each extension is in the profile, in their order
 abbrev pub Profile : Type 0
 Profile = profiles.Profile
 
 abbrev pub has : Profile → Extension → Bool
 has profile extension = slice_index_or profile.asked (tag_of the_type extension) false
 
--- the profile of those that are so
+-- the profile of the extensions that pass a test
 abbrev pub profile_of : (Extension → Bool) → Profile
 profile_of is_in = record { asked = map is_in extensions }
 
@@ -28,6 +28,6 @@ abbrev pub with_each : Profile → List Extension → Profile
 with_each profile [] = profile
 with_each profile (extension ∷ extensions) = with_each (with_extension profile extension) extensions
 
--- a profile with all that a name asks for; none where that is nothing
+-- a profile with all that a name asks for; none where it asks for nothing
 abbrev pub with_named : Profile → List ℕ → Option Profile
 with_named profile name = if list_any (asks_for name) extensions then Some (with_each profile (asked_by name)) else None

@@ -1,21 +1,21 @@
-//! The names that may be asked for.
+//! The extensions that may be asked for, and their names.
 ghost use Rattle.std.specs.Prelude.{◌≡◌};
 ghost use Rattle.sieve_profile.specs.Extension.{asks_for, extension_name, extension_named, extensions, is_name_of, is_of_pigeonhole};
 
-/// What a bench knows where it is asked for by its name.
+/// An extension, which a bench knows where it is asked for by its name.
 #[derive(Clone, Copy, Debug, PartialEq, Eq)]
 pub enum Extension {
-    /// `body`: what stands in the body of a message (RFC 5173).
+    /// `body`: tests of the body of a message (RFC 5173).
     Body,
-    /// `charsets`: encoded words of further charsets are decoded.
+    /// `charsets`: encoded words and bodies in further charsets are decoded.
     Charsets,
-    /// `comparator-i;ascii-numeric`: texts are compared as numbers (RFC 4790, section 9.1).
+    /// `comparator-i;ascii-numeric`: texts are compared as numbers (RFC 4790, 9.1).
     AsciiNumeric,
     /// `date`: the date of a field, and the current date (RFC 5260).
     Date,
     /// `duplicate`: whether the message came before (RFC 7352).
     Duplicate,
-    /// `encoded-character`: characters that strings write by their numbers (RFC 5228, section 2.4.2.4).
+    /// `encoded-character`: characters that strings write by their numbers (RFC 5228, 2.4.2.4).
     EncodedCharacter,
     /// `envelopes`: a message may have addresses of its own.
     Envelopes,
@@ -23,11 +23,11 @@ pub enum Extension {
     Ereject,
     /// `lines`: which line of which script entered an action.
     Lines,
-    /// `mailbox`: a mailbox that is made where it lacks, and which there are (RFC 5490).
+    /// `mailbox`: a missing mailbox is made, and a test says which mailboxes exist (RFC 5490).
     Mailbox,
     /// `reject`: the message is refused with a reason (RFC 5429).
     Reject,
-    /// `relational`: which of a value and a key is greater, and how many values there are (RFC 5231).
+    /// `relational`: which of a value and a key is greater, and the number of values (RFC 5231).
     Relational,
     /// `special-use`: a mailbox by its use (RFC 8579).
     SpecialUse,
@@ -39,7 +39,7 @@ pub enum Extension {
     Vacation,
 }
 
-/// All of them, in the order of their names.
+/// All extensions, in the order of their names.
 pub const EXTENSIONS: [Extension; 16] = [
     Extension::Body,
     Extension::Charsets,
@@ -59,20 +59,20 @@ pub const EXTENSIONS: [Extension; 16] = [
     Extension::Vacation,
 ];
 
-/// Whether octets are its name, octet for octet.
+/// Whether octets are the extension's name, octet for octet.
 fn is_name_of(name: &[u8], extension: Extension) -> bool
     ensures { result ≡ is_name_of name.now extension }
 {
     extension.name() == name
 }
 
-/// The name of the set of all.
+/// The name of the set of all extensions.
 pub const ALL: &[u8] = b"all";
 
-/// The name of the set of what Pigeonhole 0.5.19 knows by default.
+/// The name of the set of extensions that Pigeonhole 0.5.19 knows by default.
 pub const PIGEONHOLE: &[u8] = b"pigeonhole";
 
-/// Whether a name asks for it: its own, or that of a set that it is in.
+/// Whether a name asks for an extension: its own name, or that of a set that it is in.
 pub(crate) fn asks_for(name: &[u8], extension: Extension) -> bool
     ensures { result ≡ asks_for name.now extension }
 {
@@ -82,7 +82,7 @@ pub(crate) fn asks_for(name: &[u8], extension: Extension) -> bool
 }
 
 impl Extension {
-    /// The name by which it is asked for.
+    /// The name by which the extension is asked for.
     pub fn name(self) -> &'static [u8]
         ensures { result.now ≡ extension_name self }
     {
@@ -106,7 +106,7 @@ impl Extension {
         }
     }
 
-    /// Whether it is among what Pigeonhole 0.5.19 knows by default.
+    /// Whether Pigeonhole 0.5.19 knows the extension by default.
     fn is_of_pigeonhole(self) -> bool
         ensures { result ≡ is_of_pigeonhole self }
     {
@@ -130,7 +130,7 @@ impl Extension {
         }
     }
 
-    /// The one of a name, octet for octet.
+    /// The extension of a name, octet for octet; none for another name.
     pub fn named(name: &[u8]) -> Option<Extension>
         ensures { result ≡ extension_named name.now }
     {

@@ -11,7 +11,7 @@ pub fn extensions_are_found()
         → extension_named (extension_name extension) ≡ Some extension }
 {}
 
-/// The empty profile has none, and one with an extension has that beside those of before.
+/// The empty profile has no extension. A profile with an extension has that, and those of before.
 #[tactic(auto, using(crate::proofs::Sets::empty_has_none, crate::proofs::Sets::with_has_more))]
 pub fn profiles_are_sets()
     ensures empty { (extension : Extension) → has empty_profile extension ≡ false }

@@ -1,4 +1,5 @@
-//! What a bench may know beyond what it always does: each is asked for by a name, and a profile is a set of these names.
+//! The extensions that a bench knows only where they are asked for by their names. A profile is
+//! a set of them.
 #![tactic(auto)]
 
 mod extension;

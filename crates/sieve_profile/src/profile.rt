@@ -1,4 +1,4 @@
-//! Sets of names.
+//! Sets of extensions.
 ghost use Rattle.std.specs.Prelude.{◌≡◌};
 ghost use Rattle.std.specs.List.{list_any};
 ghost use Rattle.std.specs.Option.{option_map};
@@ -8,14 +8,14 @@ ghost use Rattle.sieve_profile.specs.view.Profile.{profile_as};
 
 use crate::extension::{EXTENSIONS, Extension, asks_for};
 
-/// What a bench knows beyond what it always does: a set of extensions. It is copied, and takes no memory.
+/// The set of the extensions that a bench knows.
 #[derive(Clone, Copy)]
 pub struct Profile {
     /// Whether each extension was asked for, in their order.
     asked: [bool; EXTENSIONS.len()],
 }
 
-/// Whether a name asks for something.
+/// Whether a name asks for an extension.
 fn is_asking(name: &[u8]) -> bool
     ensures { result ≡ list_any (asks_for name.now) extensions }
 {
@@ -50,7 +50,8 @@ impl Profile {
         profile
     }
 
-    /// The profile with all that a name asks for: an extension, or a set of them. A name that asks for nothing gives none.
+    /// The profile with the extension, or the set of extensions, that a name asks for. None where
+    /// it asks for none.
     pub fn with_named(self, name: &[u8]) -> Option<Profile>
         ensures { option_map profile_as result ≡ with_named (profile_as self) name.now }
     {

@@ -1,7 +1,7 @@
 -- Cases on a test and on an option, and the two sides of `&&` and of `||`.
 use Rattle.std.proofs.Common.{◌≡◌, ◌&&◌, ◌||◌, Bool, true, false, Option, Some, None, refl}
 
--- what holds of both outcomes, each with its equation, holds of the test
+-- a claim on both outcomes, each with its equation, holds of the test
 pub by_cases : (b : Bool) (P : Bool → Type 0) → (b ≡ true → P true) → (b ≡ false → P false) → P b
 by_cases true P holds fails = holds refl
 by_cases false P holds fails = fails refl

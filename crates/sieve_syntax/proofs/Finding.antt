@@ -1,4 +1,4 @@
--- The next token of a text, and what is found up to it.
+-- The next token of a text, and the tokens up to it.
 use Rattle.std.proofs.Common.{◌≡◌, ℕ, ◌+◌, ◌-◌, ◌<◌, ◌≤◌, ◌++◌, List, [], ◌∷◌, length, drop, Some, None, sym, ap, ◌∙◌, subst, arith, append-nil}
 use Rattle.sieve_syntax.specs.view.Cursor.{IsCursor, GoesTo, IsNext}
 use Rattle.sieve_syntax.specs.Scan.{longest_at, token_at}
@@ -11,7 +11,7 @@ use Rattle.sieve_syntax.specs.declared.token.TokenKind.TheVariants.{Bad}
 use Rattle.sieve_syntax.proofs.Longest.{IsFound, longest_at-found}
 use Rattle.sieve_syntax.proofs.Spelling.{step_white, step_token, step_bad, step_end, unique_from}
 
--- where white space stands at the place, the tokens go on from the place after it
+-- where white space begins at the place, the tokens go on from the place after it
 pub goes_white : (text : List ℕ) (from place n : ℕ) (rest : List ℕ) → rest ≡ drop place text → white_at rest ≡ Some n → GoesTo text from place → GoesTo text from (place + n)
 goes_white text from place n rest e w so = record { goes = λ more h. so.goes more (step_white text place n more (ap white_at (sym e) ∙ w) h) }
 
@@ -66,9 +66,9 @@ bad_next text from start after token rest e l w less is_after low so made place 
           (step_bad text start.place less w (ap longest_at (sym e) ∙ l))));
     }
 
--- WHAT IS FOUND SO FAR
+-- THE TOKENS SO FAR
 
--- whatever tokens spell the rest, with those found so far they spell the text
+-- any tokens that spell the rest spell the text with those found so far
 abbrev pub GoesOn : List ℕ → List Token → ℕ → Type 0
 GoesOn text found place = (more : List Token) → SpellsFrom text place more → SpellsFrom text 0 (found ++ more)
 

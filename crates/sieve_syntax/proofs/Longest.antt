@@ -1,4 +1,4 @@
--- What is found at the front of a text, against the spellings and the white space.
+-- The spelling that is found at the front of a text, against all spellings and the white space.
 use Rattle.std.proofs.Common.{◌≡◌, ℕ, zero, suc, ◌<◌, ◌≤◌, ◌==◌, ◌||◌, ◌&&◌, true, false, if◌then◌else◌, List, [], ◌∷◌, length, take, Option, Some, None, refl, sym, ap, ◌∙◌, subst, arith}
 use Rattle.std.proofs.lemmas.Option.{same_Some}
 use Rattle.std.specs.List.{list_all}
@@ -69,9 +69,9 @@ unfolding white_at longest_at mark_at
 white_at_alone [] n e = refl
 white_at_alone (c ∷ cs) n e = grind (arith, nat_tests)
 
--- WHAT IS FOUND
+-- THE SPELLING THAT IS FOUND
 
--- what is found is a spelling that lies in the text
+-- the kind and the length that are found are those of a spelling in the text
 pub record IsFound (rest : List ℕ) (found : TokenKind × ℕ) : Type 0 where
   pub some : 0 < found.1
   pub inside : found.1 ≤ length rest
@@ -157,7 +157,8 @@ longest_at-found (c ∷ cs) found =
 
 -- NOTHING LONGER
 
--- a spelling of this kind and length is no longer than what is found; where it is as long, its kind is the one found
+-- A spelling of this kind and length is no longer than the one that is found. Where both are as
+-- long, both have one kind.
 pub record IsAtMost (rest : List ℕ) (kind : TokenKind) (m : ℕ) : Type 0 where
   pub found : TokenKind × ℕ
   pub is : longest_at rest ≡ Some found
@@ -185,7 +186,7 @@ at_quote : (cs : List ℕ) → longest_at (octet_of "\"" ∷ cs) ≡ option_map 
 unfolding longest_at
 at_quote cs = refl
 
--- a spelling that is what is found is no longer than what is found
+-- the spelling that is found is no longer than itself
 exactly : (rest : List ℕ) (kind : TokenKind) (m : ℕ) → longest_at rest ≡ Some (kind, m) → IsAtMost rest kind m
 exactly rest kind m e = record { found = (kind, m); is = e; most = omega arith; only = λ s. refl }
 

@@ -183,7 +183,7 @@ lines_first (c ∷ cs) =
     plain n None = refl
     plain n (Some m) = refl
 
--- the length of a multi-line string is that of its first line and of the lines up to a dot alone
+-- a multi-line string is as long as its first line and the lines up to a dot alone
 pub multi_line_is : (xs : List ℕ) → multi_line_length (lines_of xs) ≡ elim (opening_length xs) as (λ z. Option ℕ) [ Some k ↦ shifted k (dot_length (lines_of (drop k xs))) | None ↦ None ]
 multi_line_is xs =
     lines_first xs

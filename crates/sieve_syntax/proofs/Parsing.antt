@@ -1,18 +1,18 @@
 -- The machine against the grammar, and against the tokens of a text.
 use Rattle.std.proofs.Common.{◌≡◌, ℕ, ◌⊎◌, inl, inr, List, [], ◌∷◌, ◌++◌, length, Option, Some, None, Result, Ok, Err, refl, sym, ap, ◌∙◌, subst, arith, append_assoc, append-nil}
 use Rattle.std.proofs.lemmas.Option.{same_Some}
-use Rattle.sieve_syntax.specs.Tree.{Tests, no_tests, one_test, test_list, tests, Node, no_block, block, nodes}
+use Rattle.sieve_syntax.specs.Tree.{Tests, no_tests, one_test, test_list, tests, Command, no_block, block, command_list}
 use Rattle.sieve_syntax.specs.Token.{line_at}
 use Rattle.sieve_syntax.specs.Symbol.{Symbol, identifier, string_symbol, semicolon, close_brace, close_parenthesis, close_bracket, symbol_of, symbols_of}
-use Rattle.sieve_syntax.specs.Grammar.{written_nodes, NestsNodes, WritesSymbols, BeginsAt}
-use Rattle.sieve_syntax.specs.Machine.{Head, Level, for_one, for_list, Open, Outer, ParserState, between, in_arguments, before_string, after_string, before_test, after_tests, bare_head, test_with, node_with, close_block, step, start, whole, whole_outer, read}
+use Rattle.sieve_syntax.specs.Grammar.{written_commands, NestsCommands, WritesSymbols, BeginsAt}
+use Rattle.sieve_syntax.specs.Machine.{Head, Level, for_one, for_list, Open, Outer, ParserState, between, in_arguments, before_string, after_string, before_test, after_tests, bare_head, test_with, command_of_parts, close_block, step, start, whole, whole_outer, read}
 use Rattle.sieve_syntax.specs.Syntax.{IsFaultAt, IsFaultAtEnd}
 use Rattle.sieve_syntax.specs.declared.token.Token.{Token}
 use Rattle.sieve_syntax.proofs.Cases.{by_option}
-use Rattle.sieve_syntax.proofs.Reading.{run, closed, EndsFirst, items-nodes, closed_one, after_list, end_list, end_node, read_no_tests, read_nodes}
+use Rattle.sieve_syntax.proofs.Reading.{run, closed, EndsFirst, items-command_list, closed_one, after_list, end_list, end_command, read_no_tests, reads_commands}
 use Rattle.sieve_syntax.proofs.Writing.{state_symbols, IsReached, Takes, step_takes}
 
-abbrev pub ended : List Node → ParserState
+abbrev pub ended : List Command → ParserState
 ended tree = between (record { blocks = []; done = tree })
 
 module _ (depth room : ℕ) where
@@ -33,26 +33,26 @@ module _ (depth room : ℕ) where
 
   record Closes (s : ParserState) : Type 0 where
     more : List Symbol
-    tree : List Node
+    tree : List Command
     runs : run depth room s more ≡ Some (ended tree)
 
   record ClosesLevels (o : Outer) (ls : List Level) (h : Head) (ts : Tests) : Type 0 where
     more : List Symbol
-    tree : List Node
+    tree : List Command
     ends : EndsFirst more
     runs : closed depth room o ls h ts more ≡ Some (ended tree)
 
-  closes_blocks : (bs : List Open) (done : List Node) → Closes (between (record { blocks = bs; done = done }))
+  closes_blocks : (bs : List Open) (done : List Command) → Closes (between (record { blocks = bs; done = done }))
   unfolding run step close_block
   closes_blocks [] done = record { more = []; tree = done; runs = refl }
   closes_blocks (b ∷ bs) done =
-      let outer = closes_blocks bs (b.done ++ node_with b.head b.tests (block (nodes done)) ∷ []) in
+      let outer = closes_blocks bs (b.done ++ command_of_parts b.head b.tests (block (command_list done)) ∷ []) in
       record { more = close_brace ∷ outer.more; tree = outer.tree; runs = outer.runs }
 
   closes_levels : (ls : List Level) (o : Outer) (h : Head) (ts : Tests) → ClosesLevels o ls h ts
   closes_levels [] o h ts =
-      let outer = closes_blocks o.blocks (o.done ++ node_with h ts no_block ∷ []) in
-      record { more = semicolon ∷ outer.more; tree = outer.tree; ends = tt; runs = end_node depth room o h ts outer.more ∙ outer.runs }
+      let outer = closes_blocks o.blocks (o.done ++ command_of_parts h ts no_block ∷ []) in
+      record { more = semicolon ∷ outer.more; tree = outer.tree; ends = tt; runs = end_command depth room o h ts outer.more ∙ outer.runs }
   closes_levels (for_one g ∷ ls) o h ts =
       let outer = closes_levels ls o g (one_test (test_with h ts)) in
       record { more = outer.more; tree = outer.tree; ends = outer.ends; runs = closed_one depth room o ls g h ts outer.more ∙ outer.runs }
@@ -91,14 +91,14 @@ module _ (depth room : ℕ) where
   -- THE MACHINE AND THE GRAMMAR
 
   start_reached : IsReached depth room start
-  unfolding NestsNodes
+  unfolding NestsCommands
   start_reached = record { left = room; blocks = refl; done = tt }
 
-  ended_writes : (tree : List Node) (ws : List Symbol) → run depth room start ws ≡ Some (ended tree) → WritesSymbols depth room tree ws
-  unfolding written_nodes
+  ended_writes : (tree : List Command) (ws : List Symbol) → run depth room start ws ≡ Some (ended tree) → WritesSymbols depth room tree ws
+  unfolding written_commands
   ended_writes tree ws e =
       let t = run_takes ws start (ended tree) start_reached e in
-      (subst (NestsNodes depth (nodes tree)) t.0.blocks t.0.done, sym t.1)
+      (subst (NestsCommands depth (command_list tree)) t.0.blocks t.0.done, sym t.1)
 
   run-append : (xs ys : List Symbol) (s t : ParserState) → run depth room s xs ≡ Some t → run depth room s (xs ++ ys) ≡ run depth room t ys
   unfolding run
@@ -114,12 +114,12 @@ module _ (depth room : ℕ) where
       by_option (step depth room s w) (λ o. elim o as (λ x. Option ParserState) [ Some next ↦ run depth room next xs | None ↦ None ] ≡ None → elim o as (λ x. Option ParserState) [ Some next ↦ run depth room next (xs ++ ys) | None ↦ None ] ≡ None)
       (λ next p f. run-none xs ys next f) (λ p f. refl) e
 
-  pub writes_runs : (tree : List Node) (ws : List Symbol) → WritesSymbols depth room tree ws → run depth room start ws ≡ Some (ended tree)
+  pub writes_runs : (tree : List Command) (ws : List Symbol) → WritesSymbols depth room tree ws → run depth room start ws ≡ Some (ended tree)
   unfolding run
   writes_runs tree ws h =
-      ap (run depth room start) (h.1 ∙ sym (append-nil (written_nodes (nodes tree))))
-      ∙ read_nodes depth room (nodes tree) (record { blocks = []; done = [] }) [] room h.0 (omega arith)
-      ∙ ap (λ x. Some (ended x)) (items-nodes tree)
+      ap (run depth room start) (h.1 ∙ sym (append-nil (written_commands (command_list tree))))
+      ∙ reads_commands depth room (command_list tree) (record { blocks = []; done = [] }) [] room h.0 (omega arith)
+      ∙ ap (λ x. Some (ended x)) (items-command_list tree)
 
   runs_begin : (ws : List Symbol) (s : ParserState) → run depth room start ws ≡ Some s → BeginsAt depth room ws
   runs_begin ws s e =
@@ -134,21 +134,21 @@ module _ (depth room : ℕ) where
   -- THE MACHINE AND THE TOKENS OF A TEXT
 
   module _ (text : List ℕ) where
-    -- where tokens lead from one state to another, what is read after them is read from the other state
+    -- where tokens lead from one state to another, the tokens after them are read from the other
     read-run : (xs ys : List Token) (s t : ParserState) → run depth room s (symbols_of text xs) ≡ Some t → read depth room text s (xs ++ ys) ≡ read depth room text t ys
     unfolding run read
     read-run [] ys s t e = let same : s ≡ t = cc in ap (λ x. read depth room text x ys) same
     read-run (x ∷ xs) ys s t e =
-        by_option (step depth room s (symbol_of text x)) (λ o. elim o as (λ z. Option ParserState) [ Some next ↦ run depth room next (symbols_of text xs) | None ↦ None ] ≡ Some t → elim o as (λ z. Result (List Node) ℕ) [ Some next ↦ read depth room text next (xs ++ ys) | None ↦ Err x.line ] ≡ read depth room text t ys)
+        by_option (step depth room s (symbol_of text x)) (λ o. elim o as (λ z. Option ParserState) [ Some next ↦ run depth room next (symbols_of text xs) | None ↦ None ] ≡ Some t → elim o as (λ z. Result (List Command) ℕ) [ Some next ↦ read depth room text next (xs ++ ys) | None ↦ Err x.line ] ≡ read depth room text t ys)
         (λ next p f. read-run xs ys next t f) (λ p f. cc) e
 
-    read-end : (s : ParserState) → read depth room text s [] ≡ elim (whole s) as (λ z. Result (List Node) ℕ) [ Some tree ↦ Ok tree | None ↦ Err (line_at text (length text)) ]
+    read-end : (s : ParserState) → read depth room text s [] ≡ elim (whole s) as (λ z. Result (List Command) ℕ) [ Some tree ↦ Ok tree | None ↦ Err (line_at text (length text)) ]
     unfolding read
     read-end s = refl
 
     read-stuck : (s : ParserState) (token : Token) (rest : List Token) → step depth room s (symbol_of text token) ≡ None → read depth room text s (token ∷ rest) ≡ Err token.line
     unfolding read
-    read-stuck s token rest e = ap (λ o. elim o as (λ z. Result (List Node) ℕ) [ Some next ↦ read depth room text next rest | None ↦ Err token.line ]) e
+    read-stuck s token rest e = ap (λ o. elim o as (λ z. Result (List Command) ℕ) [ Some next ↦ read depth room text next rest | None ↦ Err token.line ]) e
 
     run-stuck : (s : ParserState) (w : Symbol) (ws : List Symbol) → step depth room s w ≡ None → run depth room s (w ∷ ws) ≡ None
     unfolding run
@@ -181,7 +181,7 @@ module _ (depth room : ℕ) where
         cc
 
     -- no tree writes the tokens where the state after them is not whole
-    part_stops : (tokens : List Token) (s : ParserState) → run depth room start (symbols_of text tokens) ≡ Some s → whole s ≡ None → (tree : List Node) → WritesSymbols depth room tree (symbols_of text tokens) → ⊥
+    part_stops : (tokens : List Token) (s : ParserState) → run depth room start (symbols_of text tokens) ≡ Some s → whole s ≡ None → (tree : List Command) → WritesSymbols depth room tree (symbols_of text tokens) → ⊥
     unfolding whole
     part_stops tokens s e f tree h =
         let p = writes_runs tree _ h in
@@ -189,11 +189,11 @@ module _ (depth room : ℕ) where
         let clash : Some tree ≡ None = sym (ap whole same) ∙ f in
         cc
 
-    whole_ended : (s : ParserState) (tree : List Node) → whole s ≡ Some tree → s ≡ ended tree
+    whole_ended : (s : ParserState) (tree : List Command) → whole s ≡ Some tree → s ≡ ended tree
     unfolding whole
     whole_ended (between o) tree e = go o.blocks o.done e
       where
-        go : (bs : List Open) (done : List Node) → whole_outer bs done ≡ Some tree → between (record { blocks = bs; done = done }) ≡ ended tree
+        go : (bs : List Open) (done : List Command) → whole_outer bs done ≡ Some tree → between (record { blocks = bs; done = done }) ≡ ended tree
         go [] done e = ap ended (same_Some _ _ e)
         go (b ∷ bs) done e = cc
     whole_ended (in_arguments o ls h) tree e = cc
@@ -202,23 +202,23 @@ module _ (depth room : ℕ) where
     whole_ended (before_test o ls) tree e = cc
     whole_ended (after_tests o ls h ts) tree e = cc
 
-    -- what is read of tokens: a tree that writes their symbols, or the line of their fault
-    abbrev pub IsRead : List Token → Result (List Node) ℕ → Type 0
+    -- the result of reading tokens: a tree that writes their symbols, or the line of their fault
+    abbrev pub IsRead : List Token → Result (List Command) ℕ → Type 0
     IsRead tokens (Ok tree) = WritesSymbols depth room tree (symbols_of text tokens)
     IsRead tokens (Err line) = IsFaultAt depth room text tokens line ⊎ IsFaultAtEnd depth room text tokens line
 
     read_is_from : (rest front : List Token) (s : ParserState) → run depth room start (symbols_of text front) ≡ Some s → IsRead (front ++ rest) (read depth room text s rest)
     unfolding read
     read_is_from [] front s e =
-        by_option (whole s) (λ o. whole s ≡ o → IsRead (front ++ []) (elim o as (λ z. Result (List Node) ℕ) [ Some tree ↦ Ok tree | None ↦ Err (line_at text (length text)) ]))
+        by_option (whole s) (λ o. whole s ≡ o → IsRead (front ++ []) (elim o as (λ z. Result (List Command) ℕ) [ Some tree ↦ Ok tree | None ↦ Err (line_at text (length text)) ]))
         (λ tree q p. subst (λ x. WritesSymbols depth room tree (symbols_of text x)) (sym (append-nil front)) (ended_writes tree (symbols_of text front) (e ∙ ap (λ x. Some x) (whole_ended s tree p))))
         (λ q p. inr (record {
           begins = subst (λ x. BeginsAt depth room (symbols_of text x)) (sym (append-nil front)) (runs_begin _ s e);
-          stops = subst (λ x. (tree : List Node) → WritesSymbols depth room tree (symbols_of text x) → ⊥) (sym (append-nil front)) (part_stops front s e p);
+          stops = subst (λ x. (tree : List Command) → WritesSymbols depth room tree (symbols_of text x) → ⊥) (sym (append-nil front)) (part_stops front s e p);
           line_is = refl;
         })) refl
     read_is_from (token ∷ rest) front s e =
-        by_option (step depth room s (symbol_of text token)) (λ o. step depth room s (symbol_of text token) ≡ o → IsRead (front ++ token ∷ rest) (elim o as (λ z. Result (List Node) ℕ) [ Some next ↦ read depth room text next rest | None ↦ Err token.line ]))
+        by_option (step depth room s (symbol_of text token)) (λ o. step depth room s (symbol_of text token) ≡ o → IsRead (front ++ token ∷ rest) (elim o as (λ z. Result (List Command) ℕ) [ Some next ↦ read depth room text next rest | None ↦ Err token.line ]))
         (λ next q p. subst (λ x. IsRead x (read depth room text next rest)) (append_assoc front (token ∷ []) rest) (read_is_from rest (front ++ token ∷ []) next (run-more front token s next e p)))
         (λ q p. inl (record {
           front = front;
@@ -234,15 +234,15 @@ module _ (depth room : ℕ) where
     unfolding run
     read_is tokens = read_is_from tokens [] start refl
 
-    -- a tree that writes the tokens is what is read
-    pub read_ok : (tokens : List Token) (tree : List Node) → WritesSymbols depth room tree (symbols_of text tokens) → read depth room text start tokens ≡ Ok tree
+    -- a tree that writes the tokens is the result of reading them
+    pub read_ok : (tokens : List Token) (tree : List Command) → WritesSymbols depth room tree (symbols_of text tokens) → read depth room text start tokens ≡ Ok tree
     unfolding whole
     read_ok tokens tree h =
         ap (read depth room text start) (sym (append-nil tokens))
         ∙ read-run tokens [] start (ended tree) (writes_runs tree _ h)
         ∙ read-end (ended tree)
 
-    -- a fault's line is what is read
+    -- the line of a fault is the result of reading the tokens
     pub read_stops : (tokens : List Token) (line : ℕ) → IsFaultAt depth room text tokens line → read depth room text start tokens ≡ Err line
     read_stops tokens line h =
         let b = begins_run _ h.begins in
@@ -256,4 +256,4 @@ module _ (depth room : ℕ) where
         by_option (whole b.0) (λ o. whole b.0 ≡ o → read depth room text start tokens ≡ Err line)
         (λ tree q p. absurd (h.stops tree (ended_writes tree _ (b.1 ∙ ap (λ x. Some x) (whole_ended b.0 tree p)))))
         (λ q p. ap (read depth room text start) (sym (append-nil tokens)) ∙ read-run tokens [] start b.0 b.1 ∙ read-end b.0
-        ∙ ap (λ o. elim o as (λ z. Result (List Node) ℕ) [ Some tree ↦ Ok tree | None ↦ Err (line_at text (length text)) ]) p ∙ ap (λ n. Err n) (sym h.line_is)) refl
+        ∙ ap (λ o. elim o as (λ z. Result (List Command) ℕ) [ Some tree ↦ Ok tree | None ↦ Err (line_at text (length text)) ]) p ∙ ap (λ n. Err n) (sym h.line_is)) refl

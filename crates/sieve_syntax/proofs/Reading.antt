@@ -1,10 +1,10 @@
 -- The machine reads back what a tree writes.
 use Rattle.std.proofs.Common.{◌≡◌, ℕ, zero, suc, ◌+◌, ◌<◌, true, false, if◌then◌else◌, List, [], ◌∷◌, ◌++◌, length, Option, Some, None, refl, sym, ap, ◌∙◌, arith, append_assoc, append-nil}
 use Rattle.std.proofs.lemmas.Bool.{lt-ltb}
-use Rattle.sieve_syntax.specs.Tree.{Text, Argument, strings, number, tag, Test, test, Tests, no_tests, one_test, test_list, TestList, end_tests, more_tests, tests, test_items, Node, node, Block, no_block, block, Nodes, end_nodes, more_nodes, nodes, items}
+use Rattle.sieve_syntax.specs.Tree.{Text, Argument, strings, number, tag, Test, test, Tests, no_tests, one_test, test_list, TestList, end_tests, more_tests, tests, test_items, Command, command, Block, no_block, block, CommandList, end_commands, more_commands, command_list, items}
 use Rattle.sieve_syntax.specs.Symbol.{Symbol, identifier, semicolon, open_brace, close_brace, open_parenthesis, close_parenthesis, close_bracket, comma}
-use Rattle.sieve_syntax.specs.Grammar.{written_more, written_argument, written_arguments, written_test, written_tests, written_test_list, written_test_rest, written_node, written_block, written_nodes, IsArgument, AreArguments, NestsTest, NestsTests, NestsTestList, NestsNode, NestsBlock, NestsNodes}
-use Rattle.sieve_syntax.specs.Machine.{Head, Level, for_one, for_list, Outer, ParserState, between, in_arguments, after_string, before_test, after_tests, bare_head, with_argument, test_with, node_with, after_node, inside_block, after_command, after_listed, close, close_block, step}
+use Rattle.sieve_syntax.specs.Grammar.{written_more, written_argument, written_arguments, written_test, written_tests, written_test_list, written_test_rest, written_command, written_block, written_commands, IsArgument, AreArguments, NestsTest, NestsTests, NestsTestList, NestsCommand, NestsBlock, NestsCommands}
+use Rattle.sieve_syntax.specs.Machine.{Head, Level, for_one, for_list, Outer, ParserState, between, in_arguments, after_string, before_test, after_tests, bare_head, with_argument, test_with, command_of_parts, past_command, inside_block, after_command, after_listed, close, close_block, step}
 
 -- the state after these symbols
 unfoldable pub run : ℕ → ℕ → ParserState → List Symbol → Option ParserState
@@ -25,13 +25,13 @@ EndsFirst (comma ∷ ws) = Unit {0}
 EndsFirst (close_parenthesis ∷ ws) = Unit {0}
 EndsFirst (_ ∷ ws) = ⊥
 
-pub nodes-items : (ns : Nodes) → nodes (items ns) ≡ ns
-nodes-items end_nodes = refl
-nodes-items (more_nodes n ns) = ap (more_nodes n) (nodes-items ns)
+pub command_list-items : (ns : CommandList) → command_list (items ns) ≡ ns
+command_list-items end_commands = refl
+command_list-items (more_commands n ns) = ap (more_commands n) (command_list-items ns)
 
-pub items-nodes : (ns : List Node) → items (nodes ns) ≡ ns
-items-nodes [] = refl
-items-nodes (n ∷ ns) = ap (λ xs. n ∷ xs) (items-nodes ns)
+pub items-command_list : (ns : List Command) → items (command_list ns) ≡ ns
+items-command_list [] = refl
+items-command_list (n ∷ ns) = ap (λ xs. n ∷ xs) (items-command_list ns)
 
 pub tests-items : (ts : TestList) → tests (test_items ts) ≡ ts
 tests-items end_tests = refl
@@ -82,7 +82,8 @@ module _ (depth room : ℕ) where
   closed_one o ls g h ts [] = refl
   closed_one o ls g h ts (w ∷ ws) = refl
 
-  -- an identifier after arguments begins a test inside the command or the test, where there is depth
+  -- an identifier after arguments begins a test inside the command or the test, where
+  -- there is depth
   enter_one : (o : Outer) (ls : List Level) (h : Head) (name : List ℕ) (line : ℕ) (ws : List Symbol) → length ls < depth → run depth room (in_arguments o ls h) (identifier name line ∷ ws) ≡ run depth room (in_arguments o (for_one h ∷ ls) (bare_head name line)) ws
   unfolding run step
   enter_one o ls h name line ws fits =
@@ -163,50 +164,50 @@ module _ (depth room : ℕ) where
   block_ends no_block ws = tt
   block_ends (block ns) ws = tt
 
-  pub end_node : (o : Outer) (h : Head) (ts : Tests) (ws : List Symbol) → closed depth room o [] h ts (semicolon ∷ ws) ≡ run depth room (between (after_node o (node_with h ts no_block))) ws
+  pub end_command : (o : Outer) (h : Head) (ts : Tests) (ws : List Symbol) → closed depth room o [] h ts (semicolon ∷ ws) ≡ run depth room (between (past_command o (command_of_parts h ts no_block))) ws
   unfolding closed close after_command after_listed
-  end_node o h ts ws = refl
+  end_command o h ts ws = refl
 
   enter_block : (o : Outer) (h : Head) (ts : Tests) (ws : List Symbol) → length o.blocks < room → closed depth room o [] h ts (open_brace ∷ ws) ≡ run depth room (between (inside_block o h ts)) ws
   unfolding closed close after_command after_listed
   enter_block o h ts ws fits =
       ap (λ b. elim (if b then Some (between (inside_block o h ts)) else None) as (λ x. Option ParserState) [ Some next ↦ run depth room next ws | None ↦ None ]) (lt-ltb (length o.blocks) room fits)
 
-  leave_block : (o : Outer) (h : Head) (ts : Tests) (done : List Node) (ws : List Symbol) →
-      run depth room (between (record { blocks = record { done = o.done; head = h; tests = ts } ∷ o.blocks; done = done })) (close_brace ∷ ws) ≡ run depth room (between (after_node o (node_with h ts (block (nodes done))))) ws
+  leave_block : (o : Outer) (h : Head) (ts : Tests) (done : List Command) (ws : List Symbol) →
+      run depth room (between (record { blocks = record { done = o.done; head = h; tests = ts } ∷ o.blocks; done = done })) (close_brace ∷ ws) ≡ run depth room (between (past_command o (command_of_parts h ts (block (command_list done))))) ws
   unfolding run step close_block
   leave_block o h ts done ws = refl
 
-  enter_node : (o : Outer) (name : List ℕ) (line : ℕ) (ws : List Symbol) → run depth room (between o) (identifier name line ∷ ws) ≡ run depth room (in_arguments o [] (bare_head name line)) ws
+  enter_command : (o : Outer) (name : List ℕ) (line : ℕ) (ws : List Symbol) → run depth room (between o) (identifier name line ∷ ws) ≡ run depth room (in_arguments o [] (bare_head name line)) ws
   unfolding run step
-  enter_node o name line ws = refl
+  enter_command o name line ws = refl
 
   mutual
-    unfolding written_node written_block written_nodes NestsNode NestsBlock NestsNodes
+    unfolding written_command written_block written_commands NestsCommand NestsBlock NestsCommands
 
-    read_node : (n : Node) (o : Outer) (ws : List Symbol) (r : ℕ) → NestsNode depth n r → r + length o.blocks ≡ room → run depth room (between o) (written_node n ++ ws) ≡ run depth room (between (after_node o n)) ws
-    read_node (node n l as' ts ending) o ws r nests left =
+    reads_command : (n : Command) (o : Outer) (ws : List Symbol) (r : ℕ) → NestsCommand depth n r → r + length o.blocks ≡ room → run depth room (between o) (written_command n ++ ws) ≡ run depth room (between (past_command o n)) ws
+    reads_command (command n l as' ts ending) o ws r nests left =
         let h : Head = record { name = n; line = l; args = as' } in
-        enter_node o n l ((written_arguments as' ++ written_tests ts ++ written_block ending) ++ ws)
+        enter_command o n l ((written_arguments as' ++ written_tests ts ++ written_block ending) ++ ws)
         ∙ ap (run depth room (in_arguments o [] (bare_head n l))) (append_assoc (written_arguments as' ++ written_tests ts) (written_block ending) ws ∙ append_assoc (written_arguments as') (written_tests ts) (written_block ending ++ ws))
         ∙ read_arguments o [] (bare_head n l) as' (written_tests ts ++ (written_block ending ++ ws)) nests.0
         ∙ read_tests ts o [] h (written_block ending ++ ws) depth nests.1 (omega arith) (block_ends ending ws)
         ∙ read_block ending o h ts ws r nests.2 left
 
-    read_block : (b : Block) (o : Outer) (h : Head) (ts : Tests) (ws : List Symbol) (r : ℕ) → NestsBlock depth b r → r + length o.blocks ≡ room → closed depth room o [] h ts (written_block b ++ ws) ≡ run depth room (between (after_node o (node_with h ts b))) ws
-    read_block no_block o h ts ws r nests left = end_node o h ts ws
+    read_block : (b : Block) (o : Outer) (h : Head) (ts : Tests) (ws : List Symbol) (r : ℕ) → NestsBlock depth b r → r + length o.blocks ≡ room → closed depth room o [] h ts (written_block b ++ ws) ≡ run depth room (between (past_command o (command_of_parts h ts b))) ws
+    read_block no_block o h ts ws r nests left = end_command o h ts ws
     read_block (block ns) o h ts ws zero nests left = absurd nests
     read_block (block ns) o h ts ws (suc r) nests left =
-        enter_block o h ts ((written_nodes ns ++ close_brace ∷ []) ++ ws) (omega arith)
-        ∙ ap (run depth room (between (inside_block o h ts))) (append_assoc (written_nodes ns) (close_brace ∷ []) ws)
-        ∙ read_nodes ns (inside_block o h ts) (close_brace ∷ ws) r nests (omega arith)
+        enter_block o h ts ((written_commands ns ++ close_brace ∷ []) ++ ws) (omega arith)
+        ∙ ap (run depth room (between (inside_block o h ts))) (append_assoc (written_commands ns) (close_brace ∷ []) ws)
+        ∙ reads_commands ns (inside_block o h ts) (close_brace ∷ ws) r nests (omega arith)
         ∙ leave_block o h ts (items ns) ws
-        ∙ ap (λ x. run depth room (between (after_node o (node_with h ts (block x)))) ws) (nodes-items ns)
+        ∙ ap (λ x. run depth room (between (past_command o (command_of_parts h ts (block x)))) ws) (command_list-items ns)
 
-    pub read_nodes : (ns : Nodes) (o : Outer) (ws : List Symbol) (r : ℕ) → NestsNodes depth ns r → r + length o.blocks ≡ room → run depth room (between o) (written_nodes ns ++ ws) ≡ run depth room (between (record { blocks = o.blocks; done = o.done ++ items ns })) ws
-    read_nodes end_nodes o ws r nests left = ap (λ x. run depth room (between (record { blocks = o.blocks; done = x })) ws) (sym (append-nil o.done))
-    read_nodes (more_nodes n ns) o ws r nests left =
-        ap (run depth room (between o)) (append_assoc (written_node n) (written_nodes ns) ws)
-        ∙ read_node n o (written_nodes ns ++ ws) r nests.0 left
-        ∙ read_nodes ns (after_node o n) ws r nests.1 left
+    pub reads_commands : (ns : CommandList) (o : Outer) (ws : List Symbol) (r : ℕ) → NestsCommands depth ns r → r + length o.blocks ≡ room → run depth room (between o) (written_commands ns ++ ws) ≡ run depth room (between (record { blocks = o.blocks; done = o.done ++ items ns })) ws
+    reads_commands end_commands o ws r nests left = ap (λ x. run depth room (between (record { blocks = o.blocks; done = x })) ws) (sym (append-nil o.done))
+    reads_commands (more_commands n ns) o ws r nests left =
+        ap (run depth room (between o)) (append_assoc (written_command n) (written_commands ns) ws)
+        ∙ reads_command n o (written_commands ns ++ ws) r nests.0 left
+        ∙ reads_commands ns (past_command o n) ws r nests.1 left
         ∙ ap (λ x. run depth room (between (record { blocks = o.blocks; done = x })) ws) (append_assoc o.done (n ∷ []) (items ns))

@@ -7,7 +7,7 @@ use Rattle.sieve_syntax.specs.Scan.{tokens_of}
 use Rattle.sieve_limits.specs.Limits.{test_depth, block_room}
 use Rattle.sieve_syntax.specs.Syntax.{syntax_of}
 use Rattle.sieve_syntax.specs.Token.{line_at, SpellsFrom}
-use Rattle.sieve_syntax.specs.Tree.{Node}
+use Rattle.sieve_syntax.specs.Tree.{Command}
 use Rattle.sieve_syntax.specs.Symbol.{symbol_of}
 use Rattle.sieve_syntax.specs.declared.cursor.Cursor.{Cursor}
 use Rattle.sieve_syntax.specs.declared.parser.SyntaxFault.{SyntaxFault}
@@ -19,7 +19,7 @@ use Rattle.std.specs.declared.vec.Vec.{Vec}
 use Rattle.sieve_syntax.specs.declared.tree.Command as command_views
 use Rattle.sieve_syntax.proofs.Spelling.{tokens_of_spell, some_tokens, unique}
 
--- whatever tokens spell the rest of the text, from this state they give what the text means
+-- from this state, any tokens that spell the rest of the text give the meaning of the text
 abbrev pub Means : List ℕ → ParserState → ℕ → Type 0
 Means text s place = (more : List Token) → SpellsFrom text place more → read test_depth block_room text s more ≡ syntax_of text
 
@@ -29,17 +29,17 @@ start_means text more h = ap (read test_depth block_room text start) (unique tex
 
 read-next : (text : List ℕ) (s next : ParserState) (token : Token) (more : List Token) → step test_depth block_room s (symbol_of text token) ≡ Some next → read test_depth block_room text s (token ∷ more) ≡ read test_depth block_room text next more
 unfolding read
-read-next text s next token more e = ap (λ o. elim o as (λ z. Result (List Node) ℕ) [ Some n ↦ read test_depth block_room text n more | None ↦ Err token.line ]) e
+read-next text s next token more e = ap (λ o. elim o as (λ z. Result (List Command) ℕ) [ Some n ↦ read test_depth block_room text n more | None ↦ Err token.line ]) e
 
 read-stop : (text : List ℕ) (s : ParserState) (token : Token) (more : List Token) → step test_depth block_room s (symbol_of text token) ≡ None → read test_depth block_room text s (token ∷ more) ≡ Err token.line
 unfolding read
-read-stop text s token more e = ap (λ o. elim o as (λ z. Result (List Node) ℕ) [ Some n ↦ read test_depth block_room text n more | None ↦ Err token.line ]) e
+read-stop text s token more e = ap (λ o. elim o as (λ z. Result (List Command) ℕ) [ Some n ↦ read test_depth block_room text n more | None ↦ Err token.line ]) e
 
-read-end : (text : List ℕ) (s : ParserState) (o : Option (List Node)) → whole s ≡ o → read test_depth block_room text s [] ≡ elim o as (λ z. Result (List Node) ℕ) [ Some tree ↦ Ok tree | None ↦ Err (line_at text (length text)) ]
+read-end : (text : List ℕ) (s : ParserState) (o : Option (List Command)) → whole s ≡ o → read test_depth block_room text s [] ≡ elim o as (λ z. Result (List Command) ℕ) [ Some tree ↦ Ok tree | None ↦ Err (line_at text (length text)) ]
 unfolding read
-read-end text s o e = ap (λ x. elim x as (λ z. Result (List Node) ℕ) [ Some tree ↦ Ok tree | None ↦ Err (line_at text (length text)) ]) e
+read-end text s o e = ap (λ x. elim x as (λ z. Result (List Command) ℕ) [ Some tree ↦ Ok tree | None ↦ Err (line_at text (length text)) ]) e
 
--- after a token that the state takes, the next state gives what the text means
+-- after a token that the state takes, the next state gives the meaning of the text
 pub next_means : (text : List ℕ) (s next : ParserState) (place : ℕ) (token : Token) (after : Cursor) → IsNext text place token after → step test_depth block_room s (symbol_of text token) ≡ Some next → Means text s place → Means text next after.place
 next_means text s next place token after is e so more h = sym (read-next text s next token more e) ∙ so (token ∷ more) (is.goes more h)
 
@@ -57,7 +57,7 @@ goes_small o (Syntax at) next line h e = cc
 goes_small o TooLarge next line h e = absurd h
 goes_small o NoMemory next line h e = cc
 
--- at the end of the text, what the state gives is what the text means
+-- at the end of the text, the state gives the meaning of the text
 pub end_means : (text : List ℕ) (s : ParserState) (place : ℕ) (r : Result (Vec command_views.Command Global) SyntaxFault) → SpellsFrom text place [] → Means text s place → Finishes r (whole s) (line_at text (length text)) → ParsesAs r (syntax_of text)
 end_means text s place (Ok script) h so e = sym (so [] h) ∙ read-end text s _ e
 end_means text s place (Err (Syntax line)) h so e = sym (so [] h) ∙ read-end text s None e.0 ∙ ap (λ n. Err n) (sym e.1)
@@ -65,7 +65,7 @@ end_means text s place (Err TooLarge) h so e = absurd e
 end_means text s place (Err NoMemory) h so e = absurd e
 
 -- the end of a text is never refused as a text that is too large
-pub finishes_small : (r : Result (Vec command_views.Command Global) SyntaxFault) (tree : Option (List Node)) (line : ℕ) → Finishes r tree line → r ≡ Err TooLarge → ⊥
+pub finishes_small : (r : Result (Vec command_views.Command Global) SyntaxFault) (tree : Option (List Command)) (line : ℕ) → Finishes r tree line → r ≡ Err TooLarge → ⊥
 finishes_small (Ok script) tree line h e = cc
 finishes_small (Err (Syntax at)) tree line h e = cc
 finishes_small (Err TooLarge) tree line h e = absurd h

@@ -19,7 +19,7 @@ pub step_white : (text : List ℕ) (place n : ℕ) (tokens : List Token) → whi
 step_white text place n [] e h = white place n (length text) e h
 step_white text place n (t ∷ ts) e h = (white place n t.start e h.0, h.1, h.2)
 
--- a range of the text is a front of what stands from the place on
+-- a range of the text is a front of the text from the place on
 range-take : (text : List ℕ) (place n : ℕ) → slice_range text place (place + n) ≡ take n (drop place text)
 range-take text place n =
     let e : (place + n) - place ≡ n = omega arith in
@@ -116,7 +116,7 @@ white_at-none : white_at [] ≡ None
 unfolding white_at
 white_at-none = refl
 
--- what a longest spelling says of the text at its place
+-- the facts of a longest spelling about the text at its place
 record IsThere (text : List ℕ) (token : Token) : Type 0 where
   found : longest_at (drop token.start text) ≡ Some (token.kind, token.end - token.start)
   starts : token.start < token.end
@@ -146,7 +146,7 @@ longest-there text token h =
       bare = by_option (white_at rest) (λ w. w ≡ None) (λ n e. absurd (let alone = white_at_alone rest n e in let i = most.is in cc)) (λ e. refl);
     }
 
--- no white space begins where a token stands, and the token lies in the text
+-- no white space begins at the place of a token, and the token lies in the text
 bare-here : (text : List ℕ) (token : Token) (more : Type 0) (less : Type 0) → (IsLongest text token × more) ⊎ (IsBad text token × less) → (white_at (drop token.start text) ≡ None) × (token.start < length text)
 bare-here text token more less (inl h) =
     let there : IsThere text token = longest-there text token h.0 in

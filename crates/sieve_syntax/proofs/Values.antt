@@ -55,7 +55,7 @@ with_cr-end xs i after_cr h = at_drop_all (with_cr after_cr) xs i h
 
 -- BACKSLASHES
 
--- what is kept of octets that a backslash may stand before
+-- the octets that are kept of some, by whether a backslash is before them
 abbrev pub kept_of : Bool → List ℕ → List ℕ
 kept_of true xs = first_kept xs
 kept_of false xs = unprotected xs

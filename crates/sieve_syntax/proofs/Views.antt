@@ -3,8 +3,8 @@ use Rattle.std.proofs.Common.{◌≡◌, ℕ, Option, Some, None, List, map, ap,
 use Rattle.std.specs.declared.alloc.Global.{Global}
 use Rattle.std.specs.declared.boxed.Box.{Box}
 use Rattle.std.specs.declared.vec.Vec.{Vec}
-use Rattle.sieve_syntax.specs.Tree.{Node, Test, Tests, no_tests, node, one_test, test, test_list, tests}
-use Rattle.sieve_syntax.specs.view.Tree.{block_of, argument_of, command_step, node_of, test_of, test_step, tests_of, tests_step}
+use Rattle.sieve_syntax.specs.Tree.{Command, Test, Tests, no_tests, command, one_test, test, test_list, tests}
+use Rattle.sieve_syntax.specs.view.Tree.{block_of, argument_of, command_step, command_as, test_of, test_step, tests_of, tests_step}
 use Rattle.sieve_syntax.specs.declared.tree.Argument as arguments
 use Rattle.sieve_syntax.specs.declared.tree.Command as commands
 use Rattle.sieve_syntax.specs.declared.tree.Command.TheFolds as command_folds
@@ -36,12 +36,12 @@ seen_one ts b t is same = ap tests_of is ∙ one_seen b ∙ sym (ap (λ x. one_t
 pub seen_list : (ts : test_variants.the_data) (v : Box (Vec one_tests.Test Global) Global) (list : List one_tests.Test) → ts ≡ test_variants.List v → list ≡ v.value.items → tests_of ts ≡ test_list (tests (map test_of list))
 seen_list ts v list is same = ap tests_of is ∙ list_seen v ∙ sym (ap (λ l. test_list (tests (map test_of l))) same)
 
-pub seen : (name : List ℕ) (line : ℕ) (args : Vec arguments.Argument Global) (ts : test_variants.the_data) (inner : Option (Vec commands.Command Global)) → node_of (command_views.roll-Command (record { name = name; line = line; args = args; tests = ts; block = inner })) ≡ node name line (map argument_of args.items) (tests_of ts) (block_of inner)
-seen name line args ts None = command_folds.fold-roll-Command Node command_step (record { name = name; line = line; args = args; tests = ts; block = None })
-seen name line args ts (Some v) = command_folds.fold-roll-Command Node command_step (record { name = name; line = line; args = args; tests = ts; block = Some v })
+pub seen : (name : List ℕ) (line : ℕ) (args : Vec arguments.Argument Global) (ts : test_variants.the_data) (inner : Option (Vec commands.Command Global)) → command_as (command_views.roll-Command (record { name = name; line = line; args = args; tests = ts; block = inner })) ≡ command name line (map argument_of args.items) (tests_of ts) (block_of inner)
+seen name line args ts None = command_folds.fold-roll-Command Command command_step (record { name = name; line = line; args = args; tests = ts; block = None })
+seen name line args ts (Some v) = command_folds.fold-roll-Command Command command_step (record { name = name; line = line; args = args; tests = ts; block = Some v })
 
 -- a command, by its parts
-pub seen_command : (c : commands.Command) → let o = command_views.out-Command c in node_of c ≡ node o.name o.line (map argument_of o.args.items) (tests_of o.tests) (block_of o.block)
+pub seen_command : (c : commands.Command) → let o = command_views.out-Command c in command_as c ≡ command o.name o.line (map argument_of o.args.items) (tests_of o.tests) (block_of o.block)
 seen_command c =
     let o = command_views.out-Command c in
-    ap node_of (sym (command_views.roll-out-Command c)) ∙ seen o.name o.line o.args o.tests o.block
+    ap command_as (sym (command_views.roll-out-Command c)) ∙ seen o.name o.line o.args o.tests o.block

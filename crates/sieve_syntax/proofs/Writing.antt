@@ -1,14 +1,14 @@
--- What the machine has read is the front of what a tree writes.
+-- The symbols that the machine has read are the front of those that a tree writes.
 use Rattle.std.proofs.Common.{◌≡◌, ℕ, zero, suc, ◌+◌, ◌<◌, true, false, nat_lt, if◌then◌else◌, List, [], ◌∷◌, ◌++◌, length, Some, None, refl, sym, ap, ◌∙◌, subst, arith, append_assoc, append-nil}
 use Rattle.std.proofs.lemmas.Option.{same_Some}
 use Rattle.std.proofs.lemmas.Bool.{ltb-true}
-use Rattle.sieve_syntax.specs.Tree.{Text, Argument, strings, number, tag, Test, Tests, no_tests, one_test, test_list, tests, Node, no_block, block, nodes}
+use Rattle.sieve_syntax.specs.Tree.{Text, Argument, strings, number, tag, Test, Tests, no_tests, one_test, test_list, tests, Command, no_block, block, command_list}
 use Rattle.sieve_syntax.specs.Symbol.{Symbol, identifier, tag_symbol, number_symbol, string_symbol, semicolon, open_brace, close_brace, open_parenthesis, close_parenthesis, open_bracket, close_bracket, comma, bad}
-use Rattle.sieve_syntax.specs.Grammar.{written_more, written_texts, written_argument, written_arguments, written_test, written_tests, written_test_list, written_test_rest, written_node, written_block, written_nodes, IsArgument, AreArguments, NestsTest, NestsTests, NestsTestList, NestsNode, NestsBlock, NestsNodes}
-use Rattle.sieve_syntax.specs.Machine.{Head, Level, for_one, for_list, Open, Outer, ParserState, between, in_arguments, before_string, after_string, before_test, after_tests, bare_head, with_argument, test_with, node_with, inside_block, after_command, after_listed, close, close_block, step}
+use Rattle.sieve_syntax.specs.Grammar.{written_more, written_texts, written_argument, written_arguments, written_test, written_tests, written_test_list, written_test_rest, written_command, written_block, written_commands, IsArgument, AreArguments, NestsTest, NestsTests, NestsTestList, NestsCommand, NestsBlock, NestsCommands}
+use Rattle.sieve_syntax.specs.Machine.{Head, Level, for_one, for_list, Open, Outer, ParserState, between, in_arguments, before_string, after_string, before_test, after_tests, bare_head, with_argument, test_with, command_of_parts, inside_block, after_command, after_listed, close, close_block, step}
 use Rattle.sieve_syntax.proofs.Cases.{by_cases}
 
--- THE WORDS READ SO FAR
+-- THE SYMBOLS READ SO FAR
 
 abbrev head_symbols : Head → List Symbol
 head_symbols h = identifier h.name h.line ∷ written_arguments h.args
@@ -24,10 +24,10 @@ level_symbols (for_list g before ∷ ls) = level_symbols ls ++ (head_symbols g +
 
 abbrev block_symbols : List Open → List Symbol
 block_symbols [] = []
-block_symbols (b ∷ bs) = block_symbols bs ++ (written_nodes (nodes b.done) ++ (head_symbols b.head ++ (written_tests b.tests ++ open_brace ∷ [])))
+block_symbols (b ∷ bs) = block_symbols bs ++ (written_commands (command_list b.done) ++ (head_symbols b.head ++ (written_tests b.tests ++ open_brace ∷ [])))
 
 abbrev outer_symbols : Outer → List Symbol
-outer_symbols o = block_symbols o.blocks ++ written_nodes (nodes o.done)
+outer_symbols o = block_symbols o.blocks ++ written_commands (command_list o.done)
 
 abbrev texts_before : List Text → List Symbol
 texts_before [] = []
@@ -60,12 +60,12 @@ IsLevels depth (for_list g before ∷ ls) d = AreArguments g.args × NestsEach b
 -- the blocks that are open leave room for so many in the innermost
 abbrev IsBlocks : ℕ → ℕ → List Open → ℕ → Type 0
 IsBlocks depth room [] r = r ≡ room
-IsBlocks depth room (b ∷ bs) r = NestsNodes depth (nodes b.done) (suc r) × AreArguments b.head.args × NestsTests b.tests depth × IsBlocks depth room bs (suc r)
+IsBlocks depth room (b ∷ bs) r = NestsCommands depth (command_list b.done) (suc r) × AreArguments b.head.args × NestsTests b.tests depth × IsBlocks depth room bs (suc r)
 
 pub record IsOuter (depth room : ℕ) (o : Outer) : Type 0 where
   pub left : ℕ
   pub blocks : IsBlocks depth room o.blocks left
-  pub done : NestsNodes depth (nodes o.done) left
+  pub done : NestsCommands depth (command_list o.done) left
 
 pub record IsOpen (depth room : ℕ) (o : Outer) (ls : List Level) (h : Head) : Type 0 where
   pub outer : IsOuter depth room o
@@ -83,15 +83,15 @@ IsReached depth room (after_tests o ls h ts) = (is : IsOpen depth room o ls h) �
 
 -- ONE MORE AT THE END
 
-nodes_symbols : (ns : List Node) (n : Node) → written_nodes (nodes (ns ++ n ∷ [])) ≡ written_nodes (nodes ns) ++ written_node n
-unfolding written_nodes
-nodes_symbols [] n = append-nil (written_node n)
-nodes_symbols (m ∷ ns) n = ap (λ x. written_node m ++ x) (nodes_symbols ns n) ∙ sym (append_assoc (written_node m) (written_nodes (nodes ns)) (written_node n))
+commands_symbols : (ns : List Command) (n : Command) → written_commands (command_list (ns ++ n ∷ [])) ≡ written_commands (command_list ns) ++ written_command n
+unfolding written_commands
+commands_symbols [] n = append-nil (written_command n)
+commands_symbols (m ∷ ns) n = ap (λ x. written_command m ++ x) (commands_symbols ns n) ∙ sym (append_assoc (written_command m) (written_commands (command_list ns)) (written_command n))
 
-nodes_nest : (depth r : ℕ) (ns : List Node) (n : Node) → NestsNodes depth (nodes ns) r → NestsNode depth n r → NestsNodes depth (nodes (ns ++ n ∷ [])) r
-unfolding NestsNodes
-nodes_nest depth r [] n h k = (k, tt)
-nodes_nest depth r (m ∷ ns) n h k = (h.0, nodes_nest depth r ns n h.1 k)
+commands_nest : (depth r : ℕ) (ns : List Command) (n : Command) → NestsCommands depth (command_list ns) r → NestsCommand depth n r → NestsCommands depth (command_list (ns ++ n ∷ [])) r
+unfolding NestsCommands
+commands_nest depth r [] n h k = (k, tt)
+commands_nest depth r (m ∷ ns) n h k = (h.0, commands_nest depth r ns n h.1 k)
 
 arguments_symbols : (more : List Argument) (a : Argument) → written_arguments (more ++ a ∷ []) ≡ written_arguments more ++ written_argument a
 arguments_symbols [] a = append-nil (written_argument a)
@@ -188,22 +188,22 @@ module _ (depth room : ℕ) where
   levels_left (for_list g before ∷ ls) d h = omega (arith, levels_left ls (suc d) h.2)
 
   -- where there is room for one more block, the state inside it is in order
-  enter : (o : Outer) (h : Head) (ts : Tests) (r : ℕ) → IsBlocks depth room o.blocks r → NestsNodes depth (nodes o.done) r → length o.blocks < room → AreArguments h.args → NestsTests ts depth → IsOuter depth room (inside_block o h ts)
-  unfolding NestsNodes
+  enter : (o : Outer) (h : Head) (ts : Tests) (r : ℕ) → IsBlocks depth room o.blocks r → NestsCommands depth (command_list o.done) r → length o.blocks < room → AreArguments h.args → NestsTests ts depth → IsOuter depth room (inside_block o h ts)
+  unfolding NestsCommands
   enter o h ts zero blocks done fits args nests = absurd (omega (arith, blocks_left o.blocks 0 blocks))
   enter o h ts (suc r) blocks done fits args nests = record { left = r; blocks = (done, args, nests, blocks); done = tt }
 
   close_takes : (ls : List Level) (w : Symbol) (o : Outer) (h : Head) (ts : Tests) (s : ParserState) (d : ℕ) → IsOuter depth room o → IsLevels depth ls d → AreArguments h.args → NestsTests ts d → close room o ls h ts w ≡ Some s →
       Takes depth room (outer_symbols o ++ (level_symbols ls ++ (head_symbols h ++ written_tests ts))) w s
-  unfolding close after_command after_listed NestsTests NestsTest NestsNode NestsBlock written_tests written_test written_node written_block
+  unfolding close after_command after_listed NestsTests NestsTest NestsCommand NestsBlock written_tests written_test written_command written_block
   close_takes [] semicolon o h ts s d outer levels args nests e =
       subst (Takes depth room (outer_symbols o ++ (head_symbols h ++ written_tests ts)) semicolon) (same_Some _ s e) record {
         reached = record {
           left = outer.left;
           blocks = outer.blocks;
-          done = nodes_nest depth outer.left o.done (node_with h ts no_block) outer.done (args, subst (NestsTests ts) levels nests, tt);
+          done = commands_nest depth outer.left o.done (command_of_parts h ts no_block) outer.done (args, subst (NestsTests ts) levels nests, tt);
         };
-        symbols = simp (nodes_symbols, append_assoc);
+        symbols = simp (commands_symbols, append_assoc);
       }
   close_takes [] open_brace o h ts s d outer levels args nests e =
       by_cases (nat_lt (length o.blocks) room)
@@ -229,19 +229,19 @@ module _ (depth room : ℕ) where
       }
   close_takes (for_list g before ∷ ls) _ o h ts s d outer levels args nests e = cc
 
-  close_block_takes : (bs : List Open) (done : List Node) (s : ParserState) (r : ℕ) → IsBlocks depth room bs r → NestsNodes depth (nodes done) r → close_block bs done ≡ Some s →
-      Takes depth room (block_symbols bs ++ written_nodes (nodes done)) close_brace s
-  unfolding close_block written_node written_block NestsNode NestsBlock
+  close_block_takes : (bs : List Open) (done : List Command) (s : ParserState) (r : ℕ) → IsBlocks depth room bs r → NestsCommands depth (command_list done) r → close_block bs done ≡ Some s →
+      Takes depth room (block_symbols bs ++ written_commands (command_list done)) close_brace s
+  unfolding close_block written_command written_block NestsCommand NestsBlock
   close_block_takes [] done s r blocks nest e = cc
   close_block_takes (b ∷ bs) done s r blocks nest e =
-      subst (Takes depth room (block_symbols (b ∷ bs) ++ written_nodes (nodes done)) close_brace) (same_Some _ s e) record {
+      subst (Takes depth room (block_symbols (b ∷ bs) ++ written_commands (command_list done)) close_brace) (same_Some _ s e) record {
         reached = record {
           left = suc r;
           blocks = blocks.3;
-          done = nodes_nest depth (suc r) b.done (node_with b.head b.tests (block (nodes done))) blocks.0 (blocks.1, blocks.2, nest);
+          done = commands_nest depth (suc r) b.done (command_of_parts b.head b.tests (block (command_list done))) blocks.0 (blocks.1, blocks.2, nest);
         };
-        symbols = ap (λ x. block_symbols bs ++ x) (nodes_symbols b.done (node_with b.head b.tests (block (nodes done))))
-            ∙ block_end (block_symbols bs) (written_nodes (nodes b.done)) (head_symbols b.head) (written_tests b.tests) (written_nodes (nodes done));
+        symbols = ap (λ x. block_symbols bs ++ x) (commands_symbols b.done (command_of_parts b.head b.tests (block (command_list done))))
+            ∙ block_end (block_symbols bs) (written_commands (command_list b.done)) (head_symbols b.head) (written_tests b.tests) (written_commands (command_list done));
       }
 
   -- a command or a test whose arguments are being read stays in order with one more argument

@@ -1,6 +1,6 @@
--- A reader of symbols, one after another: its states, and what each symbol does to them.
+-- A reader of symbols, one after another: its states, and the next state after each symbol.
 use Rattle.std.specs.Prelude.{ℕ, nat_lt, if◌then◌else◌, true, false, List, [], ◌∷◌, ◌++◌, length, Option, Some, None, Result, Ok, Err}
-use Rattle.sieve_syntax.specs.Tree.{Text, Argument, strings, number, tag, Test, test, Tests, no_tests, one_test, test_list, tests, Node, node, Block, no_block, block, nodes}
+use Rattle.sieve_syntax.specs.Tree.{Text, Argument, strings, number, tag, Test, test, Tests, no_tests, one_test, test_list, tests, Command, command, Block, no_block, block, command_list}
 use Rattle.sieve_syntax.specs.Token.{line_at}
 use Rattle.sieve_syntax.specs.Symbol.{Symbol, identifier, tag_symbol, number_symbol, string_symbol, semicolon, open_brace, close_brace, open_parenthesis, close_parenthesis, open_bracket, close_bracket, comma, symbol_of}
 use Rattle.sieve_syntax.specs.declared.token.Token.{Token}
@@ -11,23 +11,24 @@ pub record Head : Type 0 where
   pub line : ℕ
   pub args : List Argument
 
--- A command or a test that waits for a test inside it: for its one test, or for the next of its list after those before.
+-- A command or a test that waits for a test inside it. It waits for its one test, or for the next
+-- of its list after those before.
 pub data Level : Type 0 where
   for_one : Head → Level
   for_list : Head → List Test → Level
 
 -- a command whose block stands open, and the commands before it
 pub record Open : Type 0 where
-  pub done : List Node
+  pub done : List Command
   pub head : Head
   pub tests : Tests
 
--- the open blocks, innermost first, and the commands read in the innermost
+-- the open blocks, the innermost first, and the commands read in the innermost
 pub record Outer : Type 0 where
   pub blocks : List Open
-  pub done : List Node
+  pub done : List Command
 
--- where the next token stands
+-- the place of the next token
 pub data ParserState : Type 0 where
   -- between two commands
   between : Outer → ParserState
@@ -51,37 +52,38 @@ with_argument h a = record { name = h.name; line = h.line; args = h.args ++ a �
 abbrev pub test_with : Head → Tests → Test
 test_with h ts = test h.name h.line h.args ts
 
-abbrev pub node_with : Head → Tests → Block → Node
-node_with h ts b = node h.name h.line h.args ts b
+abbrev pub command_of_parts : Head → Tests → Block → Command
+command_of_parts h ts b = command h.name h.line h.args ts b
 
-abbrev pub after_node : Outer → Node → Outer
-after_node o n = record { blocks = o.blocks; done = o.done ++ n ∷ [] }
+abbrev pub past_command : Outer → Command → Outer
+past_command o n = record { blocks = o.blocks; done = o.done ++ n ∷ [] }
 
 abbrev pub inside_block : Outer → Head → Tests → Outer
 inside_block o h ts = record { blocks = record { done = o.done; head = h; tests = ts } ∷ o.blocks; done = [] }
 
--- a symbol after a command with all its arguments and tests
+-- the state after a symbol that comes after a command with all its arguments and tests
 unfoldable pub after_command : ℕ → Outer → Head → Tests → Symbol → Option ParserState
-after_command room o h ts semicolon = Some (between (after_node o (node_with h ts no_block)))
+after_command room o h ts semicolon = Some (between (past_command o (command_of_parts h ts no_block)))
 after_command room o h ts open_brace = if nat_lt (length o.blocks) room then Some (between (inside_block o h ts)) else None
 after_command room o h ts _ = None
 
--- a symbol after a test in a list of tests
+-- the state after a symbol that comes after a test in a list of tests
 unfoldable pub after_listed : Outer → List Level → Head → List Test → Symbol → Option ParserState
 after_listed o ls h listed comma = Some (before_test o (for_list h listed ∷ ls))
 after_listed o ls h listed close_parenthesis = Some (after_tests o ls h (test_list (tests listed)))
 after_listed o ls h listed _ = None
 
--- a symbol after a command or a test with all its arguments and tests: a test that stands alone ends with what it is in
+-- The state after a symbol that comes after a command or a test with all its arguments and tests. A
+-- test outside a list ends together with the command or the test around it.
 unfoldable pub close : ℕ → Outer → List Level → Head → Tests → Symbol → Option ParserState
 close room o [] h ts w = after_command room o h ts w
 close room o (for_one g ∷ ls) h ts w = close room o ls g (one_test (test_with h ts)) w
 close room o (for_list g before ∷ ls) h ts w = after_listed o ls g (before ++ test_with h ts ∷ []) w
 
--- the end of the innermost block
-unfoldable pub close_block : List Open → List Node → Option ParserState
+-- the state after the end of the innermost block
+unfoldable pub close_block : List Open → List Command → Option ParserState
 close_block [] done = None
-close_block (b ∷ bs) done = Some (between (record { blocks = bs; done = b.done ++ node_with b.head b.tests (block (nodes done)) ∷ [] }))
+close_block (b ∷ bs) done = Some (between (record { blocks = bs; done = b.done ++ command_of_parts b.head b.tests (block (command_list done)) ∷ [] }))
 
 unfoldable pub step : ℕ → ℕ → ParserState → Symbol → Option ParserState
 step depth room (between o) (identifier name line) = Some (in_arguments o [] (bare_head name line))
@@ -106,16 +108,17 @@ step depth room (after_tests o ls h ts) w = close room o ls h ts w
 abbrev pub start : ParserState
 start = between (record { blocks = []; done = [] })
 
--- the commands, where all that was begun is ended
-abbrev pub whole_outer : List Open → List Node → Option (List Node)
+-- the commands, if no block is open
+abbrev pub whole_outer : List Open → List Command → Option (List Command)
 whole_outer [] done = Some done
 whole_outer (b ∷ bs) done = None
 
-unfoldable pub whole : ParserState → Option (List Node)
+unfoldable pub whole : ParserState → Option (List Command)
 whole (between o) = whole_outer o.blocks o.done
 whole _ = None
 
--- the tree, or the line of the first token that no state takes, or of the end
-unfoldable pub read : ℕ → ℕ → List ℕ → ParserState → List Token → Result (List Node) ℕ
+-- The tree, or the line of a fault. That is the line of the first token that the state doesn't
+-- take, or of the end.
+unfoldable pub read : ℕ → ℕ → List ℕ → ParserState → List Token → Result (List Command) ℕ
 read depth room text s [] = elim (whole s) [ Some tree ↦ Ok tree | None ↦ Err (line_at text (length text)) ]
 read depth room text s (token ∷ tokens) = elim (step depth room s (symbol_of text token)) [ Some next ↦ read depth room text next tokens | None ↦ Err token.line ]

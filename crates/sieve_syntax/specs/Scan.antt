@@ -41,7 +41,8 @@ unfoldable pub dot_length : List (List ℕ) → Option ℕ
 dot_length [] = None
 dot_length (line ∷ lines) = if is_dot_line line then Some (length line) else option_map (λ n. length line + n) (dot_length lines)
 
--- how many octets end the first line of a multi-line string: a line end, or a hash comment with its line
+-- The number of octets that end the first line of a multi-line string. They are a line end, or a
+-- hash comment with its line.
 unfoldable pub opening_stop : List ℕ → Option ℕ
 opening_stop [] = None
 opening_stop (c ∷ cs) =
@@ -55,12 +56,12 @@ unfoldable pub opening_end : List ℕ → Option ℕ
 opening_end [] = None
 opening_end (c ∷ cs) = if is_blank c then option_map suc (opening_end cs) else opening_stop (c ∷ cs)
 
--- how many octets the first line of a multi-line string has that begins a text
+-- the number of octets of the first line of a multi-line string, where that begins a text
 unfoldable pub opening_length : List ℕ → Option ℕ
 opening_length (t ∷ e ∷ x ∷ u ∷ c ∷ cs) = if spells_text t e x u && (c == octet_of ":") then option_map (λ n. 5 + n) (opening_end cs) else None
 opening_length _ = None
 
--- how many octets of a multi-line string begin lines
+-- the number of octets of the multi-line string that begins lines
 unfoldable pub multi_line_length : List (List ℕ) → Option ℕ
 multi_line_length [] = None
 multi_line_length (line ∷ lines) = if is_opening line then option_map (λ n. length line + n) (dot_length lines) else None
@@ -81,7 +82,7 @@ quoted_token n = (kinds.Quoted, suc n)
 abbrev pub one : TokenKind → Option (TokenKind × ℕ)
 one kind = Some (kind, 1)
 
--- punctuation
+-- punctuation, which is one octet
 unfoldable pub mark_at : ℕ → Option (TokenKind × ℕ)
 mark_at c =
     if c == octet_of ";" then one kinds.Semicolon
@@ -107,7 +108,7 @@ longest_at (c ∷ cs) =
 unfoldable pub token_at : List ℕ → ℕ → TokenKind → ℕ → Token
 token_at text place kind end = record { kind = kind; start = place; end = end; line = line_at text place }
 
--- the tokens from a place on, where what is left has no more octets than the first number
+-- the tokens from a place on, where the rest has at most as many octets as the first number
 unfoldable pub tokens_from : ℕ → List ℕ → ℕ → List Token
 tokens_from zero text place = []
 tokens_from (suc fuel) text place =

@@ -1,4 +1,5 @@
--- How tokens are spelled (RFC 5228, sections 2.2 to 2.4 and 8.1): whether a list of octets spells a token of a kind.
+-- The spelling of tokens: whether a list of octets spells a token of a kind. See RFC 5228,
+-- sections 2.2 to 2.4 and 8.1.
 use Rattle.std.specs.Prelude.{ℕ, Bool, true, false, ◌==◌, ◌||◌, ◌&&◌, if◌then◌else◌, List, [], ◌∷◌}
 use Rattle.std.specs.List.{list_all}
 use Rattle.octets.specs.Octet.{octet_of, is_digit, is_blank, begins_name, is_name_octet}
@@ -11,12 +12,12 @@ abbrev pub is_none : {A : Type 0} → List A → Bool
 is_none [] = true
 is_none (x ∷ xs) = false
 
--- identifier: a letter or `_`, then letters, digits and `_` (RFC 5228, section 8.1)
+-- identifier: a letter or `_`, then letters, digits and `_` (RFC 5228, 8.1)
 unfoldable pub is_identifier : List ℕ → Bool
 is_identifier [] = false
 is_identifier (c ∷ cs) = begins_name c && list_all is_name_octet cs
 
--- tag: a colon and an identifier (RFC 5228, section 8.1)
+-- tag: a colon and an identifier (RFC 5228, 8.1)
 unfoldable pub is_tag : List ℕ → Bool
 is_tag [] = false
 is_tag (c ∷ cs) = c == octet_of ":" && is_identifier cs
@@ -26,7 +27,7 @@ unfoldable pub ends_number : List ℕ → Bool
 ends_number [] = true
 ends_number (c ∷ cs) = if is_digit c then ends_number cs else (is_unit c && is_none cs)
 
--- number: a digit, digits, and then a unit or nothing (RFC 5228, section 8.1)
+-- number: a digit, digits, and then a unit or nothing (RFC 5228, 8.1)
 unfoldable pub is_number : List ℕ → Bool
 is_number [] = false
 is_number (c ∷ cs) = is_digit c && ends_number cs
@@ -42,7 +43,7 @@ unfoldable mutual
   ends_protected [] = false
   ends_protected (c ∷ cs) = ends_quoted cs
 
--- quoted string (RFC 5228, sections 2.4.2 and 8.1)
+-- quoted string (RFC 5228, 2.4.2 and 8.1)
 unfoldable pub is_quoted : List ℕ → Bool
 is_quoted [] = false
 is_quoted (c ∷ cs) = c == octet_of "\"" && ends_quoted cs
@@ -70,7 +71,7 @@ unfoldable pub are_multi_line : List (List ℕ) → Bool
 are_multi_line [] = false
 are_multi_line (line ∷ lines) = is_opening line && end_at_dot lines
 
--- multi-line string (RFC 5228, sections 2.4.2 and 8.1)
+-- multi-line string (RFC 5228, 2.4.2 and 8.1)
 unfoldable pub is_multi_line : List ℕ → Bool
 is_multi_line symbol = are_multi_line (lines_of symbol)
 

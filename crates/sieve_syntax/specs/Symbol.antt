@@ -1,4 +1,4 @@
--- What a token says to the grammar.
+-- Tokens as symbols of the grammar.
 use Rattle.std.specs.Prelude.{ℕ, List, Option, map, drop}
 use Rattle.std.specs.List.{slice_range}
 use Rattle.sieve_syntax.specs.Value.{number_of, quoted_octets, multi_line_octets}
@@ -22,7 +22,7 @@ pub data Symbol : Type 0 where
   comma : Symbol
   bad : Symbol
 
--- the symbol that octets spell (RFC 5228, section 2.4)
+-- the symbol that octets spell (RFC 5228, 2.4)
 unfoldable pub symbol_at : TokenKind → List ℕ → ℕ → Symbol
 symbol_at kinds.Identifier octets line = identifier octets line
 symbol_at kinds.Tag octets line = tag_symbol (drop 1 octets) line

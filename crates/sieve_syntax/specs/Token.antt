@@ -1,4 +1,4 @@
--- The tokens of a text (RFC 5228, sections 2 and 8.1): white space and spellings in turn.
+-- The tokens of a text, by RFC 5228, sections 2 and 8.1: white space and spellings in turn.
 use Rattle.std.specs.Prelude.{◌≡◌, ℕ, ◌+◌, ◌<◌, ◌≤◌, ◌==◌, ◌⊎◌, IsTrue, List, [], ◌∷◌, length, take, drop, count_by, Some, None}
 use Rattle.std.specs.List.{slice_range}
 use Rattle.octets.specs.Octet.{octet_of}
@@ -16,7 +16,7 @@ line_feeds octets = count_by (λ octet. octet == octet_of "\n") octets
 abbrev pub line_at : List ℕ → ℕ → ℕ
 line_at text place = line_feeds (take place text) + 1
 
--- white space and comments alone stand from one place to the other, or nothing (RFC 5228, sections 2.2 and 2.3)
+-- white space and comments alone are between the places, or nothing (RFC 5228, 2.2 and 2.3)
 pub data White (text : List ℕ) : ℕ → ℕ → Type 0 where
   nothing : (place : ℕ) → White text place place
   white : (place n end : ℕ) → white_at (drop place text) ≡ Some n → White text (place + n) end → White text place end
@@ -29,7 +29,8 @@ pub record IsLongest (text : List ℕ) (token : Token) : Type 0 where
   pub spelled : IsTrue (spells token.kind (slice_range text token.start token.end))
   pub longest : (kind : TokenKind) (end : ℕ) → end ≤ length text → IsTrue (spells kind (slice_range text token.start end)) → end ≤ token.end
 
--- neither white space nor a spelling begins at the token's place, and the token is the rest of the text
+-- Neither white space nor a spelling begins at the token's place. The token is the rest
+-- of the text.
 pub record IsBad (text : List ℕ) (token : Token) : Type 0 where
   pub kind : token.kind ≡ Bad
   pub start : token.start < length text
@@ -42,8 +43,8 @@ pub record IsInside (text : List ℕ) (token : Token) : Type 0 where
   pub some : token.start < token.end
   pub inside : token.end ≤ length text
 
--- From a place on, the text is white space and longest spellings in turn (RFC 5228, section 8.1). Where none begins, a bad
--- token ends the list.
+-- From a place on, the text is white space and longest spellings in turn (RFC 5228, 8.1). Where
+-- neither begins, a bad token ends the list.
 abbrev pub SpellsFrom : List ℕ → ℕ → List Token → Type 0
 SpellsFrom text place [] = White text place (length text)
 SpellsFrom text place (token ∷ tokens) =

@@ -1,4 +1,5 @@
--- The tree of a script by its grammar (RFC 5228, section 8.2) as plain data. Its strings are the octets that they stand for.
+-- The tree of a script by its grammar (RFC 5228, 8.2), as plain data. Its strings are the octets
+-- that they stand for.
 use Rattle.std.specs.Prelude.{ℕ, Bool, List, [], ◌∷◌, Option}
 
 -- a string: the octets that it stands for, and the line where it begins
@@ -6,14 +7,15 @@ pub record Text : Type 0 where
   pub string : List ℕ
   pub line : ℕ
 
--- An argument: one string or a list of strings in brackets; a number, which has no value past 64 bits; a tag.
+-- An argument: one string, a list of strings in brackets, a number or a tag. A number past 64 bits
+-- has no value.
 pub data Argument : Type 0 where
   strings : (items : List Text) (bracketed : Bool) → Argument
   number : (value : Option ℕ) (line : ℕ) → Argument
   tag : (name : List ℕ) (line : ℕ) → Argument
 
 mutual
-  -- a test
+  -- a test: its identifier, the line of that, its arguments and its own tests
   pub data Test : Type 0 where
     test : (name : List ℕ) (line : ℕ) (args : List Argument) (tests : Tests) → Test
 
@@ -29,30 +31,30 @@ mutual
     more_tests : Test → TestList → TestList
 
 mutual
-  -- a command
-  pub data Node : Type 0 where
-    node : (name : List ℕ) (line : ℕ) (args : List Argument) (tests : Tests) (block : Block) → Node
+  -- a command: its identifier, the line of that, its arguments, its tests and its block
+  pub data Command : Type 0 where
+    command : (name : List ℕ) (line : ℕ) (args : List Argument) (tests : Tests) (block : Block) → Command
 
-  -- the block of a command, or none where it ends by a semicolon
+  -- the block of a command, or none if the command ends by a semicolon
   pub data Block : Type 0 where
     no_block : Block
-    block : Nodes → Block
+    block : CommandList → Block
 
   -- a list of commands
-  pub data Nodes : Type 0 where
-    end_nodes : Nodes
-    more_nodes : Node → Nodes → Nodes
+  pub data CommandList : Type 0 where
+    end_commands : CommandList
+    more_commands : Command → CommandList → CommandList
 
--- the commands as a list, and back
-abbrev pub items : Nodes → List Node
-items end_nodes = []
-items (more_nodes n ns) = n ∷ items ns
+-- The commands as a list, and back. `items` serves proofs alone.
+abbrev pub items : CommandList → List Command
+items end_commands = []
+items (more_commands n ns) = n ∷ items ns
 
-abbrev pub nodes : List Node → Nodes
-nodes [] = end_nodes
-nodes (n ∷ ns) = more_nodes n (nodes ns)
+abbrev pub command_list : List Command → CommandList
+command_list [] = end_commands
+command_list (n ∷ ns) = more_commands n (command_list ns)
 
--- the tests as a list, and back
+-- The tests as a list, and back. `test_items` serves proofs alone.
 abbrev pub test_items : TestList → List Test
 test_items end_tests = []
 test_items (more_tests t ts) = t ∷ test_items ts

@@ -1,4 +1,4 @@
-//! The names of commands.
+//! The names of commands in a tree.
 ghost use Rattle.std.specs.Prelude.{◌≡◌, ◌≤◌, IfOk, IsOk, length};
 ghost use Rattle.sieve_table.specs.Table.{command_named};
 
@@ -8,8 +8,8 @@ use sieve_variables::Labelled;
 use std::alloc::{AllocError, Global};
 use std::marker::Model;
 
-/// The identifier of a command as it is written, and the command that it names, or that it names none. It is looked up
-/// where the tree is made and nowhere else. Contracts see the octets.
+/// The identifier of a command as it is written, and the command that it names, if any. It is
+/// looked up where the tree is made, and nowhere else. Contracts see the octets.
 #[derive(Drop)]
 pub struct CommandName {
     word: Labelled<Option<CommandKind>>,
@@ -27,7 +27,8 @@ impl Model for CommandName {
 }
 
 impl CommandName {
-    /// The name that is written so. More than twelve octets take memory; no command has a name so long.
+    /// The name with these octets. More than twelve take memory, but no command's name is so long.
+    /// An error is out of memory.
     pub(crate) fn new(alloc: Global, octets: SmallOctets) -> Result<CommandName, AllocError>
         ensures ok { IfOk result (λ name. name ≡ octets.items) }
         ensures few { length octets.items ≤ 12 → IsOk result }
@@ -38,14 +39,14 @@ impl CommandName {
         })
     }
 
-    /// The octets. Case doesn't matter to Sieve (RFC 5228, section 2.1). Takes no memory.
+    /// The octets of the identifier as it is written. Case doesn't matter to Sieve (RFC 5228, 2.1).
     pub fn as_slice(&self) -> &[u8]
         ensures { result.now ≡ self.now }
     {
         self.word.octets()
     }
 
-    /// The command that is named, or `None` where there is none of that name. Takes no memory.
+    /// The command that is named, or `None` if there is none of that name.
     pub fn kind(&self) -> Option<CommandKind>
         ensures { result ≡ command_named self.now }
     {

@@ -24,7 +24,7 @@ pub(crate) fn count_line_feeds(octets: &[u8]) -> usize
     octets.iter().filter(|octet| **octet == b'\n').count()
 }
 
-/// The cursor so many octets further on.
+/// The cursor `count` octets further on.
 #[tactic(auto, using(crate::proofs::Steps::line_feeds_split))]
 fn advance(text: &[u8], cursor: Cursor, count: usize) -> Cursor
     requires is { IsCursor text.now cursor }
@@ -54,7 +54,7 @@ fn skip_white(text: &[u8], cursor: Cursor) -> Cursor
     cursor
 }
 
-/// The next token, and the cursor after it; or `None` where white space alone is left.
+/// The next token and the cursor after it, or `None` if only white space is left.
 pub(crate) fn next_token(text: &[u8], cursor: Cursor) -> Option<(Token, Cursor)>
     requires { IsCursor text.now cursor }
     ensures { MatchOption result (SpellsFrom text.now cursor.place [])
@@ -73,7 +73,7 @@ pub(crate) fn next_token(text: &[u8], cursor: Cursor) -> Option<(Token, Cursor)>
     }
 }
 
-/// The token of so many octets at the cursor, and the cursor after it.
+/// The token of `count` octets at the cursor, and the cursor after it.
 #[tactic(auto, unfolding(crate::specs::Scan::token_at))]
 fn make_token(text: &[u8], cursor: Cursor, kind: TokenKind, count: usize) -> (Token, Cursor)
     requires is { IsCursor text.now cursor }

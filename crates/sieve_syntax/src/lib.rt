@@ -1,4 +1,4 @@
-//! The syntax of Sieve (RFC 5228, sections 2 and 8): the tokens of a text, and the one tree that its tokens write.
+//! The syntax of Sieve (RFC 5228, sections 2 and 8): the tokens of a text, and its one tree.
 #![tactic(auto)]
 
 mod command_name;

@@ -1,4 +1,4 @@
-//! The lines of a text (RFC 5228, section 8.1).
+//! The lines of a text (RFC 5228, 8.1).
 
 ghost use Rattle.std.specs.Prelude.{◌≡◌, length, ◌≤◌, ◌<◌};
 ghost use Rattle.sieve_syntax.specs.Line.{is_dot_line, is_line_end, line_length};
@@ -30,7 +30,7 @@ pub(crate) fn is_line_end(octets: &[u8]) -> bool
     }
 }
 
-/// Whether the line is a dot alone.
+/// Whether the line is a dot alone, with its line end.
 #[tactic(auto, unfolding(crate::specs::Line::is_dot_line))]
 pub(crate) fn is_dot_line(line: &[u8]) -> bool
     ensures { result ≡ is_dot_line line.now }

@@ -1,4 +1,4 @@
-//! Where a multi-line string ends (RFC 5228, section 8.1).
+//! The end of a multi-line string (RFC 5228, 8.1).
 
 ghost use Rattle.std.specs.Prelude.{◌≡◌, ◌≤◌, drop, length, IfSome};
 ghost use Rattle.sieve_syntax.specs.Line.{lines_of};
@@ -18,7 +18,8 @@ fn spells_text(t: u8, e: u8, x: u8, u: u8) -> bool
         && matches!(u, b't' | b'T')
 }
 
-/// How many octets the line end has, or the hash comment with its line, that begins the octets.
+/// The number of octets of the line end, or of the hash comment with its line, that
+/// begins the octets.
 #[tactic(auto, unfolding(crate::specs::Scan::opening_stop))]
 fn opening_stop(rest: &[u8]) -> Option<usize>
     ensures value { result ≡ opening_stop rest.now }
@@ -32,7 +33,8 @@ fn opening_stop(rest: &[u8]) -> Option<usize>
     }
 }
 
-/// How many octets the end of an opening has, with the spaces and tabs in front.
+/// The number of octets of the end of a multi-line string's first line, with the spaces and
+/// tabs before it.
 #[tactic(auto, using(crate::proofs::Steps::opening_steps))]
 fn opening_end(rest: &[u8]) -> Option<usize>
     ensures value { result ≡ opening_end rest.now }
@@ -49,8 +51,9 @@ fn opening_end(rest: &[u8]) -> Option<usize>
     None
 }
 
-/// How many octets the line has that begins a multi-line string: `text:`, in any case, and then nothing but blanks or a
-/// hash comment. Of any other text no more is read than these, so that a long line is not read for each word in it.
+/// The number of octets of the first line of a multi-line string, if it begins the text. That is
+/// `text:`, in any case, and spaces and tabs, and then a line end or a hash comment. No more is
+/// read of any other text. So a long line is not read for each word in it.
 #[tactic(auto, unfolding(crate::specs::Scan::opening_length))]
 fn opening_length(rest: &[u8]) -> Option<usize>
     ensures value { result ≡ opening_length rest.now }
@@ -88,7 +91,7 @@ fn dot_end(rest: &[u8], start: usize) -> Option<usize>
     None
 }
 
-/// How many octets the multi-line string has that begins the text.
+/// The number of octets of the multi-line string that begins the text.
 #[tactic(auto, using(crate::proofs::Opening::multi_line_is))]
 pub(crate) fn multi_line_length(rest: &[u8]) -> Option<usize>
     ensures { result ≡ multi_line_length (lines_of rest.now) }

@@ -8,8 +8,8 @@ ghost use Rattle.sieve_syntax.specs.view.Parsed.{Finishes, Goes, Parses, ParsesA
 ghost use Rattle.sieve_syntax.specs.view.Reader.{state_value};
 ghost use Rattle.sieve_syntax.specs.Syntax.{IsFaultLine, WritesText, syntax_of};
 ghost use Rattle.sieve_syntax.specs.Token.{IsInside, line_at};
-ghost use Rattle.sieve_syntax.specs.Tree.{Node};
-ghost use Rattle.sieve_syntax.specs.view.Script.{nodes_of};
+ghost use Rattle.sieve_syntax.specs.Tree.{Command};
+ghost use Rattle.sieve_syntax.specs.view.Script.{tree_of};
 ghost use Rattle.sieve_syntax.specs.Symbol.{symbol_of};
 ghost use Rattle.sieve_syntax.specs.declared.parser.SyntaxFault.TheVariants.{NoMemory};
 
@@ -27,11 +27,11 @@ use thiserror::Error;
 /// Why a text has no tree. The refusals are numbered from 1 on, in this order.
 #[derive(Clone, Copy, Debug, PartialEq, Eq, Error)]
 pub enum SyntaxFault {
-    /// 1: the text isn't a script (RFC 5228, section 8.2). The line is that of the first token, or of the end, with which
-    /// the tokens begin no script.
+    /// 1: the text isn't a script (RFC 5228, 8.2). The line is that of the first token, or of the
+    /// end, with which the tokens begin no script.
     #[error("line {line}: not a script")]
     Syntax { line: u64 },
-    /// 2: the text has more octets than [`MAX_TEXT`]. This comes before the other two.
+    /// 2: the text has more octets than [`MAX_TEXT`]. This comes before the others.
     #[error("the text is too large")]
     TooLarge,
     /// 3: memory ran out.
@@ -47,19 +47,19 @@ impl From<AllocError> for SyntaxFault {
     }
 }
 
-/// The tree of a text: the one script that writes it (RFC 5228, section 8.2). At most 32 blocks stand open at once, and
-/// tests go 32 deep: one directly in a command has depth 1.
+/// The tree of a text: the one script that writes it (RFC 5228, 8.2). At most 32 blocks are open at
+/// once, and tests go 32 deep. A test directly in a command has depth 1.
 ///
-/// `TooLarge` is the answer exactly where the text has more than [`MAX_TEXT`] octets. Else `Syntax` is the answer only
-/// where no script writes the text. `NoMemory` is the answer where memory runs out. The time that it takes grows with the
-/// length of the text, and the memory with the tree.
+/// `TooLarge` is the answer exactly if the text has more than [`MAX_TEXT`] octets. Else `Syntax` is
+/// the answer only if no script writes the text. `NoMemory` is the answer if memory runs out. The
+/// time that it takes grows with the length of the text, and the memory with the tree.
 pub fn parse(alloc: Global, text: &[u8]) -> Result<ParsedScript, SyntaxFault>
     ensures large { IsErrOf result SyntaxFault.TooLarge ↔ text_limit < length text.now }
     // The tree writes the text.
-    ensures tree { IfOk result (λ script. WritesText (nodes_of script) text.now) }
+    ensures tree { IfOk result (λ script. WritesText (tree_of script) text.now) }
     // The line is that of the fault, and no tree writes the text.
     ensures fault { (line : ℕ) → result ≡ Err (SyntaxFault.Syntax line)
-        → IsFaultLine text.now line × ((tree : List Node) → WritesText tree text.now → ⊥) }
+        → IsFaultLine text.now line × ((tree : List Command) → WritesText tree text.now → ⊥) }
     // The tree or the line is what `syntax_of` says.
     ensures exact { Parses result (syntax_of text.now) }
 {
@@ -119,7 +119,8 @@ fn read_token(
     }
 }
 
-/// The commands, where all that was begun is ended.
+/// The commands at the end of a text, if nothing is open. If something is, the fault has the line
+/// of the end.
 #[tactic(auto, unfolding(crate::specs::Machine::whole))]
 fn finish(text: &[u8], outer: Outer, state: ParserState) -> Result<Vec<Command>, SyntaxFault>
     requires { length text.now ≤ text_limit }

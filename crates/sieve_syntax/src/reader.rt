@@ -1,9 +1,10 @@
-//! What stands open while the tokens of a script are read, and what is read in it so far.
+//! The commands, tests and blocks that are open while the tokens of a script are read. They hold
+//! their parts so far.
 
 ghost use Rattle.std.specs.Prelude.{◌≡◌, IfOk};
-ghost use Rattle.sieve_syntax.specs.Machine.{node_with, test_with};
+ghost use Rattle.sieve_syntax.specs.Machine.{command_of_parts, test_with};
 ghost use Rattle.sieve_syntax.specs.view.Reader.{head_value};
-ghost use Rattle.sieve_syntax.specs.view.Tree.{block_of, node_of, test_of, tests_of};
+ghost use Rattle.sieve_syntax.specs.view.Tree.{block_of, command_as, test_of, tests_of};
 
 use crate::command_name::CommandName;
 use crate::test_name::TestName;
@@ -36,8 +37,9 @@ pub(crate) struct Open {
     pub(crate) tests: Tests,
 }
 
-/// The open blocks, the innermost last, the commands read in the innermost, and the tests that are open in the command that
-/// is being read, the innermost last. Between two commands the tests don't matter.
+/// The open blocks, the innermost last, and the commands read in the innermost. And the tests
+/// that are open in the command that is being read, the innermost last. Between two commands the
+/// tests don't matter.
 #[derive(Drop)]
 pub(crate) struct Outer {
     pub(crate) blocks: Vec<Open>,
@@ -45,7 +47,7 @@ pub(crate) struct Outer {
     pub(crate) levels: Vec<Level>,
 }
 
-/// Where the next token stands.
+/// The place of the next token.
 #[derive(Drop)]
 pub(crate) enum ParserState {
     /// Between two commands.
@@ -69,8 +71,8 @@ pub(crate) fn command_with(
     tests: Tests,
     block: Option<Vec<Command>>,
 ) -> Result<Command, AllocError>
-    ensures { IfOk result (λ command. node_of command
-        ≡ node_with (head_value head) (tests_of tests) (block_of block)) }
+    ensures { IfOk result (λ command. command_as command
+        ≡ command_of_parts (head_value head) (tests_of tests) (block_of block)) }
 {
     Ok(Command {
         name: CommandName::new(alloc, head.name)?,

@@ -1,4 +1,4 @@
-//! The longest spelling of a token that begins a text (RFC 5228, section 8.1).
+//! The longest spelling of a token that begins a text (RFC 5228, 8.1).
 
 ghost use Rattle.std.specs.Prelude.{◌≡◌, ◌≤◌, length, IfSome};
 ghost use Rattle.sieve_syntax.specs.Scan.{longest_at, mark_at, name_at, name_length, number_length, quoted_length, tag_at};
@@ -82,7 +82,7 @@ fn tag(rest: &[u8]) -> Option<(TokenKind, usize)>
     }
 }
 
-/// Punctuation.
+/// Punctuation, which is one octet.
 #[tactic(auto, unfolding(crate::specs::Scan::mark_at))]
 fn mark(octet: u8) -> Option<(TokenKind, usize)>
     ensures { result ≡ mark_at octet }

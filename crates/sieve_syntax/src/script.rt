@@ -10,14 +10,14 @@ pub struct ParsedScript {
 impl ParsedScript {
     ghost use Rattle.std.specs.Prelude.{◌≡◌};
 
-    /// The commands in order. Takes no memory.
+    /// The commands, in the order of the text.
     pub fn commands(&self) -> &[Command]
         ensures { result.now ≡ self.now.commands.items }
     {
         self.commands.as_slice()
     }
 
-    /// The commands, to be kept. Takes no memory.
+    /// The commands, in the order of the text. They are moved out of the script.
     pub fn into_commands(self) -> Vec<Command>
         ensures { result.items ≡ self.commands.items }
     {

@@ -1,4 +1,4 @@
-//! What each token does to what stands open (RFC 5228, section 8.2).
+//! The state after each token (RFC 5228, 8.2).
 
 ghost use Rattle.std.specs.Prelude.{◌≡◌, ◌∷◌, ◌++◌, [], if◌then◌else◌, IfErr, OnOk, Some, map, length, nat_lt};
 ghost use Rattle.sieve_limits.specs.Limits.{block_room, test_depth};
@@ -41,7 +41,7 @@ impl From<AllocError> for Stop {
     }
 }
 
-/// The state after a symbol that stands between commands.
+/// The state after a symbol between commands.
 #[tactic(auto, unfolding(crate::specs::Machine::step))]
 fn between(alloc: Global, outer: &mut Outer, symbol: Symbol) -> Result<ParserState, Stop>
     ensures { Advances outer.new result (step test_depth block_room
@@ -70,8 +70,8 @@ fn make_head(alloc: Global, name: SmallOctets, line: u32) -> Head
     }
 }
 
-/// Adds a command after those before it. The first asks for room for one: most blocks have no more, and a vector that grows has
-/// room for four.
+/// Adds a command after those before it. The first asks for room for one, since most blocks have no
+/// more. A vector that grows has room for four.
 fn add_command(done: &mut Vec<Command>, command: Command) -> Result<(), Stop>
     ensures ok { OnOk result (done.new.items ≡ done.old.items ++ command ∷ []) }
     ensures err { IfErr result (λ stop. stop ≡ NoMemory) }
@@ -101,10 +101,10 @@ fn close_block(alloc: Global, outer: &mut Outer) -> Result<ParserState, Stop>
     }
 }
 
-/// How many arguments are given room one by one. Few commands and tests have more of them.
+/// How many arguments are given room one by one. Few commands and tests have more.
 const FEW_ARGUMENTS: usize = 4;
 
-/// After one more argument of a head.
+/// The state after one more argument of a command or a test.
 fn after_argument(head: Head, argument: Argument) -> Result<ParserState, Stop>
     ensures { (outer : Outer) → Advances outer result
         (Some (Machine.in_arguments (outer_value outer) (levels_value outer.levels.items)
@@ -158,7 +158,7 @@ fn in_arguments(
     }
 }
 
-/// Into the one test of a command or a test, where there is depth for it.
+/// Begins the one test of a command or a test, if there is depth for it.
 fn open_test(
     alloc: Global,
     outer: &mut Outer,
@@ -178,7 +178,7 @@ fn open_test(
     Ok(ParserState::Arguments(make_head(alloc, name, line)))
 }
 
-/// Into a list of tests, where there is depth for one.
+/// Begins a list of tests, if there is depth for one.
 fn open_list(alloc: Global, outer: &mut Outer, head: Head) -> Result<ParserState, Stop>
     ensures { Advances outer.new result
         (if nat_lt (length (levels_value outer.old.levels.items)) test_depth
@@ -253,7 +253,8 @@ fn before_test(alloc: Global, symbol: Symbol) -> Result<ParserState, Stop>
     }
 }
 
-/// After a command or a test with all its arguments and tests: its end, and the end of each test that it ends.
+/// After a command or a test with all its arguments and tests. A test outside a list ends together
+/// with the command or the test around it.
 #[tactic(auto, unfolding(crate::specs::Machine::close))]
 fn close(
     alloc: Global,
@@ -338,7 +339,7 @@ fn close_command(
     }
 }
 
-/// The next state.
+/// The state after a symbol.
 #[tactic(auto, unfolding(crate::specs::Machine::step))]
 pub(crate) fn step(
     alloc: Global,

@@ -1,4 +1,4 @@
-//! Tokens as the grammar sees them, with what the tree keeps of them.
+//! Tokens as symbols of the grammar, with the parts of them that the tree keeps.
 
 ghost use Rattle.std.specs.Prelude.{◌≡◌, ◌<◌, IfOk};
 ghost use Rattle.sieve_syntax.specs.view.Reader.{symbol_as};
@@ -10,7 +10,7 @@ use crate::value::{multi_line_octets, number_of, quoted_octets};
 use octets::SmallOctets;
 use std::alloc::{AllocError, Global};
 
-/// A token without its place.
+/// A token without its place. Punctuation has no line here, since no tree keeps it.
 #[derive(Drop)]
 pub(crate) enum Symbol {
     Identifier { name: SmallOctets, line: u32 },
@@ -28,7 +28,7 @@ pub(crate) enum Symbol {
     Bad,
 }
 
-/// The symbol of a token of a text. The only refusal is out of memory.
+/// The symbol of a token of a text. An error is out of memory.
 #[tactic(auto, unfolding(crate::specs::Symbol::symbol_at))]
 pub(crate) fn read_symbol(alloc: Global, text: &[u8], token: Token) -> Result<Symbol, AllocError>
     requires line { token.line < 4294967296 }

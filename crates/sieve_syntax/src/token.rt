@@ -7,8 +7,8 @@ ghost use Rattle.sieve_syntax.specs.declared.token.Token.{Token};
 use crate::cursor::{Cursor, count_line_feeds, next_token};
 use std::alloc::{AllocError, Global};
 
-/// What a token is. The last kind is no token of Sieve: it is what is left of a text from a place where neither white
-/// space nor a token begins.
+/// The kind of a token. `Bad` is no token of Sieve. It is the rest of a text from a place where
+/// neither white space nor a token begins.
 #[derive(Clone, Copy, Debug, PartialEq, Eq)]
 pub enum TokenKind {
     /// A letter or `_`, then letters, digits and `_`.
@@ -33,8 +33,8 @@ pub enum TokenKind {
     Bad,
 }
 
-/// A token: what it is, where it begins and ends in the text, in octets from 0 on, and the line where it begins, which is
-/// one plus the number of LF before it.
+/// A token: its kind, its start and its end in the text, and the line where it begins. Places are
+/// counted in octets from 0 on. A line is one plus the number of LF before it.
 #[derive(Clone, Copy, PartialEq, Eq)]
 pub struct Token {
     pub kind: TokenKind,
@@ -52,14 +52,15 @@ pub(crate) fn last_line(text: &[u8]) -> u64
     count_line_feeds(text) as u64 + 1
 }
 
-/// The tokens of a text, in their order. At each place the longest spelling is taken. Where neither white space nor a
-/// spelling begins, one bad token takes the rest of the text. The only refusal is out of memory.
+/// The tokens of a text, in their order. At each place the longest spelling is taken. Where
+/// neither white space nor a spelling begins, one bad token takes the rest of the text. An error
+/// is out of memory.
 pub fn tokens(alloc: Global, text: &[u8]) -> Result<Vec<Token>, AllocError>
     // The tokens spell the text.
     ensures spelled { IfOk result (λ found. Spells found.items text.now) }
     // Each token lies in the text.
     ensures inside { IfOk result (λ found. All (IsInside text.now) found.items) }
-    // No other list of tokens does.
+    // No other list of tokens spells the text.
     ensures only { IfOk result
         (λ found. (others : List Token) → Spells others text.now → others ≡ found.items) }
 {

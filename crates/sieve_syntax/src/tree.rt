@@ -1,4 +1,5 @@
-//! The tree of a script by its grammar (RFC 5228, section 8.2). A line is one plus the number of LF before it.
+//! The tree of a script by its grammar (RFC 5228, 8.2). A line is one plus the number of
+//! LF before it.
 
 ghost use Rattle.std.specs.Prelude.{◌≡◌};
 ghost use Rattle.sieve_syntax.specs.view.Tree.{text_of};
@@ -8,7 +9,9 @@ use crate::test_name::TestName;
 use octets::SmallOctets;
 use std::mem::size_of;
 
-/// A command, with its arguments, its tests and its block (RFC 5228, section 2.9).
+/// A command (RFC 5228, 2.9). `name` is its identifier, and `line` the line where that begins.
+/// `args` are its arguments in order. `tests` are the tests after these, and `block` are the
+/// commands of its block, if it has one.
 #[derive(Drop)]
 pub struct Command {
     pub name: CommandName,
@@ -23,7 +26,8 @@ pub struct Command {
 /// A command takes twelve words: a text of `keep;` alone has one for each five octets.
 const _: () = prove!(size_of::<Command>() == 96);
 
-/// A test, with its arguments and its own tests (RFC 5228, section 2.5).
+/// A test (RFC 5228, 2.5). `name` is its identifier, and `line` the line where that begins. `args`
+/// are its arguments in order, and `tests` the tests after these.
 #[derive(Drop)]
 #[cycle(tests)]
 pub struct Test {
@@ -44,7 +48,7 @@ pub enum Tests {
     List(Box<Vec<Test>>),
 }
 
-/// An argument (RFC 5228, section 2.6).
+/// An argument (RFC 5228, 2.6).
 #[derive(Drop)]
 pub enum Argument {
     /// A list of one or more strings in brackets, or one string without brackets.
@@ -63,7 +67,7 @@ pub struct Text {
 }
 
 impl Text {
-    /// The octets that the string stands for. Takes no memory.
+    /// The octets that the string stands for.
     pub fn octets(&self) -> &[u8]
         ensures { result.now ≡ (text_of self.now).string }
     {

@@ -1,4 +1,4 @@
-//! What numbers and strings stand for (RFC 5228, section 2.4).
+//! The values of numbers and strings (RFC 5228, 2.4).
 
 ghost use Rattle.std.specs.Prelude.{◌≡◌, ◌+◌, ◌-◌, ◌*◌, ◌^◌, ◌<◌, ◌++◌, false, IfOk, IsTrue, OnOk, SomeIff};
 ghost use Rattle.octets.specs.Octet.{is_digit, octet_of};
@@ -9,7 +9,7 @@ use crate::line::{is_dot_line, line_length};
 use octets::{SmallOctets, is_digit};
 use std::alloc::{AllocError, Global};
 
-/// What a unit stands for.
+/// The factor of a unit: of `K`, of `M`, and else of `G` (RFC 5228, 2.4.1).
 fn unit_of(octet: u8) -> u64
     ensures { result ≡ spec.unit_of octet }
 {
@@ -77,7 +77,8 @@ fn push_with_cr(out: &mut Vec<u8>, octets: &[u8]) -> Result<(), AllocError>
     Ok(())
 }
 
-/// Adds an octet, but for a backslash that protects the next one; whether it is one. A protected octet is always added.
+/// Adds an octet, but not a backslash that protects the next one. A protected octet is always
+/// added. The result is whether the octet protects the next one.
 fn push_kept(kept: &mut Vec<u8>, octet: u8, protected: bool) -> Result<bool, AllocError>
     ensures kept { OnOk result
         (kept.new.items ≡ kept.old.items ++ spec.kept_octet protected octet) }
@@ -102,14 +103,16 @@ fn unprotected(alloc: Global, octets: &[u8]) -> Result<Vec<u8>, AllocError>
     Ok(kept)
 }
 
-/// Whether an octet is among them that may stand for another than itself: an LF or a backslash. Most strings have none.
+/// Whether an octet among these may stand for another than itself: an LF or a backslash. Most
+/// strings have none.
 fn has_changed(octets: &[u8]) -> bool
     ensures { result ≡ list_any spec.is_changed octets.now }
 {
     octets.iter().any(|octet| matches!(*octet, b'\n' | b'\\'))
 }
 
-/// What a quoted string stands for: each LF that lacks a CR gets one, and then a backslash and an octet give that octet.
+/// The octets that a quoted string stands for (RFC 5228, 2.4.2). Each LF that lacks a CR gets one.
+/// Then a backslash and an octet give that octet.
 #[tactic(auto, unfolding(crate::specs::Value::quoted_octets), using(crate::proofs::Values::quoted_steps))]
 pub(crate) fn quoted_octets(alloc: Global, symbol: &[u8]) -> Result<SmallOctets, AllocError>
     ensures { IfOk result (λ octets. octets.items ≡ spec.quoted_octets symbol.now) }
@@ -137,8 +140,9 @@ fn without_dot(line: &[u8]) -> &[u8]
     }
 }
 
-/// What a multi-line string stands for: its lines between the first and the last, without the first of two dots that
-/// begin a line, and with CR and LF at the end of each.
+/// The octets that a multi-line string stands for (RFC 5228, 2.4.2). They are its lines between
+/// the first and the last. A line that begins with two dots loses the first. Each line ends in
+/// CR and LF.
 #[tactic(auto, using(crate::proofs::Values::line_steps))]
 pub(crate) fn multi_line_octets(alloc: Global, symbol: &[u8]) -> Result<Vec<u8>, AllocError>
     ensures { IfOk result (λ octets. octets.items ≡ spec.multi_line_octets symbol.now) }

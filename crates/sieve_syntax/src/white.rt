@@ -1,4 +1,4 @@
-//! White space and comments (RFC 5228, sections 2.2 and 2.3).
+//! White space and comments (RFC 5228, 2.2 and 2.3).
 
 ghost use Rattle.std.specs.Prelude.{◌≡◌, ◌<◌, ◌≤◌, length, IfSome};
 ghost use Rattle.octets.specs.Octet.{octet_of};
@@ -45,8 +45,8 @@ fn bracket_comment(rest: &[u8]) -> Option<usize>
     }
 }
 
-/// How many octets the piece of white space has that begins the text: one blank, a hash comment with its line end, or a
-/// bracket comment.
+/// The number of octets of the piece of white space that begins the text (RFC 5228, 2.2 and 2.3).
+/// It is one octet of white space, a hash comment with its line, or a bracket comment.
 #[tactic(auto, using(crate::proofs::Longest::white_at_bounds), unfolding(crate::specs::White::white_at))]
 pub(crate) fn white_length(rest: &[u8]) -> Option<usize>
     ensures value { result ≡ white_at rest.now }

@@ -1,4 +1,5 @@
--- The names of the table and of the capabilities: each is found by its name, which no other has.
+-- The names of the table and of the capabilities. Each thing is found by its name, which
+-- no other has.
 use Rattle.std.proofs.Common.{◌≡◌, ℕ, Bool, true, false, not, ◌&&◌, ◌||◌, cond, nat_eq, List, [], ◌∷◌, ◌++◌, Option, None, Some, is_none, filter, find, map, refl, sym, ap, ◌∙◌, arith}
 use Rattle.std.proofs.lemmas.Bool.{and_parts}
 use Rattle.std.proofs.lemmas.Bool.Decides.{nat_tests}
@@ -83,7 +84,7 @@ or_false : (b : Bool) → (b || false) ≡ b
 or_false true = refl
 or_false false = refl
 
--- some pass both tests where some of those that pass the first pass the second
+-- some of a list pass both tests where some of those that pass the first pass the second
 any_both : {X : Type 0} (p q : X → Bool) (xs : List X) → list_any (λ x. p x && q x) xs ≡ list_any q (filter p xs)
 any_both p q [] = refl
 any_both p q (x ∷ xs) = by_test (p x) (any_both p q xs)
@@ -98,7 +99,7 @@ capability_found profile capability =
     ∙ ap (list_any (is_known profile)) (capability_alone capability)
     ∙ or_false (is_known profile capability)
 
--- WHAT A STRING NAMES
+-- THE CAPABILITY THAT A STRING NAMES
 
 same_octets : (a b : List ℕ) → pointwise nat_eq a b ≡ true → a ≡ b
 same_octets [] [] is = refl
@@ -128,7 +129,7 @@ one_answer false true e = absurd (never e)
     never e = cc
 one_answer false false e = refl
 
--- two capabilities have one name where they are one
+-- a capability's name is that of another where, and only where, both are the same
 one_name : (c d : Capability) → is_name_of (capability_name d) c ≡ same_capability d c
 one_name c d =
     one_answer (is_name_of (capability_name d) c) (same_capability d c)

@@ -1,4 +1,4 @@
--- What is required after a string of a `require`.
+-- The capabilities that are required after a string of a `require`.
 use Rattle.std.proofs.Common.{◌≡◌, ℕ, Bool, true, false, ◌||◌, List, refl}
 use Rattle.sieve_table.specs.Capability.{is_always_there, is_name_of}
 use Rattle.sieve_table.specs.Required.{Required, is_required, requiring}

@@ -1,4 +1,5 @@
--- Roles, tags and kinds of tags are told apart, and what is computed of all tags holds of each.
+-- Roles, tags and kinds of tags that compare as the same are the same. A test that all tags pass is
+-- passed by each.
 use Rattle.std.proofs.Common.{◌≡◌, Bool, true, false, ◌&&◌, Option, None, Some, refl, sym, ap, ◌∙◌}
 use Rattle.std.specs.List.{list_all}
 use denote.Enum.Bare.{same_true, true_same}
@@ -24,7 +25,7 @@ one_kind a b e = same_true kinds.the_type tt a b e
 pub own_kind : (k : TagKind) → same_kind k k ≡ true
 own_kind k = true_same kinds.the_type k k refl
 
--- a role that is the wanted one is not bad where the wanted one is not bad
+-- no role is both the wanted one and bad, where the wanted one is not bad
 in_role_alone : (wanted : Role) (bad : Option Role → Bool) (r : Role) (is : Bool) → same_role wanted r ≡ is → bad (Some wanted) ≡ false → (is && bad (Some r)) ≡ false
 in_role_alone wanted bad r false e fine = refl
 in_role_alone wanted bad r true e fine = ap (λ x. bad (Some x)) (sym (one_role wanted r e)) ∙ fine

@@ -3,12 +3,12 @@ use Rattle.std.specs.Prelude.{ℕ, Bool, List, [], ◌∷◌, codes}
 use Rattle.std.specs.List.{list_any}
 use Rattle.std.specs.Str.{str_eq_ignore_ascii_case}
 
--- whether a name is one of these; names of fields ignore the case of ASCII (RFC 5228, section 2.4.2.2)
+-- Whether a name is one of these. Names of fields ignore the case of ASCII (RFC 5228, 2.4.2.2).
 abbrev pub is_one_of : List (List ℕ) → List ℕ → Bool
 is_one_of names name = list_any (λ one. str_eq_ignore_ascii_case one name) names
 
--- the fields that an `address` test may name (RFC 5228, section 5.1): those of RFC 5322, sections 3.6 and 4.5.6, that hold
--- addresses, and some that mail systems add
+-- The fields that an `address` test may name (RFC 5228, 5.1). They are those with addresses of
+-- RFC 5322, sections 3.6 and 4.5.6, and some that mail systems add.
 abbrev pub address_fields : List (List ℕ)
 address_fields =
     codes "from" ∷ codes "to" ∷ codes "cc" ∷ codes "bcc" ∷ codes "sender" ∷ codes "reply-to"
@@ -18,7 +18,7 @@ address_fields =
 unfoldable pub is_address_field : List ℕ → Bool
 is_address_field name = is_one_of address_fields name
 
--- the parts that an `envelope` test may name, in any case (RFC 5228, section 5.4)
+-- the parts that an `envelope` test may name, in any case (RFC 5228, 5.4)
 abbrev pub envelope_parts : List (List ℕ)
 envelope_parts = codes "from" ∷ codes "to" ∷ []
 

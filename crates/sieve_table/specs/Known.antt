@@ -1,4 +1,5 @@
--- What a bench of a profile knows: what needs a capability that it lacks isn't there.
+-- The commands, tests, tags and capabilities that a bench of a profile knows. One that needs an
+-- unknown capability is treated as absent.
 use Rattle.std.specs.Prelude.{ℕ, Bool, true, not, ◌&&◌, ◌||◌, List, Option, None, Some, if◌then◌else◌}
 use Rattle.std.specs.List.{list_all, list_any}
 use Rattle.std.specs.Option.{option_and_then}
@@ -13,7 +14,8 @@ use Rattle.sieve_table.specs.declared.table.CommandKind.{CommandKind}
 use Rattle.sieve_table.specs.declared.tag.Tag.{Tag}
 use Rattle.sieve_table.specs.declared.table.TestKind.{TestKind}
 
--- the name that a profile needs for a capability to be known; without one it always is
+-- The extension name that a profile needs for a capability to be known. A capability without one
+-- is always known.
 abbrev pub extension_of : Capability → Option Extension
 extension_of capability.Fileinto = None
 extension_of capability.Envelope = None
@@ -45,26 +47,28 @@ is_known profile capability = is_asked_for profile (extension_of capability)
 
 -- CAPABILITIES THAT ARE REQUIRED
 
--- whether a string names a capability that is known
+-- whether a string names a capability that the profile knows
 abbrev pub names_known : Profile → List ℕ → Bool
 names_known profile name = list_any (λ capability. is_name_of name capability && is_known profile capability) capabilities
 
--- A capability whose use no word shows: what it brings are sequences in strings (RFC 5228, section 2.4.2.4). So it may not be required where it isn't
--- known.
+-- Whether a string names `encoded-character`, whose use no word of a script shows. It brings
+-- sequences in strings alone (RFC 5228, 2.4.2.4). So it may not be required where it isn't known.
 abbrev pub is_shown_by_no_word : List ℕ → Bool
 is_shown_by_no_word name = is_name_of name capability.EncodedCharacter
 
--- whether a `require` may name it: with `unused` also one that isn't known, as mail clients require all that they know, used or not
+-- Whether a `require` may name this string. It may name a capability that the profile knows. With
+-- `unused` it may name any other string but `encoded-character`. Mail clients require all that they
+-- know, used or not.
 abbrev pub may_be_required : Profile → List ℕ → Bool
 may_be_required profile name = names_known profile name || (has profile extension.Unused && not (is_shown_by_no_word name))
 
 -- COMMANDS, TESTS AND TAGS
 
--- whether all is known that a row needs
+-- whether the profile knows each capability that a row needs
 abbrev pub is_known_row : Profile → Row → Bool
 is_known_row profile row = list_all (is_known profile) row.needs
 
--- whether what may be needed is known
+-- whether the capability that may be needed is known
 abbrev pub is_need_known : (Capability → Bool) → Option Capability → Bool
 is_need_known known None = true
 is_need_known known (Some capability) = known capability
@@ -75,14 +79,14 @@ is_known_tag profile tag = is_need_known (is_known profile) (tag_row tag).needs
 abbrev pub only_if : {A : Type 0} → (A → Bool) → A → Option A
 only_if passes x = if passes x then Some x else None
 
--- the command of a name, where it is known
+-- the command of a name, where the profile knows it
 abbrev pub known_command : Profile → List ℕ → Option CommandKind
 known_command profile written = option_and_then (only_if (λ kind. is_known_row profile (command_row kind))) (command_named written)
 
--- the test of a name, where it is known
+-- the test of a name, where the profile knows it
 abbrev pub known_test : Profile → List ℕ → Option TestKind
 known_test profile written = option_and_then (only_if (λ kind. is_known_row profile (test_row kind))) (test_named written)
 
--- a tag, where it is known
+-- a tag, where the profile knows it
 abbrev pub known_tag : Profile → Option Tag → Option Tag
 known_tag profile tag = option_and_then (only_if (is_known_tag profile)) tag

@@ -1,4 +1,4 @@
--- The roles of arguments: which are one, and what they say of their strings.
+-- The roles of arguments: whether two are the same, and how their strings are read.
 use Rattle.std.specs.Prelude.{Bool, true, false, ◌||◌, Option, Some, None}
 use denote.Enum.Bare.{sameb}
 use Rattle.sieve_table.specs.contracts.row.Role.{the_type}
@@ -13,16 +13,18 @@ abbrev pub has_role : Role → Option Role → Bool
 has_role wanted None = false
 has_role wanted (Some role) = same_role wanted role
 
--- The roles of strings that name variables: one that is set (RFC 5229, section 4; RFC 5232, section 3), and some that are read
+-- The roles of strings that name variables to set or to read. A command names one that it
+-- sets (RFC 5229, section 4; RFC 5232, section 3). A test names some that it reads
 -- (RFC 5232, section 4).
 abbrev pub names_variable : Option Role → Bool
 names_variable given = has_role role.NameToSet given || has_role role.NamesToRead given
 
--- The roles of strings in which references to variables stand for values (RFC 5229, section 3). RFC 5229 leaves out the name of a `set`
--- (section 4), and RFC 6609 the names of scripts (section 3.2) and those that are declared (section 3.4.1). That the strings of
--- `require`, comparators, relations, and the names that flag commands and flag tests have are left out too is this project's choice: they are
--- known before the script runs. So are those by which a server would know a message that came before: no run looks at them, and no report
--- says them; the handle of a response is said.
+-- The roles of strings in which references to variables stand for values (RFC 5229, section 3). The
+-- name of a `set` is left out (RFC 5229, section 4). So are the names of scripts, and those that
+-- are declared (RFC 6609, 3.2 and 3.4.1). This project also leaves out strings that are known
+-- before the script runs. They are those of `require`, comparators, relations, and the names that
+-- flag commands and flag tests have. It leaves out the arguments of `duplicate`'s tags too: no run
+-- looks at them, and no report says them. A report says the handle of a response.
 abbrev pub is_expanded : Role → Bool
 is_expanded role.Capabilities = false
 is_expanded role.ComparatorName = false

@@ -32,6 +32,7 @@ rule_word BadDatePart = codes "bad-date-part"
 abbrev pub all_rules : List Rule
 all_rules = every enum tt
 
--- a rule's number, from 1 on: of two that are broken at one place, the one with the lesser number is reported
+-- A rule's number, from 1 on. Of two rules that are broken at one place, the one with the lesser
+-- number is reported.
 abbrev pub rule_number : Rule → ℕ
 rule_number rule = tag_of the_type rule + 1

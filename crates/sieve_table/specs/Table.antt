@@ -1,4 +1,4 @@
--- The table: a row for each command, test and tag that there is says what it takes.
+-- The table: a row for each command, test and tag says what it takes.
 use Rattle.std.specs.Prelude.{ℕ, Bool, true, false, List, [], ◌∷◌, Option, Some, None, find, codes}
 use Rattle.std.specs.Str.{str_eq_ignore_ascii_case}
 use denote.Enum.Bare.{sameb}
@@ -25,39 +25,38 @@ use Rattle.sieve_table.specs.declared.tag.Tag.TheVariants as tag
 use Rattle.sieve_table.specs.declared.table.TestKind.{TestKind}
 use Rattle.sieve_table.specs.declared.table.TestKind.TheVariants as test
 
--- WHAT A ROW SAYS
+-- THE TYPES OF ROWS
 
--- what a command or a test takes (RFC 5228, section 2.6)
+-- the row of a command or a test (RFC 5228, 2.6)
 pub record Row : Type 0 where
   -- the identifier of the command or the test, in lower case
   pub name : List ℕ
-  -- the tags, in any order (RFC 5228, section 2.6.2)
+  -- the tags, in any order (RFC 5228, 2.6.2)
   pub tags : List Tag
-  -- the kind of which exactly one tag is there
+  -- the kind of which exactly one tag has to be given, if there is such a kind
   pub one_of : Option TagKind
   -- a positional argument that may stand before the others
   pub front : Option Slot
-  -- the positional arguments in order (RFC 5228, section 2.6.1)
+  -- the positional arguments in order (RFC 5228, 2.6.1)
   pub slots : List Slot
-  -- the tests after them (RFC 5228, sections 2.5 and 2.5.1)
+  -- the tests after the arguments (RFC 5228, 2.5 and 2.5.1)
   pub tests : Inner
-  -- whether the command ends by a block, and not by a semicolon (RFC 5228, sections 2.8 and 2.9)
+  -- whether the command ends by a block, and not by a semicolon (RFC 5228, 2.8 and 2.9)
   pub has_block : Bool
-  -- what has to be required for the command or the test (RFC 5228, section 2.10.5)
+  -- the capabilities that have to be required for the command or the test (RFC 5228, 2.10.5)
   pub needs : List Capability
 
--- a tag
+-- the row of a tag
 pub record TagRow : Type 0 where
   -- the tag's identifier without the colon, in lower case
   pub name : List ℕ
-  -- two of one kind don't stand together
+  -- the tag's kind: at most one tag of each is given
   pub kind : TagKind
   -- the argument that it takes itself, directly after it
   pub takes : Option Slot
-  -- what has to be required for it
+  -- the capability that has to be required for the tag
   pub needs : Option Capability
 
--- whether two commands are one, two tags, and two kinds of tags
 abbrev pub same_command : CommandKind → CommandKind → Bool
 same_command a b = sameb command_kinds.the_type a b
 
@@ -67,7 +66,7 @@ same_tag a b = sameb tag_kinds.the_type a b
 abbrev pub same_kind : TagKind → TagKind → Bool
 same_kind a b = sameb kinds.the_type a b
 
--- an argument of this form and role, for which nothing need be required
+-- an argument of this form and role that needs no capability
 abbrev pub slot : Form → Role → Slot
 slot form role = record { form = form; role = role; needs = None }
 
@@ -75,34 +74,34 @@ slot form role = record { form = form; role = role; needs = None }
 abbrev pub naming_slot : Form → Role → Slot
 naming_slot form role = record { form = form; role = role; needs = Some capability.Variables }
 
--- what takes nothing
+-- the row of a command or a test that takes nothing
 abbrev pub bare : List ℕ → Row
 bare name = record { name = name; tags = []; one_of = None; front = None; slots = []; tests = inner.None; has_block = false; needs = [] }
 
--- a tag that takes nothing
+-- the row of a tag that takes no argument and needs no capability
 abbrev pub bare_tag : List ℕ → TagKind → TagRow
 bare_tag name kind = record { name = name; kind = kind; takes = None; needs = None }
 
--- a tag that takes nothing, and one that takes an argument, for which a capability has to be required
+-- the rows of tags that need a capability, without an argument of their own and with one
 abbrev pub needing_tag : List ℕ → TagKind → Capability → TagRow
 needing_tag name kind needed = record { name = name; kind = kind; takes = None; needs = Some needed }
 
 abbrev pub taking_tag : List ℕ → TagKind → Slot → Capability → TagRow
 taking_tag name kind taken needed = record { name = name; kind = kind; takes = Some taken; needs = Some needed }
 
--- a match type that takes a relation (RFC 5231, section 4)
+-- the row of a match type that takes a relation (RFC 5231, section 4)
 abbrev pub relation_tag : List ℕ → TagRow
 relation_tag name = taking_tag name kind.MatchType (slot form.One role.Relation) capability.Relational
 
--- a tag of `duplicate` that takes an argument (RFC 7352, section 3)
+-- the row of a tag of `duplicate` that takes an argument (RFC 7352, section 3)
 abbrev pub tracking_tag : List ℕ → TagKind → Form → TagRow
 tracking_tag name kind form = taking_tag name kind (slot form role.Tracking) capability.Duplicate
 
--- a tag of `vacation` that takes an argument (RFC 5230, section 4)
+-- the row of a tag of `vacation` that takes an argument (RFC 5230, section 4)
 abbrev pub response_tag : List ℕ → TagKind → Form → Role → TagRow
 response_tag name kind form role = taking_tag name kind (slot form role) capability.Vacation
 
--- THE ROWS
+-- THE ROWS OF THE TABLE
 
 abbrev pub tag_row : Tag → TagRow
 -- RFC 5228, section 2.7.3
@@ -167,27 +166,29 @@ tag_row tag.Global = bare_tag (codes "global") kind.Location
 tag_row tag.Once = bare_tag (codes "once") kind.Once
 tag_row tag.Optional = bare_tag (codes "optional") kind.Optional
 
--- the match types (RFC 5228, section 2.7.1; RFC 5231, section 4)
+-- the match types (RFC 5228, 2.7.1; RFC 5231, section 4)
 abbrev pub match_tags : List Tag
 match_tags = tag.Is ∷ tag.Contains ∷ tag.Matches ∷ tag.Value ∷ tag.Count ∷ []
 
--- how values are compared with keys (RFC 5228, section 2.7)
+-- the tags that say how values are compared with keys (RFC 5228, 2.7)
 abbrev pub comparing_tags : List Tag
 comparing_tags = tag.Comparator ∷ match_tags
 
--- the parts of an address too (RFC 5228, section 2.7.4; RFC 5233, section 4)
+-- the tags that name a part of an address (RFC 5228, 2.7.4; RFC 5233, section 4), and
+-- those of comparing
 abbrev pub address_tags : List Tag
 address_tags = tag.All ∷ tag.LocalPart ∷ tag.Domain ∷ tag.User ∷ tag.Detail ∷ comparing_tags
 
--- the modifiers of a value; those of one precedence are of one kind (RFC 5229, section 4.1)
+-- The modifiers of a value. Those of one precedence are of one kind (RFC 5229, 4.1).
 abbrev pub modifier_tags : List Tag
 modifier_tags = tag.Lower ∷ tag.Upper ∷ tag.LowerFirst ∷ tag.UpperFirst ∷ tag.QuoteWildcard ∷ tag.Length ∷ []
 
--- a command that changes flags, those of a variable where one is named (RFC 5232, section 3)
+-- The row of a command that changes flags. They are those of a variable where one is named
+-- (RFC 5232, section 3).
 abbrev pub flag_command : List ℕ → Row
 flag_command name = record (bare name) { front = Some (naming_slot form.One role.NameToSet); slots = slot form.List role.Flags ∷ []; needs = capability.Imap4flags ∷ [] }
 
--- a command that refuses the message, for a reason (RFC 5429, section 2)
+-- the row of a command that refuses the message for a reason (RFC 5429, section 2)
 abbrev pub refusing_command : List ℕ → Capability → Row
 refusing_command name needed = record (bare name) { slots = slot form.One role.Text ∷ []; needs = needed ∷ [] }
 
@@ -200,7 +201,8 @@ command_row command.Elsif = record (bare (codes "elsif")) { tests = inner.One; h
 command_row command.Else = record (bare (codes "else")) { has_block = true }
 -- RFC 5228, section 4.3; RFC 5232, section 5
 command_row command.Keep = record (bare (codes "keep")) { tags = tag.Flags ∷ [] }
--- RFC 5228, section 4.1; RFC 5232, section 5; RFC 3894, section 3; RFC 5490, section 3.2; RFC 8579, section 4
+-- RFC 5228, section 4.1; RFC 5232, section 5; RFC 3894, section 3; RFC 5490, section 3.2;
+-- RFC 8579, section 4
 command_row command.Fileinto = record (bare (codes "fileinto")) { tags = tag.Flags ∷ tag.Copy ∷ tag.Create ∷ tag.SpecialUse ∷ []; slots = slot form.One role.Mailbox ∷ []; needs = capability.Fileinto ∷ [] }
 -- RFC 5228, section 4.2; RFC 3894, section 3
 command_row command.Redirect = record (bare (codes "redirect")) { tags = tag.Copy ∷ []; slots = slot form.One role.Address ∷ [] }
@@ -261,7 +263,7 @@ test_row test.Body = record (bare (codes "body")) { tags = tag.Raw ∷ tag.Conte
 
 -- THE LOOK-UP
 
--- whether an identifier is this one; identifiers ignore the case of ASCII (RFC 5228, section 2.1)
+-- Whether `written` is this identifier. Identifiers ignore the case of ASCII (RFC 5228, 2.1).
 abbrev pub is_named : List ℕ → List ℕ → Bool
 is_named name written = str_eq_ignore_ascii_case name written
 
@@ -274,14 +276,14 @@ tests = every test_kinds.enum tt
 abbrev pub all_tags : List Tag
 all_tags = every tag_kinds.enum tt
 
--- the command of that name (RFC 5228, section 2.1)
+-- the command with this identifier (RFC 5228, 2.1)
 unfoldable pub command_named : List ℕ → Option CommandKind
 command_named written = find (λ kind. is_named (command_row kind).name written) commands
 
--- the test of that name
+-- the test with this identifier (RFC 5228, 2.1)
 unfoldable pub test_named : List ℕ → Option TestKind
 test_named written = find (λ kind. is_named (test_row kind).name written) tests
 
--- the tag of that name among some
+-- the first of some tags with this identifier (RFC 5228, 2.1)
 abbrev pub tag_named : List Tag → List ℕ → Option Tag
 tag_named tags written = find (λ tag. is_named (tag_row tag).name written) tags

@@ -1,3 +1,4 @@
--- What the program's types stand for in contracts, and facts of one function alone. The other files of specs/ restate the subject.
+-- The models of the program's types in contracts, and facts of one function alone. The other files
+-- of `specs` define the subject.
 pub mod Required
 pub mod Row

@@ -4,7 +4,7 @@ ghost use Rattle.std.specs.List.{list_any};
 ghost use Rattle.std.specs.Str.{str_eq_ignore_ascii_case};
 ghost use Rattle.sieve_table.specs.Address.{is_address_field, is_envelope_part};
 
-/// The fields that hold addresses.
+/// The header fields that an `address` test may name, in lower case (RFC 5228, 5.1).
 const ADDRESS_FIELDS: [&[u8]; 18] = [
     b"from",
     b"to",
@@ -26,17 +26,17 @@ const ADDRESS_FIELDS: [&[u8]; 18] = [
     b"envelope-to",
 ];
 
-/// The parts of an envelope.
+/// The parts that an `envelope` test may name, in lower case (RFC 5228, 5.4).
 const ENVELOPE_PARTS: [&[u8]; 2] = [b"from", b"to"];
 
-/// Whether a name is one of these, in any case.
+/// Whether a name is one of these, in any case of ASCII.
 fn is_one_of(names: &[&[u8]], name: &[u8]) -> bool
     ensures { result ≡ list_any (λ one. str_eq_ignore_ascii_case one.now name.now) names.now }
 {
     names.iter().any(|one| one.eq_ignore_ascii_case(name))
 }
 
-/// Whether a name is that of a header field that an `address` test may name, in any case (RFC 5228, section 5.1).
+/// Whether an `address` test may name this header field, in any case of ASCII (RFC 5228, 5.1).
 #[tactic(auto, unfolding(crate::specs::Address::is_address_field))]
 pub fn is_address_field(name: &[u8]) -> bool
     ensures { result ≡ is_address_field name.now }
@@ -44,7 +44,8 @@ pub fn is_address_field(name: &[u8]) -> bool
     is_one_of(&ADDRESS_FIELDS, name)
 }
 
-/// Whether a name is that of a part of an envelope that an `envelope` test may name, in any case (RFC 5228, section 5.4).
+/// Whether an `envelope` test may name this part of an envelope, in any case of ASCII
+/// (RFC 5228, 5.4).
 #[tactic(auto, unfolding(crate::specs::Address::is_envelope_part))]
 pub fn is_envelope_part(name: &[u8]) -> bool
     ensures { result ≡ is_envelope_part name.now }

@@ -2,52 +2,52 @@
 ghost use Rattle.std.specs.Prelude.{◌≡◌};
 ghost use Rattle.sieve_table.specs.Capability.{capability_name, capability_named, is_always_there, is_name_of};
 
-/// What a command, a test, a tag or an argument may need (RFC 5228, section 2.10.5).
+/// A capability that a command, a test, a tag or an argument may need (RFC 5228, 2.10.5).
 #[derive(Clone, Copy, PartialEq, Eq)]
 pub enum Capability {
-    /// `fileinto` (RFC 5228, section 4.1).
+    /// `fileinto` (RFC 5228, 4.1).
     Fileinto,
-    /// `envelope` (RFC 5228, section 5.4).
+    /// `envelope` (RFC 5228, 5.4).
     Envelope,
     /// `variables` (RFC 5229, section 2).
     Variables,
-    /// Flags (RFC 5232).
+    /// `imap4flags`: flags (RFC 5232, section 1).
     Imap4flags,
-    /// Included scripts (RFC 6609).
+    /// `include`: included scripts (RFC 6609, 3.1).
     Include,
-    /// `:copy` (RFC 3894).
+    /// `copy`: the tag `:copy` (RFC 3894, section 2).
     Copy,
-    /// Two parts of a local part (RFC 5233).
+    /// `subaddress`: the two parts of a local part (RFC 5233, section 3).
     Subaddress,
-    /// Mailboxes that are made or asked for (RFC 5490).
+    /// `mailbox`: mailboxes that are made or asked for (RFC 5490, section 3).
     Mailbox,
-    /// Mailboxes by their use (RFC 8579).
+    /// `special-use`: mailboxes by their use (RFC 8579, section 5).
     SpecialUse,
-    /// Messages that came before (RFC 7352).
+    /// `duplicate`: messages that came before (RFC 7352, section 4).
     Duplicate,
-    /// Relations, and how many values there are (RFC 5231).
+    /// `relational`: relations of values, and their number (RFC 5231, section 2).
     Relational,
-    /// Characters by their numbers (RFC 5228, section 2.4.2.4).
+    /// `encoded-character`: characters by their numbers (RFC 5228, 2.4.2.4).
     EncodedCharacter,
-    /// Answers to the sender (RFC 5230).
+    /// `vacation`: answers to the sender (RFC 5230, section 3).
     Vacation,
-    /// Refusals with a reason (RFC 5429, section 2.2).
+    /// `reject`: refusals with a reason (RFC 5429, 2.2).
     Reject,
-    /// Refusals with a reason, as early as can be (RFC 5429, section 2.1).
+    /// `ereject`: refusals with a reason, as early as possible (RFC 5429, 2.1).
     Ereject,
-    /// Dates of fields, and the current one (RFC 5260).
+    /// `date`: dates of fields, and the current one (RFC 5260, section 3).
     Date,
-    /// What stands in the body of a message (RFC 5173).
+    /// `body`: the body of a message (RFC 5173, section 3).
     Body,
-    /// The comparator `i;octet` (RFC 5228, section 2.7.3).
+    /// The comparator `i;octet` (RFC 5228, 2.7.3).
     OctetComparator,
-    /// The comparator `i;ascii-casemap` (RFC 5228, section 2.7.3).
+    /// The comparator `i;ascii-casemap` (RFC 5228, 2.7.3).
     CasemapComparator,
-    /// The comparator `i;ascii-numeric` (RFC 4790, section 9.1).
+    /// The comparator `i;ascii-numeric` (RFC 4790, 9.1).
     NumericComparator,
 }
 
-/// The capabilities that there are.
+/// All capabilities, in the order of `Capability`.
 pub(crate) const CAPABILITIES: [Capability; 20] = [
     Capability::Fileinto,
     Capability::Envelope,
@@ -72,7 +72,7 @@ pub(crate) const CAPABILITIES: [Capability; 20] = [
 ];
 
 impl Capability {
-    /// The string that names it in a `require`.
+    /// The string that names the capability in a `require` (RFC 5228, 3.2).
     fn name(self) -> &'static [u8]
         ensures { result.now ≡ capability_name self }
     {
@@ -100,7 +100,7 @@ impl Capability {
         }
     }
 
-    /// Whether it need not be required (RFC 5228, section 2.7.3).
+    /// Whether the capability is a comparator that need not be required (RFC 5228, 2.7.3).
     pub(crate) fn is_always_there(self) -> bool
         ensures { result ≡ is_always_there self }
     {
@@ -108,14 +108,14 @@ impl Capability {
     }
 }
 
-/// Whether a string names it, octet for octet.
+/// Whether a string names the capability, octet for octet.
 pub(crate) fn is_name_of(name: &[u8], capability: Capability) -> bool
     ensures { result ≡ is_name_of name.now capability }
 {
     capability.name() == name
 }
 
-/// The capability that a string names.
+/// The capability that a string names, octet for octet.
 pub(crate) fn capability_named(name: &[u8]) -> Option<Capability>
     ensures { result ≡ capability_named name.now }
 {

@@ -1,4 +1,5 @@
-//! The rows of the table for commands, each in a function of its own, since a large one is slow to prove.
+//! The rows of the table for commands. Each has a function of its own, since a large one is
+//! slow to prove.
 ghost use Rattle.std.specs.Prelude.{◌≡◌};
 ghost use Rattle.sieve_table.specs.Table.{command_row};
 ghost use Rattle.sieve_table.specs.declared.table.CommandKind.TheVariants as command;
@@ -6,16 +7,16 @@ ghost use Rattle.sieve_table.specs.view.Row.{row_as};
 
 use crate::capability::Capability;
 use crate::row::{BARE, FLAGS, Form, Inner, Role, Row, Slot};
-use crate::table::Tag;
+use crate::tag::Tag;
 
-/// The variable whose flags a command changes.
+/// The variable whose flags a command changes (RFC 5232, section 3).
 const FLAG_VARIABLE: Slot = Slot {
     form: Form::One,
     role: Role::NameToSet,
     needs: Some(Capability::Variables),
 };
 
-/// A command that changes flags (RFC 5232, section 3), and has no name yet.
+/// The row of a command that changes flags (RFC 5232, section 3). It has no name yet.
 const FLAG_COMMAND: Row = Row {
     front: Some(FLAG_VARIABLE),
     slots: &[FLAGS],
@@ -23,14 +24,14 @@ const FLAG_COMMAND: Row = Row {
     ..BARE
 };
 
-/// What a response or a rejection says.
+/// The text of a response or of a refusal.
 const REASON: Slot = Slot {
     form: Form::One,
     role: Role::Text,
     needs: None,
 };
 
-/// `require` (RFC 5228, section 3.2).
+/// `require` (RFC 5228, 3.2).
 pub(crate) fn require_row() -> Row
     ensures { row_as result ≡ command_row command.Require }
 {
@@ -45,7 +46,7 @@ pub(crate) fn require_row() -> Row
     }
 }
 
-/// `if` (RFC 5228, section 3.1).
+/// `if` (RFC 5228, 3.1).
 pub(crate) fn if_row() -> Row
     ensures { row_as result ≡ command_row command.If }
 {
@@ -57,7 +58,7 @@ pub(crate) fn if_row() -> Row
     }
 }
 
-/// `elsif` (RFC 5228, section 3.1).
+/// `elsif` (RFC 5228, 3.1).
 pub(crate) fn elsif_row() -> Row
     ensures { row_as result ≡ command_row command.Elsif }
 {
@@ -69,7 +70,7 @@ pub(crate) fn elsif_row() -> Row
     }
 }
 
-/// `else` (RFC 5228, section 3.1).
+/// `else` (RFC 5228, 3.1).
 pub(crate) fn else_row() -> Row
     ensures { row_as result ≡ command_row command.Else }
 {
@@ -80,7 +81,7 @@ pub(crate) fn else_row() -> Row
     }
 }
 
-/// `keep` (RFC 5228, section 4.3).
+/// `keep` (RFC 5228, 4.3).
 pub(crate) fn keep_row() -> Row
     ensures { row_as result ≡ command_row command.Keep }
 {
@@ -91,7 +92,7 @@ pub(crate) fn keep_row() -> Row
     }
 }
 
-/// `fileinto` (RFC 5228, section 4.1).
+/// `fileinto` (RFC 5228, 4.1).
 pub(crate) fn fileinto_row() -> Row
     ensures { row_as result ≡ command_row command.Fileinto }
 {
@@ -108,7 +109,7 @@ pub(crate) fn fileinto_row() -> Row
     }
 }
 
-/// `redirect` (RFC 5228, section 4.2).
+/// `redirect` (RFC 5228, 4.2).
 pub(crate) fn redirect_row() -> Row
     ensures { row_as result ≡ command_row command.Redirect }
 {
@@ -124,7 +125,7 @@ pub(crate) fn redirect_row() -> Row
     }
 }
 
-/// `discard` (RFC 5228, section 4.4).
+/// `discard` (RFC 5228, 4.4).
 pub(crate) fn discard_row() -> Row
     ensures { row_as result ≡ command_row command.Discard }
 {
@@ -134,7 +135,7 @@ pub(crate) fn discard_row() -> Row
     }
 }
 
-/// `stop` (RFC 5228, section 3.3).
+/// `stop` (RFC 5228, 3.3).
 pub(crate) fn stop_row() -> Row
     ensures { row_as result ≡ command_row command.Stop }
 {
@@ -175,7 +176,7 @@ pub(crate) fn set_row() -> Row
     }
 }
 
-/// `setflag` (RFC 5232, section 3.1).
+/// `setflag` (RFC 5232, 3.1).
 pub(crate) fn set_flag_row() -> Row
     ensures { row_as result ≡ command_row command.SetFlag }
 {
@@ -185,7 +186,7 @@ pub(crate) fn set_flag_row() -> Row
     }
 }
 
-/// `addflag` (RFC 5232, section 3.2).
+/// `addflag` (RFC 5232, 3.2).
 pub(crate) fn add_flag_row() -> Row
     ensures { row_as result ≡ command_row command.AddFlag }
 {
@@ -195,7 +196,7 @@ pub(crate) fn add_flag_row() -> Row
     }
 }
 
-/// `removeflag` (RFC 5232, section 3.3).
+/// `removeflag` (RFC 5232, 3.3).
 pub(crate) fn remove_flag_row() -> Row
     ensures { row_as result ≡ command_row command.RemoveFlag }
 {
@@ -205,7 +206,7 @@ pub(crate) fn remove_flag_row() -> Row
     }
 }
 
-/// `include` (RFC 6609, section 3.2).
+/// `include` (RFC 6609, 3.2).
 pub(crate) fn include_row() -> Row
     ensures { row_as result ≡ command_row command.Include }
 {
@@ -222,7 +223,7 @@ pub(crate) fn include_row() -> Row
     }
 }
 
-/// `return` (RFC 6609, section 3.3).
+/// `return` (RFC 6609, 3.3).
 pub(crate) fn return_row() -> Row
     ensures { row_as result ≡ command_row command.Return }
 {
@@ -233,7 +234,7 @@ pub(crate) fn return_row() -> Row
     }
 }
 
-/// `global` (RFC 6609, section 3.4.1).
+/// `global` (RFC 6609, 3.4.1).
 pub(crate) fn global_row() -> Row
     ensures { row_as result ≡ command_row command.Global }
 {
@@ -269,7 +270,7 @@ pub(crate) fn vacation_row() -> Row
     }
 }
 
-/// `reject` (RFC 5429, section 2.2).
+/// `reject` (RFC 5429, 2.2).
 pub(crate) fn reject_row() -> Row
     ensures { row_as result ≡ command_row command.Reject }
 {
@@ -281,7 +282,7 @@ pub(crate) fn reject_row() -> Row
     }
 }
 
-/// `ereject` (RFC 5429, section 2.1).
+/// `ereject` (RFC 5429, 2.1).
 pub(crate) fn ereject_row() -> Row
     ensures { row_as result ≡ command_row command.Ereject }
 {

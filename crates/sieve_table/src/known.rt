@@ -1,4 +1,5 @@
-//! What a bench of a profile knows: what needs a capability that it lacks isn't there.
+//! The commands, tests, tags and capabilities that a bench of a profile knows. One that needs an
+//! unknown capability is treated as absent.
 ghost use Rattle.std.specs.Prelude.{◌≡◌};
 ghost use Rattle.sieve_profile.specs.view.Profile.{profile_as};
 ghost use Rattle.sieve_table.specs.Known as spec;
@@ -8,10 +9,12 @@ ghost use Rattle.sieve_table.specs.view.Row.{row_as};
 
 use crate::capability::{CAPABILITIES, Capability, is_name_of};
 use crate::row::Row;
-use crate::table::{CommandKind, Tag, TestKind};
+use crate::table::{CommandKind, TestKind};
+use crate::tag::Tag;
 use sieve_profile::{Extension, Profile};
 
-/// The name that a profile needs for a capability to be known; without one it always is.
+/// The extension name that a profile needs for a capability to be known. A capability without one
+/// is always known.
 fn extension_of(capability: Capability) -> Option<Extension>
     ensures { result ≡ spec.extension_of capability }
 {
@@ -39,7 +42,8 @@ fn extension_of(capability: Capability) -> Option<Extension>
     }
 }
 
-/// Whether a capability is known.
+/// Whether the profile knows a capability: it has the capability's extension name, or
+/// there is none.
 pub fn is_known(profile: Profile, capability: Capability) -> bool
     ensures { result ≡ spec.is_known (profile_as profile) capability }
 {
@@ -49,7 +53,7 @@ pub fn is_known(profile: Profile, capability: Capability) -> bool
     }
 }
 
-/// Whether a string names a capability that is known.
+/// Whether a string names a capability that the profile knows.
 fn names_known(profile: Profile, name: &[u8]) -> bool
     ensures { result ≡ spec.names_known (profile_as profile) name.now }
 {
@@ -57,21 +61,23 @@ fn names_known(profile: Profile, name: &[u8]) -> bool
         && is_known(profile, *capability))
 }
 
-/// Whether no word shows that the capability of that name is used (RFC 5228, section 2.4.2.4).
+/// Whether a string names `encoded-character`, whose use no word of a script shows
+/// (RFC 5228, 2.4.2.4).
 fn is_shown_by_no_word(name: &[u8]) -> bool
     ensures { result ≡ spec.is_shown_by_no_word name.now }
 {
     is_name_of(name, Capability::EncodedCharacter)
 }
 
-/// Whether a `require` may name a capability: one that is known, or with `unused` one that isn't.
+/// Whether a `require` may name this string (RFC 5228, 3.2). It may name a capability that the
+/// profile knows. With `unused` it may name any other string too, but not `encoded-character`.
 pub fn may_be_required(profile: Profile, name: &[u8]) -> bool
     ensures { result ≡ spec.may_be_required (profile_as profile) name.now }
 {
     names_known(profile, name) || (profile.has(Extension::Unused) && !is_shown_by_no_word(name))
 }
 
-/// Whether all is known that a row needs.
+/// Whether the profile knows each capability that a row needs.
 fn is_known_row(profile: Profile, row: &Row) -> bool
     ensures { result ≡ spec.is_known_row (profile_as profile) (row_as row.now) }
 {
@@ -80,7 +86,7 @@ fn is_known_row(profile: Profile, row: &Row) -> bool
         .all(|capability| is_known(profile, *capability))
 }
 
-/// Whether a tag is known.
+/// Whether the profile knows the capability that a tag needs, if any.
 fn is_known_tag(profile: Profile, tag: Tag) -> bool
     ensures { result ≡ spec.is_known_tag (profile_as profile) tag }
 {
@@ -90,7 +96,7 @@ fn is_known_tag(profile: Profile, tag: Tag) -> bool
     }
 }
 
-/// The tag, where it is known.
+/// The tag, or `None` if it needs a capability that the profile doesn't know.
 pub fn known_tag(profile: Profile, tag: Option<Tag>) -> Option<Tag>
     ensures { result ≡ spec.known_tag (profile_as profile) tag }
 {
@@ -100,7 +106,7 @@ pub fn known_tag(profile: Profile, tag: Option<Tag>) -> Option<Tag>
     }
 }
 
-/// The command, where it is known.
+/// The command, or `None` if its row needs a capability that the profile doesn't know.
 pub fn known_command(profile: Profile, kind: Option<CommandKind>) -> Option<CommandKind>
     ensures { result ≡ option_and_then
         (spec.only_if (λ kind. spec.is_known_row (profile_as profile) (command_row kind))) kind }
@@ -111,7 +117,7 @@ pub fn known_command(profile: Profile, kind: Option<CommandKind>) -> Option<Comm
     }
 }
 
-/// The test, where it is known.
+/// The test, or `None` if its row needs a capability that the profile doesn't know.
 pub fn known_test(profile: Profile, kind: Option<TestKind>) -> Option<TestKind>
     ensures { result ≡ option_and_then
         (spec.only_if (λ kind. spec.is_known_row (profile_as profile) (test_row kind))) kind }

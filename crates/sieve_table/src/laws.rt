@@ -13,13 +13,15 @@ ghost use Rattle.sieve_table.specs.declared.table.CommandKind.{CommandKind};
 ghost use Rattle.sieve_table.specs.declared.tag.Tag.{Tag};
 ghost use Rattle.sieve_table.specs.declared.table.TestKind.{TestKind};
 
-/// The rules stand in the order of their numbers: the rule of number n is the n-th of them, and there is no other.
+/// The rules stand in the order of their numbers: the rule of number n is the n-th. The list of
+/// them has 20 entries.
 pub fn rules_go_by_their_numbers()
     ensures order { (rule : Rule) → slice_get all_rules (rule_number rule - 1) ≡ Some rule }
     ensures all { length all_rules ≡ 20 }
 {}
 
-/// After a string of a `require`, what was required still is, and what the string names, and nothing else.
+/// After a string of a `require`, a capability is required if it was before, or if the string names
+/// it. No other is.
 #[tactic(auto, using(crate::proofs::Naming::named_is_required))]
 pub fn what_is_named_is_required()
     ensures { (required : Required) (name : List ℕ) (capability : Capability)
@@ -27,8 +29,10 @@ pub fn what_is_named_is_required()
         ≡ (is_required required capability || is_name_of name capability) }
 {}
 
-/// Each command and each test is found by the name of its row, and each tag that one takes by its own among those. There is no tag that none
-/// takes. Each capability is found by its name, which no other has, where it is known.
+/// Each command and each test is found by the name of its row. Each tag that one takes is found by
+/// its name among the tags of that one. Some command or test takes each tag. The name of a
+/// capability is a known one if and only if the profile knows the capability. No other capability
+/// has that name.
 #[tactic(auto, using(crate::proofs::Names::names))]
 pub fn names_are_found()
     ensures commands { (kind : CommandKind) → command_named (command_row kind).name ≡ Some kind }

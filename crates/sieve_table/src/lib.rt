@@ -1,5 +1,6 @@
-//! What Sieve scripts are made of (RFC 5228): a row for each command, test and tag says what it takes, and the
-//! rules that a use of it can break have their numbers and words.
+//! The table of Sieve (RFC 5228): a row for each command, test and tag says what it takes.
+//! Further the capabilities that a script can require, and the rules that it can break with their
+//! numbers and words.
 #![tactic(auto)]
 
 mod address;
@@ -12,6 +13,7 @@ mod role;
 mod row;
 mod rule;
 mod table;
+mod tag;
 mod test_rows;
 
 pub use address::{is_address_field, is_envelope_part};
@@ -21,4 +23,5 @@ pub use required::Required;
 pub use role::{has_role, is_expanded, names_variable};
 pub use row::{Form, Inner, Role, Row, Slot, TagKind, TagRow, same_kind};
 pub use rule::Rule;
-pub use table::{CommandKind, Tag, TestKind, command_named, same_tag, tag_named, test_named};
+pub use table::{CommandKind, TestKind, command_named, test_named};
+pub use tag::{Tag, same_tag, tag_named};

@@ -1,4 +1,4 @@
-//! What a script requires.
+//! The capabilities that a script requires.
 ghost use Rattle.std.specs.Prelude.{◌≡◌, ◌||◌};
 ghost use Rattle.sieve_table.specs.Capability.{same_capability};
 ghost use Rattle.sieve_table.specs.Required as spec;
@@ -6,15 +6,16 @@ ghost use Rattle.sieve_table.specs.view.Required.{required_as};
 
 use crate::capability::{CAPABILITIES, Capability, capability_named};
 
-/// What a script requires, of what commands, tests, tags and arguments may need (RFC 5228, section 2.10.5).
+/// The set of capabilities that a script requires. Commands, tests, tags and arguments may need one
+/// (RFC 5228, 2.10.5).
 #[derive(Clone, Copy)]
 pub struct Required {
-    /// Whether each capability is named, in their order.
+    /// Whether each capability is named, in the order of `Capability`.
     named: [bool; CAPABILITIES.len()],
 }
 
 impl Required {
-    /// Nothing is required.
+    /// The empty set: no `require` names a capability.
     pub fn nothing() -> Required
         ensures { required_as result ≡ spec.nothing_required }
     {
@@ -23,21 +24,21 @@ impl Required {
         }
     }
 
-    /// Whether a capability is named.
+    /// Whether a `require` names the capability.
     fn is_named(self, capability: Capability) -> bool
         ensures { result ≡ required_as self capability }
     {
         self.named[capability as usize]
     }
 
-    /// Whether a capability is required, or need not be.
+    /// Whether a capability is required, or is a comparator that need not be (RFC 5228, 2.7.3).
     pub fn has(self, capability: Capability) -> bool
         ensures { result ≡ spec.is_required (required_as self) capability }
     {
         self.is_named(capability) || capability.is_always_there()
     }
 
-    /// What is required with a capability.
+    /// The set with one more capability.
     fn with(self, capability: Capability) -> Required
         ensures { required_as result
             ≡ (λ other. required_as self other || same_capability capability other) }
@@ -47,7 +48,8 @@ impl Required {
         required
     }
 
-    /// What is required with what a string names.
+    /// The set with the capability that a string of a `require` names (RFC 5228, 3.2). If the
+    /// string names none, the set is the same.
     pub fn with_name(self, name: &[u8]) -> Required
         ensures { required_as result ≡ spec.requiring (required_as self) name.now }
     {

@@ -1,17 +1,16 @@
-//! The roles of arguments: which are one, and what they say of their strings.
+//! The roles of arguments: whether two are the same, and how their strings are read.
 ghost use Rattle.std.specs.Prelude.{◌≡◌};
 ghost use Rattle.sieve_table.specs.Role.{has_role, is_expanded, names_variable, same_role};
 
 use crate::row::Role;
 
-/// Whether two roles are one.
 fn same_role(a: Role, b: Role) -> bool
     ensures { result ≡ same_role a b }
 {
     a == b
 }
 
-/// Whether a role is given, and is the wanted one.
+/// Whether a role is given and is the wanted one.
 pub fn has_role(wanted: Role, role: Option<Role>) -> bool
     ensures { result ≡ has_role wanted role }
 {
@@ -21,7 +20,8 @@ pub fn has_role(wanted: Role, role: Option<Role>) -> bool
     }
 }
 
-/// Whether strings of that role name variables (RFC 5229, section 4; RFC 5232, sections 3 and 4).
+/// Whether strings of that role name variables to set or to read. See RFC 5229, section 4, and
+/// RFC 5232, sections 3 and 4.
 pub fn names_variable(role: Option<Role>) -> bool
     ensures { result ≡ names_variable role }
 {

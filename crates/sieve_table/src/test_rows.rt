@@ -1,4 +1,5 @@
-//! The rows of the table for tests, each in a function of its own, since a large one is slow to prove.
+//! The rows of the table for tests. Each has a function of its own, since a large one is
+//! slow to prove.
 ghost use Rattle.std.specs.Prelude.{◌≡◌};
 ghost use Rattle.sieve_table.specs.Table.{test_row};
 ghost use Rattle.sieve_table.specs.declared.table.TestKind.TheVariants as test;
@@ -6,9 +7,9 @@ ghost use Rattle.sieve_table.specs.view.Row.{row_as};
 
 use crate::capability::Capability;
 use crate::row::{BARE, Form, Inner, Role, Row, Slot, TagKind};
-use crate::table::Tag;
+use crate::tag::Tag;
 
-/// The tags that say how values are compared with keys (RFC 5228, section 2.7; RFC 5231, section 4).
+/// The tags that say how values are compared with keys (RFC 5228, 2.7; RFC 5231, section 4).
 const COMPARING_TAGS: [Tag; 6] = [
     Tag::Comparator,
     Tag::Is,
@@ -18,7 +19,8 @@ const COMPARING_TAGS: [Tag; 6] = [
     Tag::Count,
 ];
 
-/// The tags that name a part of an address (RFC 5228, section 2.7.4; RFC 5233, section 4), and those that say how values are compared.
+/// The tags that name a part of an address (RFC 5228, 2.7.4; RFC 5233, section 4), and
+/// those of `COMPARING_TAGS`.
 const ADDRESS_TAGS: [Tag; 11] = [
     Tag::All,
     Tag::LocalPart,
@@ -33,7 +35,7 @@ const ADDRESS_TAGS: [Tag; 11] = [
     Tag::Count,
 ];
 
-/// The tags that name a zone (RFC 5260, section 4.1), and those that say how values are compared.
+/// The tags that name a zone (RFC 5260, 4.1), and those of `COMPARING_TAGS`.
 const DATE_TAGS: [Tag; 8] = [
     Tag::Zone,
     Tag::OriginalZone,
@@ -45,7 +47,8 @@ const DATE_TAGS: [Tag; 8] = [
     Tag::Count,
 ];
 
-/// The same without that of a field's own zone, where no field is looked at.
+/// The tags of `DATE_TAGS` without `:originalzone`, since `currentdate` looks at no field
+/// (RFC 5260, section 5).
 const CLOCK_TAGS: [Tag; 7] = [
     Tag::Zone,
     Tag::Comparator,
@@ -56,7 +59,8 @@ const CLOCK_TAGS: [Tag; 7] = [
     Tag::Count,
 ];
 
-/// The tags that say what is taken of a body (RFC 5173, section 5), and those that say how values are compared.
+/// The tags that say which part of a body is looked at (RFC 5173, section 5), and
+/// those of `COMPARING_TAGS`.
 const BODY_TAGS: [Tag; 9] = [
     Tag::Raw,
     Tag::Content,
@@ -69,21 +73,21 @@ const BODY_TAGS: [Tag; 9] = [
     Tag::Count,
 ];
 
-/// A list of the names of header fields.
+/// An argument that lists names of header fields.
 const FIELD_NAMES: Slot = Slot {
     form: Form::List,
     role: Role::FieldNames,
     needs: None,
 };
 
-/// A list of keys.
+/// An argument that lists keys.
 const KEYS: Slot = Slot {
     form: Form::List,
     role: Role::Keys,
     needs: None,
 };
 
-/// `header` (RFC 5228, section 5.7).
+/// `header` (RFC 5228, 5.7).
 pub(crate) fn header_row() -> Row
     ensures { row_as result ≡ test_row test.Header }
 {
@@ -95,7 +99,7 @@ pub(crate) fn header_row() -> Row
     }
 }
 
-/// `address` (RFC 5228, section 5.1).
+/// `address` (RFC 5228, 5.1).
 pub(crate) fn address_row() -> Row
     ensures { row_as result ≡ test_row test.Address }
 {
@@ -114,7 +118,7 @@ pub(crate) fn address_row() -> Row
     }
 }
 
-/// `envelope` (RFC 5228, section 5.4).
+/// `envelope` (RFC 5228, 5.4).
 pub(crate) fn envelope_row() -> Row
     ensures { row_as result ≡ test_row test.Envelope }
 {
@@ -134,7 +138,7 @@ pub(crate) fn envelope_row() -> Row
     }
 }
 
-/// `exists` (RFC 5228, section 5.5).
+/// `exists` (RFC 5228, 5.5).
 pub(crate) fn exists_row() -> Row
     ensures { row_as result ≡ test_row test.Exists }
 {
@@ -145,7 +149,7 @@ pub(crate) fn exists_row() -> Row
     }
 }
 
-/// `size` (RFC 5228, section 5.9).
+/// `size` (RFC 5228, 5.9).
 pub(crate) fn size_row() -> Row
     ensures { row_as result ≡ test_row test.Size }
 {
@@ -162,7 +166,7 @@ pub(crate) fn size_row() -> Row
     }
 }
 
-/// `allof` (RFC 5228, section 5.2).
+/// `allof` (RFC 5228, 5.2).
 pub(crate) fn all_of_row() -> Row
     ensures { row_as result ≡ test_row test.AllOf }
 {
@@ -173,7 +177,7 @@ pub(crate) fn all_of_row() -> Row
     }
 }
 
-/// `anyof` (RFC 5228, section 5.3).
+/// `anyof` (RFC 5228, 5.3).
 pub(crate) fn any_of_row() -> Row
     ensures { row_as result ≡ test_row test.AnyOf }
 {
@@ -184,7 +188,7 @@ pub(crate) fn any_of_row() -> Row
     }
 }
 
-/// `not` (RFC 5228, section 5.8).
+/// `not` (RFC 5228, 5.8).
 pub(crate) fn not_row() -> Row
     ensures { row_as result ≡ test_row test.Not }
 {
@@ -195,7 +199,7 @@ pub(crate) fn not_row() -> Row
     }
 }
 
-/// `true` (RFC 5228, section 5.10).
+/// `true` (RFC 5228, 5.10).
 pub(crate) fn true_row() -> Row
     ensures { row_as result ≡ test_row test.True }
 {
@@ -205,7 +209,7 @@ pub(crate) fn true_row() -> Row
     }
 }
 
-/// `false` (RFC 5228, section 5.6).
+/// `false` (RFC 5228, 5.6).
 pub(crate) fn false_row() -> Row
     ensures { row_as result ≡ test_row test.False }
 {
@@ -253,7 +257,7 @@ pub(crate) fn has_flag_row() -> Row
     }
 }
 
-/// `mailboxexists` (RFC 5490, section 3.1).
+/// `mailboxexists` (RFC 5490, 3.1).
 pub(crate) fn mailbox_exists_row() -> Row
     ensures { row_as result ≡ test_row test.MailboxExists }
 {
@@ -287,7 +291,7 @@ pub(crate) fn duplicate_row() -> Row
     }
 }
 
-/// A part of a date.
+/// An argument that names a part of a date (RFC 5260, 4.2).
 const DATE_PART: Slot = Slot {
     form: Form::One,
     role: Role::DatePart,

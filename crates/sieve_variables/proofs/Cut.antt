@@ -12,7 +12,7 @@ use Rattle.sieve_variables.specs.Scan.{before_brace, further, if_legal, inside_a
 use Rattle.sieve_variables.proofs.Words.{dotted-words_of, dotted_inside, legal_octets, legal_some, not_brace, words_of-dotted}
 use Rattle.octets.proofs.Both.{first_of_both, last_of_both}
 
--- what stands before the first `}`
+-- the octets before the first `}`
 
 pub before_brace-is : (inside rest : List ℕ) → list_all is_inside inside ≡ true → before_brace (inside ++ octet_of "}" ∷ rest) ≡ Some inside
 unfolding before_brace
@@ -24,7 +24,7 @@ before_brace-is (c ∷ cs) rest is =
     ∙ ap (λ b. cond b (option_map (λ inside. c ∷ inside) (before_brace (cs ++ octet_of "}" ∷ rest))) None) here
     ∙ ap (option_map (λ inside. c ∷ inside)) after
 
--- a text begins with what stands inside a reference and the `}` after it
+-- a text begins with the octets inside a reference and the `}` after them
 abbrev EndsIn : List ℕ → List ℕ → Type 0
 EndsIn text inside = text ≡ inside ++ octet_of "}" ∷ drop (suc (length inside)) text
 
@@ -60,7 +60,7 @@ inside_at-written words rest legal =
 pub written-is : (words : List (List ℕ)) (rest : List ℕ) → written words ++ rest ≡ octet_of "$" ∷ octet_of "{" ∷ (dotted words ++ octet_of "}" ∷ rest)
 written-is words rest = ap (λ text. octet_of "$" ∷ octet_of "{" ∷ text) (append_assoc (dotted words) (octet_of "}" ∷ []) rest)
 
--- a text that begins with a reference, by what stands inside it
+-- a text that begins with a reference, by the octets inside it
 record BeginsWith (text inside : List ℕ) : Type 0 where
   pub legal : is_legal (words_of inside) ≡ true
   pub is : text ≡ octet_of "$" ∷ octet_of "{" ∷ (inside ++ octet_of "}" ∷ drop (suc (length inside)) (drop 2 text))
@@ -97,7 +97,7 @@ inside_at-begins [] inside is = absurd cc
 inside_at-begins (c ∷ []) inside is = absurd cc
 inside_at-begins (c ∷ d ∷ rest) inside is = sign_step c d rest inside (c == octet_of "$" && d == octet_of "{") refl is
 
--- what stands after the reference with which a text begins
+-- the octets after the reference with which a text begins
 abbrev after : List ℕ → List ℕ → List ℕ
 after inside text = drop (suc (length inside)) (drop 2 text)
 
@@ -107,7 +107,7 @@ written_at text inside begins =
     ∙ ap (λ one. octet_of "$" ∷ octet_of "{" ∷ (one ++ octet_of "}" ∷ after inside text)) (sym (dotted-words_of inside))
     ∙ sym (written-is (words_of inside) (after inside text))
 
--- what is found is a reference as it is written
+-- each reference that is found is one as it is written
 
 -- a text that begins with a reference, by its words
 record Starts (text : List ℕ) (words : List (List ℕ)) : Type 0 where

@@ -7,7 +7,7 @@ use Rattle.sieve_variables.specs.Modifier.{modified, quoted_wildcard, with_case,
 use Rattle.sieve_variables.specs.declared.modifier.Modifiers.{Modifiers}
 use Rattle.sieve_variables.proofs.Modified.{modified-plain, modified-quoted}
 
--- a front of octets has their front
+-- the front of a text needs only the front of its first part
 take_front : (n : ℕ) (x r : List ℕ) → take n (take n x ++ r) ≡ take n (x ++ r)
 take_front zero x r = refl
 take_front (suc n) [] r = refl
@@ -17,7 +17,7 @@ take_front (suc n) (c ∷ x) r = ap (λ (l : List ℕ). c ∷ l) (take_front n x
 pub length-take_most : (n k : ℕ) (b x : List ℕ) → length b ≤ n → k ≡ n - length b → length (b ++ take k x) ≤ n
 length-take_most n k b x within is = omega (arith, within, is, length-append b (take k x), length-take k x)
 
--- after octets that stay within a limit, what goes past it doesn't count
+-- after octets within a limit, those past it don't count
 pub front_more : (n k : ℕ) (b x r : List ℕ) → length b ≤ n → k ≡ n - length b → take n (b ++ (take k x ++ r)) ≡ take n (b ++ (x ++ r))
 front_more n k [] x r within left = let whole : k ≡ n = omega (arith, left) in ap (λ j. take n (take j x ++ r)) whole ∙ take_front n x r
 front_more zero k (c ∷ b) x r within left = absurd (omega (arith, within))
@@ -29,7 +29,7 @@ take_twice zero value = refl
 take_twice (suc n) [] = refl
 take_twice (suc n) (c ∷ value) = ap (λ (l : List ℕ). c ∷ l) (take_twice n value)
 
--- what becomes of a value without `:length` comes from its front
+-- a value that is modified without `:length` comes from the front of the value
 pub modified_front : (m : Modifiers) (value : List ℕ) → m.length ≡ false → modified m (take value_limit value) ≡ modified m value
 modified_front m value plain = by m.quote_wildcard refl
   where

@@ -1,4 +1,4 @@
--- What is done to the entries of a map of variables is done to the names with what is held under them.
+-- A change of the entries of a map of variables changes the names with their values alike.
 use Rattle.std.proofs.Common.{◌≡◌, ℕ, suc, List, [], ◌∷◌, Bool, true, false, ◌||◌, Some, is_some, nat_lt, length, cond, if◌then◌else◌, nat_eq, refl, sym, ap, ◌∙◌}
 use Rattle.std.specs.declared.alloc.Global.{Global}
 use Rattle.std.specs.declared.vec.Vec.{Vec}
@@ -33,7 +33,7 @@ held-insert ((other, old) ∷ es) name value = by (pointwise nat_eq name.items o
     by true rest = refl
     by false rest = ap (λ l. (other.items, old) ∷ l) rest
 
--- a value that is written to the entry of a name that is set is put under that name
+-- a value that is written to the entry of a set name is put under that name
 held-set : (es : List (Vec ℕ Global × List ℕ)) (name value held : List ℕ) → lookup (λ k. pointwise nat_eq name k.items) es ≡ Some held
     → held_of (set_value (λ k. pointwise nat_eq name k.items) es value) ≡ ordered.insert_entry (pointwise nat_eq) (held_of es) name value
 unfolding held_of

@@ -1,4 +1,4 @@
--- What modifiers keep: the number of characters, and the octets of the front.
+-- The number of characters and the front of a value under its modifiers.
 use Rattle.octets.specs.Octet.{octet_of}
 use Rattle.std.proofs.Common.{◌≡◌, ℕ, ◌+◌, ◌≤◌, ◌<◌, List, [], ◌∷◌, ◌++◌, Bool, true, false, not, Option, Some, None, cond, if◌then◌else◌, filter, length, map, take, set, get_or, decimal, zero, suc, ◌^◌, refl, ap, sym, ◌∙◌, arith}
 use Rattle.std.proofs.lemmas.Bool.Decides.{nat_tests}
@@ -44,7 +44,7 @@ in_case-is_wild : (one : LetterCase) (c : ℕ) → is_wild (in_case one c) ≡ i
 in_case-is_wild Lower c = lower-is_wild c
 in_case-is_wild Upper c = upper-is_wild c
 
--- what a test counts stays, where it takes an octet in a case as it takes the octet
+-- a count by a test stays, where the test takes an octet in a case as it takes the octet
 module _ (test : ℕ → Bool) (same : (one : LetterCase) (c : ℕ) → test (in_case one c) ≡ test c) where
   count-map : (one : LetterCase) (value : List ℕ) → length (filter test (map (in_case one) value)) ≡ length (filter test value)
   count-map one [] = refl
@@ -75,7 +75,7 @@ module _ (test : ℕ → Bool) (same : (one : LetterCase) (c : ℕ) → test (in
   count-cased : (case first : Option LetterCase) (value : List ℕ) → length (filter test (with_first first (with_case case value))) ≡ length (filter test value)
   count-cased case first value = count-with_first first (with_case case value) ∙ count-with_case case value
 
--- the number of characters is that of the value, in whatever cases
+-- the number of characters is that of the value, whatever the cases of letters
 pub characters-cased : (case first : Option LetterCase) (value : List ℕ) → character_count (with_first first (with_case case value)) ≡ character_count value
 characters-cased case first value = count-cased (λ c. not (goes_on c)) in_case-goes_on case first value
 
@@ -87,7 +87,7 @@ with_one : (b : Bool) (c : ℕ) (a d : List ℕ) (n : ℕ) → length a ≡ leng
 with_one true c a d n e = omega arith
 with_one false c a d n e = e
 
--- an octet in front, with a `\` before it where it is wild, adds to the characters what it counts itself, and one for the `\`
+-- An octet in front adds the characters that it counts itself. Where it is wild, its `\` adds one.
 quoted_one : (wild : Bool) (c : ℕ) (cs : List ℕ) → character_count (flat_map quoted_wildcard cs) ≡ character_count cs + length (filter is_wild cs)
     → character_count ((if wild then octet_of "\\" ∷ c ∷ [] else c ∷ []) ++ flat_map quoted_wildcard cs) ≡ character_count (c ∷ cs) + length (cond wild (c ∷ filter is_wild cs) (filter is_wild cs))
 quoted_one true c cs rest =
@@ -115,7 +115,7 @@ cut-first (suc n) (Some one) [] = refl
 cut-first zero (Some one) (c ∷ cs) = refl
 cut-first (suc n) (Some one) (c ∷ cs) = refl
 
--- the front of a value in the cases that are asked for is the front of the value, in these cases
+-- the front of a value in some cases is the front of the value in these cases
 pub cut-cased : (n : ℕ) (case first : Option LetterCase) (value : List ℕ) → take n (with_first first (with_case case value)) ≡ with_first first (with_case case (take n value))
 cut-cased n case first value = cut-first n first (with_case case value) ∙ ap (with_first first) (cut-case n case value)
 
@@ -124,7 +124,7 @@ front-cons : (c k : ℕ) (a b : List ℕ) → ((m : ℕ) → m ≤ k → take m 
 front-cons c k a b all zero within = refl
 front-cons c k a b all (suc n) within = ap (λ (l : List ℕ). c ∷ l) (all n (omega arith))
 
--- the front of what is quoted comes from the front of the value
+-- the front of a quoted value comes from the front of the value
 pub front-quoted : (value : List ℕ) (k n : ℕ) → n ≤ k → take n (flat_map quoted_wildcard (take k value)) ≡ take n (flat_map quoted_wildcard value)
 front-quoted [] zero n within = refl
 front-quoted [] (suc k) n within = refl

@@ -1,4 +1,4 @@
--- What is done to the keys of a set of names is done to the names.
+-- A change of the keys of a set of names changes the names alike.
 use Rattle.octets.specs.Octet.{is_among}
 use Rattle.std.proofs.Common.{◌≡◌, ℕ, List, [], ◌∷◌, ◌++◌, Bool, true, false, ◌||◌, if◌then◌else◌, nat_eq, refl, sym, ap, ◌∙◌}
 use Rattle.std.proofs.lemmas.List.{map-append}
@@ -26,7 +26,7 @@ names-insert keys key =
     by true = refl
     by false = map-append (λ k. k.items) keys (key ∷ [])
 
--- what is found among the keys is among the names
+-- a key is found where its name is among the names
 pub has_name : (names : List (List ℕ)) (keys : List (Vec ℕ Global)) (name : List ℕ) (found : Bool) → names_of keys ≡ names → found ≡ list_any (λ k. pointwise nat_eq name k.items) keys → found ≡ is_among name names
 has_name names keys name found is says = says ∙ sym (among_names name keys) ∙ ap (is_among name) is
 

@@ -9,7 +9,7 @@ pub decimal_from-grows : (n : ℕ) (digits : List ℕ) → n ≤ decimal_from n 
 decimal_from-grows n [] = omega arith
 decimal_from-grows n (c ∷ cs) = omega (arith, decimal_from-grows (10 * n + (c - octet_of "0")) cs)
 
--- a number past the limit stays past it, so that it may be capped at once
+-- A number past the limit stays past it. So it may be capped at once.
 pub decimal_from-capped : (n : ℕ) (digits : List ℕ) → min (decimal_from (min n 100) digits) 100 ≡ min (decimal_from n digits) 100
 decimal_from-capped n digits = ⊎_elim
     (λ (low : n < 100). let same : min n 100 ≡ n = omega arith in ap (λ m. min (decimal_from m digits) 100) same)

@@ -1,5 +1,5 @@
--- Worked rows of what no script without a fault and no output shows: parts of references that are refused, and the order of names and of
--- variables.
+-- Worked rows of facts that no script without a fault and no output shows. They are about
+-- references that are refused, and about the order of names and of variables.
 use Rattle.std.specs.Prelude.{◌≡◌, [], ◌∷◌, codes, refl}
 use Rattle.octets.specs.Octet.{octet_of}
 use Rattle.sieve_variables.specs.Part.{literal, match_part, scoped_part}
@@ -12,7 +12,7 @@ far_row : parts_of_text (codes "${123456}") ≡ match_part (octet_of "d") ∷ []
 unfolding before_brace inside_at pieces_from
 far_row = refl
 
--- a reference in another namespace joins what stands before it, and not what stands after it
+-- a reference that is refused joins the octets before it, and not those after it
 kept_row : parts_of_text (codes "x${a.b}y") ≡ literal (codes "x${a.b}") ∷ literal (codes "y") ∷ []
 unfolding before_brace inside_at pieces_from
 kept_row = refl
@@ -31,7 +31,7 @@ new_name_row = refl
 name_again_row : with_name (codes "a") (codes "a" ∷ codes "b" ∷ []) ≡ codes "a" ∷ codes "b" ∷ []
 name_again_row = refl
 
--- a variable that is set twice keeps its place, and holds what was set last
+-- a variable that is set twice keeps its place, and has the last value
 two_variables : Values
 two_variables = with_variable (local_variable (codes "name")) (codes "Tim") (with_variable (local_variable (codes "company")) (codes "ACME") (with_variable (local_variable (codes "name")) (codes "Mary") no_values))
 

@@ -1,4 +1,4 @@
--- What a piece adds to what is found in a text, and to its parts.
+-- The references and the parts of a text, piece by piece.
 use Rattle.std.proofs.Common.{◌≡◌, ℕ, zero, suc, ◌+◌, ◌<◌, ◌≤◌, Bool, true, false, ◌||◌, not, cond, List, [], ◌∷◌, ◌++◌, length, take, drop, Option, None, Some, refl, sym, ◌∙◌, ap, append_assoc, arith}
 use Rattle.std.specs.List.{list_any}
 use Rattle.std.proofs.Math.Seq.{take-add, take-append_seam}
@@ -123,7 +123,7 @@ shared_before : (octets namespace name : List ℕ) (parts : List Part) (b : Bool
 shared_before octets namespace name parts true own = put_before-variable octets (global_variable (folded_name name)) parts
 shared_before octets namespace name parts false own = absurd (false≢true (sym own))
 
--- a part that isn't in another namespace stands after the literal of the octets before it
+-- a part that is no refused reference comes after the literal of the octets before it
 own_before : (octets : List ℕ) (words : List (List ℕ)) (parts : List Part) → 0 < length words → is_foreign (reference words) ≡ false
     → put_before octets (part_of_words words ∷ parts) ≡ literal_part octets ++ part_of_words words ∷ parts
 own_before octets [] parts some own = absurd (omega arith)
@@ -136,7 +136,7 @@ shared_or_written : (namespace name : List ℕ) (b : Bool) → not b ≡ true
 shared_or_written namespace name true foreign = absurd (false≢true foreign)
 shared_or_written namespace name false foreign = refl
 
--- a reference in another namespace stands as it is written
+-- a refused reference stands as it is written
 foreign_part : (words : List (List ℕ)) → is_foreign (reference words) ≡ true → part_of_words words ≡ literal (written words)
 foreign_part [] foreign = absurd (false≢true foreign)
 foreign_part (word ∷ []) foreign = absurd (false≢true foreign)

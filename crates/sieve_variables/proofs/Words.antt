@@ -13,7 +13,7 @@ use Rattle.sieve_variables.specs.Reference.{dotted, is_legal, is_name, reference
 use Rattle.sieve_variables.specs.Scan.{is_dot, is_far, is_foreign, is_inside, words_of}
 use Rattle.octets.proofs.Both.{both, first_of_both, last_of_both}
 
--- what stands between braces
+-- the octets between braces
 
 pub not_dot : (c : ℕ) → is_name_octet c ≡ true → is_dot c ≡ false
 not_dot c is = grind (arith, nat_tests)
@@ -205,7 +205,7 @@ far_no inside one not_digits = sym (far_word inside one ∙ ap (λ b. b && nat_l
 pub far_yes : (inside : List ℕ) → nat_lt 1 (length (words_of inside)) ≡ false → is_number inside ≡ true → nat_lt 99 (index_of inside) ≡ is_far (reference (words_of inside))
 far_yes inside one is = sym (far_word inside one ∙ ap (λ b. b && nat_lt 99 (index_of inside)) is)
 
--- a reference in a namespace, by what stands before and after the first dot
+-- a reference in a namespace, by the octets before and after the first dot
 
 no_and : (b : Bool) → (b && false) ≡ false
 no_and true = refl
@@ -240,7 +240,8 @@ is_not : (b : Bool) → not b ≡ false → b ≡ true
 is_not true e = refl
 is_not false e = sym e
 
--- a reference in a namespace that is no other than `global` is to the shared variable of the name after the dot
+-- A reference with a namespace that isn't refused is to a shared variable. Its name is
+-- after the dot.
 pub shared_cut : (inside namespace name : List ℕ) → words_of inside ≡ namespace ∷ words_of name → is_foreign (reference (words_of inside)) ≡ false → global_part (folded_name name) ≡ part_of_words (words_of inside)
 shared_cut inside namespace name cut own =
     let shared : is_shared namespace name ≡ true = is_not (is_shared namespace name) (foreign_cut inside namespace name cut ∙ own) in

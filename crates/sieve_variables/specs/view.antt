@@ -1,4 +1,4 @@
--- What the program's types stand for in contracts. The other files of specs/ restate the subject.
+-- The models of the program's types in contracts. The other files of `specs` define the subject.
 pub mod Labelled
 pub mod Names
 pub mod Part

@@ -1,4 +1,4 @@
-//! What strings stand for while a script runs (RFC 5229, section 3).
+//! The octets that strings stand for while a script runs (RFC 5229, section 3).
 ghost use Rattle.std.specs.Prelude.{◌≡◌, ◌≤◌, ◌^◌, [], length, take, IfOk, IsOk, IsOkAnd, OnErr, OnOk};
 ghost use Rattle.std.specs.Cow.{IsBorrowedSlice, cow_slice_items};
 ghost use Rattle.sieve_variables.specs.Modifier.{modified};
@@ -12,7 +12,8 @@ use std::alloc::{AllocError, Global};
 use std::borrow::CowSlice;
 
 impl Values {
-    /// How many octets the parts of a string stand for. More than a number holds are out of memory.
+    /// The number of octets that the parts of a string stand for. A number of more than 64 bits is
+    /// out of memory.
     fn joined_len(&self, parts: &[Part]) -> Result<usize, AllocError>
         ensures ok { IfOk result (λ len. len ≡ length (text_value self.now parts.now)) }
         ensures err { OnErr result (2 ^ 64 ≤ length (text_value self.now parts.now)) }
@@ -27,8 +28,9 @@ impl Values {
         Ok(len)
     }
 
-    /// Puts the octets that the parts of a string stand for into a buffer, in place of what it holds. Room for all of them is asked for at
-    /// once, where the buffer has too little. A refusal may leave any octets in it.
+    /// Puts the octets that the parts of a string stand for into a buffer, in place of its old
+    /// ones. If the buffer has too little room, room for all is asked for at once. An error is out
+    /// of memory, and may leave any octets in the buffer.
     pub fn join(&self, parts: &[Part], buffer: &mut Vec<u8>) -> Result<(), AllocError>
         ensures { OnOk result (buffer.new.items ≡ text_value self.now parts.now) }
     {
@@ -41,7 +43,8 @@ impl Values {
         Ok(())
     }
 
-    /// The octets that a string stands for. Those of one part are borrowed. Neither they nor those of no part take memory.
+    /// The octets that a string stands for. Those of one part are borrowed. Those of several parts
+    /// take memory. An error is out of memory.
     pub fn expanded_string<'a>(
         &'a self,
         alloc: Global,
@@ -63,8 +66,9 @@ impl Values {
         }
     }
 
-    /// The octets that a string stands for, for one string after another. Those of one part are borrowed, and take no memory, as those
-    /// of no part; those of several are put into the buffer, in place of what it holds, which takes memory where it has too little room.
+    /// The octets that a string stands for, with a buffer for one string after another. The octets
+    /// of one part are borrowed. Those of several parts replace the octets of the buffer. That
+    /// takes memory if it has too little room. An error is out of memory.
     pub fn expanded_in<'a>(
         &'a self,
         parts: &'a [Part],
@@ -83,7 +87,7 @@ impl Values {
         Ok(buffer.as_slice())
     }
 
-    /// The first octets that the parts of a string stand for, at most so many, put together.
+    /// The first octets that the parts of a string stand for, at most `limit` of them.
     fn joined_front(
         &self,
         alloc: Global,
@@ -101,8 +105,9 @@ impl Values {
         Ok(front_octets)
     }
 
-    /// The first octets that a string stands for, at most so many. Those of one part are borrowed. Neither they nor those of no part
-    /// take memory, and those of several parts take it for these octets alone.
+    /// The first octets that a string stands for, at most `limit` of them. Those of one part
+    /// are borrowed. Those of several parts are copied, and none past the limit. An error is
+    /// out of memory.
     pub fn expanded_front<'a>(
         &'a self,
         alloc: Global,
@@ -121,9 +126,9 @@ impl Values {
         }
     }
 
-    /// What becomes of the octets that a string stands for where they are set with these modifiers (RFC 5229, section 4.1), as
-    /// [`Modifiers::modified`] says. Without `:length` only the first 4,096 of them are put together, since the others are cut (section
-    /// 6).
+    /// The value that a string sets with these modifiers (RFC 5229, 4.1), as
+    /// [`Modifiers::modified`] says. Without `:length` only the first 4,096 octets are put
+    /// together, since the others are cut (RFC 5229, section 6). An error is out of memory.
     #[tactic(auto, using(crate::proofs::Fronts::modified_front))]
     pub fn modified_string(
         &self,

@@ -1,9 +1,10 @@
-//! Few octets, which take no memory of their own.
+//! At most twelve octets, which lie in the value itself.
 ghost use Rattle.std.specs.Prelude.{◌≡◌, ◌<◌, ◌≤◌, ◌++◌, ◌∷◌, [], length};
 
 use std::marker::Model;
 
-/// How many octets are few: two words hold them beside their count, a label of two octets and one that says which they are.
+/// How many octets are few. Two words hold them, their count, a label of two octets, and an octet
+/// that tells few from many.
 pub(crate) const FEW: usize = 12;
 
 /// At most twelve octets. Contracts see them.
@@ -34,7 +35,7 @@ impl Few {
         }
     }
 
-    /// Adds an octet.
+    /// Adds an octet, for which there must be room.
     fn push(&mut self, octet: u8)
         requires { length self.old < 12 }
         ensures { self.new ≡ self.old ++ octet ∷ [] }
@@ -43,7 +44,7 @@ impl Few {
         self.count += 1;
     }
 
-    /// A copy of octets.
+    /// A copy of at most twelve octets.
     pub(crate) fn copied(octets: &[u8]) -> Few
         requires { length octets.now ≤ 12 }
         ensures { result ≡ octets.now }
@@ -55,7 +56,6 @@ impl Few {
         few
     }
 
-    /// The octets.
     pub(crate) fn as_slice(&self) -> &[u8]
         ensures { result.now ≡ self.now }
     {

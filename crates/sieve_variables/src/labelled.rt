@@ -1,4 +1,4 @@
-//! Octets with a label: in two words, where the label has two octets at most.
+//! Octets with a label. They take two words, where the label has two octets at most.
 ghost use Rattle.std.specs.Prelude.{◌≡◌, ◌≤◌, [], IfOk, IsOk, length};
 
 use crate::few::{FEW, Few};
@@ -6,16 +6,17 @@ use octets::SmallOctets;
 use std::alloc::{AllocError, Global};
 use std::marker::Model;
 
-/// Where octets lie that have a label.
+/// The place of octets with a label.
 #[derive(Drop)]
 enum LabelledWord<L> {
     /// In the value itself.
     Few { label: L, octets: Few },
-    /// After a pointer.
+    /// In a box.
     Many { label: L, octets: Box<SmallOctets> },
 }
 
-/// Octets with a label. Few of them, as most names and strings have, take no memory of their own. Contracts see both.
+/// Octets with a label. Twelve or fewer, as most names and strings have, lie in the value itself.
+/// Contracts see both.
 #[derive(Drop)]
 pub struct Labelled<L> {
     word: LabelledWord<L>,
@@ -31,7 +32,7 @@ impl<L> Model for Labelled<L> {
 }
 
 impl<L: Copy> Labelled<L> {
-    /// No octets. Takes no memory.
+    /// A label without octets.
     pub(crate) fn none(label: L) -> Labelled<L>
         ensures { result ≡ record { label = label; octets = [] } }
     {
@@ -43,7 +44,7 @@ impl<L: Copy> Labelled<L> {
         }
     }
 
-    /// Octets with a label. More than twelve take memory, and its want is the only refusal.
+    /// Keeps octets with a label. More than twelve take memory. An error is out of memory.
     pub fn kept(alloc: Global, label: L, octets: SmallOctets) -> Result<Labelled<L>, AllocError>
         ensures ok { IfOk result
             (λ labelled. labelled ≡ record { label = label; octets = octets.items }) }
@@ -63,7 +64,7 @@ impl<L: Copy> Labelled<L> {
         Ok(Labelled { word })
     }
 
-    /// The octets. Takes no memory.
+    /// The octets, without the label.
     pub fn octets(&self) -> &[u8]
         ensures { result.now ≡ self.now.octets }
     {
@@ -73,7 +74,7 @@ impl<L: Copy> Labelled<L> {
         }
     }
 
-    /// The octets with another label. Takes no memory.
+    /// The octets with another label.
     pub(crate) fn with_label<M>(self, label: M) -> Labelled<M>
         ensures { result ≡ record { label = label; octets = self.octets } }
     {
@@ -84,7 +85,7 @@ impl<L: Copy> Labelled<L> {
         Labelled { word }
     }
 
-    /// The label. Takes no memory.
+    /// The label of the octets.
     pub fn label(&self) -> L
         ensures { result ≡ self.now.label }
     {

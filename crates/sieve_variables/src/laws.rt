@@ -4,7 +4,8 @@ ghost use Rattle.sieve_variables.specs.Part.{AreWritten, grouped};
 ghost use Rattle.sieve_variables.specs.Reference.{CutsReferences, ReferencePiece};
 ghost use Rattle.sieve_variables.specs.Scan.{parts_of_text, pieces_of};
 
-/// A text is cut into references and single octets in one way, and the computed pieces are that cut (RFC 5229, section 3).
+/// A text is cut into references and single octets in one way. The computed pieces are that cut
+/// (RFC 5229, section 3).
 pub fn the_cut_is_the_only_one()
     ensures exists { (text : List ℕ) → CutsReferences (pieces_of text) text }
     ensures only { (pieces : List ReferencePiece) (text : List ℕ) → CutsReferences pieces text

@@ -1,5 +1,6 @@
-//! Variables of Sieve scripts (RFC 5229), apart from the commands and tests that use them: their names, the references to them in
-//! strings, modifiers, and what strings stand for while a script runs.
+//! Variables of Sieve scripts (RFC 5229), apart from the commands and tests that use them. Their
+//! names, the references to them in strings, and modifiers. And the octets that strings stand for
+//! while a script runs.
 #![tactic(auto)]
 
 mod expansion;

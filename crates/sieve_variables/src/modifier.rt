@@ -1,4 +1,4 @@
-//! The modifiers of a value that is set (RFC 5229, section 4.1).
+//! The modifiers of a value that is set (RFC 5229, 4.1).
 ghost use Rattle.std.specs.Prelude.{◌≡◌, ◌++◌, ◌≤◌, decimal, filter, IfOk, length, OnOk, take};
 ghost use Rattle.std.specs.List.{flat_map};
 ghost use Rattle.sieve_limits.specs.Limits.{value_limit};
@@ -8,7 +8,7 @@ use itoa::Buffer;
 use sieve_limits::MAX_VALUE;
 use std::alloc::{AllocError, Global};
 
-/// The case of letters.
+/// The case that letters get (RFC 5229, 4.1.3).
 #[derive(Clone, Copy, PartialEq, Eq)]
 pub enum LetterCase {
     /// Small letters.
@@ -20,18 +20,18 @@ pub enum LetterCase {
 /// The modifiers that a `set` has, at most one of each precedence.
 #[derive(Clone, Copy, PartialEq, Eq)]
 pub struct Modifiers {
-    /// `:lower` or `:upper`, of precedence 40 (RFC 5229, section 4.1.3).
+    /// `:lower` or `:upper`, of precedence 40 (RFC 5229, 4.1.3).
     pub letter_case: Option<LetterCase>,
-    /// `:lowerfirst` or `:upperfirst`, of precedence 30 (RFC 5229, section 4.1.3).
+    /// `:lowerfirst` or `:upperfirst`, of precedence 30 (RFC 5229, 4.1.3).
     pub first_letter: Option<LetterCase>,
-    /// `:quotewildcard`, of precedence 20 (RFC 5229, section 4.1.2).
+    /// `:quotewildcard`, of precedence 20 (RFC 5229, 4.1.2).
     pub quote_wildcard: bool,
-    /// `:length`, of precedence 10 (RFC 5229, section 4.1.1).
+    /// `:length`, of precedence 10 (RFC 5229, 4.1.1).
     pub length: bool,
 }
 
 impl LetterCase {
-    /// An octet in this case. Only letters of ASCII have one (RFC 5229, section 4.1.3).
+    /// An octet in this case. Only letters of ASCII have one (RFC 5229, 4.1.3).
     fn changed(self, octet: u8) -> u8
         ensures { result ≡ in_case self octet }
     {
@@ -42,7 +42,7 @@ impl LetterCase {
     }
 }
 
-/// A copy of a value, its letters in a case (RFC 5229, section 4.1.3).
+/// A copy of a value with its letters in a case, if one is given (RFC 5229, 4.1.3).
 fn with_case(alloc: Global, case: Option<LetterCase>, value: &[u8]) -> Result<Vec<u8>, AllocError>
     ensures { IfOk result (λ octets. octets.items ≡ with_case case value.now) }
 {
@@ -55,7 +55,7 @@ fn with_case(alloc: Global, case: Option<LetterCase>, value: &[u8]) -> Result<Ve
     }
 }
 
-/// The value with its first octet in a case (RFC 5229, section 4.1.3).
+/// The value with its first octet in a case, if one is given (RFC 5229, 4.1.3).
 #[tactic(auto, using(crate::proofs::Modified::first_written))]
 fn with_first(case: Option<LetterCase>, mut value: Vec<u8>) -> Vec<u8>
     ensures { result.items ≡ with_first case value.items }
@@ -75,7 +75,7 @@ fn is_wild(octet: u8) -> bool
     octet == b'*' || octet == b'?' || octet == b'\\'
 }
 
-/// Appends an octet as `:matches` takes it for itself alone.
+/// Appends an octet, written so that `:matches` takes it for itself alone.
 fn push_quoted(quoted: &mut Vec<u8>, octet: u8) -> Result<(), AllocError>
     ensures { OnOk result (quoted.new.items ≡ quoted.old.items ++ quoted_wildcard octet) }
 {
@@ -86,7 +86,7 @@ fn push_quoted(quoted: &mut Vec<u8>, octet: u8) -> Result<(), AllocError>
     Ok(())
 }
 
-/// The value with a `\` before what `:matches` takes for more than itself (RFC 5229, section 4.1.2).
+/// A copy of a value with a `\` before each wild octet of `:matches` (RFC 5229, 4.1.2).
 fn quoted(alloc: Global, value: &[u8]) -> Result<Vec<u8>, AllocError>
     ensures { IfOk result (λ octets. octets.items ≡ flat_map quoted_wildcard value.now) }
 {
@@ -97,14 +97,15 @@ fn quoted(alloc: Global, value: &[u8]) -> Result<Vec<u8>, AllocError>
     Ok(octets)
 }
 
-/// Whether an octet has the form 10xxxxxx, with which a character of UTF-8 goes on (RFC 3629, section 3).
+/// Whether an octet has the form 10xxxxxx, with which a character of UTF-8 goes on
+/// (RFC 3629, section 3).
 fn goes_on(octet: u8) -> bool
     ensures { result ≡ goes_on octet }
 {
     128 <= octet && octet < 192
 }
 
-/// How many characters a value has, as text in UTF-8 (RFC 5229, section 4.1.1). Takes no memory.
+/// The number of characters of a value, as text in UTF-8 (RFC 5229, 4.1.1).
 #[tactic(auto, using(crate::proofs::Modified::counts))]
 fn character_count(value: &[u8]) -> usize
     ensures is { result ≡ character_count value.now }
@@ -113,7 +114,7 @@ fn character_count(value: &[u8]) -> usize
     value.iter().filter(|octet| !goes_on(**octet)).count()
 }
 
-/// How many octets of a value `:matches` takes for more than themselves. Takes no memory.
+/// The number of octets of a value that `:matches` takes for more than themselves.
 #[tactic(auto, using(crate::proofs::Modified::counts))]
 fn wild_count(value: &[u8]) -> usize
     ensures is { result ≡ length (filter is_wild value.now) }
@@ -132,7 +133,7 @@ fn digits(alloc: Global, number: usize) -> Result<Vec<u8>, AllocError>
     Ok(octets)
 }
 
-/// The first octets of a value, at most so many.
+/// The first octets of a value, at most `limit` of them.
 pub(crate) fn front(value: &[u8], limit: usize) -> &[u8]
     ensures { result.now ≡ take limit value.now }
 {
@@ -144,7 +145,7 @@ pub(crate) fn front(value: &[u8], limit: usize) -> &[u8]
 }
 
 impl Modifiers {
-    /// A copy of a value with its letters in the cases that are asked for.
+    /// A copy of a value with its letters in the given cases.
     fn cased(self, alloc: Global, value: &[u8]) -> Result<Vec<u8>, AllocError>
         ensures { IfOk result (λ octets. octets.items
             ≡ with_first self.first_letter (with_case self.letter_case value.now)) }
@@ -153,8 +154,8 @@ impl Modifiers {
         Ok(with_first(self.first_letter, octets))
     }
 
-    /// How many characters a value has under all modifiers but `:length`. Takes no memory, since the cases of letters change
-    /// no number of characters, and quoting only adds one for each octet that it quotes.
+    /// The number of characters of a value after all modifiers but `:length`. No copy is made: the
+    /// cases of letters don't change that number, and quoting adds one for each quoted octet.
     #[tactic(auto, using(crate::proofs::Modified::counts))]
     fn character_count(self, value: &[u8]) -> usize
         ensures { result ≡ character_count (with_quotes self.quote_wildcard
@@ -168,9 +169,10 @@ impl Modifiers {
         }
     }
 
-    /// What becomes of a value that is set with these modifiers: all that are given are applied, those of higher precedence
-    /// first (RFC 5229, section 4.1), and then what is longer than 4,096 octets is cut (section 6). Only the first 4,096 octets
-    /// of the value are copied, and none where its characters are counted. The time is linear in the value.
+    /// The value that is set with these modifiers. All that are given are applied, those of higher
+    /// precedence first (RFC 5229, 4.1). Then the octets past 4,096 are cut (RFC 5229, section 6).
+    /// Only the first 4,096 octets of the value are copied, and none where its characters are
+    /// counted. The time is linear in the value. An error is out of memory.
     #[tactic(auto, using(crate::proofs::Modified::wholes))]
     pub fn modified(self, alloc: Global, value: &[u8]) -> Result<Vec<u8>, AllocError>
         ensures { IfOk result (λ octets. octets.items ≡ modified self value.now) }

@@ -10,15 +10,16 @@ use octets::{SmallOctets, begins_name, is_digit, is_name_octet};
 use sieve_limits::MAX_MATCH;
 use std::alloc::{AllocError, Global};
 
-/// The first number that no match variable has.
+/// The first number past the limit of match variables (RFC 5229, section 6).
 const PAST_MATCH_LIMIT: u16 = MAX_MATCH as u16 + 1;
 
-/// The namespace of the variables that scripts share, and with its dot (RFC 6609, section 3.4.2).
+/// The namespace of the variables that scripts share. `GLOBAL_PREFIX` is the same with its dot
+/// (RFC 6609, 3.4.2).
 const GLOBAL_NAMESPACE: &[u8] = b"global";
 
 const GLOBAL_PREFIX: &[u8] = b"global.";
 
-/// The name as variables are kept under it: in lower case.
+/// The name in lower case of ASCII, under which a variable is kept. An error is out of memory.
 pub fn folded(alloc: Global, name: &[u8]) -> Result<SmallOctets, AllocError>
     ensures { IfOk result (λ octets. octets.items ≡ folded_name name.now) }
 {
@@ -29,14 +30,15 @@ pub fn folded(alloc: Global, name: &[u8]) -> Result<SmallOctets, AllocError>
     Ok(octets)
 }
 
-/// Whether an identifier continues with each of the octets.
+/// Whether each of the octets may be in an identifier after the first one.
 fn are_name_octets(octets: &[u8]) -> bool
     ensures { result ≡ list_all is_name_octet octets.now }
 {
     octets.iter().all(|octet| is_name_octet(*octet))
 }
 
-/// Whether a name is an identifier, which names a variable of the script (RFC 5228, section 8.1; RFC 5229, section 3).
+/// Whether a name is an identifier, which names a variable of the script (RFC 5228, 8.1;
+/// RFC 5229, section 3).
 pub fn is_identifier(name: &[u8]) -> bool
     ensures { result ≡ is_identifier name.now }
 {
@@ -46,7 +48,8 @@ pub fn is_identifier(name: &[u8]) -> bool
     }
 }
 
-/// Whether a name is that of a variable that scripts share: `global.` in any case, and an identifier (RFC 6609, section 3.4.2).
+/// Whether a name is that of a variable that scripts share (RFC 6609, 3.4.2). It is `global.`, in
+/// any case of ASCII, and an identifier.
 pub fn is_global_name(name: &[u8]) -> bool
     ensures { result ≡ is_global_name name.now }
 {
@@ -54,7 +57,7 @@ pub fn is_global_name(name: &[u8]) -> bool
     GLOBAL_PREFIX.eq_ignore_ascii_case(prefix) && is_identifier(rest)
 }
 
-/// What stands after `global.` in the name of a variable that scripts share.
+/// The octets after `global.` in the name of a variable that scripts share.
 pub(crate) fn global_name(name: &[u8]) -> Option<&[u8]>
     ensures { MatchOption result (is_global_name name.now ≡ false) (λ rest.
         (is_global_name name.now ≡ true) × (rest.now ≡ drop (length global_prefix) name.now)) }
@@ -66,21 +69,21 @@ pub(crate) fn global_name(name: &[u8]) -> Option<&[u8]>
     }
 }
 
-/// Whether a namespace is that of the variables that scripts share, and the name is that of a variable (RFC 6609, section 3.4.2).
+/// Whether a namespace is that of the variables that scripts share, and the name is an identifier
+/// (RFC 6609, 3.4.2).
 pub(crate) fn is_shared(namespace: &[u8], name: &[u8]) -> bool
     ensures { result ≡ is_shared namespace.now name.now }
 {
     GLOBAL_NAMESPACE.eq_ignore_ascii_case(namespace) && is_identifier(name)
 }
 
-/// Whether all of the octets are digits.
 fn are_digits(octets: &[u8]) -> bool
     ensures { result ≡ list_all is_digit octets.now }
 {
     octets.iter().all(|octet| is_digit(*octet))
 }
 
-/// Whether a word is the number of a match variable.
+/// Whether a word is the number of a match variable: digits (RFC 5229, section 3).
 pub(crate) fn is_number(word: &[u8]) -> bool
     ensures { result ≡ is_number word.now }
 {
@@ -97,7 +100,7 @@ pub(crate) fn is_name(word: &[u8]) -> bool
     is_identifier(word) || is_number(word)
 }
 
-/// The number of a match variable, or the first past the limit for all that are past it.
+/// The number of a match variable. For each past the limit it is the first past it.
 pub(crate) fn index_of(digits: &[u8]) -> u8
     ensures { result ≡ index_of digits.now }
 {

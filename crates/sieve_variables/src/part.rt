@@ -10,7 +10,7 @@ use std::alloc::{AllocError, Global};
 use std::marker::Model;
 use std::mem::size_of;
 
-/// What a part is.
+/// The kind of a part.
 #[derive(Clone, Copy)]
 pub(crate) enum PartKind {
     /// Octets that stand for themselves.
@@ -19,11 +19,11 @@ pub(crate) enum PartKind {
     Local,
     /// The value of a variable that scripts share, by its name.
     Global,
-    /// What a match gave, by its number.
+    /// A text of the last match, by its number.
     Match(u8),
 }
 
-/// A part of a string.
+/// A part of a string: octets, a variable, or a match variable (RFC 5229, section 3).
 #[derive(Drop)]
 pub struct Part {
     octets: Labelled<PartKind>,
@@ -32,15 +32,15 @@ pub struct Part {
 /// A part takes two words. A text can have two for each five octets, as `x${a}`.
 const _: () = prove!(size_of::<Part>() == 16);
 
-/// A part of a string that is looked at.
+/// A borrowed part of a string.
 #[derive(Clone, Copy)]
 pub enum PartRef<'a> {
     /// Octets that stand for themselves.
     Literal(&'a [u8]),
     /// The value of a variable (RFC 5229, section 3).
     Variable(VariableRef<'a>),
-    /// What a match gave, by its number: 0 for the whole value, from 1 on for what each wildcard took (RFC 5229, section
-    /// 3.2). A checked script has none past 99.
+    /// A text of the last match, by its number (RFC 5229, 3.2). The whole value has 0, and each
+    /// wildcard has a number from 1 on. A checked script has none past 99.
     Match(u8),
 }
 
@@ -59,7 +59,7 @@ impl Model for Literal {
 }
 
 impl Literal {
-    /// The octets. Takes no memory.
+    /// The octets of the literal.
     pub fn as_slice(&self) -> &[u8]
         ensures { result.now ≡ self.now }
     {
@@ -77,7 +77,8 @@ impl Model for Part {
 }
 
 impl Part {
-    /// Octets that stand for themselves. More than twelve take memory.
+    /// A part of octets that stand for themselves. More than twelve take memory. An error is
+    /// out of memory.
     pub fn literal(alloc: Global, octets: SmallOctets) -> Result<Part, AllocError>
         ensures ok { IfOk result (λ part. part ≡ literal octets.items) }
         ensures few { length octets.items ≤ 12 → IsOk result }
@@ -87,7 +88,7 @@ impl Part {
         })
     }
 
-    /// No octets. Takes no memory.
+    /// A part that stands for no octets.
     pub fn nothing() -> Part
         ensures { result ≡ literal [] }
     {
@@ -96,7 +97,7 @@ impl Part {
         }
     }
 
-    /// The value of a variable. Takes no memory.
+    /// A part that stands for the value of a variable.
     pub fn variable(variable: Variable) -> Part
         ensures { result ≡ variable_part variable }
     {
@@ -109,7 +110,7 @@ impl Part {
         }
     }
 
-    /// What a match gave at a number. Takes no memory.
+    /// A part that stands for a text of the last match, by its number (RFC 5229, 3.2).
     pub fn matched(index: u8) -> Part
         ensures { result ≡ match_part index }
     {
@@ -118,7 +119,7 @@ impl Part {
         }
     }
 
-    /// The part, to be looked at. Takes no memory.
+    /// The part, borrowed.
     pub fn as_ref(&self) -> PartRef<'_>
         ensures { part_ref_as result ≡ self.now }
     {
@@ -131,7 +132,7 @@ impl Part {
         }
     }
 
-    /// The octets of a part that stands for itself; no others have any. Takes no memory.
+    /// The octets of a part that stands for itself. For any other part there are none.
     pub fn plain_octets(&self) -> &[u8]
         ensures { result.now ≡ plain_octets self.now }
     {
@@ -142,7 +143,7 @@ impl Part {
         }
     }
 
-    /// The octets of a part that stands for itself; no others have any. Takes no memory.
+    /// The octets of a part that stands for itself. For any other part there are none.
     pub fn into_literal(self) -> Literal
         ensures { result ≡ plain_octets self }
     {
@@ -155,7 +156,8 @@ impl Part {
         Literal { octets }
     }
 
-    /// The variable whose value the part is; any other part names the one without a name, which no script has. Takes no memory.
+    /// The variable whose value the part is. For any other part it is the one without a name, which
+    /// no script has.
     pub fn into_variable(self) -> Variable
         ensures { result ≡ variable_in self }
     {
@@ -168,8 +170,7 @@ impl Part {
         Variable { name }
     }
 
-    /// The part where these names are declared to be those of variables that scripts share (RFC 6609, section 3.4.1). Takes no
-    /// memory.
+    /// The part after names, in lower case, were declared global (RFC 6609, 3.4.1).
     pub(crate) fn scoped(self, declared: &Names) -> Part
         ensures { result ≡ scoped_part declared.now self }
     {

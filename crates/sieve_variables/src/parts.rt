@@ -10,14 +10,14 @@ use std::marker::Model;
 use std::mem::size_of;
 use std::{mem, slice};
 
-/// Where parts lie.
+/// The place of parts.
 #[derive(Drop)]
 enum Run {
     /// There are none.
     None,
     /// In the value itself.
     One(Part),
-    /// After a pointer.
+    /// In a box.
     Several(Box<Vec<Part>>),
 }
 
@@ -41,14 +41,14 @@ impl Model for Parts {
 }
 
 impl Parts {
-    /// No parts. Takes no memory.
+    /// The parts of the empty string: none.
     pub fn none() -> Parts
         ensures { result ≡ [] }
     {
         Parts { run: Run::None }
     }
 
-    /// One part. Takes no memory.
+    /// The parts of a string of one part.
     pub fn one(part: Part) -> Parts
         ensures { result ≡ part ∷ [] }
     {
@@ -57,7 +57,7 @@ impl Parts {
         }
     }
 
-    /// The parts in order. Takes no memory.
+    /// The parts in order.
     pub fn as_slice(&self) -> &[Part]
         ensures { result.now ≡ self.now }
     {
@@ -68,7 +68,7 @@ impl Parts {
         }
     }
 
-    /// The part, where there is one alone. Takes no memory.
+    /// The part, if there is one alone.
     pub fn into_one(self) -> Option<Part>
         ensures { result ≡ one_part self }
     {
@@ -80,7 +80,8 @@ impl Parts {
         }
     }
 
-    /// Moves the parts after others. Takes memory where these have too little room.
+    /// Moves the parts to the end of a list. That takes memory if the list has too little room. An
+    /// error is out of memory.
     pub fn append_to(self, parts: &mut Vec<Part>) -> Result<(), AllocError>
         ensures { OnOk result (parts.new.items ≡ parts.old.items ++ self) }
     {
@@ -98,7 +99,7 @@ impl Parts {
         }
     }
 
-    /// Adds a part. More than one take memory. An error, which is a lack of it, leaves none.
+    /// Adds a part. More than one take memory. An error is out of memory, and leaves no parts.
     pub(crate) fn push(&mut self, alloc: Global, part: Part) -> Result<(), AllocError>
         ensures ok { OnOk result (self.new ≡ self.old ++ part ∷ []) }
         ensures err { OnErr result (self.new ≡ []) }
@@ -109,7 +110,7 @@ impl Parts {
     }
 }
 
-/// Parts and one more.
+/// The parts and one more.
 fn with_part(alloc: Global, run: Run, part: Part) -> Result<Run, AllocError>
     ensures { IfOk result (λ more. parts_of more ≡ parts_of run ++ part ∷ []) }
 {
@@ -128,7 +129,7 @@ fn with_part(alloc: Global, run: Run, part: Part) -> Result<Run, AllocError>
     }
 }
 
-/// The part of a list that has one alone.
+/// The part of a list, if it has one alone.
 fn one_of(parts: Vec<Part>) -> Option<Part>
     ensures { result ≡ one_part parts.items }
 {
@@ -139,8 +140,7 @@ fn one_of(parts: Vec<Part>) -> Option<Part>
     }
 }
 
-/// The parts of a list where these names, in lower case, are declared to be those of variables that scripts share (RFC 6609,
-/// section 3.4.1).
+/// The parts of a list after names, in lower case, were declared global (RFC 6609, 3.4.1).
 fn scoped_list(alloc: Global, parts: Vec<Part>, declared: &Names) -> Result<Vec<Part>, AllocError>
     ensures { IfOk result (λ scoped. scoped.items ≡ map (scoped_part declared.now) parts.items) }
 {
@@ -151,8 +151,8 @@ fn scoped_list(alloc: Global, parts: Vec<Part>, declared: &Names) -> Result<Vec<
     Ok(scoped)
 }
 
-/// The parts of a string where these names, in lower case, are declared to be those of variables that scripts share (RFC 6609,
-/// section 3.4.1).
+/// The parts of a string after names, in lower case, were declared global (RFC 6609, 3.4.1). An
+/// error is out of memory.
 pub fn scoped_parts(alloc: Global, parts: Parts, declared: &Names) -> Result<Parts, AllocError>
     ensures { IfOk result (λ scoped. scoped ≡ map (scoped_part declared.now) parts) }
 {

@@ -15,28 +15,31 @@ use octets::{SmallOctets, is_name_octet};
 use sieve_limits::MAX_MATCH;
 use std::alloc::{AllocError, Global};
 
-/// What references a text has.
+/// The kinds of references that a text has (RFC 5229, section 3).
 #[derive(Clone, Copy, Debug, PartialEq, Eq)]
 pub struct References {
     /// Whether the text has a reference.
     pub any: bool,
     /// Whether one of them has a namespace.
     pub namespaced: bool,
-    /// Whether one of them has another namespace than that of the variables that scripts share (RFC 6609, section 3.4.2).
+    /// Whether one of them has a namespace and isn't to a variable that scripts share
+    /// (RFC 6609, 3.4.2).
     pub foreign: bool,
-    /// Whether one of them is to a match variable whose number is past the limit (RFC 5229, section 6).
+    /// Whether one of them is to a match variable whose number is past the limit
+    /// (RFC 5229, section 6).
     pub far: bool,
 }
 
-/// How many octets of a reference don't stand between its braces: `${` and `}`.
+/// The number of octets of a reference that aren't between its braces: `${` and `}`.
 const SIGN_COUNT: usize = 3;
 
-/// The parts of a text.
+/// The parts of a text (RFC 5229, section 3). An error is out of memory.
 pub fn parts_of_text(alloc: Global, text: &[u8]) -> Result<Parts, AllocError>
     ensures { IfOk result (λ parts. parts ≡ spec.parts_of_text text.now) }
 {
     let mut parts = Parts::none();
-    // What isn't yet in the parts, and how many of its octets are known to stand for themselves.
+    // The octets that aren't in the parts yet, and how many of them are known to
+    // stand for themselves.
     let mut left = text;
     let mut plain = 0;
     while plain < left.len() {
@@ -55,7 +58,8 @@ pub fn parts_of_text(alloc: Global, text: &[u8]) -> Result<Parts, AllocError>
     Ok(parts)
 }
 
-/// What references the text has.
+/// The kinds of references that a text has. Without any, its parts are one literal, or none if
+/// it is empty.
 pub fn references_in(text: &[u8]) -> References
     ensures any { result.any ≡ spec.has_reference text.now }
     ensures plain { result.any ≡ false → spec.parts_of_text text.now ≡ literal_part text.now }
@@ -92,7 +96,7 @@ pub fn references_in(text: &[u8]) -> References
     }
 }
 
-/// What stands between the braces of the reference with which the text begins.
+/// The octets between the braces of the reference with which the text begins, if it does.
 #[tactic(auto, unfolding(crate::specs::Scan::inside_at))]
 fn inside_at(text: &[u8]) -> Option<&[u8]>
     ensures is { option_map (λ inside. inside.now) result ≡ spec.inside_at text.now }
@@ -105,7 +109,7 @@ fn inside_at(text: &[u8]) -> Option<&[u8]>
     if is_legal(inside) { Some(inside) } else { None }
 }
 
-/// What stands before the first `}`, if only octets of words and dots do.
+/// The octets before the first `}`, if only octets of names and dots are there.
 #[tactic(auto, unfolding(crate::specs::Scan::before_brace))]
 fn before_brace(text: &[u8]) -> Option<&[u8]>
     ensures is { option_map (λ inside. inside.now) result ≡ spec.before_brace text.now }
@@ -134,7 +138,7 @@ fn is_inside(octet: u8) -> bool
     is_name_octet(octet) || is_dot(octet)
 }
 
-/// Cuts at the first dot: the first word, and what stands after the dot.
+/// Cuts at the first dot: the first word, and the octets after the dot.
 fn cut(inside: &[u8]) -> Option<(&[u8], &[u8])>
     ensures words { MatchOption result (spec.words_of inside.now ≡ inside.now ∷ [])
         (λ cut. spec.words_of inside.now ≡ cut.0.now ∷ spec.words_of cut.1.now) }
@@ -148,7 +152,7 @@ fn cut(inside: &[u8]) -> Option<(&[u8], &[u8])>
     None
 }
 
-/// Whether what stands between braces are the words of a reference.
+/// Whether the octets between braces are the words of a reference, with dots between them.
 #[tactic(auto, using(crate::proofs::Words::legal_cut))]
 fn is_legal(inside: &[u8]) -> bool
     ensures { result ≡ is_legal (spec.words_of inside.now) }
@@ -184,7 +188,8 @@ fn is_namespaced(inside: &[u8]) -> bool
     inside.contains(&b'.')
 }
 
-/// Whether a reference is in another namespace than that of the variables that scripts share.
+/// Whether a reference has a namespace and isn't to a variable that scripts share
+/// (RFC 6609, 3.4.2).
 fn is_foreign(inside: &[u8]) -> bool
     ensures { result ≡ spec.is_foreign (reference (spec.words_of inside.now)) }
 {
@@ -194,7 +199,7 @@ fn is_foreign(inside: &[u8]) -> bool
     }
 }
 
-/// Whether a reference is to a match variable whose number is past the limit.
+/// Whether a reference is to a match variable whose number is past the limit (RFC 5229, section 6).
 fn is_far(inside: &[u8]) -> bool
     ensures { result ≡ spec.is_far (reference (spec.words_of inside.now)) }
 {
@@ -218,7 +223,7 @@ fn push_literal(alloc: Global, parts: &mut Parts, octets: &[u8]) -> Result<(), A
     Ok(())
 }
 
-/// What a word refers to that is a reference alone.
+/// The part that a reference of one word makes.
 fn part_of_word(alloc: Global, word: &[u8]) -> Result<Part, AllocError>
     ensures { IfOk result (λ part. part ≡ part_of_words (word.now ∷ [])) }
 {
@@ -229,7 +234,7 @@ fn part_of_word(alloc: Global, word: &[u8]) -> Result<Part, AllocError>
     }
 }
 
-/// What a reference refers to that isn't in another namespace than that of the variables that scripts share.
+/// The part that a reference makes. One with a namespace must be to a variable that scripts share.
 fn part_inside(alloc: Global, inside: &[u8]) -> Result<Part, AllocError>
     requires { spec.is_foreign (reference (spec.words_of inside.now)) ≡ false }
     ensures { IfOk result (λ part. part ≡ part_of_words (spec.words_of inside.now)) }
@@ -240,7 +245,7 @@ fn part_inside(alloc: Global, inside: &[u8]) -> Result<Part, AllocError>
     }
 }
 
-/// Adds a reference after octets that stand for themselves; `written` is both.
+/// Adds a reference and the octets before it, which stand for themselves. `written` is both.
 fn push_reference(
     alloc: Global,
     parts: &mut Parts,

@@ -1,4 +1,4 @@
-//! What variables hold while a script runs (RFC 5229, section 3).
+//! The values of variables while a script runs (RFC 5229, section 3).
 ghost use Rattle.std.specs.Prelude.{◌≡◌, IsOk, OnErr, OnOk, slice_get, true};
 ghost use Rattle.sieve_variables.specs.Value as spec;
 ghost use Rattle.sieve_variables.specs.view.Variable.{variable_ref_as};
@@ -11,8 +11,8 @@ use std::alloc::{AllocError, Global};
 use std::marker::Model;
 use std::mem;
 
-/// The variables while a script runs: its own, those that scripts share, and what its last match gave. Contracts see the names
-/// with what they hold, and the texts of the match.
+/// The variables while a script runs: its own, those that scripts share, and the texts of its last
+/// match. Contracts see the names with their values, and the texts of the match.
 #[derive(Drop)]
 pub struct Values {
     locals: Variables,
@@ -28,7 +28,8 @@ impl Model for Values {
     ghost view = { λ v. record { locals = v.locals; globals = v.globals; matched = v.matched.items } };
 }
 
-/// What a script has of its own, set aside while one that it includes runs.
+/// The variables of a script and the texts of its last match, set aside while an
+/// included script runs.
 #[derive(Drop)]
 pub struct Own {
     locals: Variables,
@@ -44,7 +45,7 @@ impl Model for Own {
 }
 
 impl Values {
-    /// What a run starts with: no variable is set, and nothing has matched. Takes no memory.
+    /// The values at the start of a run: no variable is set, and nothing has matched.
     pub fn new(alloc: Global) -> Values
         ensures { result ≡ spec.no_values }
     {
@@ -55,8 +56,8 @@ impl Values {
         }
     }
 
-    /// What an included script starts with: it shares the global variables, and has nothing of its own (RFC 6609, section
-    /// 3.4). Answers what the including script has of its own. Takes no memory.
+    /// Begins an included script, which shares the global variables and has nothing of its own
+    /// (RFC 6609, 3.4). The result is what the including script has of its own.
     pub fn begin(&mut self, alloc: Global) -> Own
         ensures begun { self.new ≡ spec.begun_values self.old }
         ensures own { result ≡ spec.own_of self.old }
@@ -67,7 +68,8 @@ impl Values {
         }
     }
 
-    /// Goes on with a script that has this of its own. Takes no memory.
+    /// Goes on with a script that has these variables and texts of its own. The variables that
+    /// scripts share stay.
     pub fn resume(&mut self, own: Own)
         ensures { self.new ≡ spec.with_own own self.old }
     {
@@ -75,8 +77,9 @@ impl Values {
         self.matched = own.matched;
     }
 
-    /// Whether a variable can be set: one that scripts share where it is set already, or fewer than 128 are (RFC 5229, section
-    /// 6); one of the script always, since these were counted before it runs. Takes no memory.
+    /// Whether a variable can be set. One of the script always can, since these are counted before
+    /// it runs. One that scripts share can if it is set already, or if fewer than 128 are
+    /// (RFC 5229, section 6).
     pub fn has_room_for(&self, variable: &Variable) -> bool
         ensures { result ≡ spec.has_room_for variable.now self.now }
     {
@@ -86,8 +89,8 @@ impl Values {
         }
     }
 
-    /// Sets a variable (RFC 5229, section 4). What it held before is dropped. An error, which is a lack of memory, changes
-    /// nothing. A variable that is set already takes no memory.
+    /// Sets a variable, and drops its old value (RFC 5229, section 4). An error is out of memory,
+    /// and changes nothing. There is none if the variable is set already.
     pub fn set(
         &mut self,
         alloc: Global,
@@ -104,21 +107,21 @@ impl Values {
         }
     }
 
-    /// Keeps what a match gave: the whole value, and what each wildcard took (RFC 5229, section 3.2). Takes no memory.
+    /// Keeps the texts of a match: the whole value, and the text of each wildcard (RFC 5229, 3.2).
     pub fn set_matched(&mut self, texts: Vec<Octets>)
         ensures { self.new ≡ spec.with_matched texts.items self.old }
     {
         self.matched = texts;
     }
 
-    /// What a variable holds: nothing where it isn't set. Takes no memory.
+    /// The value of a variable: no octets if it isn't set (RFC 5229, section 3).
     pub fn variable(&self, variable: &Variable) -> &[u8]
         ensures { result.now ≡ spec.variable_value self.now variable.now }
     {
         self.variable_text(variable.as_ref())
     }
 
-    /// What a variable that is looked at holds.
+    /// The value of a borrowed variable: no octets if it isn't set.
     fn variable_text(&self, variable: VariableRef<'_>) -> &[u8]
         ensures { result.now ≡ spec.variable_value self.now (variable_ref_as variable.entry) }
     {
@@ -128,7 +131,7 @@ impl Values {
         }
     }
 
-    /// What the last match gave at a number: nothing where it gave less. Takes no memory.
+    /// The text of the last match at a number: no octets if there is none.
     fn matched_text(&self, index: usize) -> &[u8]
         ensures { result.now ≡ spec.or_empty (slice_get self.now.matched index) }
     {
@@ -138,7 +141,7 @@ impl Values {
         }
     }
 
-    /// The octets that a part stands for. Takes no memory.
+    /// The octets that a part stands for.
     pub fn part<'a>(&'a self, part: &'a Part) -> &'a [u8]
         ensures { result.now ≡ spec.part_value self.now part.now }
     {

@@ -1,4 +1,4 @@
-//! Variables by their names (RFC 5229, section 3; RFC 6609, section 3.4).
+//! Variables by their names (RFC 5229, section 3; RFC 6609, 3.4).
 ghost use Rattle.octets.specs.Octet.{is_among};
 ghost use Rattle.std.specs.Prelude.{◌≡◌, [], IfOk, IsOk, OnErr, OnOk, true};
 ghost use Rattle.sieve_variables.specs.Name.{folded_name};
@@ -12,12 +12,12 @@ use std::alloc::{AllocError, Global};
 use std::marker::Model;
 use std::mem::size_of;
 
-/// Whose a variable is.
+/// Whether a variable is the script's own, or one that scripts share.
 #[derive(Clone, Copy)]
 pub(crate) enum VariableScope {
-    /// The script's (RFC 5229, section 3).
+    /// A variable of the script (RFC 5229, section 3).
     Local,
-    /// That of all scripts (RFC 6609, section 3.4).
+    /// A variable that scripts share (RFC 6609, 3.4).
     Global,
 }
 
@@ -30,12 +30,12 @@ pub struct Variable {
 /// A variable takes two words.
 const _: () = prove!(size_of::<Variable>() == 16);
 
-/// A variable that is looked at, by its name in lower case.
+/// A borrowed variable, by its name in lower case.
 #[derive(Clone, Copy)]
 pub enum VariableRef<'a> {
     /// A variable of the script (RFC 5229, section 3).
     Local(&'a [u8]),
-    /// A variable that scripts share (RFC 6609, section 3.4).
+    /// A variable that scripts share (RFC 6609, 3.4).
     Global(&'a [u8]),
 }
 
@@ -49,7 +49,7 @@ impl Model for Variable {
 }
 
 impl Variable {
-    /// The variable of the script that has this name, in any case.
+    /// The variable of the script with this name, in any case of ASCII.
     pub(crate) fn local(alloc: Global, name: &[u8]) -> Result<Variable, AllocError>
         ensures { IfOk result (λ variable. variable ≡ local_variable (folded_name name.now)) }
     {
@@ -58,7 +58,7 @@ impl Variable {
         })
     }
 
-    /// The variable that scripts share that has this name, in any case.
+    /// The shared variable with this name, in any case of ASCII.
     pub(crate) fn shared(alloc: Global, name: &[u8]) -> Result<Variable, AllocError>
         ensures { IfOk result (λ variable. variable ≡ global_variable (folded_name name.now)) }
     {
@@ -67,8 +67,8 @@ impl Variable {
         })
     }
 
-    /// The variable of a name that a command or a test has: after `global.`, in any case, it is one that scripts share (RFC
-    /// 6609, section 3.4.2).
+    /// The variable that a command or a test names. After `global.`, in any case of ASCII, an
+    /// identifier names one that scripts share (RFC 6609, 3.4.2). An error is out of memory.
     pub fn named(alloc: Global, name: &[u8]) -> Result<Variable, AllocError>
         ensures { IfOk result (λ variable. variable ≡ variable_named name.now) }
     {
@@ -78,7 +78,7 @@ impl Variable {
         }
     }
 
-    /// The variable, to be looked at. Takes no memory.
+    /// The variable, borrowed.
     pub fn as_ref(&self) -> VariableRef<'_>
         ensures { variable_ref_as result ≡ self.now }
     {
@@ -89,8 +89,8 @@ impl Variable {
         }
     }
 
-    /// The variable where these names are declared to be those of variables that scripts share (RFC 6609, section 3.4.1).
-    /// Takes no memory.
+    /// The variable after names, in lower case, were declared global (RFC 6609, 3.4.1). A variable
+    /// of the script with such a name becomes the shared one.
     pub fn scoped(self, declared: &Names) -> Variable
         ensures { result ≡ scoped declared.now self }
     {
@@ -104,8 +104,8 @@ impl Variable {
     }
 }
 
-/// Names in lower case, each once, in the order in which they came. They are found by a hash, so that no number of them
-/// makes that slow. Contracts see the names.
+/// Names in lower case, each once, in the order in which they came. A hash finds them, so that no
+/// number of them makes that slow. Contracts see the names.
 #[derive(Drop)]
 pub struct Names {
     names: IndexSet<Vec<u8>>,
@@ -121,7 +121,7 @@ impl Model for Names {
 }
 
 impl Names {
-    /// No names. Takes no memory.
+    /// The set without names.
     #[tactic(auto, unfolding(crate::specs::view::Names::names_of))]
     pub fn new(alloc: Global) -> Names
         ensures { result ≡ [] }
@@ -131,15 +131,15 @@ impl Names {
         }
     }
 
-    /// Whether a name in lower case is among these. Takes no memory.
+    /// Whether a name in lower case is among these.
     pub fn has(&self, name: &[u8]) -> bool
         ensures { result ≡ is_among name.now self.now }
     {
         self.names.contains(name)
     }
 
-    /// Adds a name in lower case. An error, which is a lack of memory, changes nothing. A name that is there already takes no
-    /// memory.
+    /// Adds a name in lower case. An error is out of memory, and changes nothing. There is none if
+    /// the name is there already.
     pub fn add(&mut self, alloc: Global, name: &[u8]) -> Result<(), AllocError>
         ensures ok { OnOk result (self.new ≡ with_name name.now self.old) }
         ensures err { OnErr result (self.new ≡ self.old) }

@@ -1,4 +1,4 @@
-//! Names with what is held under them.
+//! Names with their values.
 ghost use Rattle.std.specs.Prelude.{◌≡◌, [], IfErr, IsOk, OnErr, OnOk, is_ok, true};
 ghost use Rattle.sieve_variables.specs.Value.{has_room_under, held_under, is_set_under, with_held};
 
@@ -8,8 +8,8 @@ use sieve_limits::MAX_GLOBALS;
 use std::alloc::{AllocError, Global};
 use std::marker::Model;
 
-/// Names in lower case with their values, in the order in which they were first set. Contracts see the names, each with its
-/// value.
+/// Names in lower case with their values, in the order in which they were first set. Contracts see
+/// the names, each with its value.
 #[derive(Drop)]
 pub(crate) struct Variables {
     entries: IndexMap<Vec<u8>, Octets>,
@@ -25,7 +25,7 @@ impl Model for Variables {
 }
 
 impl Variables {
-    /// No variable is set. Takes no memory.
+    /// No variable is set.
     #[tactic(auto, unfolding(crate::specs::view::Value::held_of))]
     pub(crate) fn new(alloc: Global) -> Variables
         ensures { result ≡ [] }
@@ -35,7 +35,7 @@ impl Variables {
         }
     }
 
-    /// What is held under a name: nothing where it isn't set. Takes no memory.
+    /// The value under a name: no octets if it isn't set.
     #[tactic(auto, using(crate::proofs::Held::lookup_held))]
     pub(crate) fn get(&self, name: &[u8]) -> &[u8]
         ensures { result.now ≡ held_under name.now self.now }
@@ -46,14 +46,14 @@ impl Variables {
         }
     }
 
-    /// Whether a name is set, or there is room for one more. Takes no memory.
+    /// Whether a name is set, or there is room for one more (RFC 5229, section 6).
     pub(crate) fn has_room(&self, name: &[u8]) -> bool
         ensures { result ≡ has_room_under name.now self.now }
     {
         self.entries.contains_key(name) || self.entries.len() < MAX_GLOBALS
     }
 
-    /// Sets a name that is set already. Gives the value back where it isn't, and then nothing is changed. Takes no memory.
+    /// Sets a name that is set already. Otherwise it gives the value back and changes nothing.
     fn assign(&mut self, name: &[u8], value: Octets) -> Result<(), Octets>
         ensures ok { OnOk result (self.new ≡ with_held name.now value self.old) }
         ensures err { OnErr result (self.new ≡ self.old) }
@@ -69,7 +69,8 @@ impl Variables {
         }
     }
 
-    /// Sets a name. A copy of it is kept where it isn't set yet.
+    /// Sets a name, of which a copy is kept if it isn't set yet. An error is out of memory,
+    /// and changes nothing.
     fn insert(&mut self, alloc: Global, name: &[u8], value: Octets) -> Result<(), AllocError>
         ensures ok { OnOk result (self.new ≡ with_held name.now value self.old) }
         ensures err { OnErr result (self.new ≡ self.old) }
@@ -81,8 +82,8 @@ impl Variables {
         }
     }
 
-    /// Sets a name. What was held under it is dropped. An error, which is a lack of memory, changes nothing. A name that is
-    /// set already takes no memory.
+    /// Sets a name, and drops its old value. An error is out of memory, and changes nothing. There
+    /// is none if the name is set already.
     pub(crate) fn set(
         &mut self,
         alloc: Global,

@@ -4,7 +4,7 @@
 use crate::files::{ReadFault, octets_at, script_name};
 use crate::folder::read_folder;
 use session_server::{
-    Argument, Clock, Location, Octets, Profile, ScriptName, TestJob, TestScript, TestWords,
+    CommandWord, Clock, Location, Octets, Profile, ScriptName, TestJob, TestScript, TestWords,
 };
 use sieve_limits::{MAX_ADDRESS, MAX_MAILBOX, MAX_MAILBOXES, MAX_MESSAGE, MAX_NAME, MAX_TEXT};
 use std::alloc::{AllocError, Global};
@@ -107,7 +107,7 @@ fn set(alloc: Global, place: &mut Octets, text: &str) -> Result<(), AllocError> 
 }
 
 /// An option's value, or another text if it isn't given.
-fn text_or<'a>(value: &'a Option<Argument>, other: &'a str) -> &'a str {
+fn text_or<'a>(value: &'a Option<CommandWord>, other: &'a str) -> &'a str {
     match value {
         Some(value) => value.as_str(),
         None => other,

@@ -18,7 +18,7 @@ module _ {S : Type 0} (at : List ℕ → Option S) (further : S → ℕ) where
   unfolding pieces_from
   pieces-octet c rest none = ap (λ found. first_piece c found ∷ pieces_from at further (further_octets further found) rest) none
 
-  -- where one is found, it stands before the pieces of what is after it
+  -- where one is found, it stands before the pieces of the text after it
   pub pieces-sequence : (c : ℕ) (rest : List ℕ) (s : S) → at (c ∷ rest) ≡ Some s → pieces_of at further (c ∷ rest) ≡ sequence s ∷ pieces_of at further (drop (further s) rest)
   unfolding pieces_from
   pieces-sequence c rest s found =
@@ -30,7 +30,7 @@ drop_front front rest n text count is =
     ap (λ m. drop m text) (sym count) ∙ ap (drop (length front)) is ∙ drop-append_seam front rest
 
 module _ {S : Type 0} {written : S → List ℕ} {Legal : S → Type 0} {at : List ℕ → Option S} {further : S → ℕ} (finds : FindsSequences written Legal at further) where
-  -- what stands after a sequence
+  -- the text after a sequence
   pub drop_further : (c : ℕ) (rest after : List ℕ) (s : S) → Legal s → c ∷ rest ≡ written s ++ after → drop (further s) rest ≡ after
   drop_further c rest after s legal is = drop_front (written s) after (suc (further s)) (c ∷ rest) (finds.count s legal) is
 

@@ -1,5 +1,5 @@
--- A text that is cut from the left into sequences and single octets. What a sequence is, how it is written and when it is
--- legal, is said by who cuts.
+-- A text that is cut from the left into sequences and single octets. The user of these definitions
+-- says what a sequence is, how it is written and when it is legal.
 use Rattle.std.specs.Prelude.{◌≡◌, ℕ, List, [], ◌∷◌, ◌++◌}
 
 -- a piece of a text: a sequence, or an octet
@@ -14,7 +14,8 @@ pub record Begins {S : Type 0} (written : S → List ℕ) (Legal : S → Type 0)
   pub legal : Legal first
   pub is : text ≡ written first ++ rest
 
--- A text is cut from the left into legal sequences and single octets, and no legal sequence begins where an octet stands alone.
+-- A text is cut from the left into legal sequences and single octets. No legal sequence begins
+-- where an octet stands alone.
 abbrev pub Cuts : {S : Type 0} (written : S → List ℕ) (Legal : S → Type 0) → List (TextPiece S) → List ℕ → Type 0
 Cuts written Legal [] text = text ≡ []
 Cuts written Legal (sequence s ∷ pieces) text = Legal s × (rest : List ℕ) × (text ≡ written s ++ rest) × Cuts written Legal pieces rest

@@ -8,16 +8,16 @@ pub trait Sequence {
     /// A sequence as it is written.
     ghost written: { Self → List ℕ };
 
-    /// Which sequences are legal.
+    /// The legal sequences.
     ghost Legal: { Self → Type 0 };
 
     /// The sequence with which a text begins.
     ghost found_at: { List ℕ → Option Self };
 
-    /// How many octets of a sequence stand after its first.
+    /// The number of octets of a sequence after its first.
     ghost further: { Self → ℕ };
 
-    /// Exactly the legal ones are found.
+    /// Exactly the legal sequences are found.
     ghost finds: { FindsSequences written Legal found_at further };
 }
 

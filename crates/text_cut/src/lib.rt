@@ -1,4 +1,5 @@
-//! A text that is cut from the left into sequences and single octets: the theory of its one cut, for each kind of sequence.
+//! The theory of the one cut of a text, from the left, into sequences and single octets. It holds
+//! for each kind of sequence.
 #![tactic(auto)]
 
 pub mod laws;

@@ -1,6 +1,7 @@
-//! Tests of what the libraries of texts offer and neither the program nor `one_call` prints: trees, places of fields, pieces of flags
-//! and keys, references, and comparators, readers and writers of a caller's own. They stand in a crate of their own, so that no library is proved
-//! twice for the sake of its tests.
+//! Tests of the parts of the libraries of texts that neither the program nor `one_call` prints.
+//! These are trees, places of fields, pieces of flags and keys, and references. They are also
+//! comparators, readers and writers of a caller's own. The tests stand in a crate of their own, so
+//! that no library is proved twice for their sake.
 #![tactic(auto)]
 
 #[cfg(test)]

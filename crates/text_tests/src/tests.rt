@@ -1,6 +1,8 @@
-//! Rows for public calls of the libraries of texts. What is expected was written by hand from the standards.
+//! Rows for public calls of the libraries of texts. The wanted results were written by hand from
+//! the standards.
 //!
-//! What scripts and mails alone tell stands in `examples/rows` and is made in `tools/checks`.
+//! Results that scripts and mails alone show stand in `examples/rows` and are made in
+//! `tools/checks`.
 
 mod comparators;
 mod flags;
@@ -14,10 +16,10 @@ mod writers;
 use std::alloc::AllocError;
 use std::process::Abort;
 
-/// Two texts, as octets and those that are wanted of them.
+/// Two texts: octets, and the octets that are wanted of them.
 type Row<'a> = (&'a [u8], &'a [u8]);
 
-/// Compares what came of two texts with what is wanted.
+/// Compares the result of two texts with the wanted one.
 fn same_of(rt: &impl Abort, (first, second): Row<'_>, got: &[u8], wanted: &[u8]) {
     assert_eq!(rt;
         got,
@@ -28,12 +30,12 @@ fn same_of(rt: &impl Abort, (first, second): Row<'_>, got: &[u8], wanted: &[u8])
     );
 }
 
-/// Compares what came of a row with what is wanted.
+/// Compares the result of a row with the wanted one.
 fn same(rt: &impl Abort, row: &[u8], got: &[u8], wanted: &[u8]) {
     same_of(rt, (row, b""), got, wanted);
 }
 
-/// Asserts what must hold of a row.
+/// Asserts a condition that must hold of a row.
 fn holds(rt: &impl Abort, row: &[u8], condition: bool) {
     assert!(rt; condition, "in {}", row.escape_ascii());
 }

@@ -189,7 +189,7 @@ fn check_run(
     check_read(rt, input, turns, &wanted)
 }
 
-/// Compares a session of which one read fails in this way, for each of the 72 reads.
+/// Compares a session of which one read fails in this way, for each read.
 fn check_each_read(
     rt: &(impl AllocGlobal + Abort),
     what: &str,

@@ -7,13 +7,13 @@ use Rattle.date_text.specs.declared.date_words.DateSlices as slices
 use Rattle.date_text.specs.declared.spot.CommentSpot.{CommentSpot}
 use Rattle.date_text.specs.declared.spot.CommentSpot.TheVariants.{Escaped, Inside, Outside}
 
--- how many comments a spot is in
+-- the number of comments that a spot is in
 abbrev pub depth_of : CommentSpot → ℕ
 depth_of Outside = 0
 depth_of (Inside others) = others + 1
 depth_of (Escaped others) = others + 1
 
--- the words of a text from such a spot on
+-- the words of a text that begins in this state
 abbrev pub words_from : CommentSpot → List ℕ → List DateWord
 words_from spot text = words_of (kept spot text)
 
@@ -28,7 +28,7 @@ closes text = is_closed Outside text
 abbrev pub is_of_word : ℕ → Bool
 is_of_word c = not (is_white c) && not (c == octet_of "(")
 
--- whether an octet that stands at such a spot is one of a word
+-- whether an octet in this state is one of a word
 abbrev pub is_word_at : CommentSpot → ℕ → Bool
 is_word_at spot c = is_outside spot && is_of_word c
 
@@ -37,7 +37,7 @@ abbrev pub begins_word : List ℕ → Bool
 begins_word [] = true
 begins_word (c ∷ rest) = is_of_word c
 
--- the words of a date, whose zone is said by a text
+-- the program's words of a date, of which those of the zone are in one text
 abbrev pub date_words_as : slices.DateSlices → DateWords
 date_words_as w = record {
   day = w.day.now;

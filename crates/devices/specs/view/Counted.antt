@@ -1,4 +1,4 @@
--- What a counted device holds.
+-- The parts of a counted device.
 use Rattle.std.specs.Prelude.{ℕ}
 use Rattle.devices.specs.declared.devices.Counted.{Counted}
 
@@ -6,10 +6,10 @@ use Rattle.devices.specs.declared.devices.Counted.{Counted}
 abbrev pub device_of : {D : Type 0} → Counted D → D
 device_of counted = counted.inner
 
--- how many faults were counted
+-- the number of faults that were counted
 abbrev pub faults_of : {D : Type 0} → Counted D → ℕ
 faults_of counted = counted.faults
 
--- how many reads were counted
+-- the number of reads that were counted
 abbrev pub calls_of : {D : Type 0} → Counted D → ℕ
 calls_of counted = counted.calls

@@ -15,11 +15,11 @@ sequence_of s = record { word = s.word.now; inside = inside_of s.inside.now }
 abbrev pub item_of : items.EncodedItem → Item
 item_of item = record { blanks = item.blanks.now; digits = item.digits.now }
 
--- an item before what stands after it
+-- an item before the rest of an inside
 abbrev pub item_before : Item → InsideSequence → InsideSequence
 item_before item inside = record { items = item ∷ inside.items; last = inside.last }
 
--- octets without digits
+-- the inside of octets without digits
 abbrev pub last_alone : List ℕ → InsideSequence
 last_alone octets = record { items = []; last = octets }
 

@@ -1,11 +1,12 @@
--- How flags are compared and hashed, with no regard to case.
+-- How flags are compared and hashed, in any case of letters.
 use Rattle.std.specs.Prelude.{ℕ, List}
 use Rattle.std.specs.Cmp.{IsEquivalence, IsPartialEquivalence, on_equiv, nat_eq_equiv, partial_equiv_from_equiv, unsigned_Decides}
 use Rattle.std.specs.Cmp.Lexicographic.{lists_equiv}
 use Rattle.std.specs.Hash as fed
 use Rattle.match_text.specs.Comparator.{ascii_casemap, same}
 
--- what a flag feeds a hasher: its octets in upper case
+-- the writes that a flag feeds a hasher: the number of its octets, and then the octets in upper
+-- case
 abbrev pub flag_hash : List ℕ → fed.HashWrites
 flag_hash flag = fed.slice (λ b. fed.u8 (ascii_casemap b)) flag
 

@@ -1,4 +1,4 @@
--- How numbers are compared by their digits, with no arithmetic on what they stand for.
+-- How numbers are compared by their digits, with no arithmetic on the numbers.
 use Rattle.std.specs.Prelude.{ℕ, ◌==◌, if◌then◌else◌, List, [], ◌∷◌, length}
 use Rattle.std.specs.Cmp.Lexicographic.{slice_cmp}
 use Rattle.std.specs.declared.cmp.Ordering.{Ordering}

@@ -52,19 +52,20 @@ abbrev pub first_place : (List ℕ → Bool) → (text : List ℕ) → Option �
 first_place test [] = if test [] then Some 0 else None
 first_place test (x ∷ text) = if test (x ∷ text) then Some 0 else option_map suc (first_place test text)
 
--- the place that the least fit has for a segment after a star: the first, but the one at the end where no star follows
+-- The place of a segment after a star in the least fit. It is the first place, or the one at the
+-- end of the text if no item follows.
 abbrev pub place_of : (segment after : List Item) → (text : List ℕ) → Option ℕ
 place_of segment [] text = first_place (ends segment) text
 place_of segment (item ∷ after) text = first_place (begins segment) text
 
--- what the `?` of a segment take
+-- the octet that each `?` of a segment takes
 abbrev pub questions : (segment : List Item) → (value : List ℕ) → List (List ℕ)
 questions [] value = []
 questions (Star ∷ segment) value = questions segment (drop 1 value)
 questions (Literal b ∷ segment) value = questions segment (drop 1 value)
 questions (Question ∷ segment) value = take 1 value ∷ questions segment (drop 1 value)
 
--- what the wildcards take of the value under the least fit for a folded text
+-- the texts that the wildcards take of the value under the least fit for a folded text
 unfoldable pub captures_of : List Item → (text value : List ℕ) → Option (List (List ℕ))
 captures_of items text value = option_map (λ lengths. taken items lengths value) (least_fit octet items text)
 

@@ -1,4 +1,5 @@
--- A number of 32 bits for the name of a field. Names that are the same but for the case of ASCII have one number.
+-- A number of 32 bits for the name of a field. Names that differ in the case of ASCII alone have
+-- one number.
 use Rattle.std.specs.Prelude.{ℕ, ◌+◌, ◌*◌, ◌%◌, ◌^◌, List, map}
 use Rattle.std.specs.List.{fold}
 use Rattle.match_text.specs.Comparator.{ascii_casemap}

@@ -25,7 +25,8 @@ field_here line more =
     cond (is_continuation line) []
     (filter is_field (record { first = line; continuations = take_while is_continuation more } ∷ []))
 
--- the name and the first line of the value stand where the span says, and it says the name's number and whether there are more lines
+-- The name and the first line of the value stand where the span says. It has the number of the
+-- name, and says whether more lines come.
 pub record IsSpan (octets : List ℕ) (span : FieldSpan) : Type 0 where
   pub name_ordered : span.start ≤ span.name_end
   pub name_within : span.name_end ≤ length octets
@@ -42,7 +43,8 @@ pub record AreSpans (octets : List ℕ) (spans : List FieldSpan) : Type 0 where
   pub groups : field_groups octets ≡ map (group_at octets) spans
   pub each : All (IsSpan octets) spans
 
--- what a message holds: no more octets than it may have, and its fields
+-- a message's octets and its fields: no more octets than a message may have, and the spans of all
+-- fields
 pub record IsMessage (octets : List ℕ) (spans : List FieldSpan) : Type 0 where
   pub limit : length octets ≤ message_limit
   pub fields : AreSpans octets spans

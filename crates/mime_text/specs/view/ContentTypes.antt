@@ -19,11 +19,11 @@ both_as two = option_map (λ two. (two.0.items, two.1.items)) two
 abbrev pub named_as : named.NamedParameters → NamedParameters
 named_as named = record { boundary = octets_as named.boundary; charset = octets_as named.charset }
 
--- the first of two that is there
+-- the first of two values, or else the second
 abbrev pub or_else : Option (List ℕ) → Option (List ℕ) → Option (List ℕ)
 or_else None second = second
 or_else (Some first) second = Some first
 
--- parameters after those that were found before them
+-- parameters that were found, and later ones where none of their name was found
 abbrev pub over : NamedParameters → NamedParameters → NamedParameters
 over before after = record { boundary = or_else before.boundary after.boundary; charset = or_else before.charset after.charset }

@@ -8,20 +8,20 @@ use Rattle.mime_text.specs.declared.multipart.Pieces as declared
 use Rattle.mime_text.specs.declared.multipart.PartStop.{PartStop}
 use Rattle.mime_text.specs.declared.multipart.PartStop.TheVariants as stop
 
--- what the lines of a boundary begin with
+-- the octets with which the lines of a boundary begin
 abbrev pub IsBoundary : (boundary delimiter closing : List ℕ) → Type 0
 IsBoundary boundary delimiter closing = (delimiter ≡ codes "--" ++ boundary) × (closing ≡ codes "--" ++ boundary ++ codes "--")
 
 abbrev pub kind_of : (delimiter closing : List ℕ) → BodyLine → BoundaryKind
 kind_of delimiter closing line = if is_padded delimiter line then kind.Delimiter else if is_padded closing line then kind.Closing else kind.Inner
 
--- how much is left to be cut after a stop
+-- a measure of the text that is left to cut after a stop
 abbrev pub left_after : PartStop → ℕ
 left_after stop.End = 0
 left_after (stop.Delimiter rest) = 1 + length rest.now
 left_after (stop.Closing rest) = 0
 
--- the parts after a stop, and what follows the closing line
+-- the texts of the parts after a stop, and the text after the closing line
 abbrev pub parts_at : (boundary : List ℕ) → PartStop → List (List ℕ)
 parts_at boundary stop.End = []
 parts_at boundary (stop.Delimiter rest) = prologue_text (content_cut boundary rest.now) ∷ part_texts (content_cut boundary rest.now)
@@ -32,12 +32,12 @@ epilogue_at boundary stop.End = None
 epilogue_at boundary (stop.Delimiter rest) = epilogue_text (content_cut boundary rest.now)
 epilogue_at boundary (stop.Closing rest) = Some rest.now
 
--- where the first stretch of a cut ends
+-- the stop at the end of a cut's first stretch
 pub record StopsAt (boundary : List ℕ) (cut : Cut) (stop : PartStop) : Type 0 where
   pub parts : part_texts cut ≡ parts_at boundary stop
   pub epilogue : epilogue_text cut ≡ epilogue_at boundary stop
 
--- a text after whose front a rest follows, in which no line up to there is a delimiter or a closing one
+-- A text with a front, and a rest after it. No line of the front is a delimiter or a closing one.
 pub record Follows (boundary front : List ℕ) (text rest : List ℕ) : Type 0 where
   pub prologue : concat (content_cut boundary text).prologue ≡ front ++ concat (content_cut boundary rest).prologue
   pub parts : (content_cut boundary text).parts ≡ (content_cut boundary rest).parts

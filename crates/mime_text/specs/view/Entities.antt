@@ -35,13 +35,13 @@ shape_as (shape.Multipart is_digest boundary) = multipart is_digest (option_map 
 shape_as shape.Message = message
 shape_as shape.Leaf = leaf
 
--- what the program reads in the header of a text
+-- the type, the encoding and the content that the program reads from a text
 pub record IsEntityHead (in_digest : Bool) (text : List ℕ) (h : head.EntityHead) : Type 0 where
   pub type : stated_as h.stated ≡ type_of in_digest text
   pub encoding : h.encoding ≡ encoding_of text
   pub content : h.content.now ≡ content_of text
 
--- what it makes of octets by their shape
+-- the octets that the program gives for a content by its shape, and the texts in it
 pub record IsInner (of : EntityShape) (encoding : TransferEncoding) (octets : List ℕ) (i : inner.InnerTexts) : Type 0 where
   pub given : given_as i.given ≡ given_by of encoding octets
   pub is_digest : i.is_digest ≡ is_digest_of of

@@ -1,6 +1,6 @@
--- The view of the program's reader as a state of the machine.
+-- The models of the program's reader: the states of the machine.
 use Rattle.std.specs.Prelude.{◌≡◌, List, Option, Some, None, Result, Ok, Err, map, reverse}
-use Rattle.sieve_syntax.specs.view.Tree.{node_of, test_of, tests_of, text_of, argument_of}
+use Rattle.sieve_syntax.specs.view.Tree.{command_as, test_of, tests_of, text_of, argument_of}
 use Rattle.sieve_syntax.specs.Symbol.{Symbol, identifier, tag_symbol, number_symbol, string_symbol, semicolon, open_brace, close_brace, open_parenthesis, close_parenthesis, open_bracket, close_bracket, comma, bad}
 use Rattle.sieve_syntax.specs.Machine.{Head, Level, for_one, for_list, Open, Outer, ParserState, between, in_arguments, before_string, after_string, before_test, after_tests}
 use Rattle.sieve_syntax.specs.declared.symbol.Symbol as symbols
@@ -38,9 +38,9 @@ level_value (level_variants.One h) = for_one (head_value h)
 level_value (level_variants.List h before) = for_list (head_value h) (map test_of before.items)
 
 abbrev pub open_value : opens.Open → Open
-open_value b = record { done = map node_of b.done.items; head = head_value b.head; tests = tests_of b.tests }
+open_value b = record { done = map command_as b.done.items; head = head_value b.head; tests = tests_of b.tests }
 
--- the newest first
+-- the levels, the innermost first
 abbrev pub levels_value : List levels.Level → List Level
 levels_value ls = map level_value (reverse ls)
 
@@ -48,7 +48,7 @@ abbrev pub opens_value : List opens.Open → List Open
 opens_value bs = map open_value (reverse bs)
 
 abbrev pub outer_value : outers.Outer → Outer
-outer_value o = record { blocks = opens_value o.blocks.items; done = map node_of o.done.items }
+outer_value o = record { blocks = opens_value o.blocks.items; done = map command_as o.done.items }
 
 abbrev pub state_value : outers.Outer → states.ParserState → ParserState
 state_value o state_variants.Between = between (outer_value o)
@@ -58,7 +58,8 @@ state_value o (state_variants.AfterString h items) = after_string (outer_value o
 state_value o state_variants.BeforeTest = before_test (outer_value o) (levels_value o.levels.items)
 state_value o (state_variants.AfterTests h ts) = after_tests (outer_value o) (levels_value o.levels.items) (head_value h) (tests_of ts)
 
--- what a step returned is the machine's next state, or a fault where there is none, unless memory ran out
+-- The result of a step is the machine's next state, or a fault if there is none.
+-- `NoMemory` claims nothing.
 abbrev pub Advances : outers.Outer → Result states.ParserState stops.Stop → Option ParserState → Type 0
 Advances o (Ok s) next = next ≡ Some (state_value o s)
 Advances o (Err stop_variants.Fault) next = next ≡ None

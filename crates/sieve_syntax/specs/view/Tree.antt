@@ -1,8 +1,8 @@
--- The program's tree of a text.
+-- The models of the program's tree of a text.
 use Rattle.std.specs.Prelude.{Option, Some, None, map}
 use Rattle.std.specs.declared.vec.Vec.{Vec}
 use Rattle.std.specs.declared.alloc.Global.{Global}
-use Rattle.sieve_syntax.specs.Tree.{Text, Argument, strings, number, tag, Test, test, Tests, no_tests, one_test, test_list, tests, Node, node, Block, no_block, block, nodes}
+use Rattle.sieve_syntax.specs.Tree.{Text, Argument, strings, number, tag, Test, test, Tests, no_tests, one_test, test_list, tests, Command, command, Block, no_block, block, command_list}
 use Rattle.sieve_syntax.specs.declared.tree.Argument as arguments
 use Rattle.sieve_syntax.specs.declared.tree.Command as commands
 use Rattle.sieve_syntax.specs.declared.tree.Test as one_tests
@@ -19,7 +19,7 @@ argument_of (argument_variants.Strings items bracketed) = strings (map text_of i
 argument_of (argument_variants.Number value line) = number value line
 argument_of (argument_variants.Tag name line) = tag name.items line
 
--- a layer of tests, with the tests below it already seen
+-- one layer of tests, over the models of the tests below it
 abbrev pub tests_step : test_layers.Tests-F Tests Test → Tests
 tests_step test_layers.None = no_tests
 tests_step (test_layers.One t) = one_test t.value
@@ -34,17 +34,17 @@ tests_of = some_tests.fold-Tests Tests Test tests_step test_step
 abbrev pub test_of : one_tests.Test → Test
 test_of = one_tests.fold-Test Tests Test tests_step test_step
 
-abbrev pub block_step : Option (Vec Node Global) → Block
+abbrev pub block_step : Option (Vec Command Global) → Block
 block_step None = no_block
-block_step (Some v) = block (nodes v.items)
+block_step (Some v) = block (command_list v.items)
 
--- a layer of commands, with the commands in its block already seen
-abbrev pub command_step : commands.Command-F Node → Node
-command_step c = node c.name c.line (map argument_of c.args.items) (tests_of c.tests) (block_step c.block)
+-- one layer of commands, over the models of the commands in its block
+abbrev pub command_step : commands.Command-F Command → Command
+command_step c = command c.name c.line (map argument_of c.args.items) (tests_of c.tests) (block_step c.block)
 
-abbrev pub node_of : commands.Command → Node
-node_of = commands.fold-Command Node command_step
+abbrev pub command_as : commands.Command → Command
+command_as = commands.fold-Command Command command_step
 
 abbrev pub block_of : Option (Vec commands.Command Global) → Block
 block_of None = no_block
-block_of (Some v) = block (nodes (map node_of v.items))
+block_of (Some v) = block (command_list (map command_as v.items))

@@ -1,4 +1,4 @@
--- The program's set of what is required.
+-- The model of the program's set of required capabilities.
 use Rattle.std.specs.Prelude.{false, slice_index_or}
 use denote.Enum.Declared.{tag_of}
 use Rattle.sieve_table.specs.Required.{Required}

@@ -1,4 +1,4 @@
--- The rows of the program's table.
+-- The models of the rows of the program's table.
 use Rattle.sieve_table.specs.Table.{Row, TagRow}
 use Rattle.sieve_table.specs.declared.row.Row as rows
 use Rattle.sieve_table.specs.declared.row.TagRow as tag_rows

@@ -1,4 +1,4 @@
--- What octets with a label stand for.
+-- The model of octets with a label.
 use Rattle.sieve_variables.specs.Labelled.{Labelled}
 use Rattle.sieve_variables.specs.declared.labelled.LabelledWord as words
 use Rattle.sieve_variables.specs.declared.labelled.LabelledWord.TheVariants as variants

@@ -1,4 +1,4 @@
--- What sets of names stand for.
+-- The model of a set of names.
 use Rattle.std.specs.Prelude.{ℕ, List, map}
 use Rattle.std.specs.declared.alloc.Global.{Global}
 use Rattle.std.specs.declared.vec.Vec.{Vec}

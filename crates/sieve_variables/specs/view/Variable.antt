@@ -1,4 +1,4 @@
--- The program's variables.
+-- The models of the program's variables.
 use Rattle.std.specs.Prelude.{ℕ, List}
 use Rattle.sieve_variables.specs.Variable.{Variable, local_variable, global_variable}
 use Rattle.sieve_variables.specs.declared.variable.VariableScope as scopes

@@ -1,4 +1,5 @@
-//! A comparator of a caller's own. What the library's own ones answer is made in `tools/checks`.
+//! A comparator of a caller's own. The answers of the library's own ones are made in
+//! `tools/checks`.
 use super::same_of;
 use match_text::{AsciiCasemap, Comparator, contains, is};
 
@@ -18,7 +19,7 @@ impl Comparator for Plain {
     ghost settles = { λ b. Prim.search rules };
 }
 
-/// A value, a key, and what is answered.
+/// A value, a key, and the wanted answer.
 type Row<'a> = (&'a [u8], &'a [u8], bool);
 
 #[test]

@@ -1,11 +1,13 @@
-//! Pieces of texts as flags and as keys, by RFC 5232. What lists of flags come to is made in `tools/checks`.
+//! Pieces of texts as flags (RFC 5232, section 2) and as keys (RFC 5232, section 4). The results of
+//! lists of flags are made in `tools/checks`.
 use super::{Row, holds, push_ended, same};
 use flag_lists::{flag_keys, flag_keys_of_texts, next_flag, next_key};
 use std::alloc::AllocError;
 use std::borrow::CowSlice;
 use std::process::Abort;
 
-/// A text's first flag stands before the first space after it; what isn't a flag is passed over.
+/// A text's first flag ends at the first space after it. Pieces before it that aren't flags are
+/// passed over.
 #[test]
 fn a_text_gives_its_first_flag(rt: HostRuntime) {
     let (flag, rest) = next_flag(b" b] x y  z").unwrap_or((b"", b""));
@@ -18,7 +20,7 @@ fn a_text_gives_its_first_flag(rt: HostRuntime) {
     same(&rt, b"nothing", nothing, b"");
 }
 
-/// Compares keys, each before a bar.
+/// Compares keys, with a bar after each.
 fn check_keys(
     rt: &(impl AllocGlobal + Abort),
     row: &[u8],
@@ -57,12 +59,12 @@ fn a_key_gives_its_pieces(rt: HostRuntime) -> Result<(), AllocError> {
     Ok(())
 }
 
-/// Compares what a key of a test stands for.
+/// Compares the texts that a key of a test stands for.
 fn check_key(rt: &(impl AllocGlobal + Abort), key: &[u8], wanted: &[u8]) -> Result<(), AllocError> {
     check_keys(rt, key, &flag_keys(rt.alloc(), key)?, wanted)
 }
 
-/// A key of a test, and what it stands for.
+/// Keys of a test, and the texts that they stand for.
 #[test]
 fn keys_are_not_judged(rt: HostRuntime) -> Result<(), AllocError> {
     check_key(&rt, b"", b"|")?;

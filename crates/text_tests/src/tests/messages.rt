@@ -1,4 +1,5 @@
-//! What isn't printed of messages and their fields: which values are borrowed, and where fields of a name stand.
+//! Results for messages and their fields that aren't printed. They are which values are borrowed,
+//! places of fields of a name, hashes of names, and refusals.
 use super::{Row, holds, same};
 use message_text::{FieldName, Message, MessageFault, name_hash};
 use sieve_profile::Profile;
@@ -11,7 +12,7 @@ fn read(alloc: Global, octets: &[u8]) -> Result<Message, Fail> {
     Ok(Message::new(alloc, Vec::from_slice(alloc, octets)?)?)
 }
 
-/// Whether a value is borrowed: 1, or else 0.
+/// Whether a value is borrowed: 1 if it is, and else 0.
 fn borrowed(value: &CowSlice<'_, u8>) -> u8 {
     match value {
         CowSlice::Borrowed(_) => 1,
@@ -33,7 +34,8 @@ fn check_borrowed(
     Ok(())
 }
 
-/// Whether a value is borrowed goes by its field's lines, and not by what is left of it. There are 4 fields.
+/// Whether a value is borrowed goes by its field's lines, and not by the octets that are left of
+/// it.
 #[test]
 fn borrows_unfolded_values(rt: HostRuntime) -> Result<(), Fail> {
     let message = read(rt.alloc(), b"A: b\nC: d\n e\nF:\nG:\n \n\n f")?;
@@ -44,7 +46,8 @@ fn borrows_unfolded_values(rt: HostRuntime) -> Result<(), Fail> {
     Ok(check_borrowed(&rt, &three, &[0])?)
 }
 
-/// A decoded value is borrowed where its field stands on one line and no word was replaced; a word of no octets counts.
+/// A decoded value is borrowed if its field stands on one line and no word was replaced. A word
+/// that stands for no octets is replaced too.
 #[test]
 fn borrows_values_without_words(rt: HostRuntime) -> Result<(), Fail> {
     let message = read(
@@ -87,7 +90,8 @@ fn check_places(
     Ok(())
 }
 
-/// Names ignore the case of ASCII letters alone, and are compared whole. `A@` and `B!` have one hash.
+/// Names ignore the case of ASCII letters alone, and are compared whole. `A@` and `B!` have one
+/// hash.
 #[test]
 fn fields_are_found_by_name(rt: HostRuntime) -> Result<(), Fail> {
     let message = read(
@@ -131,7 +135,8 @@ fn no_field_is_after_the_last(rt: HostRuntime) -> Result<(), Fail> {
     Ok(())
 }
 
-/// Names that differ in case alone have one hash, by their letters in upper case, and a name with its hash names the same fields.
+/// Names that differ in case alone have one hash, by their letters in upper case. A name with its
+/// hash finds the same fields.
 #[test]
 fn a_name_keeps_its_hash(rt: HostRuntime) -> Result<(), Fail> {
     holds(&rt, b"to", name_hash(b"to") == 2_683);
@@ -146,7 +151,7 @@ fn a_name_keeps_its_hash(rt: HostRuntime) -> Result<(), Fail> {
     Ok(())
 }
 
-/// Why `size` octets were refused, and how many came back.
+/// The reason why `size` octets were refused, and how many came back.
 fn refusal(alloc: Global, size: usize) -> Result<Option<(MessageFault, usize)>, AllocError> {
     match Message::new(alloc, vec![in alloc; b'a'; size]?) {
         Ok(_) => Ok(None),

@@ -5,7 +5,7 @@ use sieve_syntax::{Argument, Command, Test, Tests, Text, parse};
 use std::alloc::{AllocError, Global};
 use std::process::Abort;
 
-/// Octets as printed text: those that aren't printable in hexadecimal.
+/// Prints octets as text, and those that aren't printable in hexadecimal.
 fn print_octets(out: &mut String, octets: &[u8]) -> Result<(), AllocError> {
     for octet in octets {
         if (b' '..=b'~').contains(octet) {

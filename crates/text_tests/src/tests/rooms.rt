@@ -1,9 +1,9 @@
-//! Rows of keys that can match, by RFC 5228, section 2.7.1.
+//! Rows of keys that can match (RFC 5228, 2.7.1).
 use super::holds;
 use match_text::{KeyKind, Room};
 use std::process::Abort;
 
-/// A key in two pieces, and how many octets a value must have to match it at least.
+/// A key in two pieces, and the least number of octets of a value that can match it.
 type Piecewise<'a> = (&'a [u8], &'a [u8], usize);
 
 /// Whether a value of so many octets can match a key in pieces.
@@ -11,12 +11,13 @@ fn is_enough(kind: KeyKind, size: usize, (front, back, _): Piecewise<'_>) -> boo
     Room::new(kind, size).after(front).after(back).is_enough()
 }
 
-/// Whether a key in pieces has more octets than a value of so many has room for.
+/// Whether a key in pieces needs more octets than a value of so many has.
 fn is_exceeded(kind: KeyKind, size: usize, (front, back, _): Piecewise<'_>) -> bool {
     Room::new(kind, size).after(front).after(back).is_exceeded()
 }
 
-/// Says of each key that a value of as many octets as it needs can match, and one of fewer can't.
+/// Checks for each key that a value of as many octets as it needs can match. A value of one octet
+/// fewer can't.
 fn check_keys(rt: &impl Abort, kind: KeyKind, rows: &[Piecewise<'_>]) {
     for row in rows {
         let (_, back, needed) = *row;
@@ -49,7 +50,8 @@ fn keys_need_their_octets(rt: HostRuntime) {
     }
 }
 
-/// A pattern needs an octet for each octet and `?`, and none for a `*`, also where a `\` stands at the end of a piece.
+/// A pattern needs an octet for each octet and `?`, and none for a `*`. This is so too if a `\`
+/// ends a piece.
 #[test]
 fn patterns_need_no_octet_for_a_star(rt: HostRuntime) {
     let rows: &[Piecewise<'_>] = &[

@@ -1,4 +1,5 @@
-//! Scripts with their trees. Texts with faults, and what strings and numbers stand for, are in `examples/rows`.
+//! Scripts with their trees. Texts with faults, and the meanings of strings and numbers, are in
+//! `examples/rows`.
 
 use super::print::check_trees;
 use std::alloc::AllocError;

@@ -1,6 +1,7 @@
-//! Rows for public calls of variables whose answers the program doesn't print: what references a text has, and the first octets of a string.
-//! What strings, modifiers and variables come to stands in `examples/rows` and is made in `tools/checks`. What is expected was written by hand from
-//! RFC 5229 and RFC 6609.
+//! Rows for public calls of variables whose answers the program doesn't print. These are the
+//! references of a text, and the first octets of a string. Results of strings, modifiers and
+//! variables stand in `examples/rows` and are made in `tools/checks`. The wanted results were
+//! written by hand (RFC 5229, section 3; RFC 6609, 3.4.2).
 
 use super::{holds, same};
 use octets::Octets;
@@ -8,7 +9,8 @@ use sieve_variables::{Values, parts_of_text, references_in};
 use std::alloc::{AllocError, Global};
 use std::process::Abort;
 
-/// Compares for each text whether it has a reference, one in a namespace, one in a foreign one, and one past the limit.
+/// Compares whether each text has a reference. Then compares whether one is in a namespace, in a
+/// foreign namespace, and past the limit.
 fn check_references(rt: &impl Abort, rows: &[(&[u8], bool, bool, bool, bool)]) {
     for (text, any, namespaced, foreign, far) in rows {
         let found = references_in(*text);
@@ -34,7 +36,7 @@ fn references_are_found(rt: HostRuntime) {
             (b"${100}", true, false, false, true),
             (b"${a}${18446744073709551617}", true, false, false, true),
             (b"x${a.7.b_2}${y}", true, true, true, false),
-            // A number in a namespace is none of a match variable.
+            // A number in a namespace is no match variable.
             (b"${a.100}", true, true, true, false),
             (b"${a.b}${256}", true, true, true, true),
             (b"${Global.x}", true, true, false, false),
@@ -42,7 +44,7 @@ fn references_are_found(rt: HostRuntime) {
     );
 }
 
-/// What variables hold after a match of the value and of one wildcard.
+/// The values of variables after a match of `value` in which one wildcard took `taken`.
 fn values_after(alloc: Global, value: &[u8], taken: &[u8]) -> Result<Values, AllocError> {
     let mut texts = Vec::new(alloc);
     texts.push(Octets::copied(alloc, value)?)?;

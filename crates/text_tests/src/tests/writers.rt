@@ -1,4 +1,4 @@
-//! What the writers do at writers that take little, interrupt or give up.
+//! Writers over writers that take little, interrupt or give up, and counts of reads and faults.
 
 use super::{holds, same};
 use devices::{Counted, Faults, Source, write_quoted};
@@ -6,7 +6,7 @@ use std::io;
 use std::io::{ErrorKind, Read, Write};
 use std::process::Abort;
 
-/// What a writer without room answers.
+/// The answer of a writer without room.
 #[derive(Clone, Copy)]
 enum Full {
     Zero,
@@ -60,8 +60,8 @@ impl Read for Broken {
     }
 }
 
-/// The room, what is answered without, the interruptions before each octet, whether printing `abc` between quotes
-/// succeeds, what is taken then, and the faults.
+/// The room, the answer without room, and the interruptions before each octet. Then whether
+/// printing `abc` between quotes succeeds, the octets taken, and the faults.
 type Row<'a> = (usize, Full, u32, bool, &'a [u8], u64);
 
 /// Prints to a writer, and compares whether that succeeds, and the faults.

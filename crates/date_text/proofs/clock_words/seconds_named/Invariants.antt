@@ -3,7 +3,7 @@ use Rattle.date_text.specs.Clock.{last_second, number_after}
 use Rattle.date_text.specs.Number.{up_to}
 use Rattle.date_text.proofs.clock_words.seconds_named.Given as goal
 
--- the digits that are left make of the seconds so far what all of them make of none
+-- the rest of the digits makes of the seconds so far the number that all digits make of 0
 abbrev pub invariant-loop-octet : goal.invariant-loop-octet
 invariant-loop-octet l = record {
   small : l.seconds ≤ last_second;

@@ -3,7 +3,7 @@ use Rattle.date_text.specs.Words.{is_closed}
 use Rattle.date_text.specs.view.Words.{depth_of, words_from, words_in}
 use Rattle.date_text.proofs.words.without_blanks.Given as goal
 
--- what is left has the words of the text, and its comments are closed from the spot on
+-- the rest has the words of the text, and its comments are closed from the spot on
 abbrev pub invariant-loop-after : goal.invariant-loop-after
 invariant-loop-after l = record {
   depth : depth_of l.spot + length l.left ≤ length l.text;

@@ -1,4 +1,4 @@
--- What is gone from the front of the octets is written.
+-- The octets that are gone from the front are written.
 use Rattle.std.proofs.Common.{◌≡◌, List, ℕ, ◌++◌, length}
 use Rattle.devices.specs.Writers.{Wrote}
 use Rattle.devices.proofs.writers.write_out.Given as goal

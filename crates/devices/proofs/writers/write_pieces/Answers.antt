@@ -1,4 +1,4 @@
--- What is written when the writing of a piece fails is a front of the text of all pieces.
+-- When the writing of a piece fails, a front of the text of all pieces is written.
 use Rattle.devices.specs.Writers.{piece_text}
 use Rattle.devices.proofs.Writing.{wrote_items_then_front_at, writes_failed}
 use Rattle.devices.proofs.writers.write_pieces.Goals as goal

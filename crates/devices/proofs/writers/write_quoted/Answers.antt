@@ -1,4 +1,4 @@
--- When the writing of one of the three parts of a quoted form fails, a front of the quoted form is written, and else all of it.
+-- When writing a part of a quoted form fails, a front of the form is written. Else all of it is.
 use Rattle.std.proofs.Common.{◌++◌, codes}
 use Rattle.std.specs.List.{flat_map}
 use Rattle.devices.specs.Writers.{quoted, octet_spelling}

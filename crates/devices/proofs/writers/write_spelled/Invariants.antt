@@ -1,4 +1,4 @@
--- The spelling of what is gone from the front of the octets is written.
+-- The spelling of the octets that are gone from the front is written.
 use Rattle.std.proofs.Common.{◌≡◌, List, ℕ, ◌++◌, length}
 use Rattle.std.specs.List.{flat_map}
 use Rattle.devices.specs.Writers.{Wrote, octet_spelling}

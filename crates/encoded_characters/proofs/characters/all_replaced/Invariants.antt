@@ -3,7 +3,8 @@ use Rattle.encoded_characters.specs.Scan.{characters_replaced}
 use Rattle.encoded_characters.specs.view.Sequence.{grown}
 use Rattle.encoded_characters.proofs.characters.all_replaced.Given as goal
 
--- the octets so far, and what is left with its sequences replaced, are the text with its sequences replaced
+-- the octets so far, and the rest with its sequences replaced, are the text
+-- with its sequences replaced
 abbrev pub invariant-loop-left : goal.invariant-loop-left
 invariant-loop-left l = record {
   shorter : length l.left ≤ length l.text;

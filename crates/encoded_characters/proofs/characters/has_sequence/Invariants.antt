@@ -2,7 +2,7 @@ use Rattle.std.proofs.Common.{◌≡◌, length}
 use Rattle.encoded_characters.specs.Scan.{has_sequence}
 use Rattle.encoded_characters.proofs.characters.has_sequence.Given as goal
 
--- the text has a sequence exactly where what is left has one
+-- the text has a sequence exactly where the rest has one
 abbrev pub invariant-loop-left : goal.invariant-loop-left
 invariant-loop-left l = has_sequence l.left ≡ has_sequence l.text
 

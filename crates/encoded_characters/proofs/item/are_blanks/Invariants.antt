@@ -2,7 +2,7 @@ use Rattle.std.proofs.Common.{◌≡◌, length}
 use Rattle.encoded_characters.specs.Sequence.{are_blanks}
 use Rattle.encoded_characters.proofs.item.are_blanks.Given as goal
 
--- whether all octets are blanks is decided by those that are left
+-- the rest decides whether all octets are blanks
 abbrev pub invariant-loop-rest : goal.invariant-loop-rest
 invariant-loop-rest l = are_blanks l.left ≡ are_blanks l.octets
 

@@ -2,7 +2,7 @@ use Rattle.std.proofs.Common.{◌≡◌, ◌≤◌, drop}
 use Rattle.encoded_characters.specs.Value.{number_from}
 use Rattle.encoded_characters.proofs.value.character.Given as goal
 
--- the number is within the limit, and the digits that are left make of it the number of all digits
+-- The number is within the limit. The rest of the digits makes of it the number of all digits.
 abbrev pub invariant-loop-digit : goal.invariant-loop-digit
 invariant-loop-digit l = record {
   within : l.number ≤ 0x10FFFF;

@@ -4,7 +4,7 @@ use Rattle.encoded_characters.specs.view.Sequence.{grown}
 use Rattle.encoded_characters.proofs.Values.{octets_of_items}
 use Rattle.encoded_characters.proofs.value.push_sequence.Given as goal
 
--- the octets so far, and what the items that are left stand for, are the octets before and what all items stand for
+-- The octets so far and those of the items left are the octets before and those of all items.
 abbrev pub invariant-loop-item : goal.invariant-loop-item
 invariant-loop-item l =
     grown l.octets.items (octets_of_items l.hex (inside_of l.left)) ≡ grown l.fn.octets.items (octets_of_items l.hex (inside_of l.sequence.inside.now))

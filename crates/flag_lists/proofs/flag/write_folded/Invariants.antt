@@ -3,7 +3,7 @@ use Rattle.std.specs.Hash as fed
 use Rattle.match_text.specs.Comparator.{ascii_casemap}
 use Rattle.flag_lists.proofs.flag.write_folded.Given as goal
 
--- since the loop began the hasher was fed the octets so far in upper case
+-- since the loop began, the hasher was fed the octets so far in upper case
 abbrev pub invariant-loop-octet : goal.invariant-loop-octet
 invariant-loop-octet g l =
     l.state

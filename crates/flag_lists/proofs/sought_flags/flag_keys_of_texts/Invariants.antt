@@ -3,7 +3,7 @@ use Rattle.flag_lists.specs.Flags.{flag_keys, flag_keys_of_texts}
 use Rattle.octets.specs.view.Texts.{octets_of_each}
 use Rattle.flag_lists.proofs.sought_flags.flag_keys_of_texts.Given as goal
 
--- the keys that were found so far, and after them those of the texts that are left, are the keys of all texts
+-- the texts so far, and after them those of the keys that are left, are the texts of all keys
 abbrev pub invariant-loop-key : goal.invariant-loop-key
 invariant-loop-key l =
     octets_of_each l.found.items ++ flat_map flag_keys (octets_of_each (drop l.key-index l.keys))

@@ -2,7 +2,8 @@ use Rattle.std.proofs.Common.{◌≡◌, ℕ, ◌+◌, ◌<◌, false, length, d
 use Rattle.match_text.specs.view.Segment.{begins}
 use Rattle.match_text.proofs.segments.find_place.Given as goal
 
--- the segment stands at no place of the text before the place that is next, where the rest of the text begins
+-- The segment stands at no place of the text before the next one. The rest of the text begins
+-- there.
 abbrev pub invariant-places : goal.invariant-places
 invariant-places l = record {
   rest : l.rest ≡ drop l.place l.text;

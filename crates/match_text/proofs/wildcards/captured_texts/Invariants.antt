@@ -4,8 +4,9 @@ use Rattle.match_text.specs.view.Segment.{captures_of, texts_of}
 use Rattle.match_text.proofs.Greedy.{IsStarred}
 use Rattle.match_text.proofs.wildcards.captured_texts.Given as goal
 
--- no items are left or a star is next; what is left of the text is as long as what is left of the value; and the texts so far, and after them
--- what the items that are left take, are the whole value and what all items take
+-- No items are left, or a star is next. The rest of the text is as long as the rest of the value.
+-- All texts are the whole value and those that all items take. They are the texts so far, and after
+-- them those that the items left take.
 abbrev pub invariant-loop-items_left : goal.invariant-loop-items_left
 invariant-loop-items_left l = record {
   starred : IsStarred l.items_left;

@@ -2,7 +2,8 @@ use Rattle.std.proofs.Common.{◌≡◌, ◌++◌, drop}
 use Rattle.match_text.specs.view.Segment.{questions, texts_of}
 use Rattle.match_text.proofs.wildcards.push_questions.Given as goal
 
--- the texts so far, and after them what each `?` that is left takes of the rest, are the texts before and what each `?` takes of the value
+-- All texts are those before and the octets that each `?` takes of the value. They are the texts so
+-- far, and after them the octets that each `?` left takes of the rest.
 abbrev pub invariant-loop-item : goal.invariant-loop-item
 invariant-loop-item l = record {
   rest : l.rest ≡ drop l.item-index l.value;

@@ -4,7 +4,8 @@ use Rattle.message_text.specs.Fields.{field_groups}
 use Rattle.message_text.specs.view.Spans.{IsSpan, group_at}
 use Rattle.message_text.proofs.fields.spans_of.Given as goal
 
--- the fields so far and those in what is left are those of the message, and each span so far says where its field stands
+-- The fields so far and those of the rest are those of the message. Each span so far says where its
+-- field stands.
 abbrev pub invariant-loop-start : goal.invariant-loop-start
 invariant-loop-start l =
     (map (group_at l.octets) l.spans.items ++ field_groups (drop l.start l.octets) ≡ field_groups l.octets) × All (IsSpan l.octets) l.spans.items

@@ -5,7 +5,8 @@ use Rattle.message_text.specs.Blanks.{trim_start}
 use Rattle.message_text.specs.Fields.{is_continuation}
 use Rattle.message_text.proofs.values.unfolded.Given as goal
 
--- the value so far has no blanks in front; the value so far and the continuations that are left make, but for blanks in front, the whole value
+-- The value so far begins with no blank. With the continuations that are left it is the whole
+-- value, but for blanks at the start.
 abbrev pub invariant-loop-line : goal.invariant-loop-line
 invariant-loop-line l =
     (l.start ≤ length l.octets) × (trim_start l.value.items ≡ l.value.items)

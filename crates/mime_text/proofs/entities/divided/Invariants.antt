@@ -2,7 +2,7 @@ use Rattle.std.proofs.Common.{◌≡◌, ◌-◌, ◌≤◌, ◌++◌, length, t
 use Rattle.mime_text.specs.Entities.{body_of, header_of}
 use Rattle.mime_text.proofs.entities.divided.Given as goal
 
--- what is left follows a front of the header section
+-- the rest follows a front of the header section
 abbrev pub invariant-loop-line : goal.invariant-loop-line
 invariant-loop-line l = record {
   within : length l.rest ≤ length l.text;

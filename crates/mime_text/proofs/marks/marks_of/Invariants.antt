@@ -4,8 +4,8 @@ use Rattle.mime_text.specs.declared.marks.ValueSpot.TheVariants.{Outside}
 use Rattle.mime_text.specs.view.Spots.{depth_of}
 use Rattle.mime_text.proofs.marks.marks_of.Given as goal
 
--- No more comments are open than octets were read. The marks so far and those of what is left are those of the text, and what is left
--- decides whether all is closed.
+-- No more comments are open than octets were read. The marks so far and those of the rest are those
+-- of the text. The rest decides whether all is closed.
 abbrev pub invariant-loop-octet : goal.invariant-loop-octet
 invariant-loop-octet l = record {
   depth : depth_of l.spot ≤ l.octet-index;

@@ -2,7 +2,8 @@ use Rattle.std.proofs.Common.{◌≡◌, ◌++◌, List, ℕ, map}
 use Rattle.mime_text.specs.view.Cuts.{IsBoundary, epilogue_at, left_after, parts_at}
 use Rattle.mime_text.proofs.multipart.parts_from.Given as goal
 
--- the parts so far and those after the stop are the parts after the first, and so is the epilogue
+-- The parts so far and those after the stop are the parts after the first stop. The epilogue after
+-- the stop is that after the first.
 abbrev pub invariant-loop-stop : goal.invariant-loop-stop
 invariant-loop-stop l =
     (name : List ℕ) → IsBoundary name l.boundary.delimiter.items l.boundary.closing.items

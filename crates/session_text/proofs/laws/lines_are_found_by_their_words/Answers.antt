@@ -17,5 +17,5 @@ found kind None is = absurd (never is)
     never e = cc
 found kind (Some other) is = ap Some (same_true the_type tt other kind is)
 
-pub returns : goal.returns
-returns c = λ kind. found kind (line_kind (line_word kind)) (of_each enum tt (λ k. is_found k (line_kind (line_word k))) refl kind)
+pub returns-clause-found : goal.returns-clause-found
+returns-clause-found c = λ kind. found kind (line_kind (line_word kind)) (of_each enum tt (λ k. is_found k (line_kind (line_word k))) refl kind)

@@ -1,7 +1,7 @@
 use Rattle.std.proofs.Common.{◌≡◌, sym, subst, arith, refl, []}
 use Rattle.sieve_syntax.specs.Machine.{between}
 use Rattle.sieve_syntax.specs.view.Reader.{opens_value, state_value}
-use Rattle.sieve_syntax.specs.view.Tree.{node_of}
+use Rattle.sieve_syntax.specs.view.Tree.{command_as}
 use Rattle.std.proofs.Common.{map}
 use Rattle.sieve_syntax.proofs.Running.{Means, start_means, next_means, stop_means, end_means, goes_small, finishes_small}
 use Rattle.sieve_syntax.specs.declared.parser.SyntaxFault.TheVariants.{TooLarge}
@@ -11,8 +11,8 @@ pub loop-token-init : goal.loop-token-init
 loop-token-init c = record {
   is = record { within = omega arith; lines = refl };
   means =
-      subst (λ blocks. Means c.args.text.now (between (record { blocks = opens_value blocks; done = map node_of c.new-2.result.items })) 0) (sym c.new.ensures.items)
-      (subst (λ done. Means c.args.text.now (between (record { blocks = opens_value []; done = map node_of done })) 0) (sym c.new-2.ensures.items)
+      subst (λ blocks. Means c.args.text.now (between (record { blocks = opens_value blocks; done = map command_as c.new-2.result.items })) 0) (sym c.new.ensures.items)
+      (subst (λ done. Means c.args.text.now (between (record { blocks = opens_value []; done = map command_as done })) 0) (sym c.new-2.ensures.items)
       (start_means c.args.text.now));
 }
 

@@ -3,7 +3,8 @@ use Rattle.sieve_variables.specs.Scan.{parts_of_text}
 use Rattle.sieve_variables.proofs.Steps.{put_before}
 use Rattle.sieve_variables.proofs.references.parts_of_text.Given as goal
 
--- the parts so far, and then the octets that stand for themselves with the parts of what is left after them, are the parts of the text
+-- The parts so far, and then those of the rest, are the parts of the text. Those of the rest are
+-- the plain octets put before the parts of the octets after them.
 abbrev pub invariant-loop-plain : goal.invariant-loop-plain
 invariant-loop-plain l = record {
   within : l.plain ≤ length l.left;

@@ -2,7 +2,7 @@ use Rattle.std.proofs.Common.{◌≡◌, ◌||◌, length}
 use Rattle.sieve_variables.specs.Scan.{has_far_index, has_foreign_namespace, has_namespace, has_reference}
 use Rattle.sieve_variables.proofs.references.references_in.Given as goal
 
--- of each of the four kinds that are looked for, a reference was found so far or is in the rest exactly where the text has one
+-- a reference of each kind was found so far, or is in the rest, exactly where the text has one
 abbrev pub invariant-loop-rest : goal.invariant-loop-rest
 invariant-loop-rest l = record {
   any : (l.any || has_reference l.rest) ≡ has_reference l.text;

@@ -2,7 +2,7 @@ use Rattle.std.proofs.Common.{◌≡◌, ◌-◌, ◌≤◌, ◌++◌, List, ℕ
 use Rattle.mime_text.specs.view.Cuts.{Follows, IsBoundary}
 use Rattle.mime_text.proofs.multipart.Boundary.next_stretch.Given as goal
 
--- what is left follows a front of the text in which no line is a delimiter or a closing one
+-- the rest follows a front of the text in which no line is a delimiter or a closing one
 abbrev pub invariant-loop-line : goal.invariant-loop-line
 invariant-loop-line l = record {
   within : length l.rest ≤ length l.text;

@@ -1,6 +1,6 @@
 use Rattle.std.proofs.Common.{◌∙◌, ap, sym}
 use Rattle.sieve_table.specs.Table.{tag_row}
-use Rattle.sieve_table.proofs.table.Tag.row.Goals as goal
+use Rattle.sieve_table.proofs.tag.Tag.row.Goals as goal
 
 pub returns-in-Contains : goal.returns-in-Contains
 returns-in-Contains c = c.bare_tag-in-Contains.ensures ∙ ap tag_row (sym c.in-Contains.is)

@@ -1,0 +1,2 @@
+autocmd BufNewFile,BufRead *.rt setfiletype rattle
+autocmd BufNewFile,BufRead *.antt setfiletype antt
