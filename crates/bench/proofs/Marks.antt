@@ -11,7 +11,7 @@ use Rattle.script_names.specs.Name.{name_eq}
 use Rattle.sieve_delivery.specs.Delivery.{Arrival}
 use Rattle.script_names.specs.declared.name.ScriptName.{ScriptName}
 use Rattle.sieve_delivery.specs.declared.envelope.Addresses.{Addresses}
-use Rattle.sieve_run.specs.Frame.{Agree, Texts, verdict_over}
+use Rattle.sieve_run.specs.Frame.{Agree, LibraryTexts, verdict_over}
 use Rattle.sieve_run.specs.Run.{is_looked_up}
 use Rattle.sieve_verdict.specs.Verdict.{Verdict}
 use Rattle.bench.specs.Content.{Sample, changed, text_at}
@@ -111,11 +111,11 @@ tells-marked due name test (e ∷ es) kept tells = (stale_for (due (sample_of e.
 -- name.
 abbrev pub IsFramed : Type 0
 IsFramed =
-    (texts others : Texts) (main : Option ScriptName) (arrival : Arrival) → Agree texts others (verdict_over texts main arrival).lookups
+    (texts others : LibraryTexts) (main : Option ScriptName) (arrival : Arrival) → Agree texts others (verdict_over texts main arrival).lookups
     → verdict_over others main arrival ≡ verdict_over texts main arrival
 
 -- a verdict that isn't marked stays due, where the text at no other name changes
-still_due : IsFramed → (texts others : Texts) (main : Option ScriptName) (arrival : Arrival) (name : ScriptName) (kept : Option Verdict)
+still_due : IsFramed → (texts others : LibraryTexts) (main : Option ScriptName) (arrival : Arrival) (name : ScriptName) (kept : Option Verdict)
     → ((other : ScriptName) → name_eq name other ≡ false → texts other ≡ others other)
     → IfSome kept (λ verdict. verdict ≡ verdict_over texts main arrival) → IfSome (kept_without name kept) (λ verdict. verdict ≡ verdict_over others main arrival)
 still_due frame texts others main arrival name None alike is = tt

@@ -92,7 +92,7 @@ impl Bench {
 
     /// A bench of a profile with no scripts, no messages, no main script and no clock. Its envelope
     /// is empty, its mailbox is `INBOX`, and there are no other mailboxes. It keeps its profile.
-    #[tactic(auto, unfolding(crate::specs::view::MessageEntry::messages_of))]
+    #[tactic(auto, unfolding(crate::specs::view::Entry::messages_of))]
     pub fn with_profile(alloc: Global, profile: Profile) -> Result<Bench, AllocError>
         ensures content { IfOk result (λ bench. bench.content ≡ new_content profile) }
         ensures stale { IfOk result (λ bench. bench.stale ≡ []) }

@@ -62,7 +62,7 @@ pub(crate) fn next_item(octets: &[u8]) -> Option<(EncodedItem<'_>, &[u8])>
 }
 
 /// The octets after the blank with which octets begin, if they begin with one.
-#[tactic(auto, unfolding(crate::specs::EncodedSequence::are_blanks))]
+#[tactic(auto, unfolding(crate::specs::Sequence::are_blanks))]
 fn after_blank(octets: &[u8]) -> Option<&[u8]>
     ensures is { MatchOption result (are_blanks octets.now ≡ nat_eq (length octets.now) 0)
         (λ rest. are_blanks octets.now ≡ are_blanks rest.now) }
