@@ -12,7 +12,7 @@ pub mod laws;
 
 /// How it ends (RFC 1002, sections 1, 2.1 and 3 to 5). Then it is over (section 9).
 pub enum End {
-    /// Well (section 6).
+    /// Well (RFC 1002, section 6; RFC 1001, 3.1 and 4.2 to 4.4).
     Well = 0,
     /// 1: badly | not well.
     Badly,
@@ -88,7 +88,7 @@ PAGES = {
 
 | Refusal or end | Number | What it says |
 |---|---|---|
-| `End::Well` | 0 | Well (section 6). |
+| `End::Well` | 0 | Well (RFC 1002, section 6; RFC 1001, 3.1 and 4.2 to 4.4). |
 | `End::Badly` | 1 | Badly \\| not well. |
 """,
     "RULES.md": """\
@@ -99,6 +99,10 @@ PAGES = {
 | whole | What ends |  | ending: `lib.rt`, `laws::it_ends` |  |
 | 1 | What is least | ending: `Least` |  | `some.rows` |
 | 2 |  | ending: `Least.least` |  |  |
+| 3.1 | Well |  | ending: `End::Well` |  |
+| 4.2 | Well |  | ending: `End::Well` |  |
+| 4.3 | Well |  | ending: `End::Well` |  |
+| 4.4 | Well |  | ending: `End::Well` |  |
 | 10 | Ends it, as `End` says |  | ending: `End::of` |  |
 
 ## RFC 1002
@@ -128,28 +132,17 @@ All rows together stand on 4 definitions of 12 lines.
 }
 
 
-# Changes of the small crate, one after another, each with what is printed and said then: with sections of the RFC that an earlier comment of the
-# same thing names, and without.
-EARLIER = [
-    ("of an earlier comment's RFC", "printf '\\n== section 3: a row\\n' >> examples/rows/some.rows", "docs/RULES.md has changed\n", ""),
+# Changes of the small crate, one after another, each with what is printed and said then.
+CHANGES = [
     ("of no RFC", "printf '# By section 4.\\n' > examples/rows/other.rows", "", "examples/rows/other.rows:1: name the RFC of section 4 before it in this comment\n"),
     ("of an RFC after it", "printf '== section 4 of RFC 1001\\n' > examples/rows/other.rows", "", "examples/rows/other.rows:1: name the RFC of section 4 before it in this comment\n"),
     ("of its comment's RFC", "printf '== RFC 1001, section 4\\n' > examples/rows/other.rows", "docs/RULES.md has changed\n", ""),
-]
-OWN = [
     (
         "of an earlier comment's RFC",
-        "sed -i 's/^EACH_COMMENT_NAMES = .*/EACH_COMMENT_NAMES = True/' tools/tabling/rules.py; sed -i 's/-- the least (RFC/-- the least (section 7, RFC/' crates/ending/specs/Least.antt",
+        "printf '\\n== section 3: a row\\n' >> examples/rows/some.rows; sed -i 's/-- the least (RFC/-- the least (section 7, RFC/' crates/ending/specs/Least.antt",
         "",
         "crates/ending/specs/Least.antt:4: name the RFC of section 7 before it in this comment\n"
-        "crates/ending/src/lib.rt:6: name the RFC of section 6 before it in this comment\n"
         "examples/rows/some.rows:4: name the RFC of section 3 before it in this comment\n",
-    ),
-    (
-        "of its comment's RFC",
-        "sed -i 's/section 7, RFC/RFC/' crates/ending/specs/Least.antt; sed -i 's/(section 6)/(RFC 1002, section 6)/' crates/ending/src/lib.rt; sed -i 's/== section 3/== RFC 1002, section 3/' examples/rows/some.rows",
-        "docs/CLAUSES.md has changed\n",
-        "",
     ),
 ]
 
@@ -159,10 +152,10 @@ def top_of(page):
     return "" if page == "PROVED.md" else (TOP / "docs" / page).read_text(encoding="utf-8").partition("## ")[0]
 
 
-def of_sections(room, each, cases):
-    """Sections whose RFC is named, and refusals of those without. Where each comment names its own, `each` says so."""
-    for title, change, printed, said in cases:
-        yield Run(f"a section {title}{each}", room, f"{change}; tools/tables", printed.encode(), said.encode(), 1 if said else 0)
+def of_sections(room):
+    """Sections whose RFC is named, and refusals of those without."""
+    for title, change, printed, said in CHANGES:
+        yield Run(f"a section {title}", room, f"{change}; tools/tables", printed.encode(), said.encode(), 1 if said else 0)
 
 
 def of_tables(room):
@@ -179,5 +172,4 @@ def of_tables(room):
     for page, text in PAGES.items():
         yield Run(f"tables of a small crate: {page}", room, f"cat docs/{page}", (top_of(page) + text).encode())
     yield Run("tables that are made already", room, "tools/tables", b"")
-    yield from of_sections(room, "", EARLIER)
-    yield from of_sections(room, ", where each comment names its own", OWN)
+    yield from of_sections(room)

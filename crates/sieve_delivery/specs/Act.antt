@@ -1,5 +1,5 @@
 -- Commands that act (RFC 5228, 4; RFC 5229, 4; RFC 5232, 3).
-use Rattle.std.specs.Prelude.{ℕ, List, take, Bool, false, Option, None, Some}
+use Rattle.std.specs.Prelude.{ℕ, List, take, Bool, false, Option, None, Some, if◌then◌else◌}
 use Rattle.flag_lists.specs.Flags.{flag_list, flag_text, flag_union, flags_without}
 use Rattle.sieve_limits.specs.Limits.{value_limit}
 use Rattle.sieve_script.specs.Reading.{Leaf, keep_leaf, fileinto_leaf, redirect_leaf, discard_leaf, set_leaf, flag_leaf, include_leaf, vacation_leaf, reject_leaf}

@@ -1,5 +1,5 @@
 -- Conflicts between actions (RFC 5230, 4.7; RFC 5429, 2.4).
-use Rattle.std.specs.Prelude.{List, [], ◌∷◌, Bool, true, false, not, ◌&&◌, ◌||◌, Option, None, Some}
+use Rattle.std.specs.Prelude.{List, [], ◌∷◌, Bool, true, false, not, ◌&&◌, ◌||◌, Option, None, Some, if◌then◌else◌}
 use Rattle.std.specs.Option.{option_or}
 use Rattle.sieve_delivery.specs.declared.action.Action.{Action}
 use Rattle.sieve_delivery.specs.declared.action.Action.TheVariants.{Discard, Respond, Reject}

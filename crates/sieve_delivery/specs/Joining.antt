@@ -1,5 +1,5 @@
 -- Actions that are one (RFC 5228, 2.10.3), and how the later joins the one that is there.
-use Rattle.std.specs.Prelude.{Bool, true, false, ◌||◌, nat_eq}
+use Rattle.std.specs.Prelude.{Bool, true, false, ◌||◌, nat_eq, if◌then◌else◌}
 use Rattle.std.specs.Option.{option_or}
 use lib.Pointwise.{pointwise}
 use Rattle.flag_lists.specs.Flags.{flag_union}

@@ -1,5 +1,5 @@
 -- How an action is performed in a run (RFC 5228, 2.10).
-use Rattle.std.specs.Prelude.{ℕ, List, [], ◌∷◌, ◌++◌, length, map, Bool, not, ◌||◌, Option, None, Some, nat_lt}
+use Rattle.std.specs.Prelude.{ℕ, List, [], ◌∷◌, ◌++◌, length, map, Bool, not, ◌||◌, Option, None, Some, nat_lt, if◌then◌else◌}
 use Rattle.std.specs.List.{list_any}
 use Rattle.sieve_limits.specs.Limits.{action_limit}
 use Rattle.sieve_delivery.specs.declared.action.Action.{Action}

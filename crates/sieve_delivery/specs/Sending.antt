@@ -1,5 +1,5 @@
 -- Redirects (RFC 5228, 4.2), responses (RFC 5230, 4) and rejections (RFC 5429, 2).
-use Rattle.std.specs.Prelude.{ℕ, List, [], ◌∷◌, map, Bool, true, false, ◌&&◌, Option, None, Some, is_some}
+use Rattle.std.specs.Prelude.{ℕ, List, [], ◌∷◌, map, Bool, true, false, ◌&&◌, Option, None, Some, is_some, if◌then◌else◌}
 use Rattle.std.specs.Option.{option_map}
 use Rattle.message_text.specs.Addresses.{AddrSpec, addresses_of}
 use Rattle.sieve_script.specs.Reading.{Vacation}

@@ -1,6 +1,6 @@
 -- Stores into mailboxes (RFC 5228, 4.1 and 4.3), with flags (RFC 5232, 3 and 5). Settings of a
 -- store are in RFC 5490, 3.2, and RFC 8579, 4.
-use Rattle.std.specs.Prelude.{◌==◌, ℕ, List, [], ◌∷◌, length, map, Bool, true, false, not, ◌&&◌, Option, None, Some, nat_eq, nat_lt, nat_le}
+use Rattle.std.specs.Prelude.{◌==◌, ℕ, List, [], ◌∷◌, length, map, Bool, true, false, not, ◌&&◌, Option, None, Some, nat_eq, nat_lt, nat_le, if◌then◌else◌}
 use Rattle.std.specs.List.{list_all}
 use Rattle.std.specs.Option.{option_map}
 use Rattle.flag_lists.specs.Flags.{is_keyword, flags_of_texts}

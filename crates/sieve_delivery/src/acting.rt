@@ -4,7 +4,8 @@ ghost use Rattle.std.specs.List.{list_all};
 ghost use Rattle.std.specs.Option.{option_map};
 ghost use Rattle.message_text.specs.Addresses.{addresses_of};
 ghost use Rattle.sieve_delivery.specs.Act.{discards, gives, sets};
-ghost use Rattle.sieve_delivery.specs.Performing.{Performed, ends_with, performs};
+ghost use Rattle.sieve_delivery.specs.Performing as performing;
+ghost use Rattle.sieve_delivery.specs.Performing.{ends_with, performs};
 ghost use Rattle.sieve_delivery.specs.Sending.{only_address, sends, whole_address};
 ghost use Rattle.sieve_delivery.specs.Storing.{files_into, filing_of, is_mailbox, is_no_control, is_special_use, keeps, may_be_used, store_deed};
 ghost use Rattle.sieve_delivery.specs.view.Delivery.{delivery_as};
@@ -56,7 +57,7 @@ fn end_with(
     line: u64,
     state: &mut RunState,
 ) -> Result<Ending, AllocError>
-    ensures { (performed : Performed) (deed : deeds.Deed)
+    ensures { (performed : performing.Performed) (deed : deeds.Deed)
         → performed_as added (state_of state.old).entries ≡ performed
         → deed.leaves_keep ≡ leaves_keep → IfOk result (λ ending. ending_by ending (state_of state.new)
         ≡ ends_with (delivery_as delivery.now) line deed performed (state_of state.old)) }

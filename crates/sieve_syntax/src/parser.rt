@@ -8,7 +8,7 @@ ghost use Rattle.sieve_syntax.specs.view.Parsed.{Finishes, Goes, Parses, ParsesA
 ghost use Rattle.sieve_syntax.specs.view.Reader.{state_value};
 ghost use Rattle.sieve_syntax.specs.Syntax.{IsFaultLine, WritesText, syntax_of};
 ghost use Rattle.sieve_syntax.specs.Token.{IsInside, line_at};
-ghost use Rattle.sieve_syntax.specs.Tree.{Command};
+ghost use Rattle.sieve_syntax.specs.Tree as trees;
 ghost use Rattle.sieve_syntax.specs.view.Script.{tree_of};
 ghost use Rattle.sieve_syntax.specs.Symbol.{symbol_of};
 ghost use Rattle.sieve_syntax.specs.declared.parser.SyntaxFault.TheVariants.{NoMemory};
@@ -59,7 +59,7 @@ pub fn parse(alloc: Global, text: &[u8]) -> Result<ParsedScript, SyntaxFault>
     ensures tree { IfOk result (λ script. WritesText (tree_of script) text.now) }
     // The line is that of the fault, and no tree writes the text.
     ensures fault { (line : ℕ) → result ≡ Err (SyntaxFault.Syntax line)
-        → IsFaultLine text.now line × ((tree : List Command) → WritesText tree text.now → ⊥) }
+        → IsFaultLine text.now line × ((tree : List trees.Command) → WritesText tree text.now → ⊥) }
     // The tree or the line is what `syntax_of` says.
     ensures exact { Parses result (syntax_of text.now) }
 {
