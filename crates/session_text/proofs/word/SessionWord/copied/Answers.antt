@@ -1,6 +1,6 @@
 use Rattle.std.proofs.Common.{rules}
 use Rattle.session_text.specs.SessionLine.{word_value}
-use Rattle.session_text.proofs.word.Word.copied.Goals as goal
+use Rattle.session_text.proofs.word.SessionWord.copied.Goals as goal
 
 pub returns-in_default : goal.returns-in_default
 unfolding word_value
