@@ -9,8 +9,9 @@ use Rattle.std.proofs.lemmas.List.Sums.{suffix_len_is}
 use Rattle.octets.specs.Octet.{is_digit, is_white, octet_of}
 use Rattle.date_text.specs.Number.{digit}
 use Rattle.date_text.specs.Reading.{date_in, moment_read}
-use Rattle.date_text.specs.Words.{is_closed, is_joined, is_letter, kept, without_comments}
-use Rattle.date_text.specs.declared.spot.CommentSpot.TheVariants.{Outside}
+use Rattle.date_text.specs.Words.{is_joined, is_letter, kept, without_comments}
+use Rattle.structured_text.specs.declared.state.LexerState.TheVariants.{Outside}
+use Rattle.structured_text.specs.Structure.{comments_alone, is_closed}
 use Rattle.date_text.proofs.WordLemmas.{closed_word, kept_word, no_white, not_both, of_word}
 
 -- TEXTS
@@ -29,7 +30,7 @@ plain_first c rest h =
     let both = and_parts (not (c == octet_of ";")) (not (c == octet_of "(")) parts.0 in
     (not_is (c == octet_of "(") both.1, parts.1)
 
-pub plain_closed : (text : List ℕ) → list_all is_plain text ≡ true → is_closed Outside text ≡ true
+pub plain_closed : (text : List ℕ) → list_all is_plain text ≡ true → is_closed comments_alone Outside text ≡ true
 unfolding is_closed
 plain_closed [] h = refl
 plain_closed (c ∷ rest) h = let parts = plain_first c rest h in closed_word c rest parts.0 ∙ plain_closed rest parts.1

@@ -7,9 +7,10 @@ use Rattle.std.proofs.lemmas.Grind.{common_steps}
 use Rattle.std.proofs.lemmas.List.Sums.{prefix_len-le-length}
 use Rattle.std.specs.List.{onto_first, prefix_len}
 use Rattle.octets.specs.Octet.{is_digit, is_white, octet_of}
-use Rattle.date_text.specs.Words.{after_octet, is_closed, is_joined, is_joined_to, is_letter, is_outside, kept, words_of}
-use Rattle.date_text.specs.declared.spot.CommentSpot.{CommentSpot}
-use Rattle.date_text.specs.declared.spot.CommentSpot.TheVariants.{Escaped, Inside, Outside}
+use Rattle.date_text.specs.Words.{is_joined, is_joined_to, is_letter, kept, words_of}
+use Rattle.structured_text.specs.declared.state.LexerState.{LexerState}
+use Rattle.structured_text.specs.declared.state.LexerState.TheVariants.{EscapedInComment, EscapedInLiteral, EscapedInString, InComment, InLiteral, InString, Outside}
+use Rattle.structured_text.specs.Structure.{after_octet, comments_alone, is_closed, is_outside}
 use Rattle.date_text.specs.view.Words.{begins_word, closes, is_of_word, is_word_at, words_from, words_in}
 
 -- the words of a text by its first octet
@@ -37,33 +38,45 @@ white_of true p none fails = refl
 white_of false true none fails = sym none
 white_of false false none fails = sym fails
 
-passed_outside : (c : ℕ) (rest : List ℕ) (paren : Bool) → (c == octet_of "(") ≡ paren → is_of_word c ≡ false → words_of (kept (cond paren (Inside 0) Outside) rest) ≡ words_of (cond paren (octet_of " ") c ∷ kept (cond paren (Inside 0) Outside) rest)
-passed_outside c rest true is fails = sym (words_white (octet_of " ") (kept (Inside 0) rest) refl)
+passed_outside : (c : ℕ) (rest : List ℕ) (paren : Bool) → (c == octet_of "(") ≡ paren → is_of_word c ≡ false → words_of (kept (cond paren (InComment 0) Outside) rest) ≡ words_of (cond paren (octet_of " ") c ∷ kept (cond paren (InComment 0) Outside) rest)
+passed_outside c rest true is fails = sym (words_white (octet_of " ") (kept (InComment 0) rest) refl)
 passed_outside c rest false is fails = sym (words_white c (kept Outside rest) (white_of (is_white c) (c == octet_of "(") is fails))
 
 -- an octet that is of no word changes no words
-pub passed_words : (spot : CommentSpot) (c : ℕ) (rest : List ℕ) → is_word_at spot c ≡ false → words_from (after_octet spot c) rest ≡ words_from spot (c ∷ rest)
+pub passed_words : (spot : LexerState) (c : ℕ) (rest : List ℕ) → is_word_at spot c ≡ false → words_from (after_octet comments_alone spot c) rest ≡ words_from spot (c ∷ rest)
 unfolding kept
 passed_words Outside c rest fails = passed_outside c rest (c == octet_of "(") refl fails
-passed_words (Inside others) c rest fails = refl
-passed_words (Escaped others) c rest fails = refl
+passed_words (InComment others) c rest fails = refl
+passed_words (EscapedInComment others) c rest fails = refl
+passed_words InString c rest fails = refl
+passed_words EscapedInString c rest fails = refl
+passed_words InLiteral c rest fails = refl
+passed_words EscapedInLiteral c rest fails = refl
 
-pub passed_closed : (spot : CommentSpot) (c : ℕ) (rest : List ℕ) → is_closed (after_octet spot c) rest ≡ is_closed spot (c ∷ rest)
+pub passed_closed : (spot : LexerState) (c : ℕ) (rest : List ℕ) → is_closed comments_alone (after_octet comments_alone spot c) rest ≡ is_closed comments_alone spot (c ∷ rest)
 unfolding is_closed
 passed_closed spot c rest = refl
 
 -- at the end of a text whose comments are closed, no comment is open
-pub ended_outside : (spot : CommentSpot) (text : List ℕ) → length text ≡ 0 → is_closed spot text ≡ true → (spot ≡ Outside) × (begins_word text ≡ true)
+pub ended_outside : (spot : LexerState) (text : List ℕ) → length text ≡ 0 → is_closed comments_alone spot text ≡ true → (spot ≡ Outside) × (begins_word text ≡ true)
 unfolding is_closed
 ended_outside Outside [] none closed = (refl, refl)
-ended_outside (Inside others) [] none closed = absurd cc
-ended_outside (Escaped others) [] none closed = absurd cc
+ended_outside (InComment others) [] none closed = absurd cc
+ended_outside (EscapedInComment others) [] none closed = absurd cc
+ended_outside InString [] none closed = absurd cc
+ended_outside EscapedInString [] none closed = absurd cc
+ended_outside InLiteral [] none closed = absurd cc
+ended_outside EscapedInLiteral [] none closed = absurd cc
 ended_outside spot (c ∷ rest) none closed = absurd (omega arith)
 
-pub outside_is : (spot : CommentSpot) (c : ℕ) → is_word_at spot c ≡ true → (spot ≡ Outside) × (is_of_word c ≡ true)
+pub outside_is : (spot : LexerState) (c : ℕ) → is_word_at spot c ≡ true → (spot ≡ Outside) × (is_of_word c ≡ true)
 outside_is Outside c is = (refl, is)
-outside_is (Inside others) c is = absurd cc
-outside_is (Escaped others) c is = absurd cc
+outside_is (InComment others) c is = absurd cc
+outside_is (EscapedInComment others) c is = absurd cc
+outside_is InString c is = absurd cc
+outside_is EscapedInString c is = absurd cc
+outside_is InLiteral c is = absurd cc
+outside_is EscapedInLiteral c is = absurd cc
 
 -- a text is its first octet and the rest
 pub cons_first : (text : List ℕ) → 0 < length text → text ≡ get_or text 0 0 ∷ take (length text - 1) (drop 1 text)
@@ -79,11 +92,11 @@ no_white false false is = (refl, refl)
 
 pub kept_word : (c : ℕ) (rest : List ℕ) → (c == octet_of "(") ≡ false → kept Outside (c ∷ rest) ≡ c ∷ kept Outside rest
 unfolding kept
-kept_word c rest none = ap (λ p. cond p (octet_of " ") c ∷ kept (cond p (Inside 0) Outside) rest) none
+kept_word c rest none = ap (λ p. cond p (octet_of " ") c ∷ kept (cond p (InComment 0) Outside) rest) none
 
-pub closed_word : (c : ℕ) (rest : List ℕ) → (c == octet_of "(") ≡ false → is_closed Outside (c ∷ rest) ≡ is_closed Outside rest
+pub closed_word : (c : ℕ) (rest : List ℕ) → (c == octet_of "(") ≡ false → is_closed comments_alone Outside (c ∷ rest) ≡ is_closed comments_alone Outside rest
 unfolding is_closed
-closed_word c rest none = ap (λ p. is_closed (cond p (Inside 0) Outside) rest) none
+closed_word c rest none = ap (λ p. is_closed comments_alone (cond p (InComment 0) Outside) rest) none
 
 pub not_both : (c : ℕ) → (is_letter c && is_digit c) ≡ false
 not_both c = grind (arith, nat_tests)
@@ -187,15 +200,6 @@ pub no_words : (text : List ℕ) → length text ≡ 0 → words_in text ≡ []
 unfolding kept words_of
 no_words [] none = refl
 no_words (c ∷ rest) none = absurd (omega arith)
-
--- a text by its octets from a place on
-
-pub closed_step : (spot : CommentSpot) (text : List ℕ) (i : ℕ) → i < length text → is_closed (after_octet spot (get_or text i 0)) (drop (i + 1) text) ≡ is_closed spot (drop i text)
-closed_step spot text i h = rw (add-one, drop-cons text i 0) (passed_closed spot (get_or text i 0) (drop (suc i) text))
-
-pub closed_end : (spot : CommentSpot) (text : List ℕ) (i : ℕ) → length text ≤ i → is_closed spot (drop i text) ≡ is_outside spot
-unfolding is_closed
-closed_end spot text i h = let none : drop i text ≡ [] = grind (arith, common_steps) in rw none refl
 
 -- the first word isn't longer than the text
 pub more_fits : (text : List ℕ) (n : ℕ) → 0 < length text → n ≡ more (get_or text 0 0) (take (length text - 1) (drop 1 text)) → 1 + n ≤ length text

@@ -3,46 +3,25 @@
 use Rattle.std.specs.Prelude.{ℕ, ◌+◌, ◌-◌, Bool, true, false, ◌&&◌, ◌||◌, ◌==◌, List, [], ◌∷◌, ◌++◌, Option, Some, None, if◌then◌else◌}
 use Rattle.std.specs.List.{onto_first}
 use Rattle.octets.specs.Octet.{is_between, is_digit, is_white, octet_of}
-use Rattle.date_text.specs.declared.spot.CommentSpot.{CommentSpot}
-use Rattle.date_text.specs.declared.spot.CommentSpot.TheVariants.{Escaped, Inside, Outside}
+use Rattle.structured_text.specs.declared.state.LexerState.{LexerState}
+use Rattle.structured_text.specs.declared.state.LexerState.TheVariants.{Outside}
+use Rattle.structured_text.specs.Structure.{after_octet, comments_alone, is_closed}
 
 -- COMMENTS
 
--- The state after an octet. Comments nest: the state in a comment has the number of other comments
--- around it. A `\` in a comment protects the octet after it.
-abbrev pub after_octet : CommentSpot → ℕ → CommentSpot
-after_octet Outside c = if c == octet_of "(" then Inside 0 else Outside
-after_octet (Inside others) c =
-    if c == octet_of "(" then Inside (others + 1)
-    else if c == octet_of ")" then (if others == 0 then Outside else Inside (others - 1))
-    else if c == octet_of "\\" then Escaped others
-    else Inside others
-after_octet (Escaped others) c = Inside others
-
 -- the octets that stay of one: outside comments itself, and of a comment a space
-abbrev pub kept_of : CommentSpot → ℕ → List ℕ
+abbrev pub kept_of : LexerState → ℕ → List ℕ
 kept_of Outside c = (if c == octet_of "(" then octet_of " " else c) ∷ []
-kept_of (Inside others) c = []
-kept_of (Escaped others) c = []
+kept_of other c = []
 
 -- the octets that stay of a text that begins in this state
-unfoldable pub kept : CommentSpot → List ℕ → List ℕ
+unfoldable pub kept : LexerState → List ℕ → List ℕ
 kept spot [] = []
-kept spot (c ∷ rest) = kept_of spot c ++ kept (after_octet spot c) rest
-
-abbrev pub is_outside : CommentSpot → Bool
-is_outside Outside = true
-is_outside (Inside others) = false
-is_outside (Escaped others) = false
-
--- whether each comment of a text that begins in this state is closed
-unfoldable pub is_closed : CommentSpot → List ℕ → Bool
-is_closed spot [] = is_outside spot
-is_closed spot (c ∷ rest) = is_closed (after_octet spot c) rest
+kept spot (c ∷ rest) = kept_of spot c ++ kept (after_octet comments_alone spot c) rest
 
 -- a text with a space for each comment, or none where one isn't closed (RFC 5322, 3.2.2 and 4.3)
 abbrev pub without_comments : List ℕ → Option (List ℕ)
-without_comments text = if is_closed Outside text then Some (kept Outside text) else None
+without_comments text = if is_closed comments_alone Outside text then Some (kept Outside text) else None
 
 -- WORDS
 

@@ -12,7 +12,6 @@ mod number;
 mod part;
 mod part_text;
 mod reading;
-mod spot;
 mod words;
 mod zone;
 mod zone_words;

@@ -14,9 +14,9 @@ use crate::calendar::date_of;
 use crate::date_words::{DateSlices, date_words};
 use crate::moment::Moment;
 use crate::number::{digit_number, four_number, pair_number, up_to};
-use crate::spot::is_closed;
 use crate::zone_words::{place_of, zone_in};
 use jiff_core::civil::Date;
+use structured_text::{COMMENTS_ALONE, is_closed};
 
 /// The names of the months, from January on.
 pub(crate) const MONTH_NAMES: [&[u8]; 12] = [
@@ -167,7 +167,7 @@ pub fn date_in(value: &[u8]) -> Option<Moment>
     ensures { option_map moment_as result ≡ date_in value.now }
 {
     let text = after_last_semicolon(value);
-    if !is_closed(text) {
+    if !is_closed(COMMENTS_ALONE, text) {
         return None;
     }
     let words = date_words(text)?;

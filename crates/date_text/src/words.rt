@@ -1,12 +1,13 @@
 //! The words of a field's value, one after another (RFC 5322, 3.2.2 and 4.3).
 ghost use Rattle.std.specs.Prelude.{◌≡◌, ◌+◌, ◌<◌, ◌≤◌, ◌^◌, [], ◌∷◌, true, IfSome, MatchOption, length, ⊤};
 ghost use Rattle.std.specs.List.{list_all, prefix_len};
-ghost use Rattle.date_text.specs.Words.{is_closed, is_joined, is_letter};
-ghost use Rattle.date_text.specs.declared.spot.CommentSpot.TheVariants.{Outside};
-ghost use Rattle.date_text.specs.view.Words.{begins_word, closes, depth_of, is_of_word, is_word_at, words_from, words_in};
+ghost use Rattle.date_text.specs.Words.{is_joined, is_letter};
+ghost use Rattle.structured_text.specs.declared.state.LexerState.TheVariants.{Outside};
+ghost use Rattle.structured_text.specs.Structure.{comments_alone, depth_of, is_closed};
+ghost use Rattle.date_text.specs.view.Words.{begins_word, closes, is_of_word, is_word_at, words_from, words_in};
 
-use crate::spot::CommentSpot;
 use octets::{is_digit, is_white};
+use structured_text::{COMMENTS_ALONE, LexerState};
 
 /// Whether an octet is a letter (RFC 5234, appendix B.1: ALPHA).
 fn is_letter(octet: u8) -> bool
@@ -46,7 +47,7 @@ fn is_of_word(octet: u8) -> bool
 }
 
 /// Whether an octet in this state is one of a word.
-fn is_word_at(spot: CommentSpot, octet: u8) -> bool
+fn is_word_at(spot: LexerState, octet: u8) -> bool
     ensures { result ≡ is_word_at spot octet }
 {
     spot.is_outside() && is_of_word(octet)
@@ -54,15 +55,15 @@ fn is_word_at(spot: CommentSpot, octet: u8) -> bool
 
 /// The state after the first octet of a text, and the rest of the text. None where that octet is
 /// one of a word, or there is none.
-fn after_blank(spot: CommentSpot, text: &[u8]) -> Option<(CommentSpot, &[u8])>
+fn after_blank(spot: LexerState, text: &[u8]) -> Option<(LexerState, &[u8])>
     requires { depth_of spot < 2 ^ 63 }
     ensures words { IfSome result
         (λ found. words_from found.0 found.1.now ≡ words_from spot text.now) }
     ensures closed { IfSome result
-        (λ found. is_closed found.0 found.1.now ≡ is_closed spot text.now) }
+        (λ found. is_closed comments_alone found.0 found.1.now ≡ is_closed comments_alone spot text.now) }
     ensures shorter { IfSome result (λ found. (length found.1.now < length text.now)
         × (depth_of found.0 + length found.1.now ≤ depth_of spot + length text.now)) }
-    ensures none { is_closed spot text.now ≡ true
+    ensures none { is_closed comments_alone spot text.now ≡ true
         → MatchOption result ((spot ≡ Outside) × (begins_word text.now ≡ true)) (λ _. ⊤) }
 {
     let [octet, rest @ ..] = text else {
@@ -71,7 +72,7 @@ fn after_blank(spot: CommentSpot, text: &[u8]) -> Option<(CommentSpot, &[u8])>
     if is_word_at(spot, *octet) {
         return None;
     }
-    Some((spot.after(*octet), rest))
+    Some((spot.after(COMMENTS_ALONE, *octet), rest))
 }
 
 /// The text after the white space and the comments with which it begins.
@@ -81,7 +82,7 @@ fn without_blanks(text: &[u8]) -> &[u8]
     ensures words { words_in result.now ≡ words_in text.now }
     ensures begins { begins_word result.now ≡ true }
 {
-    let mut spot = CommentSpot::Outside;
+    let mut spot = LexerState::Outside;
     let mut left = text;
     while let Some((after, rest)) = after_blank(spot, left) {
         spot = after;

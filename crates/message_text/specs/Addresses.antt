@@ -8,8 +8,9 @@ use lib.Pointwise.{pointwise}
 use Rattle.octets.specs.Octet.{is_white, octet_of}
 use Rattle.message_text.specs.declared.addressing.AddressPart.{AddressPart}
 use Rattle.message_text.specs.declared.addressing.AddressPart.TheVariants as part
-use Rattle.message_text.specs.declared.marks.Inside.{Inside}
-use Rattle.message_text.specs.declared.marks.Inside.TheVariants as inside
+use Rattle.structured_text.specs.Structure.{after_octet, all_brackets}
+use Rattle.structured_text.specs.declared.state.LexerState.{LexerState}
+use Rattle.structured_text.specs.declared.state.LexerState.TheVariants.{EscapedInComment, EscapedInLiteral, EscapedInString, InComment, InLiteral, InString, Outside}
 use Rattle.message_text.specs.declared.marks.AddressMark.{AddressMark}
 use Rattle.message_text.specs.declared.marks.AddressMark.TheVariants as mark
 use Rattle.message_text.specs.declared.marks.Marked.{Marked}
@@ -47,7 +48,7 @@ part_of_address part.Detail address = option_and_then detail_in address.local_pa
 -- The state at the start of a value, with nothing open. A construct that is opened and not closed
 -- lasts to the end of the value.
 abbrev pub value_start : Surroundings
-value_start = record { inside = inside.Nothing; is_protected = false; in_angle = false }
+value_start = record { state = Outside; in_angle = false }
 
 -- An octet outside of quoted strings, comments and literals may open one of these or an angle. It
 -- may close the angle, or stand for itself. In an angle no other opens.
@@ -62,60 +63,34 @@ free_mark in_angle b =
 -- An octet in a quoted string (RFC 5322, 3.2.4). The sign that closes it, and a backslash that
 -- protects the next octet, are signs. All others stand for themselves, a backslash at the end of
 -- the value too.
-abbrev pub quoted_mark : (is_protected is_last : Bool) → ℕ → AddressMark
-quoted_mark is_protected is_last b =
-    if is_protected then mark.Quoted else
-    if b == octet_of "\"" || (b == octet_of "\\" && not is_last) then mark.QuoteSign else mark.Quoted
+abbrev pub quoted_mark : (is_last : Bool) → ℕ → AddressMark
+quoted_mark is_last b = if b == octet_of "\"" || (b == octet_of "\\" && not is_last) then mark.QuoteSign else mark.Quoted
 
 -- the mark of an octet by the construct that is open before it
-abbrev pub mark_in : Inside → (is_protected in_angle is_last : Bool) → ℕ → AddressMark
-mark_in inside.Nothing is_protected in_angle is_last b = free_mark in_angle b
-mark_in inside.QuotedString is_protected in_angle is_last b = quoted_mark is_protected is_last b
-mark_in (inside.Comment depth) is_protected in_angle is_last b = mark.Comment
-mark_in inside.DomainLiteral is_protected in_angle is_last b = mark.Literal
+abbrev pub mark_in : LexerState → (in_angle is_last : Bool) → ℕ → AddressMark
+mark_in Outside in_angle is_last b = free_mark in_angle b
+mark_in InString in_angle is_last b = quoted_mark is_last b
+mark_in EscapedInString in_angle is_last b = mark.Quoted
+mark_in (InComment others) in_angle is_last b = mark.Comment
+mark_in (EscapedInComment others) in_angle is_last b = mark.Comment
+mark_in InLiteral in_angle is_last b = mark.Literal
+mark_in EscapedInLiteral in_angle is_last b = mark.Literal
 
 -- the mark of an octet in a state
 abbrev pub mark_at : Surroundings → (is_last : Bool) → ℕ → AddressMark
-mark_at spot is_last b = mark_in spot.inside spot.is_protected spot.in_angle is_last b
-
--- the state after an octet, if nothing is open before it
-abbrev pub opened_by : ℕ → Inside
-opened_by b =
-    if b == octet_of "\"" then inside.QuotedString else
-    if b == octet_of "(" then inside.Comment 1 else
-    if b == octet_of "[" then inside.DomainLiteral else inside.Nothing
-
--- the state after an octet of so many comments in one another (RFC 5322, 3.2.2)
-abbrev pub comment_after : (depth : ℕ) → ℕ → Inside
-comment_after depth b =
-    if b == octet_of "(" then inside.Comment (depth + 1) else
-    if b == octet_of ")" then (if nat_le depth 1 then inside.Nothing else inside.Comment (depth - 1)) else inside.Comment depth
-
--- the state after an octet that isn't protected
-abbrev pub inside_after : Inside → ℕ → Inside
-inside_after inside.Nothing b = opened_by b
-inside_after inside.QuotedString b = if b == octet_of "\"" then inside.Nothing else inside.QuotedString
-inside_after (inside.Comment depth) b = comment_after depth b
-inside_after inside.DomainLiteral b = if b == octet_of "]" then inside.Nothing else inside.DomainLiteral
-
--- Whether a backslash protects the next octet in a state. It does in quoted strings, comments and
--- literals (RFC 5322, 3.2.1).
-abbrev pub is_protecting : Inside → Bool
-is_protecting inside.Nothing = false
-is_protecting other = true
+mark_at spot is_last b = mark_in spot.state spot.in_angle is_last b
 
 -- Whether an angle is open after an octet. An octet in a quoted string, a comment or a literal
 -- opens and closes none.
-abbrev pub angle_after : Inside → (in_angle : Bool) → ℕ → Bool
-angle_after inside.Nothing in_angle b = if b == octet_of "<" then true else if b == octet_of ">" then false else in_angle
+abbrev pub angle_after : LexerState → (in_angle : Bool) → ℕ → Bool
+angle_after Outside in_angle b = if b == octet_of "<" then true else if b == octet_of ">" then false else in_angle
 angle_after other in_angle b = in_angle
 
--- the whole state after an octet; one that is protected opens and closes nothing
+-- the whole state after an octet
 abbrev pub surroundings_after : Surroundings → ℕ → Surroundings
 surroundings_after spot b = record {
-  inside = if spot.is_protected then spot.inside else inside_after spot.inside b;
-  is_protected = not spot.is_protected && (is_protecting spot.inside && b == octet_of "\\");
-  in_angle = angle_after spot.inside spot.in_angle b;
+  state = after_octet all_brackets spot.state b;
+  in_angle = angle_after spot.state spot.in_angle b;
 }
 
 -- the octets from some place on, each with its mark

@@ -1,5 +1,4 @@
 -- The meanings of the program's types in contracts. The other files of specs/ restate the subject.
-pub mod Depths
 pub mod Divisions
 pub mod Heads
 pub mod NameHash

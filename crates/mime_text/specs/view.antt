@@ -3,5 +3,4 @@ pub mod ContentTypes
 pub mod Cuts
 pub mod Entities
 pub mod Marks
-pub mod Spots
 pub mod Wanted

@@ -208,17 +208,17 @@ module _ (Holds : RunState → Type 0) (kept : IsKept Holds) where
 
 -- a fact that holds of no actions, and of the actions throughout a run, holds of those of a verdict
 module _ (Holds : List Action → Type 0) (none : Holds []) (kept : IsKept (λ s. Holds (actions_in s.entries))) where
-  verdict_holds : (e : Ending) → Holds (actions_in (state_after e).entries) → Holds (actions_of (verdict_after e))
-  verdict_holds (goes_on s) h = h
-  verdict_holds (returned s) h = h
-  verdict_holds (stopped s) h = h
-  verdict_holds (failed error s) h = none
+  ending_holds : (e : Ending) → Holds (actions_in (state_after e).entries) → Holds (actions_of (verdict_after e))
+  ending_holds (goes_on s) h = h
+  ending_holds (returned s) h = h
+  ending_holds (stopped s) h = h
+  ending_holds (failed error s) h = none
 
   found_holds_of : (find : ScriptName → Lookup) (arrival : Arrival) (main : ScriptName) (lookup : Lookup) → Holds (actions_of (verdict_at find arrival main lookup))
   found_holds_of find arrival main missing = none
   found_holds_of find arrival main invalid = none
   found_holds_of find arrival main (present program) =
-      verdict_holds (run_of find arrival main program) (running_holds (λ s. Holds (actions_in s.entries)) kept find include_depth (delivery_to arrival main) program (begun main) none)
+      ending_holds (run_of find arrival main program) (running_holds (λ s. Holds (actions_in s.entries)) kept find include_depth (delivery_to arrival main) program (begun main) none)
 
   pub verdict_holds : (find : ScriptName → Lookup) (main : Option ScriptName) (arrival : Arrival) → Holds (actions_of (verdict_of find main arrival))
   unfolding verdict_of

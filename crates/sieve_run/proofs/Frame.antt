@@ -330,10 +330,10 @@ module _ (find other : ScriptName → Lookup) where
       subst (λ lookups. is_looked_up main lookups ≡ true) (sym (verdict_lookups (run_of find arrival main program)))
       ((running_frames include_depth (delivery_to arrival main) program).grows (begun main) main (or_first (name_eq main main) false (same_name main)))
 
-  verdict_same : (arrival : Arrival) (main : ScriptName) (lookup : Lookup) → AgreeOn (verdict_at find arrival main lookup).lookups → verdict_at other arrival main lookup ≡ verdict_at find arrival main lookup
-  verdict_same arrival main missing agree = refl
-  verdict_same arrival main invalid agree = refl
-  verdict_same arrival main (present program) agree =
+  lookup_same : (arrival : Arrival) (main : ScriptName) (lookup : Lookup) → AgreeOn (verdict_at find arrival main lookup).lookups → verdict_at other arrival main lookup ≡ verdict_at find arrival main lookup
+  lookup_same arrival main missing agree = refl
+  lookup_same arrival main invalid agree = refl
+  lookup_same arrival main (present program) agree =
       ap verdict_after ((running_frames include_depth (delivery_to arrival main) program).same (begun main)
       (λ name r. agree name (subst (λ lookups. is_looked_up name lookups ≡ true) (sym (verdict_lookups (run_of find arrival main program))) r)))
 
@@ -342,7 +342,7 @@ module _ (find other : ScriptName → Lookup) where
   verdict_same None arrival agree = refl
   verdict_same (Some main) arrival agree =
       ap (λ lookup. verdict_at other arrival main (if nat_lt name_limit (length main.name) then missing else lookup)) (sym (agree main (main_lookup arrival main (found_at find main))))
-      ∙ verdict_same arrival main (found_at find main) agree
+      ∙ lookup_same arrival main (found_at find main) agree
 
 -- the verdict over a library is that over another, if both have the same at each looked-up name
 pub frame : (texts others : LibraryTexts) (main : Option ScriptName) (arrival : Arrival) → Agree texts others (verdict_over texts main arrival).lookups → verdict_over others main arrival ≡ verdict_over texts main arrival

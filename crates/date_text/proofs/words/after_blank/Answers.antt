@@ -1,7 +1,7 @@
 use Rattle.std.proofs.Common.{◌<◌, length, get_or, take, drop, ◌-◌, sym, ap, ◌∙◌, arith}
-use Rattle.date_text.specs.Words.{is_closed}
 use Rattle.date_text.specs.view.Words.{words_from}
 use Rattle.date_text.proofs.WordLemmas.{cons_first, ended_outside, passed_closed, passed_words}
+use Rattle.structured_text.specs.Structure.{comments_alone, is_closed}
 use Rattle.date_text.proofs.words.after_blank.Goals as goal
 
 pub returns-in_default-clause-none : goal.returns-in_default-clause-none
@@ -21,6 +21,6 @@ returns-clause-closed c =
     let text = c.args.text.now in
     let rest = take (length text - 1) (drop 1 text) in
     let some : 0 < length text = omega arith in
-    ap (λ spot. is_closed spot rest) c.after.ensures.is
+    ap (λ spot. is_closed comments_alone spot rest) c.after.ensures.is
     ∙ passed_closed c.args.spot (get_or text 0 0) rest
-    ∙ ap (is_closed c.args.spot) (sym (cons_first text some))
+    ∙ ap (is_closed comments_alone c.args.spot) (sym (cons_first text some))
