@@ -1,5 +1,5 @@
-//! Structured values of header fields (RFC 5322, 3.2 and 3.4.1): comments, which nest, quoted strings
-//! and domain literals.
+//! Structured values of header fields (RFC 5322, 3.2 and 3.4.1): comments, which nest, quoted
+//! strings and domain literals.
 #![tactic(auto)]
 
 mod state;
