@@ -11,7 +11,7 @@ import tempfile
 from .runs import SECONDS, LeftOut, Reading
 from .site_flags import configured
 
-NAMES = ["comparator-i;ascii-numeric", "encoded-character", "mailbox", "relational", "special-use"]
+NAMES = ["body", "comparator-i;ascii-numeric", "date", "encoded-character", "mailbox", "relational", "special-use"]
 REQUIRES = ["copy", "fileinto", "imap4flags", "include", "variables"]
 FAULT = "fault"
 MAIL = "From: a@b.example\nTo: {to}\nSubject: one\nX-Blank: \n next\n\ntext\n"
@@ -52,6 +52,39 @@ ADDRESSES = [
     ("(comment)", "none", "none"),
 ]
 VALUE = 'if address :all :matches "to" "*" { fileinto "M${1}"; } else { fileinto "Mnone"; }'
+# A time with its zone as a field Date has it, and what is shown of it here and there.
+DATES = [
+    ("12:00:60 +0200", "12:00:60+02:00", "12:00:59+02:00"),
+    ("12:00:00+0200", "12:00:00+02:00", "none"),
+    ("12:00:00 +0000", "12:00:00+00:00", "12:00:00Z"),
+    ("12:00:00 PST", "12:00:00-08:00", "12:00:00-08:00"),
+    ("12:00:00 pst", "12:00:00-08:00", "12:00:00Z"),
+    ("12:00:00 GMT+0200", "none", "12:00:00Z"),
+    ("12:00:00 +02:00", "none", "12:00:00Z"),
+    ("12:00:00 +0275", "none", "12:00:00+03:15"),
+    ("12:00:00 +0200 late", "none", "12:00:00+02:00"),
+]
+SHOWN = 'if date :originalzone :matches "date" "iso8601" "*T*" { fileinto "M${2}"; } else { fileinto "Mnone"; }'
+# A condition, a mail's last fields and its body, and whether it holds here and there.
+TYPES = "Content-Type: text/plain\nContent-Type: text/html\n"
+CUTS = "Content-Type: multipart/mixed; boundary=a\nContent-Type: multipart/mixed; boundary=b\n"
+OF_BOTH = "\n--a\n\nof a\n--a--\n--b\n\nof b\n--b--\n"
+MORE = "Content-Type: multipart/mixed; boundary=a\n\n--a\n\none\n--a more\n\ntwo\n--a--\n"
+HELD = "Content-Type: {}\n\nSubject: held\n\ntext\n"
+CONDITIONS = [
+    ('body :content "text/plain" :contains "a"', f"{TYPES}\na\n", True, False),
+    ('body :content "text/html" :contains "a"', f"{TYPES}\na\n", False, True),
+    ('body :content "text/plain" :contains "of a"', CUTS + OF_BOTH, True, True),
+    ('body :content "text/plain" :contains "of b"', CUTS + OF_BOTH, False, False),
+    ('body :content "text/plain" :contains "--a more"', MORE, True, False),
+    ('body :content "message/rfc822" :contains "held"', HELD.format("message/rfc822"), True, True),
+    ('body :content "message/rfc822" :contains "held"', HELD.format("MESSAGE/RFC822"), True, False),
+    ('body :content "application/x" :contains "\u00e9"', "Content-Type: application/x; charset=iso-8859-1\nContent-Transfer-Encoding: quoted-printable\n\n=E9\n", False, True),
+    ('body :raw :is ""', "\n", True, False),
+    ('body :text :is ""', "\n", True, True),
+    ('date :zone "+25" :matches "date" "hour" "*"', "Date: Sun, 05 Jul 2026 12:00:00 +0200\n\n", False, True),
+    ('body :raw :contains "one\ntwo"', "\none\ntwo\n", False, False),
+]
 
 
 def cases():
@@ -60,6 +93,10 @@ def cases():
         yield script, MAIL.format(to="c@d.example"), one, other
     for to, one, other in ADDRESSES:
         yield VALUE, MAIL.format(to=to), f"M{one}", f"M{other}"
+    for time, one, other in DATES:
+        yield SHOWN, f"Date: Sun, 05 Jul 2026 {time}\n\n", f"M{one}", f"M{other}"
+    for test, mail, one, other in CONDITIONS:
+        yield f'if {test} {{ fileinto "M"; }}', f"From: a@b.example\n{mail}", *("M" if it else "INBOX" for it in (one, other))
 
 
 def here(room, path):
