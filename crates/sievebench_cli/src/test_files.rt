@@ -4,7 +4,7 @@
 use crate::files::{ReadFault, octets_at, script_name};
 use crate::folder::read_folder;
 use session_server::{
-    CommandWord, Clock, Location, Octets, Profile, ScriptName, TestJob, TestScript, TestWords,
+    Clock, CommandWord, Location, Octets, Profile, ScriptName, TestJob, TestScript, TestWords,
 };
 use sieve_limits::{MAX_ADDRESS, MAX_MAILBOX, MAX_MAILBOXES, MAX_MESSAGE, MAX_NAME, MAX_TEXT};
 use std::alloc::{AllocError, Global};
