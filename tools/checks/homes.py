@@ -150,8 +150,8 @@ STATUSES = {
     "4": [r"memory"],
 }
 SITE_STATUSES = {
-    "0": [r"verdicts agree", r"no fault", r"no verdict changed"],
-    "1": [r"disagrees", r"can't be judged", r"verdict\s+that changed", r"fewer", r"a script has a fault", r"left a file", r"is stale"],
+    "0": [r"verdicts agree", r"no fault", r"no verdict changed", r"after shutdown"],
+    "1": [r"without shutdown", r"disagrees", r"can't be judged", r"verdict\s+that changed", r"fewer", r"a script has a fault", r"left a file", r"is stale"],
     "2": [r"misuse", r"no mails", r"be read or written"],
     "3": [r"sievec", r"can't be run"],
     "130": [r"Ctrl-C"],

@@ -205,8 +205,8 @@ def of_refusals(room):
     yield run("a value of an option that takes none", room, "check --strict=no good", b"", told("argument --strict: ignored explicit argument 'no'; see --help"), 2)
     yield run("the help of a command", room, "lint --help", [b"usage: sievebench-site lint ", b"--sievec", b"--program PROGRAM"])
     yield run("an option without its value", room, "check good --main", b"", told("argument --main: expected one argument; see --help"), 2)
-    yield run("no command", room, "", b"", told("one of check, record, lint, import, untested, diff, why, watch and report is wanted; see --help"), 2)
-    yield run("an unknown command", room, "chek good", b"", told('"chek" is none of check, record, lint, import, untested, diff, why, watch and report; see --help'), 2)
+    yield run("no command", room, "", b"", told("one of check, record, lint, import, untested, diff, why, watch, report and lsp is wanted; see --help"), 2)
+    yield run("an unknown command", room, "chek good", b"", told('"chek" is none of check, record, lint, import, untested, diff, why, watch, report and lsp; see --help'), 2)
     for words in ("", "good none", "''"):
         yield run(f"one folder is wanted: {words}", room, f"check {words}", b"", told("one folder is wanted, the site; see --help"), 2)
     yield run("an option of another command", room, "lint --strict unnamed", b"", told("unrecognized arguments: --strict; see --help"), 2)

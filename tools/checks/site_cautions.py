@@ -1,7 +1,7 @@
 """Sites of which something is said that is no difference of a verdict: what stands in their files, what a server may do otherwise, and what it knows."""
 import codecs
 
-from . import site_differences, site_names, site_servers
+from . import site_differences, site_editors, site_names, site_servers
 from .runs import lines, some
 from .site import NOBODY, counted, run, site, told, write
 
@@ -71,5 +71,5 @@ def of_sites(room):
     """All of them."""
     room = room / "cautions"
     room.mkdir()
-    for part in (of_sets, of_zones, of_marks, of_cautions, site_names.of_names, site_servers.of_servers, site_differences.of_differences):
+    for part in (of_sets, of_zones, of_marks, of_cautions, site_names.of_names, site_servers.of_servers, site_differences.of_differences, site_editors.of_editors):
         yield from some(part.__name__, part(room))

@@ -17,24 +17,24 @@ from .findings import ERROR, NOTE, PLAIN, SKIPPED, Finding, Test
 from .folder import Site, User
 from .program import Place, Program, Session
 from .shown import Look
-from .survey import surveyed
+from .survey import Survey, surveyed
 from .words import quoted
 
 SIEVEC_SAYS = re.compile(rb"line ([0-9]+): error: (.*)")
 
 
 class Linted:
-    """What is found in the scripts of a user."""
+    """The findings in the scripts of a user, by what was asked of them: their survey, and the operations of each without a fault."""
 
-    def __init__(self, site: Site, user: User, session: Session) -> None:
-        self.site, self.user = site, user
-        self.survey = surveyed(session, site, user)
-        operations = {script.at(): session.dump(script.at()) for script in user.scripts}
+    def __init__(
+        self, site: Site, user: User, survey: Survey, operations: Dict[Place, Optional[List[bytes]]], actions: "Actions"
+    ) -> None:
+        self.site, self.user, self.survey = site, user, survey
         self.code = Code(user.scripts, operations, {main.scripts[0] for main in user.mains})
         self.faults = [
             Finding(it.path, line, word, sentence_of(it, line, word)) for it, (line, word) in self.survey.broken(user)
         ]
-        self.faults += [*self.include_faults(), *action_faults(session, self.code)]
+        self.faults += [*self.include_faults(), *actions.faults(self.code)]
         self.unjudged = [Finding(it.path, line, "not judged", why) for it, line, why in self.survey.unjudged(user)]
 
     def include_faults(self) -> Iterator[Finding]:
@@ -77,18 +77,38 @@ def include_sentence(kind: str, goal: Place) -> str:
     )
 
 
-def action_faults(session: Session, code: Code) -> Iterator[Finding]:
+class Actions:
     """Redirects to a text that isn't one address, responses from one that isn't, and stores into what can be no mailbox or by what can be
-    no use of one, by running each that has no variable in it."""
-    place = "personal", b"\x01action"
-    session.edit("message", [b"m"], b"", "a mail")
-    session.edit("main personal", [place[1]], None, "the main script")
-    for action in code.actions():
-        session.script(place, action.shown, "an action")
-        for line in session.report().verdicts[b"m"].lines:
-            if line.text.startswith(b"error "):
-                kind = line.text.split()[-1].decode()
+    no use of one, found by running each once that has no variable in it."""
+
+    def __init__(self, session: Session) -> None:
+        self.session, self.place = session, ("personal", b"\x01action")
+        # The error of each script that shows an action, if it has one.
+        self.errors: Dict[bytes, Optional[str]] = {}
+        session.edit("message", [b"m"], b"", "a mail")
+        session.edit("main personal", [self.place[1]], None, "the main script")
+
+    def faults(self, code: Code) -> Iterator[Finding]:
+        """The actions of some scripts that fail."""
+        for action in code.actions():
+            if action.shown not in self.errors:
+                self.errors[action.shown] = self.error_of(action.shown)
+            kind = self.errors[action.shown]
+            if kind:
                 yield Finding(action.script.path, action.line, kind, action.sentence or SENTENCES.get(kind, kind))
+
+    def error_of(self, shown: bytes) -> Optional[str]:
+        """The error in which a script ends, if it ends in one."""
+        self.session.script(self.place, shown, "an action")
+        lines = [line.text for line in self.session.report().verdicts[b"m"].lines]
+        return next((line.split()[-1].decode() for line in lines if line.startswith(b"error ")), None)
+
+
+def linted_in(session: Session, site: Site, user: User) -> Linted:
+    """The findings in the scripts of a user, which are put into a new session."""
+    found = surveyed(session, site, user)
+    operations = {script.at(): session.dump(script.at()) for script in user.scripts}
+    return Linted(site, user, found, operations, Actions(session))
 
 
 def lint(site: Site, program: Program, sievec: bool) -> List[Finding]:
@@ -100,7 +120,7 @@ def lint(site: Site, program: Program, sievec: bool) -> List[Finding]:
     reached: List[Optional[Set[bytes]]] = []
     for user in site.users:
         with program.session() as session:
-            linted = Linted(site, user, session)
+            linted = linted_in(session, site, user)
         faults.update(linted.faults)
         unjudged += linted.unjudged
         others += sievec_differences(site, linted) if sievec else []

@@ -10,7 +10,7 @@ import sys
 import time
 from typing import Callable, Dict, List, NoReturn, Optional, Tuple
 
-from . import check, diff, ends, lint, page, report, untested, watch, why
+from . import check, diff, ends, lint, lsp, page, report, untested, watch, why
 from .beginning import USUAL, ask_for, has_begun, is_new
 from .checked import Checked, Found, found_in
 from .completion import completed
@@ -20,6 +20,9 @@ from .files import locked, refuse_unwritable, remove_old, write_file
 from .folder import Site, is_name, refuse_no_mains, site_of, take_mails
 from .importing import import_mails
 from .judge import Judge
+from .lsp_place import Places
+from .lsp_server import Server as LanguageServer
+from .lsp_source import Source
 from .merge import Part, merged
 from .options import DESCRIPTION, SITE, STATUS, parsed, site_folder, wanted
 from .program import Program
@@ -203,6 +206,17 @@ def run_report(options: argparse.Namespace) -> int:
     return 0
 
 
+def run_lsp(options: argparse.Namespace) -> int:
+    """The command lsp, which its client ends."""
+    site = os.path.abspath(site_folder(options.folders)) if options.folders else None
+    if site is not None and not os.path.isdir(site):
+        refuse(f"no folder {quoted(site)}: the site is one")
+    path = None if options.program is None else os.fsencode(options.program)
+    source = Source(lambda names: Program(path, names, options.memory), options.names, Places(site))
+    source.program_of(options.names)
+    return lsp.serve(lsp.standard_input, LanguageServer(lsp.Output().write, source, VERSION))
+
+
 COMMANDS: Dict[str, Callable[[argparse.Namespace], int]] = {
     "check": run_check,
     "record": run_record,
@@ -213,6 +227,7 @@ COMMANDS: Dict[str, Callable[[argparse.Namespace], int]] = {
     "why": run_why,
     "watch": run_watch,
     "report": run_report,
+    "lsp": run_lsp,
 }
 
 

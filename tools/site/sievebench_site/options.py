@@ -11,6 +11,7 @@ from .check_words import CHECK, add_sharing
 from .ends import refuse
 from .folder import Wanted
 from .import_words import IMPORT, add_import
+from .lsp_words import LSP, add_server
 from .program import GIBIBYTE
 from .report_words import REPORT, add_page
 from .shown import Look
@@ -28,6 +29,7 @@ Commands:
   why       says which commands entered a verdict, and which branches were taken
   watch     reports changed verdicts after each save
   report    writes one page of HTML that shows all this
+  lsp       serves an editor: tells faults of a script while it is written
 
 'sievebench-site COMMAND --help' has the options of a command, 'sievebench-site --version' prints
 the versions of this tool and of the program.
@@ -75,11 +77,11 @@ Files of a site:
 STATUS = """\
 Exit status:
   0    check: all verdicts agree; lint: no fault; diff: no verdict changed; untested, why: done;
-       report: the page is written
+       report: the page is written; lsp: it ended after shutdown
   1    check: a verdict disagrees, a script has a fault, a verdict or a script can't be judged and
        isn't listed in unjudged, or without --lax something isn't expected or is stale; lint: a
        fault, or such a script; record: it left a file; diff: a verdict that changed; untested:
-       fewer changes are noticed than --fail-under asks for
+       fewer changes are noticed than --fail-under asks for; lsp: it ended without shutdown
   2    misuse: no mails, no such main script or mail, a file that can't be read or written, a
        refused edit
   3    the program, or sievec, can't be run
@@ -195,8 +197,9 @@ verdicts stay. A save counts once the files stay as they are for a twentieth of 
 a save touched is run, except main scripts that run one after another. All mails are held in memory,
 once for each line of mains.""",
     "report": REPORT,
+    "lsp": LSP,
 }
-PLACES = {"import": "[MAILBOX..] SITE", "diff": "[OLD] SITE", "why": "SITE MAIL"}
+PLACES = {"import": "[MAILBOX..] SITE", "diff": "[OLD] SITE", "why": "SITE MAIL", "lsp": "[SITE]"}
 
 
 def parser_of(command: str) -> Parser:
@@ -204,7 +207,8 @@ def parser_of(command: str) -> Parser:
     name, form = f"sievebench-site {command}", argparse.RawDescriptionHelpFormatter
     parser = Parser(name, description=DETAILS[command], epilog=MORE, formatter_class=form, allow_abbrev=False)
     parser.add_argument("folders", nargs="*", metavar=PLACES.get(command, "SITE"))
-    add_shown(parser)
+    if command != "lsp":
+        add_shown(parser)
     ADDERS[command](parser)
     return parser
 
@@ -238,6 +242,11 @@ def add_running(parser: Parser) -> None:
     parser.add_argument(
         "--clock", metavar="TIME", help="the current time, in place of the file clock, as 1783245600+0200"
     )
+    add_program(parser)
+
+
+def add_program(parser: Parser) -> None:
+    """Adds the options of the program itself."""
     parser.add_argument(
         "--program",
         metavar="PROGRAM",
@@ -365,6 +374,12 @@ def add_report(parser: Parser) -> None:
     add_page(parser)
 
 
+def add_lsp(parser: Parser) -> None:
+    """Adds the options of lsp."""
+    add_server(parser)
+    add_program(parser)
+
+
 ADDERS = {
     "check": add_check,
     "record": add_record,
@@ -375,6 +390,7 @@ ADDERS = {
     "why": add_running,
     "watch": add_watch,
     "report": add_report,
+    "lsp": add_lsp,
 }
 
 

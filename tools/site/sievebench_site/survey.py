@@ -59,13 +59,9 @@ def survey(site: Site, user: User, program: Program, told: Dict[Place, Optional[
     faults = {place: fault for place, fault in told.items() if fault}
     lacking: Dict[Place, List[bytes]] = {}
     for script in user.scripts:
-        fault = faults.get(script.at())
-        strange = [name for name in strangers(script.text) if name not in program.names()]
-        if strange and (fault is None or fault[1] == LACKING):
-            faults[script.at()] = line_requiring(script.text, strange[0]), LACKING
-        elif fault:
-            names = lacked(program, script, fault)
-            lacking.update({script.at(): names} if names else {})
+        fault, names = judged(program, script, faults.get(script.at()))
+        faults.update({script.at(): fault} if fault else {})
+        lacking.update({script.at(): names} if names else {})
     listed = {it.at(): site.listed.entry_of(user.name, it) for it in user.scripts if it.at() in lacking}
     entries = {place: entry for place, entry in listed.items() if entry}
     answers = {
@@ -74,6 +70,14 @@ def survey(site: Site, user: User, program: Program, told: Dict[Place, Optional[
         if it.at() in lacking and it.at() not in entries
     }
     return Survey(faults, lacking, entries, answers)
+
+
+def judged(program: Program, script: Script, fault: Optional[Fault]) -> Tuple[Optional[Fault], List[bytes]]:
+    """The fault of a script of which the program told one or none, and what it requires that isn't there, if that is the fault."""
+    strange = [name for name in strangers(script.text) if name not in program.names()]
+    if strange and (fault is None or fault[1] == LACKING):
+        return (line_requiring(script.text, strange[0]), LACKING), []
+    return fault, lacked(program, script, fault) if fault else []
 
 
 def lacked(program: Program, script: Script, fault: Fault) -> List[bytes]:
