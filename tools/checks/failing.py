@@ -1,10 +1,14 @@
 """Whether the checks notice what is wrong: each part over a program that answers nothing, each kind of run where something else comes than is wanted,
 and what begins the checks where one of them fails."""
+import importlib.machinery
+import importlib.util
 import itertools
 import pathlib
+import re
 import shlex
 import shutil
 import subprocess
+import tempfile
 
 from . import runs
 from .files import write
@@ -108,6 +112,29 @@ class Kinds(Reading):
         return wrong
 
 
+class Whole(Reading):
+    """Whether `tools/check` has each part: a function `of_..` of a module here that nothing here calls."""
+
+    title, command = "parts that aren't run", "tools/check"
+
+    def __init__(self, room):
+        self.room = room
+
+    def found(self, path):
+        """Those that it hasn't."""
+        loader = importlib.machinery.SourceFileLoader("whole", str(TOP / "tools/check"))
+        whole = importlib.util.module_from_spec(importlib.util.spec_from_loader("whole", loader))
+        loader.exec_module(whole)
+        with tempfile.TemporaryDirectory(dir=self.room) as room:
+            there = {runs.name_of(part) for tests in ([], [None]) for part in whole.parts(pathlib.Path(room), "calls", tests)}
+        texts = {it.stem: it.read_text(encoding="utf-8") for it in sorted(pathlib.Path(__file__).parent.glob("*.py"))}
+        made = [(module, name) for module, text in texts.items() for name in re.findall(r"^def (of_\w+)", text, re.M)]
+        alone = [f"{module}.{name}" for module, name in made if len(re.findall(rf"\b{name}\b", texts[module])) == 1]
+        wanted = {it for it in alone if not any(re.search(rf"(?<![\w\"]){re.escape(it)}\b", text) for text in texts.values())}
+        self.looked = len(wanted)
+        return [f"it has no {it}" for it in sorted(wanted - there)]
+
+
 # A run of tools/check with other parts, which end as they are called.
 WHOLE = """\
 import importlib.machinery
@@ -207,6 +234,7 @@ def of_gate(room):
 def of_checks(room):
     """All of them but those over a program that answers nothing."""
     yield Kinds(room)
+    yield Whole(room)
     for part in (of_check, of_package, of_gate):
         (room / part.__name__).mkdir()
         yield from part(room / part.__name__)
