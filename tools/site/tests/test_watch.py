@@ -209,7 +209,7 @@ class Looks(Room):
 
     def test_each_file_of_a_site(self) -> None:
         self.look()
-        files = {"with": "date\nmailbox\n", "clock": "1 +0000\n", "mailboxes": "A\n", "unjudged": "personal/x.sieve so\n"}
+        files = {"with": "date\nmailbox\n", "clock": "1 +0000\n", "mailboxes": "A\n", "unjudged": "ada so\n"}
         for name, text in {**files, "mains": "# one\nmain\n", "envelope": "a@b c@d"}.items():
             with self.subTest(name):
                 self.write({f"site/{name}": text})
