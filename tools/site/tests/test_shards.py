@@ -337,7 +337,10 @@ class Merges(Parted):
         wanted = Wanted(bytes(self.room), [], [], [], None)
         asked = [wanted, wanted._replace(mains=[b"a"]), wanted._replace(mails=[b"1.eml"])]
         self.assertEqual(len({digest_of(site_of(it)) for it in asked}), 3)
-        self.assertEqual(digest_of(self.site()), digest_of(self.site()))
+        before = digest_of(self.site())
+        self.assertEqual(digest_of(self.site()), before)
+        (self.room / "personal/left.sieve").symlink_to("nowhere")
+        self.assertNotEqual(digest_of(self.site()), before)
 
     def test_names(self) -> None:
         chance = random.Random(3)
