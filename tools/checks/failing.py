@@ -9,6 +9,7 @@ import shlex
 import shutil
 import subprocess
 import tempfile
+from unittest import mock
 
 from . import runs
 from .files import write
@@ -75,6 +76,8 @@ def kinds(room):
     """Runs and readings, each with what must be told of it."""
     yield Run("", room, "echo a", b"a\n"), []
     yield Run("", room, "printf 'a\\nb\\n'", b"a\nc\n"), ["standard output: after 2 octets wanted b'c\\n', got b'b\\n'"]
+    yield Run("", room, "printf 'a\\nb\\n'", b"a\n"), ["standard output: after 2 octets wanted b'', got b'b\\n'"]
+    yield Run("", room, "printf 'b\\na\\n'", b"a\n"), ["standard output: after 0 octets wanted b'a\\n', got b'b\\na\\n'"]
     yield Run("", room, "echo a", b""), ["standard output: after 0 octets wanted b'', got b'a\\n'"]
     yield Run("", room, "echo a >&2"), ["standard error: after 0 octets wanted b'', got b'a\\n'"]
     yield Run("", room, "exit 3"), ["status: wanted 0, got 3"]
@@ -107,6 +110,9 @@ class Kinds(Reading):
             self.looked += 1
             got = runs.differences(run, path)
             wrong += [] if got == wanted else [f"{vars(run)}: wanted {wanted}, got {got}"]
+        with mock.patch.object(runs, "SECONDS", 0.1):
+            late = Run("", self.room, "exec sleep 9").differences(path)
+        wrong += [] if late == ["no end in 0.1 seconds"] else [f"a run that is late: {late}"]
         empty, full = list(runs.some("none", iter(()))), list(runs.some("one", iter([1])))
         wrong += [] if [type(it) for it in empty] == [Nothing] and full == [1] else [f"parts without a run and with one: {empty}, {full}"]
         return wrong
