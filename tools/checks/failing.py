@@ -11,7 +11,7 @@ import subprocess
 import tempfile
 from unittest import mock
 
-from . import runs
+from . import bodies, charsets, dates, edits, kept, near, questions, runs
 from .files import write
 from .runs import Nothing, Reading, Run, lines
 
@@ -141,6 +141,21 @@ class Whole(Reading):
         return [f"it has no {it}" for it in sorted(wanted - there)]
 
 
+class Amounts(Reading):
+    """Whether parts make so much at random, also where programs are tried, and look at each octet of a charset."""
+
+    title, command = "how much is made at random", "tools/check"
+    least = {bodies: {"SESSIONS": 1, "MAILS": 100}, dates: {"SESSIONS": 1, "MESSAGES": 100, "CLOCKS": 100}, edits: {"WALKS": 2, "STEPS": 100}}
+    least.update({kept: {"WALKS": 2, "REPORTS": 10}, near: {"SOME": 10}, questions: {"RANDOM_TEXTS": 100}})
+
+    def found(self, path):
+        """The amounts that are less."""
+        amounts = [(f"{module.__name__}.{name}", getattr(module, name), count) for module, counts in self.least.items() for name, count in counts.items()]
+        amounts += [("octets of a charset", len(charsets.OCTETS), 256), ("reports of 16 that are compared", 16 // kept.EVERY, 1)]
+        self.looked = len(amounts)
+        return [f"{what}: {got}, and {count} are wanted at least" for what, got, count in amounts if got < count]
+
+
 # A run of tools/check with other parts, which end as they are called.
 WHOLE = """\
 import importlib.machinery
@@ -241,6 +256,7 @@ def of_checks(room):
     """All of them but those over a program that answers nothing."""
     yield Kinds(room)
     yield Whole(room)
+    yield Amounts()
     for part in (of_check, of_package, of_gate):
         (room / part.__name__).mkdir()
         yield from part(room / part.__name__)
