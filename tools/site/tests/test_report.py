@@ -89,6 +89,17 @@ class Rows(Pages):
         ]
         self.assertIn([("del", '− store "B"'), ("ins", "+ discard")], difference)
 
+    def test_many_rows(self) -> None:
+        tests = "".join(f'if header "subject" "k{number:02}" {{ fileinto "{number}"; }}\n' for number in range(12))
+        subjects = [*(f"k{number:02}" for number in range(12)), *["x"] * 7]
+        mails: Files = {f"mails/{number}.eml": f"Subject: {it}\n\n" for number, it in enumerate(subjects)}
+        self.site({"personal/main.sieve": f'require "fileinto";\n{tests}', "mains": "main\n", **mails})
+        page = self.page()
+        self.assertEqual(sorted(int(row[1]) for row in self.table(page)[1:]), [1] * 12 + [7])
+        self.assertEqual(len(list(with_class(page, "row"))), 13)
+        shown = [text_of(cell) for row in page.iter("tr") if re.match("m[0-9]", row.get("id", "")) for cell in row]
+        self.assertEqual(sorted(it for it in shown if it.startswith("mails/")), sorted(mails))
+
     def test_columns(self) -> None:
         mains = {"a": "x\ny\n", "b": "x\n", "c": "x\n"}
         users: Files = {f"users/{user}/mains": text for user, text in mains.items()}
