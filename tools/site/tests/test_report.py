@@ -100,6 +100,13 @@ class Rows(Pages):
         shown = [text_of(cell) for row in page.iter("tr") if re.match("m[0-9]", row.get("id", "")) for cell in row]
         self.assertEqual(sorted(it for it in shown if it.startswith("mails/")), sorted(mails))
 
+    def test_a_check_that_is_not_lax(self) -> None:
+        self.site({"personal/main.sieve": "discard;", "mains": "main\n", "mails/1.eml": "", "mails/2.eml.expect": ""})
+        page = self.page()
+        self.assertTrue([text_of(it) for it in with_class(page, "fails")][0].startswith("The check fails: "))
+        told = [text_of(it) for part in with_class(page, "beside") for it in part]
+        self.assertEqual(told, ["mails/2.eml.expect: stale: its mail isn't there"])
+
     def test_columns(self) -> None:
         mains = {"a": "x\ny\n", "b": "x\n", "c": "x\n"}
         users: Files = {f"users/{user}/mains": text for user, text in mains.items()}
