@@ -2,6 +2,7 @@
 
 import pathlib
 import re
+import subprocess
 import sys
 from typing import Dict, List, Tuple
 from unittest import mock
@@ -106,6 +107,21 @@ class Rows(Pages):
         self.assertTrue([text_of(it) for it in with_class(page, "fails")][0].startswith("The check fails: "))
         told = [text_of(it) for part in with_class(page, "beside") for it in part]
         self.assertEqual(told, ["mails/2.eml.expect: stale: its mail isn't there"])
+
+    def test_an_edit(self) -> None:
+        self.site({"personal/main.sieve": "keep;", "personal/other.sieve": "keep;", "mains": "main\nother\n"})
+        self.write({f"site/mails/{number}.eml": f"Subject: k{number}\n\n" for number in range(5)})
+        names = ["-c", "user.name=a", "-c", "user.email=a@b.example"]
+        for words in (["init", "-q"], ["add", "-A"], ["commit", "-qm", "one"]):
+            subprocess.run(["git", *names, *words], cwd=self.room / "site", check=True)
+        self.write({"site/personal/main.sieve": "discard;", "site/personal/other.sieve": 'require "regex";'})
+        rows = [
+            row for row in with_id(self.page("--against", "HEAD"), "edit").iter("tr") if row[0].get("scope") == "row"
+        ]
+        for row, told in zip(rows, ('− store "INBOX"', 'not judged: personal "other" requires regex')):
+            self.assertEqual([text_of(it) for it in row[0].iter("a")], [f"k{number}" for number in range(5)])
+            self.assertIn(told, text_of(row[1]))
+        self.assertEqual(len(rows), 2)
 
     def test_columns(self) -> None:
         mains = {"a": "x\ny\n", "b": "x\n", "c": "x\n"}
