@@ -3,6 +3,8 @@ contract names only what is defined. What is looked at is read once."""
 import functools
 import pathlib
 import shutil
+import tempfile
+from unittest import mock
 
 from auditing.index import Index
 from auditing.listing import groups, types, unresolved
@@ -371,6 +373,7 @@ NOTHING = """\
 crates/high/specs/Wrong.antt:6: nothing is known as missing
 crates/high/specs/Wrong.antt:6: nothing is known as .unkept
 """
+UNREAD = "crates/high/specs/Odd.antt:1: can't be read: an odd line"
 COUNTED = """\
 high                     1 definitions      2 lines
 low                      3 definitions      9 lines
@@ -471,8 +474,29 @@ def contracts(index):
     return [it.contract(function) for it in index.sources.values() for function in it.functions if function.is_public and function.clauses]
 
 
+class Unresolved(Reading):
+    """Whether it is noticed where words stand for nothing, and where a line can't be read."""
+
+    title, command = "words that stand for nothing", "tools/audit"
+
+    def found(self, path):
+        """What is told otherwise."""
+        wanted = {
+            definitions: [UNREAD, *NOTHING.splitlines(), "crates/high/specs/Wrong.antt:9: nothing is known as lost"],
+            contracts: [UNREAD, "crates/high/src/lib.rt:21: nothing is known as hidden"],
+        }
+        self.looked = len(wanted)
+        with tempfile.TemporaryDirectory() as room:
+            made(pathlib.Path(room))
+            (pathlib.Path(room) / "crates/high/specs/Odd.antt").write_text("an odd line\n", encoding="utf-8")
+            with mock.patch(f"{__name__}.crates", functools.cache(lambda: Index(pathlib.Path(room)))):
+                got = {units: Resolved("", units).found(path) for units in wanted}
+        return [f"{units.__name__}: wanted {wanted[units]}, got {got[units]}" for units in wanted if got[units] != wanted[units]]
+
+
 def of_crates():
-    """The definitions, the types and the contracts."""
+    """The definitions, the types and the contracts, and whether words that stand for nothing are noticed."""
     yield Resolved("what definitions name", definitions)
     yield Resolved("what types, traits and constants name", types)
     yield Resolved("what contracts of public functions name", contracts)
+    yield Unresolved()

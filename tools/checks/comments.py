@@ -1,7 +1,10 @@
 """What comments of the crates must not have."""
 import pathlib
 import re
+import tempfile
+from unittest import mock
 
+from .files import write
 from .runs import Reading
 
 TOP = pathlib.Path(__file__).resolve().parent.parent.parent
@@ -15,8 +18,14 @@ one = 1
 -- A sentence of more than twenty words is too long, since whoever reads it has forgotten by its end how it began, or why.
 two = 2
 -- A sentence of code, `What it is` for one, counts it as a word. It ends here.
+//! What a crate is.
+/// What a function does.
+// What a line does.
 """
 FOUND = ["1: begins with What", "1: says once more that no memory is taken", "3: has 122 columns", "3: has a sentence of 24 words"]
+FOUND += [f"{line}: begins with What" for line in (6, 7, 8)]
+# The files of a small crate that has these comments.
+FILES = ["crates/low/proofs/low/Answers.antt", "crates/low/specs/Lib.antt", "crates/low/src/lib.rt"]
 
 
 def comments(text):
@@ -53,7 +62,7 @@ class Plain(Reading):
 
     def found(self, path):
         """The places that aren't so."""
-        wrong = [] if list(faults(SAMPLE)) == FOUND else [f"the sample has {list(faults(SAMPLE))}"]
+        wrong = []
         for file in sorted(it for kind in ("rt", "antt") for it in (TOP / "crates").rglob(f"*.{kind}") if "out" not in it.parts):
             text = file.read_text(encoding="utf-8")
             self.looked += sum(1 for _ in comments(text))
@@ -61,6 +70,22 @@ class Plain(Reading):
         return wrong
 
 
+class Noticed(Reading):
+    """Whether it is noticed where comments of a small crate aren't so."""
+
+    title, command = "comments that aren't short and plain", "a small crate"
+
+    def found(self, path):
+        """What is told otherwise."""
+        with tempfile.TemporaryDirectory() as room, mock.patch(f"{__name__}.TOP", pathlib.Path(room)):
+            write(pathlib.Path(room), {file: SAMPLE.encode() for file in FILES})
+            got = sorted(Plain().found(path))
+        wanted = sorted(f"{file}:{it}" for file in FILES for it in FOUND)
+        self.looked = len(wanted)
+        return [] if got == wanted else [f"wanted {wanted}, got {got}"]
+
+
 def of_crates():
-    """The comments of all crates."""
+    """The comments of all crates, and whether what is wrong in some is noticed."""
     yield Plain()
+    yield Noticed()

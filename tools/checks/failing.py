@@ -1,12 +1,17 @@
 """Whether the checks notice what is wrong: each part over a program that answers nothing, each kind of run where something else comes than is wanted,
 and what begins the checks where one of them fails."""
+import importlib.machinery
+import importlib.util
 import itertools
 import pathlib
+import re
 import shlex
 import shutil
 import subprocess
+import tempfile
+from unittest import mock
 
-from . import runs
+from . import bodies, charsets, dates, edits, kept, near, questions, runs
 from .files import write
 from .runs import Nothing, Reading, Run, lines
 
@@ -71,6 +76,8 @@ def kinds(room):
     """Runs and readings, each with what must be told of it."""
     yield Run("", room, "echo a", b"a\n"), []
     yield Run("", room, "printf 'a\\nb\\n'", b"a\nc\n"), ["standard output: after 2 octets wanted b'c\\n', got b'b\\n'"]
+    yield Run("", room, "printf 'a\\nb\\n'", b"a\n"), ["standard output: after 2 octets wanted b'', got b'b\\n'"]
+    yield Run("", room, "printf 'b\\na\\n'", b"a\n"), ["standard output: after 0 octets wanted b'a\\n', got b'b\\na\\n'"]
     yield Run("", room, "echo a", b""), ["standard output: after 0 octets wanted b'', got b'a\\n'"]
     yield Run("", room, "echo a >&2"), ["standard error: after 0 octets wanted b'', got b'a\\n'"]
     yield Run("", room, "exit 3"), ["status: wanted 0, got 3"]
@@ -103,9 +110,50 @@ class Kinds(Reading):
             self.looked += 1
             got = runs.differences(run, path)
             wrong += [] if got == wanted else [f"{vars(run)}: wanted {wanted}, got {got}"]
+        with mock.patch.object(runs, "SECONDS", 0.1):
+            late = Run("", self.room, "exec sleep 9").differences(path)
+        wrong += [] if late == ["no end in 0.1 seconds"] else [f"a run that is late: {late}"]
         empty, full = list(runs.some("none", iter(()))), list(runs.some("one", iter([1])))
         wrong += [] if [type(it) for it in empty] == [Nothing] and full == [1] else [f"parts without a run and with one: {empty}, {full}"]
         return wrong
+
+
+class Whole(Reading):
+    """Whether `tools/check` has each part: a function `of_..` of a module here that nothing here calls."""
+
+    title, command = "parts that aren't run", "tools/check"
+
+    def __init__(self, room):
+        self.room = room
+
+    def found(self, path):
+        """Those that it hasn't."""
+        loader = importlib.machinery.SourceFileLoader("whole", str(TOP / "tools/check"))
+        whole = importlib.util.module_from_spec(importlib.util.spec_from_loader("whole", loader))
+        loader.exec_module(whole)
+        with tempfile.TemporaryDirectory(dir=self.room) as room:
+            there = {runs.name_of(part) for tests in ([], [None]) for part in whole.parts(pathlib.Path(room), "calls", tests)}
+        texts = {it.stem: it.read_text(encoding="utf-8") for it in sorted(pathlib.Path(__file__).parent.glob("*.py"))}
+        made = [(module, name) for module, text in texts.items() for name in re.findall(r"^def (of_\w+)", text, re.M)]
+        alone = [f"{module}.{name}" for module, name in made if len(re.findall(rf"\b{name}\b", texts[module])) == 1]
+        wanted = {it for it in alone if not any(re.search(rf"(?<![\w\"]){re.escape(it)}\b", text) for text in texts.values())}
+        self.looked = len(wanted)
+        return [f"it has no {it}" for it in sorted(wanted - there)]
+
+
+class Amounts(Reading):
+    """Whether parts make so much at random, also where programs are tried, and look at each octet of a charset."""
+
+    title, command = "how much is made at random", "tools/check"
+    least = {bodies: {"SESSIONS": 1, "MAILS": 100}, dates: {"SESSIONS": 1, "MESSAGES": 100, "CLOCKS": 100}, edits: {"WALKS": 2, "STEPS": 100}}
+    least.update({kept: {"WALKS": 2, "REPORTS": 10}, near: {"SOME": 10}, questions: {"RANDOM_TEXTS": 100}})
+
+    def found(self, path):
+        """The amounts that are less."""
+        amounts = [(f"{module.__name__}.{name}", getattr(module, name), count) for module, counts in self.least.items() for name, count in counts.items()]
+        amounts += [("octets of a charset", len(charsets.OCTETS), 256), ("reports of 16 that are compared", 16 // kept.EVERY, 1)]
+        self.looked = len(amounts)
+        return [f"{what}: {got}, and {count} are wanted at least" for what, got, count in amounts if got < count]
 
 
 # A run of tools/check with other parts, which end as they are called.
@@ -207,6 +255,8 @@ def of_gate(room):
 def of_checks(room):
     """All of them but those over a program that answers nothing."""
     yield Kinds(room)
+    yield Whole(room)
+    yield Amounts()
     for part in (of_check, of_package, of_gate):
         (room / part.__name__).mkdir()
         yield from part(room / part.__name__)

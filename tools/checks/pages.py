@@ -61,10 +61,12 @@ def limits(path):
 
 
 def statuses(path):
-    """The statuses of a check on servers."""
+    """The statuses of a check on servers, and of one and of `diff` where verdicts are others."""
     told = re.findall(r"(\d) ((?:if|after) .*?)(?=,|$)", part(homes.SITE, r"\nThe status is (.*?)\. "))
     words = {**homes.SITE_STATUSES, "0": ["all is as expected"], "1": ["if not"]}
     yield "how many statuses a check has", ["0", "1", "2", "3"], [status for status, _ in told]
+    differs = re.findall(r"(?:`check` ends with status|The status is) (\d)(?=:| if a verdict)", homes.text_of(homes.SITE))
+    yield "the statuses of a difference", ["1", "1"], differs
     yield "the statuses of a check", [], homes.Statuses("SITE", words, told, is_list=False).found(path)
 
 
@@ -73,6 +75,7 @@ def oldest(path):
     python = part(README, r"`sievebench-site` Python (\d\.\d+)")
     for file, pattern in [("tools/package", r"python3 \(>= (.*?)\)"), ("tools/package", r"sievebench-site Python (\d\.\d+)"), ("tools/site/check", r"--python-version (\S+)")]:
         yield f"the oldest Python in {file}", python, part(file, pattern)
+    yield "the oldest Python of black", python.replace(".", ""), part("tools/site/check", r"--target-version py(\d+)")
 
 
 def gate(path):
@@ -155,8 +158,11 @@ PLANTED = [
     (limits, homes.LANGUAGE, "| 4,096 octets | cut", "| 4,095 octets | cut"),
     (statuses, homes.SITE, "1 if not, 2 after misuse", "2 if not, 1 after misuse"),
     (statuses, homes.SITE, ", and 3 if the program can't be run.", "."),
+    (statuses, homes.SITE, "The status is 1 if a verdict changed", "The status is 2 if a verdict changed"),
+    (statuses, homes.SITE, "`check` ends with status 1:", "`check` ends with status 2:"),
     (oldest, README, "Python 3.8", "Python 3.9"),
     (oldest, "tools/package", "python3 (>= 3.8)", "python3 (>= 3.7)"),
+    (oldest, "tools/site/check", "--target-version py38", "--target-version py39"),
     (gate, GATE, "`rt ci` (proofs, tests, two compilers' programs), `tools/edits`", "`tools/edits`, `rt ci`"),
     (gate, GATE, "| all 138 edits", "| all 136 edits"),
     (gate, GATE, "| `sieve_code` |", "| `sieve_coding` |"),

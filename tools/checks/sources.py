@@ -1,7 +1,10 @@
 """What the sources of the libraries must not have."""
 import pathlib
 import re
+import tempfile
+from unittest import mock
 
+from .files import write
 from .runs import Reading
 
 TOP = pathlib.Path(__file__).resolve().parent.parent.parent
@@ -91,6 +94,36 @@ class OneType(Reading):
         return [f"{name} stands in {' and '.join(sorted(where))}" for name, where in sorted(places.items()) if len(where) > 1 and name not in self.named]
 
 
+# Two crates that have what they must not, and what is told of it.
+FILES = {
+    "crates/low/src/lib.rt": "pub struct Bag {\n    read_some(bag)\n",
+    "crates/low/specs/Lib.antt": "pub first : ℕ\n",
+    "crates/low/specs/More.antt": "abbrev pub first : ℕ\n",
+    "crates/high/src/lib.rt": "pub enum Bag {\n    read_some(bag)\n",
+    "crates/high/specs/Lib.antt": "use Rattle.low.specs.Lib.{first}\nuse Rattle.low.specs.More.{first}\n",
+}
+TOLD = [
+    "crates/high/src/lib.rt has read_some(",
+    "first stands in low.specs.Lib and low.specs.More",
+    "crates/high/specs/Lib.antt brings first of low.specs.Lib and low.specs.More",
+    "Bag stands in high and low",
+]
+
+
+class Noticed(Reading):
+    """Whether it is noticed where sources have what they must not."""
+
+    title, command = "what sources must not have", "two small crates"
+
+    def found(self, path):
+        """What is told otherwise."""
+        with tempfile.TemporaryDirectory() as room, mock.patch(f"{__name__}.TOP", pathlib.Path(room)):
+            write(pathlib.Path(room), {name: text.encode() for name, text in FILES.items()})
+            got = [line for it in (Without("", ["high"], {r"\bread_some\(": "low"}), OneName(), OneType()) for line in it.found(path)]
+        self.looked = len(TOLD)
+        return [] if got == TOLD else [f"wanted {TOLD}, got {got}"]
+
+
 def of_libraries():
     """Reports and sessions count their runs with the meter that they are handed, and nothing evaluates but `run`: no library above it makes a
     meter, looks at an operation, or names what operations do, outside of contracts. And a session reads by `session_text` alone."""
@@ -98,3 +131,4 @@ def of_libraries():
     yield Without("no library reads by itself", ["bench", "session_server", "command_line"], {r"\bread_some\(": "session_text"})
     yield OneName()
     yield OneType()
+    yield Noticed()

@@ -117,7 +117,7 @@ FILES = {
     "crates.txt": "low:\nmiddle: low smallvec\nhigh: low middle\nother:\n",
     "docs/PROVED.md": "",
     **{f"crates/{it}/src/lib.rt": f"#[cycle(turns)]\npub fn {it}() -> u8 {{\n    1\n}}\n\npub fn calls() -> u8 {{\n    {it}()\n}}\n" for it in NAMES},
-    **{f"crates/{it}/specs/Lib.antt": "" for it in NAMES},
+    **{f"crates/{it}/{part}.antt": "" for it in NAMES for part in ("specs/Lib", f"proofs/{it}/Answers")},
     **{
         f"edits/{it}/{name}.edit": f"shows: crate\nfile: src/lib.rt\nold:     1\nnew:     {number}\n"
         for it in NAMES
@@ -128,6 +128,7 @@ FILES = {
 CHANGES = {
     "crates/low/src/lib.rt": {"low", "middle", "high"},
     "crates/middle/specs/Lib.antt": {"middle", "high"},
+    "crates/low/proofs/low/Answers.antt": {"low", "middle", "high"},
     "crates/high/src/lib.rt": {"high"},
     "edits/low/gives__two.edit": {"low"},
     "crates.txt": {"low", "middle", "high", "other"},
@@ -156,7 +157,13 @@ class Sums(Reading):
 
     def found(self, path):
         """The changes that other sums follow."""
-        return [why for name, wanted in CHANGES.items() for why in self.after(name, wanted)]
+        return [why for name, wanted in CHANGES.items() for why in self.after(name, wanted)] + self.of_kits()
+
+    def of_kits(self):
+        """The kits that other sums follow: two of one logic have the same, and one of another logic has others."""
+        one, same, other = (lock.sums(self.top, f"kit-{number} logic {name}") for number, name in ((1, "a"), (2, "a"), (2, "b")))
+        found = [] if one == same else ["kits of one logic have several sums"]
+        return found + ([] if not set(one.values()) & set(other.values()) else ["kits of two logics have one sum"])
 
     def after(self, name, wanted):
         """Whether another octet in a file changes these sums."""

@@ -118,6 +118,16 @@ class Checks(Room):
         self.assertEqual(self.ran("record", "--only", "0.eml", "."), (0, told, ""))
         self.assertEqual(self.ran("check", "-q", "--only", "0.eml", "--main", "a", "."), (0, [], ""))
 
+    def test_scripts_beside_some_mails(self) -> None:
+        # No mail comes to these scripts.
+        self.write({"mails/0.eml.expect": '[a]\nstore "INBOX"\n[b]\nstore "INBOX"\n'})
+        self.write({"personal/c.sieve": 'require "regex";', "personal/d.sieve": "kep;"})
+        wanted = ["./personal/d.sieve:1: unknown-command: There is no such command or test."]
+        wanted.append(f"./personal/c.sieve:1: not judged: {LACKS.format('personal/c')}")
+        for words in (["--only", "0.eml"], ["--only", "0.eml", "--main", "a", "--lax"]):
+            with self.subTest(words):
+                self.assertEqual(self.ran("check", "-q", *words, "."), (1, wanted, ""))
+
     def test_unjudged(self) -> None:
         self.write({"personal/a.sieve": 'require ["regex", "fileinto"];'})
         status, told, _ = self.ran("check", "--lax", "--main", "a", ".")

@@ -11,7 +11,7 @@ class Lines(Room):
 
     def test_scripts_outside(self) -> None:
         # Each of these is there.
-        names = ["../x", "../site/personal/main", ".git/x", "./x", "mails/x", "users/x", "personal/../x", "a/b/x"]
+        names = ["../x", "../site/personal/main", ".git/x", "./x", "mails/x", "users/x", "personal/../x", "a/b/x", "/x"]
         self.write(SITE)
         self.write({"x.sieve": "discard;", **{f"site/{name}.sieve": "discard;" for name in names[2:6]}})
         self.write({"site/x.sieve": "discard;", "site/a/b/x.sieve": "discard;"})

@@ -82,6 +82,9 @@ class Programs(Room):
     def test_memory(self) -> None:
         with Program(os.fsencode(FAKE), [], 1 << 33).session() as session:
             self.assertEqual(resource.prlimit(session.child.pid, resource.RLIMIT_AS), (1 << 33, 1 << 33))
+        with mock.patch("sievebench_site.program.limit_memory") as limits:
+            Program(os.fsencode(FAKE), [], 1 << 33).missing([b"regex"])
+        self.assertEqual([call.args[1] for call in limits.call_args_list], [1 << 33])
 
     def test_verdict(self) -> None:
         told = [
@@ -148,6 +151,11 @@ class Ends(Room):
                 self.assertFalse([it for it in below if os.path.exists(f"/proc/{it}")])
         self.assertEqual(sorted(os.listdir(self.room)), ["bin", "envelope", "mails", "mains", "personal"])
         self.assertEqual(os.listdir(self.room / "mails"), ["1.eml"])
+
+    def test_a_session_has_its_own_group(self) -> None:
+        # Ctrl-C on a terminal doesn't reach it, so that it says nothing before the tool ends it.
+        with self.program().session() as session:
+            self.assertNotEqual(os.getpgid(session.child.pid), os.getpgid(0))
 
     def test_a_signal_while_a_process_starts(self) -> None:
         children = ends.Children()

@@ -266,6 +266,17 @@ class Meanwhile(Room):
             self.assertFalse((self.room / "mails/3.eml.expect").exists())
             self.assertEqual((self.room / "mails/4.eml.expect/ada").read_text(), "# hers\n")
 
+    def test_another_edit_of_what_is_taken_out(self) -> None:
+        self.write({"personal/a.sieve": 'require "regex";', "mails/2.eml.expect": "[gone]\ndiscard\n"})
+        site = site_of(Wanted(bytes(self.room), [], [], [], None))
+        take_mails(site)
+        judged = Judge(site, self.program(), 1).all()
+        self.write({"mails/2.eml.expect": "# hers\n[b]\ndiscard\n"})
+        told, whole = record(site, judged, Look(False), False, True)
+        self.assertIn(f"{self.room}/mails/2.eml.expect: left, since it was changed meanwhile", told)
+        self.assertFalse(whole)
+        self.assertEqual((self.room / "mails/2.eml.expect").read_text(), "# hers\n[b]\ndiscard\n")
+
     def stale(self) -> str:
         """The end of the last line."""
         return "1 stale: --prune takes them out"

@@ -2,6 +2,7 @@
 
 import pathlib
 import re
+import subprocess
 import sys
 from typing import Dict, List, Tuple
 from unittest import mock
@@ -88,6 +89,39 @@ class Rows(Pages):
             [(it.tag, text_of(it)) for it in item.iter() if it.tag in ("del", "ins")] for item in page.iter("td")
         ]
         self.assertIn([("del", '− store "B"'), ("ins", "+ discard")], difference)
+
+    def test_many_rows(self) -> None:
+        tests = "".join(f'if header "subject" "k{number:02}" {{ fileinto "{number}"; }}\n' for number in range(12))
+        subjects = [*(f"k{number:02}" for number in range(12)), *["x"] * 7]
+        mails: Files = {f"mails/{number}.eml": f"Subject: {it}\n\n" for number, it in enumerate(subjects)}
+        self.site({"personal/main.sieve": f'require "fileinto";\n{tests}', "mains": "main\n", **mails})
+        page = self.page()
+        self.assertEqual(sorted(int(row[1]) for row in self.table(page)[1:]), [1] * 12 + [7])
+        self.assertEqual(len(list(with_class(page, "row"))), 13)
+        shown = [text_of(cell) for row in page.iter("tr") if re.match("m[0-9]", row.get("id", "")) for cell in row]
+        self.assertEqual(sorted(it for it in shown if it.startswith("mails/")), sorted(mails))
+
+    def test_a_check_that_is_not_lax(self) -> None:
+        self.site({"personal/main.sieve": "discard;", "mains": "main\n", "mails/1.eml": "", "mails/2.eml.expect": ""})
+        page = self.page()
+        self.assertTrue([text_of(it) for it in with_class(page, "fails")][0].startswith("The check fails: "))
+        told = [text_of(it) for part in with_class(page, "beside") for it in part]
+        self.assertEqual(told, ["mails/2.eml.expect: stale: its mail isn't there"])
+
+    def test_an_edit(self) -> None:
+        self.site({"personal/main.sieve": "keep;", "personal/other.sieve": "keep;", "mains": "main\nother\n"})
+        self.write({f"site/mails/{number}.eml": f"Subject: k{number}\n\n" for number in range(5)})
+        names = ["-c", "user.name=a", "-c", "user.email=a@b.example"]
+        for words in (["init", "-q"], ["add", "-A"], ["commit", "-qm", "one"]):
+            subprocess.run(["git", *names, *words], cwd=self.room / "site", check=True)
+        self.write({"site/personal/main.sieve": "discard;", "site/personal/other.sieve": 'require "regex";'})
+        rows = [
+            row for row in with_id(self.page("--against", "HEAD"), "edit").iter("tr") if row[0].get("scope") == "row"
+        ]
+        for row, told in zip(rows, ('− store "INBOX"', 'not judged: personal "other" requires regex')):
+            self.assertEqual([text_of(it) for it in row[0].iter("a")], [f"k{number}" for number in range(5)])
+            self.assertIn(told, text_of(row[1]))
+        self.assertEqual(len(rows), 2)
 
     def test_columns(self) -> None:
         mains = {"a": "x\ny\n", "b": "x\n", "c": "x\n"}

@@ -290,6 +290,7 @@ class Merges(Parted):
 
     def test_other_sites(self) -> None:
         files: Files = {"personal/a.sieve": "discard;", "mains": "a\n", **MAIL, "mails/1.eml.expect": "[a]\ndiscard\n"}
+        files.update({"with": "date\nmailbox\n", "clock": "1 +0000\n", "mailboxes": "A\n"})
         self.write(files)
         program = self.program()
         first = self.left(program, Shard(1, 2))
@@ -302,7 +303,9 @@ class Merges(Parted):
             {"mails/1.eml.expect": "[a]\nkeep\n".replace("keep", 'store "A"')},
             {"mails/1.eml.envelope": "a@b c@d"},
             {"mains": "a\nb: a\n"},
-            {"with": "vacation\n"},
+            {"with": "date\nmailbox\nvacation\n"},
+            {"clock": "2 +0000\n"},
+            {"mailboxes": "B\n"},
             {"envelope": "a@b c@d"},
             {"unjudged": "personal/a.sieve x\n"},
         ]
@@ -317,12 +320,27 @@ class Merges(Parted):
         self.write(files)
         self.assertEqual(len(merged([first, self.left(program, Shard(2, 2))], VERSION).cases), 1)
 
+    def test_seconds(self) -> None:
+        self.write({"personal/a.sieve": "discard;", "mains": "a\n", **MAIL})
+        paths = self.all_left(2)
+        for path, seconds in zip(paths, (1.5, 2.25)):
+            with open(path, "r+") as file:
+                told = json.load(file)
+                told["shard"]["seconds"] = seconds
+                file.seek(0)
+                file.truncate()
+                json.dump(told, file)
+        self.assertEqual(merged(paths, VERSION).seconds, 3.75)
+
     def test_what_says_of_which_site_a_part_is(self) -> None:
         self.write({"personal/a.sieve": "", "mains": "a\n", **MAIL, "mails/x.EML": ""})
         wanted = Wanted(bytes(self.room), [], [], [], None)
         asked = [wanted, wanted._replace(mains=[b"a"]), wanted._replace(mails=[b"1.eml"])]
         self.assertEqual(len({digest_of(site_of(it)) for it in asked}), 3)
-        self.assertEqual(digest_of(self.site()), digest_of(self.site()))
+        before = digest_of(self.site())
+        self.assertEqual(digest_of(self.site()), before)
+        (self.room / "personal/left.sieve").symlink_to("nowhere")
+        self.assertNotEqual(digest_of(self.site()), before)
 
     def test_names(self) -> None:
         chance = random.Random(3)

@@ -207,6 +207,14 @@ class Looks(Room):
             self.look()
         self.assertEqual((caught.exception.status, CHILDREN.running), (3, set()))
 
+    def test_each_file_of_a_site(self) -> None:
+        self.look()
+        files = {"with": "date\nmailbox\n", "clock": "1 +0000\n", "mailboxes": "A\n", "unjudged": "ada so\n"}
+        for name, text in {**files, "mains": "# one\nmain\n", "envelope": "a@b c@d"}.items():
+            with self.subTest(name):
+                self.write({f"site/{name}": text})
+                self.assertEqual(self.look()[:1], [f"{name}: saved"])
+
     def test_ways_to_save(self) -> None:
         self.look()
         self.write({"site/personal/.part.new": "keep;"})
@@ -256,6 +264,8 @@ class Looks(Room):
         told = self.saved({"mails/2.eml.expect/ada": '[ada/main]\nstore "A"\n'})
         self.assertIn("mails/2.eml under ada/main: not as expected", told)
         self.assertIn('  - store "B"', self.saved({"mails/2.eml.expect/ada": '[ada/main]\nstore "B"\n'}))
+        self.assertIn(", 2 new, ", self.saved({"users/eva/personal/main.sieve": "keep;"})[-1])
+        self.assertIn(", 1 gone, ", self.saved({"mails/1.eml.users": "eva\n"})[-1])
 
     def test_files_that_settle(self) -> None:
         self.look()
