@@ -17,7 +17,7 @@ from .runs import SECONDS, LeftOut, Reading, Run, lines
 
 TOP = pathlib.Path(__file__).resolve().parent.parent.parent
 MAKER, SITE_TOOL = TOP / "tools/manual", TOP / "tools/sievebench-site"
-COMMANDS = ("check", "record", "lint", "import", "untested", "diff", "why", "watch", "report")
+COMMANDS = ("check", "record", "lint", "import", "untested", "diff", "why", "watch", "report", "lsp")
 # Each page, the document that it is made of, and the help that it is made of.
 PAGES = [
     ("sievebench.1", None, [["sievebench", *words] for words in (["--help"], ["help", "test"], ["help", "dump"], ["help", "session"])]),

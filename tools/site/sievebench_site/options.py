@@ -29,7 +29,7 @@ Commands:
   why       says which commands entered a verdict, and which branches were taken
   watch     reports changed verdicts after each save
   report    writes one page of HTML that shows all this
-  lsp       serves an editor: tells faults of a script while it is written
+  lsp       serves an editor: shows faults of a script while it is written
 
 'sievebench-site COMMAND --help' has the options of a command, 'sievebench-site --version' prints
 the versions of this tool and of the program.
