@@ -13,9 +13,9 @@ LSP = """\
 Serves an editor by the Language Server Protocol 3.17, over standard input and output, until the
 editor ends it. Editors start it themselves.
 
-While a script is written it tells the first fault of the script, and all else that lint says of it,
+While a script is written it shows the first fault of the script, and all else that lint says of it,
 a moment after the last key. It completes commands, tests, tags, capabilities in a require and names
-of scripts in an include, tells the meaning of a word, its RFC and what it requires, and adds to the
+of scripts in an include, shows the meaning of a word, its RFC and what it requires, and adds to the
 first require what is used and isn't required. Nothing that a script says is done.
 
 A script of a site is judged by the names of the site's file with, beside its other scripts. Those
