@@ -4,12 +4,13 @@ import json
 import os
 import queue
 import re
+import shutil
 import subprocess
 import sys
 import threading
 import time
 
-from .runs import SECONDS, Reading
+from .runs import SECONDS, LeftOut, Reading
 from .site import TOOL, site, write
 
 TOP = TOOL.parent.parent
@@ -275,6 +276,35 @@ class Talk(Reading):
         self.send("exit", None)
 
 
+# Has Neovim 0.7 or a later one open a script, and print the remarks that it shows.
+OPENS = """\
+local client = vim.lsp.start_client({{ name = "sievebench", cmd = {{ "{}", "-B", "{}", "lsp" }}, root_dir = vim.fn.getcwd() }})
+vim.cmd("edit x.sieve")
+vim.lsp.buf_attach_client(0, client)
+vim.wait({}, function() return #vim.diagnostic.get(0) > 0 end)
+for _, it in ipairs(vim.diagnostic.get(0)) do print(it.lnum, it.col, it.code) end
+vim.cmd("qa!")
+"""
+
+
+class Neovim(Reading):
+    """Whether Neovim shows a fault of a script that it opens."""
+
+    title, command = "sievebench-site lsp: Neovim shows a fault", "nvim --headless"
+
+    def __init__(self, room):
+        self.room = room
+
+    def found(self, path):
+        """What it shows otherwise."""
+        write(self.room, {"open.lua": OPENS.format(sys.executable, TOOL, SECONDS * 1000).encode(), "x.sieve": b"keep;\nif true { kep; }\n"})
+        words = ["nvim", "--headless", "-u", "NONE", "-i", "NONE", "-S", "open.lua"]
+        done = subprocess.run(words, cwd=self.room, env={**os.environ, "PATH": path}, capture_output=True, text=True, timeout=2 * SECONDS)
+        self.looked = 1
+        shown = (done.stdout + done.stderr).split()
+        return [] if shown == ["1", "10", "unknown-command"] else [f"wanted 1 10 unknown-command, got {shown}"]
+
+
 def of_editors(room):
     """All of them."""
     room = room / "editors"
@@ -285,3 +315,5 @@ def of_editors(room):
     yield Sources()
     yield Fixed()
     yield Talk(room)
+    (room / "nvim").mkdir()
+    yield Neovim(room / "nvim") if shutil.which("nvim") else LeftOut(Neovim.title, "since it isn't installed")
