@@ -480,7 +480,7 @@ class Unresolved(Reading):
     title, command = "words that stand for nothing", "tools/audit"
 
     def found(self, path):
-        """What is told otherwise."""
+        """Where something else is told."""
         wanted = {
             definitions: [UNREAD, *NOTHING.splitlines(), "crates/high/specs/Wrong.antt:9: nothing is known as lost"],
             contracts: [UNREAD, "crates/high/src/lib.rt:21: nothing is known as hidden"],

@@ -76,7 +76,7 @@ class Noticed(Reading):
     title, command = "comments that aren't short and plain", "a small crate"
 
     def found(self, path):
-        """What is told otherwise."""
+        """Where something else is told."""
         with tempfile.TemporaryDirectory() as room, mock.patch(f"{__name__}.TOP", pathlib.Path(room)):
             write(pathlib.Path(room), {file: SAMPLE.encode() for file in FILES})
             got = sorted(Plain().found(path))

@@ -116,7 +116,7 @@ class Noticed(Reading):
     title, command = "what sources must not have", "two small crates"
 
     def found(self, path):
-        """What is told otherwise."""
+        """Where something else is told."""
         with tempfile.TemporaryDirectory() as room, mock.patch(f"{__name__}.TOP", pathlib.Path(room)):
             write(pathlib.Path(room), {name: text.encode() for name, text in FILES.items()})
             got = [line for it in (Without("", ["high"], {r"\bread_some\(": "low"}), OneName(), OneType()) for line in it.found(path)]

@@ -108,6 +108,12 @@ class Rows(Pages):
         told = [text_of(it) for part in with_class(page, "beside") for it in part]
         self.assertEqual(told, ["mails/2.eml.expect: stale: its mail isn't there"])
 
+    def test_the_worst_of_several_lines(self) -> None:
+        self.site({"personal/a.sieve": "keep;", "personal/b.sieve": "discard;", "mains": "a\nb\n"})
+        self.write({f"site/mails/{number}.eml": f"Subject: k{number}\n\n" for number in (1, 2)})
+        self.write({"site/mails/2.eml.expect": '[a]\nstore "INBOX"\n[b]\nstore "INBOX"\n'})
+        self.assertEqual([row[0] for row in self.table(self.page())[1:]], ["k2", "k1"])
+
     def test_an_edit(self) -> None:
         self.site({"personal/main.sieve": "keep;", "personal/other.sieve": "keep;", "mains": "main\nother\n"})
         self.write({f"site/mails/{number}.eml": f"Subject: k{number}\n\n" for number in range(5)})
